@@ -1,5 +1,5 @@
 -- What is seen of a sink in memory.
-use Rattle.std.specs.Prelude.{ℕ, ◌-◌, ◌++◌, length, List, min, Bool, not, ◌||◌, ◌&&◌, nat_eq}
+use Rattle.std.specs.Prelude.{ℕ, ◌-◌, ◌++◌, length, List, min, take, Bool, not, ◌||◌, ◌&&◌, nat_eq}
 use Rattle.outside.specs.Counts.{next_count, is_listed}
 
 -- what was written, how many bytes it takes in all and in one put, the numbers of the puts that are to fail, and the
@@ -16,18 +16,18 @@ pub record SinkState : Type 0 where
 abbrev pub free_room : SinkState → ℕ
 free_room s = s.room - length s.written
 
--- how many bytes it takes of a piece of `len` bytes: as many as one put may take and there is room for
-abbrev pub share_of : SinkState → ℕ → ℕ
-share_of s len = min (min len s.most) (free_room s)
+-- how many bytes it takes of a piece: as many as the piece has, one put may take and there is room for
+abbrev pub share_of : SinkState → List ℕ → ℕ
+share_of s piece = min (min (length piece) s.most) (free_room s)
 
--- whether a put of `len` bytes fails: it is listed, or it has bytes and finds no room
-abbrev pub fails_now : SinkState → ℕ → Bool
-fails_now s len = is_listed s.failing s.calls || (nat_eq (free_room s) 0 && not (nat_eq len 0))
-
--- the sink after a put that took these bytes
-abbrev pub after_taking : SinkState → List ℕ → SinkState
-after_taking s bytes = record s { written = s.written ++ bytes; calls = next_count s.calls }
+-- whether a put of this piece fails: it is listed, or the piece has bytes and finds no room
+abbrev pub fails_now : SinkState → List ℕ → Bool
+fails_now s piece = is_listed s.failing s.calls || (nat_eq (free_room s) 0 && not (nat_eq (length piece) 0))
 
 -- the sink after a put that failed
 abbrev pub after_failing : SinkState → SinkState
 after_failing s = record s { calls = next_count s.calls; faults = next_count s.faults }
+
+-- the sink after a put that took its share of the piece
+abbrev pub after_taking : SinkState → List ℕ → SinkState
+after_taking s piece = record s { written = s.written ++ take (share_of s piece) piece; calls = next_count s.calls }

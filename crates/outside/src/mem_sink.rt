@@ -29,7 +29,14 @@ impl Model for MemSink {
 
     ghost Value = { SinkState };
 
-    ghost view = { λ s. record { written = s.bytes.items; room = s.room; most = s.most; failing = s.failing.items; calls = s.calls; faults = s.faults } };
+    ghost view = { λ s. record {
+      written = s.bytes.items;
+      room = s.room;
+      most = s.most;
+      failing = s.failing.items;
+      calls = s.calls;
+      faults = s.faults;
+    } };
 
     ghost invariant = { λ s. (vec_len s.bytes ≤ s.room) × (s.room ≤ vec_capacity s.bytes) × (1 ≤ s.most) };
 }
@@ -39,7 +46,8 @@ impl MemSink {
     /// put is to fail, none is counted, and there is no fault. The room is taken now, so that no put wants memory.
     pub fn new(alloc: Global, room: usize, most: usize) -> Result<MemSink, NoMemory>
         requires { 1 ≤ most }
-        ensures { IfOk result (λ sink. sink ≡ record { written = []; room = room; most = most; failing = []; calls = 0; faults = 0 }) }
+        ensures { IfOk result (λ sink.
+            sink ≡ record { written = []; room = room; most = most; failing = []; calls = 0; faults = 0 }) }
     {
         match Vec::with_capacity(alloc, room) {
             Ok(bytes) => Ok(MemSink {
@@ -85,16 +93,18 @@ impl Sink for MemSink {
     fn put(&mut self, piece: &[u8]) -> Put
         // The promises of every sink.
         ensures faults_never_fall { self.old.faults ≤ self.new.faults }
-        ensures taken { (n : ℕ) → result ≡ Put.Taken n → Appended (Some self.old.written) (take n piece.now) (Some self.new.written) }
+        ensures taken { (n : ℕ) → result ≡ Put.Taken n →
+            Appended (Some self.old.written) (take n piece.now) (Some self.new.written) }
         ensures within_piece { (n : ℕ) → result ≡ Put.Taken n → n ≤ length piece.now }
         ensures progress { (n : ℕ) → result ≡ Put.Taken n → 0 < length piece.now → 0 < n }
         ensures failed { result ≡ Put.Failed → Rose self.old.faults self.new.faults }
         ensures failed_writes_nothing { result ≡ Put.Failed → Some self.new.written ≡ Some self.old.written }
 
         // What this one adds.
-        ensures fails { OnTrue (fails_now self.old (length piece.now)) ((result ≡ Put.Failed) × (self.new ≡ after_failing self.old)) }
-        ensures takes { OnFalse (fails_now self.old (length piece.now)) (self.new ≡ after_taking self.old (take (share_of self.old (length piece.now)) piece.now)) }
-        ensures takes_count { OnFalse (fails_now self.old (length piece.now)) (result ≡ Put.Taken (share_of self.old (length piece.now))) }
+        ensures fails { OnTrue (fails_now self.old piece.now) (result ≡ Put.Failed) }
+        ensures after_fault { OnTrue (fails_now self.old piece.now) (self.new ≡ after_failing self.old) }
+        ensures takes { OnFalse (fails_now self.old piece.now) (self.new ≡ after_taking self.old piece.now) }
+        ensures takes_count { OnFalse (fails_now self.old piece.now) (result ≡ Put.Taken (share_of self.old piece.now)) }
     {
         let call = self.calls;
         self.calls = call.saturating_add(1);

@@ -48,7 +48,8 @@ impl<'a, R: Files> Shelf for RealShelf<'a, R> {
         // The promises of every shelf, where nothing is told.
         ensures faults_never_fall { self.old ≤ self.new }
         ensures within_limit { result ≡ Loaded.Whole → vec_len into.new ≤ limit }
-        ensures longer_is_too_long { IsTooLong None name.now limit → result ≢ Loaded.Failed → result ≢ Loaded.NoMemory → result ≡ Loaded.TooLong }
+        ensures longer_is_too_long { IsTooLong None name.now limit →
+            result ≢ Loaded.Failed → result ≢ Loaded.NoMemory → result ≡ Loaded.TooLong }
         ensures failed { result ≡ Loaded.Failed → Rose self.old self.new ⊎ IsMissing None name.now }
         ensures emptied { result ≢ Loaded.Whole → into.new.items ≡ [] }
 

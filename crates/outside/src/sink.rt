@@ -29,7 +29,8 @@ pub trait Sink {
     fn put(&mut self, piece: &[u8]) -> Put
         ensures faults_never_fall { faults self.old ≤ faults self.new }
 
-        ensures taken { (n : ℕ) → result ≡ Put.Taken n → Appended (written self.old) (take n piece.now) (written self.new) }
+        ensures taken { (n : ℕ) → result ≡ Put.Taken n →
+            Appended (written self.old) (take n piece.now) (written self.new) }
         ensures within_piece { (n : ℕ) → result ≡ Put.Taken n → n ≤ length piece.now }
         ensures progress { (n : ℕ) → result ≡ Put.Taken n → 0 < length piece.now → 0 < n }
 
