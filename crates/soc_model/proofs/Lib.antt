@@ -1,0 +1,5 @@
+pub mod Entries
+pub mod Places
+pub mod Parents
+pub mod Sums
+pub mod Limits

@@ -1,0 +1,5 @@
+pub mod Chips
+pub mod Lookups
+pub mod Faults
+pub mod Sizes
+pub mod SoundChips
