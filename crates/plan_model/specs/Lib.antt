@@ -1,0 +1,13 @@
+pub mod Cells
+pub mod Operations
+pub mod Plans
+pub mod Views
+pub mod Runs
+pub mod OneTest
+pub mod Right
+pub mod Rules
+pub mod Bounds
+pub mod Certificates
+pub mod Faults
+pub mod SoundLimits
+pub mod Listing

@@ -1,0 +1,47 @@
+// The laws over the definitions. Each is the contract of a function that does nothing: a caller learns it by the call.
+ghost use Rattle.std.specs.Prelude.{◌≡◌, ℕ, ◌≤◌, List, length, true, false};
+ghost use Rattle.soc_model.specs.declared.Test.{Test};
+ghost use Rattle.soc_model.specs.Chips.{ModuleValue, SocValue};
+ghost use Rattle.plan_model.specs.Cells.{ChainValue, IsProper, chain_cells};
+ghost use Rattle.plan_model.specs.Plans.{LimitsValue, PlanValue, BoundValue, operations_of};
+ghost use Rattle.plan_model.specs.Runs.{Content};
+ghost use Rattle.plan_model.specs.OneTest.{LawOfOneTest};
+ghost use Rattle.plan_model.specs.Right.{IsRight};
+ghost use Rattle.plan_model.specs.Rules.{IsGood, IsGoodAlone, IsBound};
+ghost use Rattle.plan_model.specs.Bounds.{lower_time};
+ghost use Rattle.plan_model.specs.Certificates.{IsAccepted, IsElementary};
+ghost use Rattle.plan_model.specs.Faults.{FaultValue, IsFault, IsFaultless};
+
+/// A chain runs right through the operations of its test, for any contents and any bits at first.
+pub fn law_of_one_test()
+    ensures { LawOfOneTest }
+{}
+
+/// Every good plan runs right, bit by bit, for every content.
+pub fn good_plans_run_right()
+    ensures { (soc : SocValue) (limits : LimitsValue) (plan : PlanValue) (content : Content) → IsGood soc limits plan → IsRight soc limits plan content }
+{}
+
+/// A plan that is good under any limits is good where its own wires are the only limit.
+pub fn good_without_limits()
+    ensures { (soc : SocValue) (limits : LimitsValue) (plan : PlanValue) → IsGood soc limits plan → IsGoodAlone soc plan }
+{}
+
+/// No proper wrapper on so many wires makes a test shorter than its lower time; that of a self test is its cycles.
+pub fn lower_times_are_least()
+    ensures over_wires { (m : ModuleValue) (t : Test) (chains : List ChainValue) (w : ℕ) → t.tam ≡ true → 1 ≤ t.patterns → 1 ≤ length chains → length chains ≤ w → IsProper m t.scan chains → lower_time m t w ≤ length (operations_of m t (chain_cells m t.scan chains)) }
+    ensures self_tests { (m : ModuleValue) (t : Test) (w : ℕ) → t.tam ≡ false → lower_time m t w ≡ t.patterns }
+{}
+
+/// An accepted certificate, of any of the six kinds, bounds every good plan on those wires; so does each elementary
+/// value.
+pub fn certificates_are_bounds()
+    ensures accepted { (soc : SocValue) (limits : LimitsValue) (bound : BoundValue) → 1 ≤ limits.wires → IsAccepted soc limits bound → IsBound soc limits bound.cycles }
+    ensures elementary { (soc : SocValue) (limits : LimitsValue) (n : ℕ) → 1 ≤ limits.wires → IsElementary soc limits n → IsBound soc limits n }
+{}
+
+/// A plan has at most one fault, and none where it is good and its certificate is accepted.
+pub fn faults_are_exact()
+    ensures one { (soc : SocValue) (limits : LimitsValue) (plan : PlanValue) (f g : FaultValue) → IsFault soc limits plan f → IsFault soc limits plan g → f ≡ g }
+    ensures none { (soc : SocValue) (limits : LimitsValue) (plan : PlanValue) (f : FaultValue) → IsFault soc limits plan f → IsFaultless soc limits plan → ⊥ }
+{}
