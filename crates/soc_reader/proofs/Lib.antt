@@ -1,0 +1,5 @@
+pub mod DifferentNumbers
+pub mod EightWords
+pub mod ItemsRead
+pub mod ChipsSaid
+pub mod Reading

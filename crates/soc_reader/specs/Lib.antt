@@ -1,0 +1,3 @@
+pub mod ChipForm
+pub mod ItemReads
+pub mod Refusals
