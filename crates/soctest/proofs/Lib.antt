@@ -1,0 +1,13 @@
+pub mod Completeness
+pub mod Firsts
+pub mod Forms
+pub mod Headlines
+pub mod LimitsLemmas
+pub mod LineFacts
+pub mod NarrowRules
+pub mod OwnCertificates
+pub mod OwnModules
+pub mod OwnStarts
+pub mod PlanLemmas
+pub mod FileStages
+pub mod NarrowChips

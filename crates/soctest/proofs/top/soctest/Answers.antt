@@ -1,0 +1,26 @@
+use Rattle.soctest.specs.declared.Status.TheVariants.{ReadFault}
+use Rattle.soctest.proofs.FileStages.{unread_of, answer_of, ends_answered}
+use Rattle.soctest.proofs.Completeness.{complete}
+use Rattle.soctest.proofs.Headlines.{headline}
+use Rattle.soctest.proofs.top.soctest.Goals as goal
+
+pub returns-in-Ok-clause-complete : goal.returns-in-Ok-clause-complete
+returns-in-Ok-clause-complete g c =
+    let all = rw c.as_slice.ensures.value at c.in-Ok.ensures.all in
+    complete (record { one = c.faults_are_exact.ensures.one; none = c.faults_are_exact.ensures.none }) _ _ _ _ (g.K.Sink.faults c.args.out.now) (g.K.Sink.faults c.put_all.new.out) _ _ c.in-Answered.status
+    (ends_answered _ _ _ _ _ _ _ _ c.in-Answered.status c.in-Answered.text.items (answer_of _ _ _ _ c.in-Answered.status c.in-Answered.text c.in-Answered.ensures.decides) all)
+
+pub returns-in-Ok-clause-headline : goal.returns-in-Ok-clause-headline
+returns-in-Ok-clause-headline g c =
+    let all = rw c.as_slice.ensures.value at c.in-Ok.ensures.all in
+    headline (record { right = c.good_plans_run_right.ensures; bound = c.certificates_are_bounds.ensures.accepted }) _ _ (g.H.Shelf.faults c.args.shelf.now) (g.H.Shelf.faults c.decide.new.shelf) (g.K.Sink.faults c.args.out.now) (g.K.Sink.faults c.put_all.new.out) _ _ c.in-Answered.status
+    (ends_answered _ _ _ _ _ _ _ _ c.in-Answered.status c.in-Answered.text.items (answer_of _ _ _ _ c.in-Answered.status c.in-Answered.text c.in-Answered.ensures.decides) all)
+
+pub returns-in-CannotRead-clause-ends : goal.returns-in-CannotRead-clause-ends
+returns-in-CannotRead-clause-ends g c =
+    (c.in-Err-put_all.ensures.fault, (ReadFault, c.unread_line.result.now, (c.in-CannotRead.file, c.unread_line.ensures.text, unread_of _ _ _ _ c.in-CannotRead.file c.in-CannotRead.ensures.decides), c.in-Err-put_all.ensures.front))
+
+pub returns-in-Ok-put_all-clause-complete : goal.returns-in-Ok-put_all-clause-complete
+returns-in-Ok-put_all-clause-complete g c =
+    complete (record { one = c.faults_are_exact.ensures.one; none = c.faults_are_exact.ensures.none }) _ _ (g.H.Shelf.faults c.args.shelf.now) (g.H.Shelf.faults c.decide.new.shelf) (g.K.Sink.faults c.args.out.now) (g.K.Sink.faults c.put_all-in-CannotRead.new.out) _ _ ReadFault
+    (c.unread_line.result.now, (c.in-CannotRead.file, c.unread_line.ensures.text, unread_of _ _ _ _ c.in-CannotRead.file c.in-CannotRead.ensures.decides), c.in-Ok-put_all.ensures.all)

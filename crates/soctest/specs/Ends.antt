@@ -1,0 +1,81 @@
+-- How a call ends, and what is then written.
+use Rattle.std.specs.Prelude.{◌≡◌, ◌≢◌, ℕ, ◌⊎◌, List, Option, None, Some, IfSome, IsTrue}
+use Rattle.std.specs.FinMap.{get}
+use Rattle.outside.specs.Held.{Files, Rose, Appended, AppendedFront}
+use Rattle.soc_model.specs.Chips.{SocValue}
+use Rattle.plan_model.specs.Plans.{LimitsValue, PlanValue}
+use Rattle.plan_model.specs.Runs.{Content}
+use Rattle.plan_model.specs.Right.{IsRight}
+use Rattle.plan_model.specs.Rules.{IsBound}
+use Rattle.soc_reader.specs.ChipForm.{SaysChip}
+use Rattle.soctest.specs.declared.FileKind.{FileKind}
+use Rattle.soctest.specs.declared.FileKind.TheVariants.{Soc, Limits, Plan}
+use Rattle.soctest.specs.declared.Status.{Status}
+use Rattle.soctest.specs.declared.Status.TheVariants.{Done, Refused, BadWords, ReadFault, TooLong, WriteFault, NoMemory}
+use Rattle.soctest.specs.Commands.{CommandValue, Check}
+use Rattle.soctest.specs.LimitsForm.{SaysLimits}
+use Rattle.soctest.specs.PlanForm.{SaysPlan}
+use Rattle.soctest.specs.Texts.{is_line, unread_line, accepted_line, bad_words_line}
+use Rattle.soctest.specs.Answers.{IsAnswer, IsRead}
+use Rattle.soctest.specs.Decides.{IsUnreadOf}
+
+abbrev pub status_number : Status → ℕ
+status_number Done = 0
+status_number Refused = 1
+status_number BadWords = 2
+status_number ReadFault = 3
+status_number TooLong = 4
+status_number WriteFault = 5
+status_number NoMemory = 6
+
+-- a status and its text answer the command, over what the shelf tells and its counts of faults
+abbrev pub MayAnswer : Option CommandValue → Option Files → ℕ → ℕ → Status → List ℕ → Type 0
+MayAnswer command held before after ReadFault text = (file : FileKind) × (text ≡ unread_line file) × IsUnreadOf command held before after file
+MayAnswer command held before after WriteFault text = ⊥
+MayAnswer command held before after NoMemory text = ⊥
+MayAnswer command held before after status text = IfSome held (λ files. IsAnswer command files status text)
+
+-- What is written when a call ends so, where these texts may be answered. A failed output stands in the place of the
+-- status that it was for, with a prefix of that text.
+abbrev pub Ends : (Status → List ℕ → Type 0) → ℕ → ℕ → Option (List ℕ) → Status → Option (List ℕ) → Type 0
+Ends May before after old NoMemory new = new ≡ old
+Ends May before after old WriteFault new = Rose before after × ((status : Status) × (text : List ℕ) × May status text × AppendedFront old text new)
+Ends May before after old status new = (text : List ℕ) × May status text × Appended old text new
+
+-- the statuses that come with exactly one line, and with nothing
+abbrev pub OneLine : Option (List ℕ) → Status → Option (List ℕ) → Type 0
+OneLine old Done new = Unit {0}
+OneLine old WriteFault new = Unit {0}
+OneLine old NoMemory new = new ≡ old
+OneLine old status new = (line : List ℕ) × IsTrue (is_line line) × Appended old line new
+
+-- BadWords comes exactly where the words are no command, but for want of memory and a failed output.
+abbrev pub EndsByWords : Option CommandValue → Type 0 → Status → Type 0
+EndsByWords None sink_failed end = (end ≡ BadWords) ⊎ (end ≡ NoMemory) ⊎ ((end ≡ WriteFault) × sink_failed)
+EndsByWords (Some command) sink_failed end = end ≢ BadWords
+
+-- Where neither count of faults rose and the files give an answer, the call ends with it, or for want of memory.
+abbrev pub EndsAsWanted : Status → List ℕ → Option (List ℕ) → Status → Option (List ℕ) → Type 0
+EndsAsWanted wanted text old end new = ((end ≡ wanted) × Appended old text new) ⊎ (end ≡ NoMemory)
+
+abbrev pub Complete : Option CommandValue → Option Files → Type 0 → Type 0 → Option (List ℕ) → Status → Option (List ℕ) → Type 0
+Complete command held shelf_failed sink_failed old end new =
+    (files : Files) (wanted : Status) (text : List ℕ) → held ≡ Some files → ¬ shelf_failed → ¬ sink_failed → IsAnswer command files wanted text → EndsAsWanted wanted text old end new
+
+-- What an accepted plan is: it was read from the held files, it runs right for every content and ends in exactly the
+-- cycles that were written, and no good plan of the chip under the limits ends before the bound that was written.
+pub record IsTrustworthy (files : Files) (soc limits plan : List ℕ) (old new : Option (List ℕ)) : Type 0 where
+  pub chip : SocValue
+  pub bounds : LimitsValue
+  pub value : PlanValue
+  pub chip_read : IsRead Soc SaysChip (get files soc) chip
+  pub limits_read : IsRead Limits SaysLimits (get files limits) bounds
+  pub plan_read : IsRead Plan SaysPlan (get files plan) value
+  pub right : (content : Content) → IsRight chip bounds value content
+  pub bound : IsBound chip bounds value.bound.cycles
+  pub written : Appended old (accepted_line value) new
+
+-- The headline, where the shelf tells what it holds.
+abbrev pub Headline : Option CommandValue → Option Files → Option (List ℕ) → Status → Option (List ℕ) → Type 0
+Headline command held old end new =
+    (files : Files) (soc limits plan : List ℕ) → held ≡ Some files → command ≡ Some (Check soc limits plan) → end ≡ Done → IsTrustworthy files soc limits plan old new

@@ -1,0 +1,14 @@
+pub mod Answers
+pub mod Commands
+pub mod Decides
+pub mod Ends
+pub mod FaultValues
+pub mod FormAnswers
+pub mod FourWords
+pub mod LimitsForm
+pub mod Narrow
+pub mod OwnTests
+pub mod PlanForm
+pub mod PlanParts
+pub mod Stages
+pub mod Texts

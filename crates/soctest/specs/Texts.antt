@@ -1,0 +1,98 @@
+-- The lines that are written.
+use Rattle.std.specs.Prelude.{ℕ, ◌++◌, List, [], ◌∷◌, Bool, false, not, ◌&&◌, nat_eq, codes, decimal, if◌then◌else◌}
+use Rattle.std.specs.List.{list_all}
+use Rattle.soc_model.specs.declared.TestId.{TestId}
+use Rattle.plan_model.specs.Plans.{PlanValue}
+use Rattle.plan_model.specs.Certificates.{CertificateFault, BadListFault, LessFault}
+use Rattle.plan_model.specs.Faults.{FaultValue, WidthFault, UnknownModuleFault, ModulePlaceFault, WrapperListFault, CellsFault, TestsFault, WireFault, BusyFault, ParentFault, BeforeFault, PowerFault, CyclesFault, BoundFault}
+use Rattle.soctest.specs.declared.FileKind.{FileKind}
+use Rattle.soctest.specs.declared.FileKind.TheVariants.{Soc, Limits, Plan}
+
+-- one line feed, at the end
+abbrev pub is_line : List ℕ → Bool
+is_line [] = false
+is_line (b ∷ []) = nat_eq b 10
+is_line (b ∷ c ∷ bs) = not (nat_eq b 10) && is_line (c ∷ bs)
+
+-- no line feed
+abbrev pub no_feed : List ℕ → Bool
+no_feed bytes = list_all (λ b. not (nat_eq b 10)) bytes
+
+abbrev pub file_name : FileKind → List ℕ
+file_name Soc = codes "SOC"
+file_name Limits = codes "LIMITS"
+file_name Plan = codes "PLAN"
+
+abbrev pub unread_line : FileKind → List ℕ
+unread_line file = codes "cannot read " ++ file_name file ++ codes "\n"
+
+abbrev pub too_long_line : FileKind → List ℕ
+too_long_line file = codes "too long " ++ file_name file ++ codes "\n"
+
+-- a file of a form that isn't read yet
+abbrev pub unbuilt_line : FileKind → List ℕ
+unbuilt_line file = codes "refused unbuilt " ++ file_name file ++ codes "\n"
+
+abbrev pub bad_words_line : List ℕ
+bad_words_line = codes "bad words\n"
+
+-- two numbers, with a space between them
+abbrev pub two_numbers : (a b : ℕ) → List ℕ
+two_numbers a b = decimal a ++ codes " " ++ decimal b
+
+-- a plan that is accepted: its cycles, and the cycles of its lower bound
+abbrev pub accepted_line : PlanValue → List ℕ
+accepted_line plan = codes "accepted " ++ two_numbers plan.cycles plan.bound.cycles ++ codes "\n"
+
+-- ---- the faults of a plan
+
+abbrev pub test_text : TestId → List ℕ
+test_text id = decimal id.module ++ codes "." ++ decimal id.test
+
+abbrev pub wrapper_text : ℕ → Bool → List ℕ
+wrapper_text m scan = decimal m ++ (if scan then codes " scan" else codes " terminals")
+
+-- two tests, with a space between them
+abbrev pub pair_text : TestId → TestId → List ℕ
+pair_text a b = test_text a ++ codes " " ++ test_text b
+
+abbrev pub clash_text : TestId → TestId → ℕ → List ℕ
+clash_text a b cycle = pair_text a b ++ codes " " ++ decimal cycle
+
+abbrev pub certificate_text : CertificateFault → List ℕ
+certificate_text (BadListFault place) = codes "list " ++ decimal place
+certificate_text (LessFault claimed shown) = codes "less " ++ two_numbers claimed shown
+
+abbrev pub fault_keyword : FaultValue → List ℕ
+fault_keyword (WidthFault bus) = codes "F1 "
+fault_keyword (UnknownModuleFault m) = codes "F2 "
+fault_keyword (ModulePlaceFault m) = codes "F3 "
+fault_keyword (WrapperListFault m scan) = codes "F4 "
+fault_keyword (CellsFault m scan) = codes "F5 "
+fault_keyword (TestsFault id) = codes "F6 "
+fault_keyword (WireFault a b cycle) = codes "F7 "
+fault_keyword (BusyFault a b cycle) = codes "F8 "
+fault_keyword (ParentFault a b cycle) = codes "F9 "
+fault_keyword (BeforeFault a b) = codes "F10 "
+fault_keyword (PowerFault cycle sum) = codes "F11 "
+fault_keyword (CyclesFault right) = codes "F12 "
+fault_keyword (BoundFault fault) = codes "F13 "
+
+-- what a fault carries
+abbrev pub carried_text : FaultValue → List ℕ
+carried_text (WidthFault bus) = decimal bus
+carried_text (UnknownModuleFault m) = decimal m
+carried_text (ModulePlaceFault m) = decimal m
+carried_text (WrapperListFault m scan) = wrapper_text m scan
+carried_text (CellsFault m scan) = wrapper_text m scan
+carried_text (TestsFault id) = test_text id
+carried_text (WireFault a b cycle) = clash_text a b cycle
+carried_text (BusyFault a b cycle) = clash_text a b cycle
+carried_text (ParentFault a b cycle) = clash_text a b cycle
+carried_text (BeforeFault a b) = pair_text a b
+carried_text (PowerFault cycle sum) = two_numbers cycle sum
+carried_text (CyclesFault right) = decimal right
+carried_text (BoundFault fault) = certificate_text fault
+
+abbrev pub fault_line : FaultValue → List ℕ
+fault_line fault = codes "refused plan " ++ fault_keyword fault ++ carried_text fault ++ codes "\n"

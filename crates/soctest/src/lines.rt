@@ -1,0 +1,198 @@
+// The lines that are written.
+ghost use Rattle.std.specs.Prelude.{◌≡◌, ◌++◌, ◌&&◌, OnOk, IfOk, decimal, IsTrue};
+ghost use Rattle.plan_model.specs.Views.{plan_value};
+ghost use Rattle.soctest.specs.FaultValues.{fault_value, certificate_fault};
+ghost use Rattle.soctest.specs.Texts.{is_line, no_feed, unread_line as unread_text, too_long_line as too_long_text, unbuilt_line as unbuilt_text, accepted_line as accepted_text, test_text, wrapper_text, pair_text, clash_text, two_numbers, certificate_text, fault_keyword, carried_text, fault_line as fault_line_text};
+
+use crate::{BoundFault, FileKind, PlanFault};
+use outside::{NoMemory, push_number};
+use plan_model::Plan;
+use soc_model::TestId;
+use std::alloc::Global;
+
+/// `cannot read FILE`.
+pub fn unread_line(file: FileKind) -> &'static [u8]
+    ensures text { result.now ≡ unread_text file }
+    ensures line { IsTrue (is_line result.now) }
+{
+    match file {
+        FileKind::Soc => b"cannot read SOC\n",
+        FileKind::Limits => b"cannot read LIMITS\n",
+        FileKind::Plan => b"cannot read PLAN\n",
+    }
+}
+
+/// `too long FILE`.
+pub fn too_long_line(file: FileKind) -> &'static [u8]
+    ensures text { result.now ≡ too_long_text file }
+    ensures line { IsTrue (is_line result.now) }
+{
+    match file {
+        FileKind::Soc => b"too long SOC\n",
+        FileKind::Limits => b"too long LIMITS\n",
+        FileKind::Plan => b"too long PLAN\n",
+    }
+}
+
+/// `refused unbuilt FILE`, of a file whose form isn't read yet.
+pub fn unbuilt_line(file: FileKind) -> &'static [u8]
+    ensures text { result.now ≡ unbuilt_text file }
+    ensures line { IsTrue (is_line result.now) }
+{
+    match file {
+        FileKind::Soc => b"refused unbuilt SOC\n",
+        FileKind::Limits => b"refused unbuilt LIMITS\n",
+        FileKind::Plan => b"refused unbuilt PLAN\n",
+    }
+}
+
+fn push(to: &mut Vec<u8>, text: &[u8]) -> Result<(), NoMemory>
+    ensures text { OnOk result (to.new.items ≡ to.old.items ++ text.now) }
+    ensures plain { OnOk result (no_feed to.new.items ≡ (no_feed to.old.items && no_feed text.now)) }
+{
+    match to.extend_from_slice(text) {
+        Ok(()) => Ok(()),
+        Err(_) => Err(NoMemory),
+    }
+}
+
+fn push_decimal(to: &mut Vec<u8>, n: u128) -> Result<(), NoMemory>
+    ensures text { OnOk result (to.new.items ≡ to.old.items ++ decimal n) }
+    ensures plain { OnOk result (IsTrue (no_feed to.old.items) → IsTrue (no_feed to.new.items)) }
+{
+    push_number(to, n)
+}
+
+fn push_test(to: &mut Vec<u8>, id: &TestId) -> Result<(), NoMemory>
+    ensures text { OnOk result (to.new.items ≡ to.old.items ++ test_text id.now) }
+    ensures plain { OnOk result (IsTrue (no_feed to.old.items) → IsTrue (no_feed to.new.items)) }
+{
+    push_decimal(to, u128::from(id.module))?;
+    push(to, b".")?;
+    push_decimal(to, u128::from(id.test))
+}
+
+fn push_pair(to: &mut Vec<u8>, a: &TestId, b: &TestId) -> Result<(), NoMemory>
+    ensures text { OnOk result (to.new.items ≡ to.old.items ++ pair_text a.now b.now) }
+    ensures plain { OnOk result (IsTrue (no_feed to.old.items) → IsTrue (no_feed to.new.items)) }
+{
+    push_test(to, a)?;
+    push(to, b" ")?;
+    push_test(to, b)
+}
+
+fn push_clash(to: &mut Vec<u8>, a: &TestId, b: &TestId, cycle: u64) -> Result<(), NoMemory>
+    ensures text { OnOk result (to.new.items ≡ to.old.items ++ clash_text a.now b.now cycle) }
+    ensures plain { OnOk result (IsTrue (no_feed to.old.items) → IsTrue (no_feed to.new.items)) }
+{
+    push_pair(to, a, b)?;
+    push(to, b" ")?;
+    push_decimal(to, u128::from(cycle))
+}
+
+fn push_wrapper(to: &mut Vec<u8>, module: u64, scan: bool) -> Result<(), NoMemory>
+    ensures text { OnOk result (to.new.items ≡ to.old.items ++ wrapper_text «module» scan) }
+    ensures plain { OnOk result (IsTrue (no_feed to.old.items) → IsTrue (no_feed to.new.items)) }
+{
+    push_decimal(to, u128::from(module))?;
+    if scan {
+        push(to, b" scan")
+    } else {
+        push(to, b" terminals")
+    }
+}
+
+fn push_two(to: &mut Vec<u8>, a: u128, b: u128) -> Result<(), NoMemory>
+    ensures text { OnOk result (to.new.items ≡ to.old.items ++ two_numbers a b) }
+    ensures plain { OnOk result (IsTrue (no_feed to.old.items) → IsTrue (no_feed to.new.items)) }
+{
+    push_decimal(to, a)?;
+    push(to, b" ")?;
+    push_decimal(to, b)
+}
+
+fn push_certificate(to: &mut Vec<u8>, fault: &BoundFault) -> Result<(), NoMemory>
+    ensures text { OnOk result (to.new.items ≡ to.old.items ++ certificate_text (certificate_fault fault.now)) }
+    ensures plain { OnOk result (IsTrue (no_feed to.old.items) → IsTrue (no_feed to.new.items)) }
+{
+    match fault {
+        BoundFault::BadList { place } => {
+            push(to, b"list ")?;
+            push_decimal(to, *place as u128)
+        }
+        BoundFault::Less { claimed, shown } => {
+            push(to, b"less ")?;
+            push_two(to, u128::from(*claimed), *shown)
+        }
+    }
+}
+
+/// The name of a fault's rule, with a space behind it.
+fn keyword(fault: &PlanFault) -> &'static [u8]
+    ensures text { result.now ≡ fault_keyword (fault_value fault.now) }
+    ensures plain { IsTrue (no_feed result.now) }
+{
+    match fault {
+        PlanFault::Width { .. } => b"F1 ",
+        PlanFault::UnknownModule { .. } => b"F2 ",
+        PlanFault::ModulePlace { .. } => b"F3 ",
+        PlanFault::WrapperList { .. } => b"F4 ",
+        PlanFault::Cells { .. } => b"F5 ",
+        PlanFault::Tests { .. } => b"F6 ",
+        PlanFault::Wire { .. } => b"F7 ",
+        PlanFault::Busy { .. } => b"F8 ",
+        PlanFault::Parent { .. } => b"F9 ",
+        PlanFault::Before { .. } => b"F10 ",
+        PlanFault::Power { .. } => b"F11 ",
+        PlanFault::Cycles { .. } => b"F12 ",
+        PlanFault::Bound(_) => b"F13 ",
+    }
+}
+
+/// What a fault carries.
+fn push_carried(to: &mut Vec<u8>, fault: &PlanFault) -> Result<(), NoMemory>
+    ensures text { OnOk result (to.new.items ≡ to.old.items ++ carried_text (fault_value fault.now)) }
+    ensures plain { OnOk result (IsTrue (no_feed to.old.items) → IsTrue (no_feed to.new.items)) }
+{
+    match fault {
+        PlanFault::Width { bus } => push_decimal(to, *bus as u128),
+        PlanFault::UnknownModule { module } | PlanFault::ModulePlace { module } => {
+            push_decimal(to, u128::from(*module))
+        }
+        PlanFault::WrapperList { module, scan } | PlanFault::Cells { module, scan } => {
+            push_wrapper(to, *module, *scan)
+        }
+        PlanFault::Tests { test } => push_test(to, test),
+        PlanFault::Wire { a, b, cycle }
+        | PlanFault::Busy { a, b, cycle }
+        | PlanFault::Parent { a, b, cycle } => push_clash(to, a, b, *cycle),
+        PlanFault::Before { a, b } => push_pair(to, a, b),
+        PlanFault::Power { cycle, sum } => push_two(to, u128::from(*cycle), u128::from(*sum)),
+        PlanFault::Cycles { right } => push_decimal(to, u128::from(*right)),
+        PlanFault::Bound(fault) => push_certificate(to, fault),
+    }
+}
+
+/// `refused plan` and the fault.
+pub fn fault_line(alloc: Global, fault: &PlanFault) -> Result<Vec<u8>, NoMemory>
+    ensures text { IfOk result (λ text. text.items ≡ fault_line_text (fault_value fault.now)) }
+    ensures line { IfOk result (λ text. IsTrue (is_line text.items)) }
+{
+    let mut text = Vec::new(alloc);
+    push(&mut text, b"refused plan ")?;
+    push(&mut text, keyword(fault))?;
+    push_carried(&mut text, fault)?;
+    push(&mut text, b"\n")?;
+    Ok(text)
+}
+
+/// `accepted` with the plan's cycles and those of its lower bound.
+pub fn accepted_line(alloc: Global, plan: &Plan) -> Result<Vec<u8>, NoMemory>
+    ensures text { IfOk result (λ text. text.items ≡ accepted_text (plan_value plan.now)) }
+{
+    let mut text = Vec::new(alloc);
+    push(&mut text, b"accepted ")?;
+    push_two(&mut text, u128::from(plan.cycles), u128::from(plan.bound.cycles))?;
+    push(&mut text, b"\n")?;
+    Ok(text)
+}
