@@ -5,9 +5,9 @@ pub mod Headlines
 pub mod LimitsLemmas
 pub mod LineFacts
 pub mod NarrowRules
-pub mod OwnCertificates
-pub mod OwnModules
-pub mod OwnStarts
+pub mod ModuleCertificates
+pub mod SelfTestModules
+pub mod SelfTestStarts
 pub mod PlanLemmas
 pub mod FileStages
 pub mod NarrowChips

@@ -17,7 +17,7 @@ use Rattle.plan_model.proofs.PlannedTests.{IsLive, live_here, live_at, Origin, o
 use Rattle.plan_model.proofs.GoodPlansRunRight.{planned_place}
 use Rattle.soctest.specs.Narrow.{IsNarrowModule, IsNarrowChip}
 use Rattle.soctest.specs.Stages.{IsNarrow}
-use Rattle.soctest.proofs.OwnModules.{IsOwn, Idle, Live, own}
+use Rattle.soctest.proofs.SelfTestModules.{IsOwn, Idle, Live, own}
 
 each_nil : {X : Type 0} (P : List X → X → Type 0) (xs : List X) → xs ≡ [] → Each P xs
 each_nil P xs none n x at = let at' = rw none at at in absurd cc

@@ -7,7 +7,7 @@ pub mod FormAnswers
 pub mod FourWords
 pub mod LimitsForm
 pub mod Narrow
-pub mod OwnTests
+pub mod SelfTests
 pub mod PlanForm
 pub mod PlanParts
 pub mod Stages

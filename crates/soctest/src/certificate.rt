@@ -1,10 +1,10 @@
 // Whether a certificate shows what it claims: no good plan has fewer cycles.
-ghost use Rattle.std.specs.Prelude.{◌≡◌, ℕ, ◌<◌, ◌≤◌, length, OnOk, IfErr, IsOk};
+ghost use Rattle.std.specs.Prelude.{◌≡◌, ℕ, ◌<◌, length, OnOk, IfErr, IsOk};
 ghost use Rattle.soc_model.specs.Chips.{soc_value};
 ghost use Rattle.soc_model.specs.SoundChips.{IsSoundChip};
 ghost use Rattle.plan_model.specs.Bounds.{module_bound};
 ghost use Rattle.plan_model.specs.Certificates.{IsAccepted, IsCertificateFault};
-ghost use Rattle.plan_model.specs.Plans.{BoundValue, OfModule};
+ghost use Rattle.plan_model.specs.Plans.{OfModule};
 ghost use Rattle.plan_model.specs.Rules.{IsBound};
 ghost use Rattle.plan_model.specs.SoundLimits.{IsSoundLimits};
 ghost use Rattle.plan_model.specs.Views.{limits_value, bound_value};
@@ -12,7 +12,7 @@ ghost use Rattle.soctest.specs.FaultValues.{certificate_fault};
 ghost use Rattle.soctest.specs.Narrow.{IsNarrowChip, IsOfModule};
 
 use crate::BoundFault;
-use crate::own_tests::own_test;
+use crate::self_tests::self_test;
 use outside::NoMemory;
 use plan_model::{Bound, Limits, Why, certificates_are_bounds};
 use soc_model::{Soc, place_of};
@@ -36,7 +36,7 @@ fn module_cycles(soc: &Soc, place: usize) -> u64
     requires place { place < length (soc_value soc.now).modules }
     ensures { (wires : ℕ) → result ≡ module_bound (soc_value soc.now) wires place }
 {
-    match own_test(soc, place) {
+    match self_test(soc, place) {
         Some(test) => test.cycles,
         None => 0,
     }

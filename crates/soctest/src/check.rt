@@ -8,19 +8,19 @@ ghost use Rattle.plan_model.specs.declared.TheConstants.{START_MOST};
 ghost use Rattle.plan_model.specs.Faults.{IsFault, IsFaultless};
 ghost use Rattle.plan_model.specs.Plans.{LimitsValue};
 ghost use Rattle.plan_model.specs.Right.{IsRight};
-ghost use Rattle.plan_model.specs.Rules.{Each, IsFirstBreach, IsBound, StartsOnce, live_ids, Starts, Cycles};
+ghost use Rattle.plan_model.specs.Rules.{Each, IsFirstBreach, IsBound, StartsOnce, Starts, Cycles};
 ghost use Rattle.plan_model.specs.Runs.{Content};
 ghost use Rattle.plan_model.specs.SoundLimits.{IsSoundLimits};
 ghost use Rattle.plan_model.specs.Views.{limits_value, plan_value};
 ghost use Rattle.soctest.specs.FaultValues.{fault_value};
 ghost use Rattle.soctest.specs.Narrow.{IsNarrowChip, IsNarrowLimits, IsNarrowPlan};
-ghost use Rattle.soctest.specs.declared.own_tests.OwnTest.{OwnTest};
-ghost use Rattle.soctest.specs.OwnTests.{own_test_at, IsOwnTest, IsFree, IsStarted, AreStarts, end_by};
+ghost use Rattle.soctest.specs.declared.self_tests.SelfTest.{SelfTest};
+ghost use Rattle.soctest.specs.SelfTests.{self_test_at, IsSelfTest, IsFree, IsStarted, AreStarts, end_by};
 ghost use Rattle.soctest.specs.Stages.{IsStage, IsNarrow, HasRoom, places_in};
 
 use crate::PlanFault;
 use crate::certificate::{BoundScratch, check_bound};
-use crate::own_tests::own_test;
+use crate::self_tests::self_test;
 use outside::NoMemory;
 use plan_model::{Limits, Plan, faults_are_exact, good_plans_run_right};
 use soc_model::{Soc, TestId, place_of};
@@ -50,11 +50,11 @@ impl Scratch {
 /// The place of the module whose live test this is.
 fn place_of_test(soc: &Soc, id: TestId) -> Option<usize>
     requires { IsSoundChip (soc_value soc.now) }
-    ensures found { IfSome result (λ place. (t : OwnTest) × IsOwnTest (soc_value soc.now) place t × (t.id ≡ id)) }
-    ensures none { IfNone result ((place : ℕ) (t : OwnTest) → IsOwnTest (soc_value soc.now) place t → t.id ≢ id) }
+    ensures found { IfSome result (λ place. (t : SelfTest) × IsSelfTest (soc_value soc.now) place t × (t.id ≡ id)) }
+    ensures none { IfNone result ((place : ℕ) (t : SelfTest) → IsSelfTest (soc_value soc.now) place t → t.id ≢ id) }
 {
     let place = place_of(soc, id.module)?;
-    let test = own_test(soc, place)?;
+    let test = self_test(soc, place)?;
     if test.id == id { Some(place) } else { None }
 }
 
@@ -100,7 +100,7 @@ fn missing_at(soc: &Soc, room: &[Option<u64>], place: usize) -> Option<TestId>
     ensures missing { IfSome result (λ id. IsFree (soc_value soc.now) room.now id place) }
     ensures none { IfNone result (IsStarted (soc_value soc.now) room.now place) }
 {
-    let test = own_test(soc, place)?;
+    let test = self_test(soc, place)?;
     if room[place].is_none() {
         Some(test.id)
     } else {
@@ -147,10 +147,10 @@ fn end_at(soc: &Soc, room: &[Option<u64>], place: usize) -> u64
     requires sound { IsSoundChip (soc_value soc.now) }
     requires place { place < length (soc_value soc.now).modules }
     requires room { place < length room.now }
-    requires early { (t : OwnTest) (start : ℕ) → IsOwnTest (soc_value soc.now) place t → slice_get room.now place ≡ Some (Some start) → start ≤ START_MOST }
-    ensures { (start : Option ℕ) → slice_get room.now place ≡ Some start → result ≡ end_by (own_test_at (soc_value soc.now) place) start }
+    requires early { (t : SelfTest) (start : ℕ) → IsSelfTest (soc_value soc.now) place t → slice_get room.now place ≡ Some (Some start) → start ≤ START_MOST }
+    ensures { (start : Option ℕ) → slice_get room.now place ≡ Some start → result ≡ end_by (self_test_at (soc_value soc.now) place) start }
 {
-    match own_test(soc, place) {
+    match self_test(soc, place) {
         Some(test) => room[place].unwrap_or(0) + test.cycles,
         None => 0,
     }

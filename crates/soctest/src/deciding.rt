@@ -11,12 +11,14 @@ ghost use Rattle.soctest.specs.Narrow.{IsNarrowChip, IsNarrowLimits, IsNarrowPla
 ghost use Rattle.soctest.specs.Commands.{command_of};
 ghost use Rattle.soctest.specs.Decides.{DecidesCheck, DecidesPlan, DecidesLimits, DecidesSoc, Decides, Gives, GivesText};
 
-use crate::limits_form::read_limits;
 use crate::check::{Scratch, check_plan};
+use crate::limits_form::read_limits;
 use crate::lines::{accepted_line, fault_line, too_long_line, unbuilt_line};
 use crate::plan_form::read_plan;
 use crate::words::command;
-use crate::{Command, FILE_MOST, FileKind, LimFault, PLAN_FILE_MOST, PlanTextFault, Status, Verdict};
+use crate::{
+    Command, FILE_MOST, FileKind, LimFault, PLAN_FILE_MOST, PlanTextFault, Status, Verdict,
+};
 use outside::{Loaded, NoMemory, Shelf};
 use plan_model::{Limits, Plan};
 use soc_model::Soc;

@@ -192,7 +192,11 @@ pub fn accepted_line(alloc: Global, plan: &Plan) -> Result<Vec<u8>, NoMemory>
 {
     let mut text = Vec::new(alloc);
     push(&mut text, b"accepted ")?;
-    push_two(&mut text, u128::from(plan.cycles), u128::from(plan.bound.cycles))?;
+    push_two(
+        &mut text,
+        u128::from(plan.cycles),
+        u128::from(plan.bound.cycles),
+    )?;
     push(&mut text, b"\n")?;
     Ok(text)
 }

@@ -9,8 +9,8 @@ mod deciding;
 mod four_words;
 mod limits_form;
 mod lines;
-mod own_tests;
 mod plan_form;
+mod self_tests;
 mod top;
 mod words;
 
@@ -183,3 +183,5 @@ fn main(rt: HostRuntime) -> ExitCode {
 
 #[cfg(test)]
 mod form_tests;
+#[cfg(test)]
+mod tests;

@@ -2,7 +2,7 @@ use Rattle.std.proofs.Common.{◌≡◌, refl, sym, ◌∙◌, arith}
 use Rattle.soc_model.specs.Chips.{soc_value}
 use Rattle.plan_model.specs.Bounds.{module_bound}
 use Rattle.plan_model.specs.Views.{limits_value}
-use Rattle.soctest.proofs.OwnCertificates.{value_is, in_chip}
+use Rattle.soctest.proofs.ModuleCertificates.{value_is, in_chip}
 use Rattle.soctest.proofs.certificate.check_module.Goals as goal
 
 pub returns-then-shown-cycles-clause-fault : goal.returns-then-shown-cycles-clause-fault

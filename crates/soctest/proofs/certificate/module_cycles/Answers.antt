@@ -1,7 +1,7 @@
 use Rattle.std.proofs.Common.{ap, sym, ◌∙◌}
 use Rattle.soc_model.specs.Chips.{soc_value}
-use Rattle.soctest.specs.OwnTests.{cycles_of}
-use Rattle.soctest.proofs.OwnModules.{module_bound_is}
+use Rattle.soctest.specs.SelfTests.{cycles_of}
+use Rattle.soctest.proofs.SelfTestModules.{module_bound_is}
 use Rattle.soctest.proofs.certificate.module_cycles.Goals as goal
 
 pub returns-in-Some : goal.returns-in-Some

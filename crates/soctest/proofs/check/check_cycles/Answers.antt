@@ -7,9 +7,9 @@ use Rattle.plan_model.specs.Plans.{PlanValue, planned, end_of, greatest}
 use Rattle.plan_model.specs.Views.{plan_value}
 use Rattle.plan_model.proofs.Greatest.{greatest_more}
 use Rattle.soctest.specs.Narrow.{IsNarrowChip}
-use Rattle.soctest.specs.OwnTests.{own_test_of, end_in}
-use Rattle.soctest.proofs.OwnModules.{ends_are}
-use Rattle.soctest.proofs.OwnStarts.{end_step, start_small}
+use Rattle.soctest.specs.SelfTests.{self_test_of, end_in}
+use Rattle.soctest.proofs.SelfTestModules.{ends_are}
+use Rattle.soctest.proofs.SelfTestStarts.{end_step, start_small}
 use Rattle.soctest.proofs.check.check_cycles.Goals as goal
 
 pub end_at-requires-clause-early : goal.end_at-requires-clause-early
@@ -21,11 +21,11 @@ loop-place-preserved c =
     let starts = c.args.plan.now.starts.items in
     let within : c.loop-place.place < length soc.modules = grind (arith, common_steps) in
     let m = end_step soc starts c.args.room.now c.loop-place.place c.end_at.result c.requires.filled within c.requires.room c.end_at.ensures in
-    let more = greatest_more (λ (m : ModuleValue). end_in starts (own_test_of m)) soc.modules c.loop-place.place m.0 (slice_get_within soc.modules c.loop-place.place m.0 m.1) (get_or_from_slice_get soc.modules c.loop-place.place m.0 m.0 m.1) in
-    c.max-right.ensures ∙ ap (λ e. max c.loop-place.right e) m.2 ∙ ap (λ r. max r (end_in starts (own_test_of m.0))) c.loop-place.invariant ∙ sym more
+    let more = greatest_more (λ (m : ModuleValue). end_in starts (self_test_of m)) soc.modules c.loop-place.place m.0 (slice_get_within soc.modules c.loop-place.place m.0 m.1) (get_or_from_slice_get soc.modules c.loop-place.place m.0 m.0 m.1) in
+    c.max-right.ensures ∙ ap (λ e. max c.loop-place.right e) m.2 ∙ ap (λ r. max r (end_in starts (self_test_of m.0))) c.loop-place.invariant ∙ sym more
 
-last_is : (soc : SocValue) (plan : PlanValue) → IsNarrowChip soc → (n right : ℕ) → length soc.modules ≤ n → right ≡ greatest (map (λ (m : ModuleValue). end_in plan.starts (own_test_of m)) (take n soc.modules)) → right ≡ greatest (map end_of (planned soc plan))
-last_is soc plan narrow n right all e = e ∙ ap (λ ms. greatest (map (λ (m : ModuleValue). end_in plan.starts (own_test_of m)) ms)) (take_all n soc.modules all) ∙ sym (ends_are soc plan narrow)
+last_is : (soc : SocValue) (plan : PlanValue) → IsNarrowChip soc → (n right : ℕ) → length soc.modules ≤ n → right ≡ greatest (map (λ (m : ModuleValue). end_in plan.starts (self_test_of m)) (take n soc.modules)) → right ≡ greatest (map end_of (planned soc plan))
+last_is soc plan narrow n right all e = e ∙ ap (λ ms. greatest (map (λ (m : ModuleValue). end_in plan.starts (self_test_of m)) ms)) (take_all n soc.modules all) ∙ sym (ends_are soc plan narrow)
 
 pub returns-then-plan-right : goal.returns-then-plan-right
 returns-then-plan-right c = λ limits.

@@ -2,7 +2,7 @@ use Rattle.std.proofs.Common.{refl}
 use Rattle.soc_model.specs.Chips.{soc_value}
 use Rattle.plan_model.specs.Faults.{Present, Missing}
 use Rattle.plan_model.specs.Views.{plan_value}
-use Rattle.soctest.proofs.OwnStarts.{missing_first, all_started}
+use Rattle.soctest.proofs.SelfTestStarts.{missing_first, all_started}
 use Rattle.soctest.proofs.check.check_tests.Goals as goal
 
 pub returns-in-Some-clause-stage : goal.returns-in-Some-clause-stage

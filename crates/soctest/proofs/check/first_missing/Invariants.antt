@@ -1,6 +1,6 @@
 use Rattle.std.proofs.Common.{ℕ, ◌<◌}
 use Rattle.soc_model.specs.Chips.{soc_value}
-use Rattle.soctest.specs.OwnTests.{IsStarted}
+use Rattle.soctest.specs.SelfTests.{IsStarted}
 use Rattle.soctest.proofs.check.first_missing.Given as goal
 
 abbrev pub invariant-loop-place : goal.invariant-loop-place

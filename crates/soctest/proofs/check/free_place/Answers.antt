@@ -3,7 +3,7 @@ use Rattle.std.specs.Prelude.{slice_get}
 use Rattle.std.proofs.lemmas.Option.{slice_get-get_or, slice_get_within}
 use Rattle.soc_model.specs.Chips.{soc_value}
 use Rattle.soc_model.proofs.Places.{IsKeyed-from_sound}
-use Rattle.soctest.proofs.OwnStarts.{own_unique, stands}
+use Rattle.soctest.proofs.SelfTestStarts.{own_unique, stands}
 use Rattle.soctest.proofs.check.free_place.Goals as goal
 
 pub returns-in-Some-clause-none : goal.returns-in-Some-clause-none

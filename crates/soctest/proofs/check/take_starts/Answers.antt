@@ -7,7 +7,7 @@ use Rattle.soc_model.specs.Chips.{soc_value}
 use Rattle.soc_model.proofs.Places.{IsKeyed-from_sound}
 use Rattle.plan_model.specs.Rules.{StartsOnce}
 use Rattle.soctest.proofs.Firsts.{each_more, each_all, first_here}
-use Rattle.soctest.proofs.OwnStarts.{starts_once, not_once, one_more}
+use Rattle.soctest.proofs.SelfTestStarts.{starts_once, not_once, one_more}
 use Rattle.soctest.proofs.check.take_starts.Goals as goal
 
 abbrev pub no_start : TestId × ℕ

@@ -1,7 +1,7 @@
 use Rattle.std.proofs.Common.{take}
 use Rattle.soc_model.specs.Chips.{soc_value}
 use Rattle.plan_model.specs.Rules.{StartsOnce}
-use Rattle.soctest.specs.OwnTests.{AreStarts}
+use Rattle.soctest.specs.SelfTests.{AreStarts}
 use Rattle.soctest.proofs.Firsts.{EachTo}
 use Rattle.soctest.proofs.check.take_starts.Given as goal
 

@@ -19,8 +19,8 @@ use Rattle.plan_model.specs.Plans.{PlanValue, planned, planned_test, end_of, gre
 use Rattle.plan_model.specs.Rules.{live_ids}
 use Rattle.plan_model.proofs.LowerTimes.{least_self_test}
 use Rattle.soctest.specs.Narrow.{IsNarrowModule, IsNarrowChip}
-use Rattle.soctest.specs.declared.own_tests.OwnTest.{OwnTest}
-use Rattle.soctest.specs.OwnTests.{own_test_of, own_test_at, cycles_of, start_in, end_by, end_in}
+use Rattle.soctest.specs.declared.self_tests.SelfTest.{SelfTest}
+use Rattle.soctest.specs.SelfTests.{self_test_of, self_test_at, cycles_of, start_in, end_by, end_in}
 
 -- a test of a chip with small numbers has few patterns
 pub own_small : (soc : SocValue) → HasSmallNumbers soc → (place : ℕ) (m : ModuleValue) → slice_get soc.modules place ≡ Some m → (t : Test) → find is_live m.tests ≡ Some t → t.patterns < 10 ^ 12
@@ -48,7 +48,7 @@ own m narrow = elim (cases_Bool (is_live narrow.0)) [
 -- ---- the names of the live tests
 
 abbrev pub ids_of : ModuleValue → List TestId
-ids_of m = option_to_list (option_map (λ (t : OwnTest). t.id) (own_test_of m))
+ids_of m = option_to_list (option_map (λ (t : SelfTest). t.id) (self_test_of m))
 
 ids_here : (base : ℕ) (m : ModuleValue) → IsOwn m → map id_of (live_of base m) ≡ ids_of m
 ids_here base m (Idle listed found) = rw (listed, found) refl
@@ -73,7 +73,7 @@ at_place w place l = if is_of place l then lower w l else 0
 sum_of_one : {X : Type 0} (f : X → ℕ) (x : X) (n : ℕ) → f x ≡ n → sum_by f (x ∷ []) ≡ n
 sum_of_one f x n e = let s = sum_by-cons f x [] in omega arith
 
-sum_here : (w base : ℕ) (m : ModuleValue) → IsOwn m → sum_by (at_place w base) (live_of base m) ≡ cycles_of (own_test_of m)
+sum_here : (w base : ℕ) (m : ModuleValue) → IsOwn m → sum_by (at_place w base) (live_of base m) ≡ cycles_of (self_test_of m)
 sum_here w base m (Idle listed found) = rw (listed, found) refl
 sum_here w base m (Live t listed found self) =
     rw (listed, found) (sum_of_one (at_place w base) (record { place = base; core = m; test = t }) t.patterns (rw (eq-eqb base base refl) (least_self_test m t w self)))
@@ -92,17 +92,17 @@ sum_before w place base (m ∷ ms) narrow less =
     let rest = sum_before w place (base + 1) ms (All-tail IsNarrowModule m ms narrow) (omega arith) in
     omega arith
 
-sum_from : (w place base k : ℕ) (ms : List ModuleValue) (m : ModuleValue) → All IsNarrowModule ms → slice_get ms k ≡ Some m → place ≡ base + k → sum_by (at_place w place) (live_from base ms) ≡ cycles_of (own_test_of m)
+sum_from : (w place base k : ℕ) (ms : List ModuleValue) (m : ModuleValue) → All IsNarrowModule ms → slice_get ms k ≡ Some m → place ≡ base + k → sum_by (at_place w place) (live_from base ms) ≡ cycles_of (self_test_of m)
 unfolding live_from
 sum_from w place base k [] m narrow at is = absurd cc
 sum_from w place base zero (x ∷ ms) m narrow at is =
     let same : x ≡ m = cc in
     let parts = sum_by-append (at_place w place) (live_of base x) (live_from (base + 1) ms) in
     let here : base ≡ place = omega arith in
-    let first : sum_by (at_place w place) (live_of base x) ≡ cycles_of (own_test_of x) = subst (λ p. sum_by (at_place w p) (live_of base x) ≡ cycles_of (own_test_of x)) here (sum_here w base x (own x (All-head IsNarrowModule x ms narrow))) in
+    let first : sum_by (at_place w place) (live_of base x) ≡ cycles_of (self_test_of x) = subst (λ p. sum_by (at_place w p) (live_of base x) ≡ cycles_of (self_test_of x)) here (sum_here w base x (own x (All-head IsNarrowModule x ms narrow))) in
     let rest = sum_before w place (base + 1) ms (All-tail IsNarrowModule x ms narrow) (omega arith) in
-    let total : sum_by (at_place w place) (live_of base x ++ live_from (base + 1) ms) ≡ cycles_of (own_test_of x) = omega arith in
-    total ∙ ap (λ (m : ModuleValue). cycles_of (own_test_of m)) same
+    let total : sum_by (at_place w place) (live_of base x ++ live_from (base + 1) ms) ≡ cycles_of (self_test_of x) = omega arith in
+    total ∙ ap (λ (m : ModuleValue). cycles_of (self_test_of m)) same
 sum_from w place base (suc k) (x ∷ ms) m narrow at is =
     let parts = sum_by-append (at_place w place) (live_of base x) (live_from (base + 1) ms) in
     let first = sum_elsewhere w place base x (own x (All-head IsNarrowModule x ms narrow)) (λ same. omega arith) in
@@ -110,7 +110,7 @@ sum_from w place base (suc k) (x ∷ ms) m narrow at is =
     omega arith
 
 -- the live test's cycles bound every good plan
-pub module_bound_is : (soc : SocValue) → IsNarrowChip soc → (w place : ℕ) → place < length soc.modules → module_bound soc w place ≡ cycles_of (own_test_at soc place)
+pub module_bound_is : (soc : SocValue) → IsNarrowChip soc → (w place : ℕ) → place < length soc.modules → module_bound soc w place ≡ cycles_of (self_test_at soc place)
 module_bound_is soc narrow w place within = elim ((slice_get_cases soc.modules place).1) [
   | inl m ↦ rw m.2 (sum_from w place 0 place soc.modules m.0 narrow m.2 (omega arith))
   | inr past ↦ absurd (omega arith)
@@ -136,13 +136,13 @@ planned_end plan base m t self = rw self (rw length-replicate (first_start plan.
 abbrev end_at : PlanValue → LiveTest → ℕ
 end_at plan l = end_of (planned_test plan l.place l.core l.test)
 
-ends_here : (plan : PlanValue) (base : ℕ) (m : ModuleValue) → IsOwn m → greatest (map (end_at plan) (live_of base m)) ≡ end_in plan.starts (own_test_of m)
+ends_here : (plan : PlanValue) (base : ℕ) (m : ModuleValue) → IsOwn m → greatest (map (end_at plan) (live_of base m)) ≡ end_in plan.starts (self_test_of m)
 ends_here plan base m (Idle listed found) = rw (listed, found) refl
 ends_here plan base m (Live t listed found self) =
     let e = planned_end plan base m t self in
     rw (listed, found) (omega arith)
 
-ends_from : (plan : PlanValue) (base : ℕ) (ms : List ModuleValue) → All IsNarrowModule ms → greatest (map (end_at plan) (live_from base ms)) ≡ greatest (map (λ (m : ModuleValue). end_in plan.starts (own_test_of m)) ms)
+ends_from : (plan : PlanValue) (base : ℕ) (ms : List ModuleValue) → All IsNarrowModule ms → greatest (map (end_at plan) (live_from base ms)) ≡ greatest (map (λ (m : ModuleValue). end_in plan.starts (self_test_of m)) ms)
 unfolding live_from
 ends_from plan base [] narrow = refl
 ends_from plan base (m ∷ ms) narrow =
@@ -156,7 +156,7 @@ map_twice : {X Y Z : Type 0} (f : X → Y) (g : Y → Z) (xs : List X) → map g
 map_twice f g [] = refl
 map_twice f g (x ∷ xs) = ap (λ v. g (f x) ∷ v) (map_twice f g xs)
 
-pub ends_are : (soc : SocValue) (plan : PlanValue) → IsNarrowChip soc → greatest (map end_of (planned soc plan)) ≡ greatest (map (λ (m : ModuleValue). end_in plan.starts (own_test_of m)) soc.modules)
+pub ends_are : (soc : SocValue) (plan : PlanValue) → IsNarrowChip soc → greatest (map end_of (planned soc plan)) ≡ greatest (map (λ (m : ModuleValue). end_in plan.starts (self_test_of m)) soc.modules)
 unfolding planned
 ends_are soc plan narrow =
     ap greatest (map_twice (λ (l : LiveTest). planned_test plan l.place l.core l.test) end_of (live_tests soc)) ∙ ends_from plan 0 soc.modules narrow

@@ -17,81 +17,81 @@ use Rattle.plan_model.specs.Plans.{PlanValue}
 use Rattle.plan_model.specs.Rules.{Each, IsFirstBreach, StartsOnce, HasStart, live_ids}
 use Rattle.plan_model.proofs.Lists.{from_flat_map, in_flat_map, contains_at}
 use Rattle.soctest.specs.Narrow.{IsNarrowChip}
-use Rattle.soctest.specs.declared.own_tests.OwnTest.{OwnTest}
-use Rattle.soctest.specs.OwnTests.{own_test_of, own_test_at, own_test_in, IsOwnTest, IsFree, IsStarted, AreStarts, start_in, end_by, end_in}
+use Rattle.soctest.specs.declared.self_tests.SelfTest.{SelfTest}
+use Rattle.soctest.specs.SelfTests.{self_test_of, self_test_at, self_test_in, IsSelfTest, IsFree, IsStarted, AreStarts, start_in, end_by, end_in}
 use Rattle.soctest.proofs.Firsts.{contains_from, from_take, get_middle, get_front, set_here, set_else}
-use Rattle.soctest.proofs.OwnModules.{ids_of, live_ids_are}
+use Rattle.soctest.proofs.SelfTestModules.{ids_of, live_ids_are}
 
 -- ---- where a live test stands
 
-number_of : (m : ModuleValue) (t : OwnTest) → own_test_of m ≡ Some t → t.id.«module» ≡ m.number
+number_of : (m : ModuleValue) (t : SelfTest) → self_test_of m ≡ Some t → t.id.«module» ≡ m.number
 number_of m t e = go (find is_live m.tests) e
   where
-    made : ModuleValue → Test → OwnTest
+    made : ModuleValue → Test → SelfTest
     made m t = record { id = record { «module» = m.number; test = t.number }; cycles = t.patterns }
 
     go : (o : Option Test) → option_map (λ (t : Test). record { id = record { «module» = m.number; test = t.number }; cycles = t.patterns }) o ≡ Some t → t.id.«module» ≡ m.number
     go None e = absurd cc
-    go (Some x) e = sym (ap (λ (t : OwnTest). t.id.«module») (same_Some (made m x) t e))
+    go (Some x) e = sym (ap (λ (t : SelfTest). t.id.«module») (same_Some (made m x) t e))
 
-pub record Stands (soc : SocValue) (place : ℕ) (t : OwnTest) : Type 0 where
+pub record Stands (soc : SocValue) (place : ℕ) (t : SelfTest) : Type 0 where
   pub m : ModuleValue
   pub at : slice_get soc.modules place ≡ Some m
-  pub own : own_test_of m ≡ Some t
+  pub own : self_test_of m ≡ Some t
   pub number : t.id.«module» ≡ m.number
 
-pub stands : (soc : SocValue) (place : ℕ) (t : OwnTest) → IsOwnTest soc place t → Stands soc place t
+pub stands : (soc : SocValue) (place : ℕ) (t : SelfTest) → IsSelfTest soc place t → Stands soc place t
 stands soc place t own = by (slice_get soc.modules place) refl own
   where
-    by : (o : Option ModuleValue) → slice_get soc.modules place ≡ o → own_test_in o ≡ Some t → Stands soc place t
+    by : (o : Option ModuleValue) → slice_get soc.modules place ≡ o → self_test_in o ≡ Some t → Stands soc place t
     by None at e = absurd cc
     by (Some m) at e = record { m = m; at = at; own = e; number = number_of m t e }
 
-own_place : (soc : SocValue) → IsKeyed soc → (place : ℕ) (t : OwnTest) → IsOwnTest soc place t → module_place soc t.id.«module» ≡ Some place
+own_place : (soc : SocValue) → IsKeyed soc → (place : ℕ) (t : SelfTest) → IsSelfTest soc place t → module_place soc t.id.«module» ≡ Some place
 own_place soc keyed place t own = let s = stands soc place t own in ap (module_place soc) s.number ∙ place-from_module keyed place s.m s.at
 
-pub own_unique : (soc : SocValue) → IsKeyed soc → (p q : ℕ) (t u : OwnTest) → IsOwnTest soc p t → IsOwnTest soc q u → t.id ≡ u.id → p ≡ q
+pub own_unique : (soc : SocValue) → IsKeyed soc → (p q : ℕ) (t u : SelfTest) → IsSelfTest soc p t → IsSelfTest soc q u → t.id ≡ u.id → p ≡ q
 own_unique soc keyed p q t u own own' same =
     same_Some p q (sym (own_place soc keyed p t own) ∙ ap (λ (id : TestId). module_place soc id.«module») same ∙ own_place soc keyed q u own')
 
 -- no module has the live test
-pub not_placed : (soc : SocValue) → IsKeyed soc → (id : TestId) → module_place soc id.«module» ≡ None → (place : ℕ) (t : OwnTest) → IsOwnTest soc place t → t.id ≢ id
+pub not_placed : (soc : SocValue) → IsKeyed soc → (id : TestId) → module_place soc id.«module» ≡ None → (place : ℕ) (t : SelfTest) → IsSelfTest soc place t → t.id ≢ id
 not_placed soc keyed id none place t own same =
     let e : module_place soc id.«module» ≡ Some place = ap (λ (id : TestId). module_place soc id.«module») (sym same) ∙ own_place soc keyed place t own in
     absurd cc
 
 -- only the module of that number can have it
-pub only_here : (soc : SocValue) → IsKeyed soc → (id : TestId) (p : ℕ) → module_place soc id.«module» ≡ Some p → (place : ℕ) (t : OwnTest) → IsOwnTest soc place t → t.id ≡ id → own_test_at soc p ≡ Some t
+pub only_here : (soc : SocValue) → IsKeyed soc → (id : TestId) (p : ℕ) → module_place soc id.«module» ≡ Some p → (place : ℕ) (t : SelfTest) → IsSelfTest soc place t → t.id ≡ id → self_test_at soc p ≡ Some t
 only_here soc keyed id p found place t own same =
     let e : module_place soc id.«module» ≡ Some place = ap (λ (id : TestId). module_place soc id.«module») (sym same) ∙ own_place soc keyed place t own in
     let one : place ≡ p = same_Some place p (sym e ∙ found) in
-    subst (λ p. own_test_at soc p ≡ Some t) one own
+    subst (λ p. self_test_at soc p ≡ Some t) one own
 
-pub own_listed : (soc : SocValue) → IsNarrowChip soc → (place : ℕ) (t : OwnTest) → IsOwnTest soc place t → Contains (live_ids soc) t.id
+pub own_listed : (soc : SocValue) → IsNarrowChip soc → (place : ℕ) (t : SelfTest) → IsSelfTest soc place t → Contains (live_ids soc) t.id
 own_listed soc narrow place t own =
     let s = stands soc place t own in
     let k = in_flat_map ids_of soc.modules place 0 s.m t.id s.at (rw s.own refl) in
     contains_from (live_ids soc) t.id k.0 (rw (live_ids_are soc narrow) k.1)
 
-item_of : (o : Option OwnTest) (j : ℕ) (id : TestId) → slice_get (option_to_list (option_map (λ (t : OwnTest). t.id) o)) j ≡ Some id → (t : OwnTest) × (o ≡ Some t) × (t.id ≡ id)
+item_of : (o : Option SelfTest) (j : ℕ) (id : TestId) → slice_get (option_to_list (option_map (λ (t : SelfTest). t.id) o)) j ≡ Some id → (t : SelfTest) × (o ≡ Some t) × (t.id ≡ id)
 item_of None j id e = absurd cc
 item_of (Some t) zero id e = (t, refl, same_Some t.id id e)
 item_of (Some t) (suc j) id e = absurd cc
 
 -- the module at a place has a live test of this name
 abbrev pub Named : SocValue → TestId → Type 0
-Named soc id = (place : ℕ) × (t : OwnTest) × IsOwnTest soc place t × (t.id ≡ id)
+Named soc id = (place : ℕ) × (t : SelfTest) × IsSelfTest soc place t × (t.id ≡ id)
 
-named_from : (ms : List ModuleValue) (k : ℕ) (id : TestId) → slice_get (flat_map ids_of ms) k ≡ Some id → (i : ℕ) × (m : ModuleValue) × (t : OwnTest) × (slice_get ms i ≡ Some m) × (own_test_of m ≡ Some t) × (t.id ≡ id)
+named_from : (ms : List ModuleValue) (k : ℕ) (id : TestId) → slice_get (flat_map ids_of ms) k ≡ Some id → (i : ℕ) × (m : ModuleValue) × (t : SelfTest) × (slice_get ms i ≡ Some m) × (self_test_of m ≡ Some t) × (t.id ≡ id)
 named_from ms k id at =
     let r = from_flat_map ids_of ms k id at in
-    let t = item_of (own_test_of r.1) r.2 id r.4 in
+    let t = item_of (self_test_of r.1) r.2 id r.4 in
     (r.0, r.1, t.0, r.3, t.1, t.2)
 
 named_at : (soc : SocValue) → IsNarrowChip soc → (k : ℕ) (id : TestId) → slice_get (live_ids soc) k ≡ Some id → Named soc id
 named_at soc narrow k id at =
     let r = named_from soc.modules k id (rw (live_ids_are soc narrow) at at) in
-    (r.0, r.2, ap own_test_in r.3 ∙ r.4, r.5)
+    (r.0, r.2, ap self_test_in r.3 ∙ r.4, r.5)
 
 pub listed_own : (soc : SocValue) → IsNarrowChip soc → (id : TestId) → Contains (live_ids soc) id → Named soc id
 listed_own soc narrow id c = let k = contains_at (live_ids soc) id c in named_at soc narrow k.0 id k.1
@@ -199,9 +199,9 @@ not_once soc narrow earlier room s are none once =
 pub one_more : (soc : SocValue) → IsKeyed soc → (earlier : List (TestId × ℕ)) (room : List (Option ℕ)) (s : TestId × ℕ) (place : ℕ) → AreStarts soc earlier room → IsFree soc room s.0 place → AreStarts soc (earlier ++ s ∷ []) (set room place (Some s.1))
 one_more soc keyed earlier room s place are free p t own = elim (cases_eq p place) [
   | inl same ↦
-      let here : IsOwnTest soc place t = subst (λ p. IsOwnTest soc p t) same own in
+      let here : IsSelfTest soc place t = subst (λ p. IsSelfTest soc p t) same own in
       let one : free.0 ≡ t = same_Some free.0 t (sym free.1 ∙ here) in
-      let name : s.0 ≡ t.id = sym free.2 ∙ ap (λ (t : OwnTest). t.id) one in
+      let name : s.0 ≡ t.id = sym free.2 ∙ ap (λ (t : SelfTest). t.id) one in
       let none : start_in earlier t.id ≡ None = ap (start_in earlier) (sym name) ∙ unstarted soc earlier room s.0 place are free in
       rw same (set_here room place (Some s.1) (slice_get_within room place None free.3) ∙ ap Some (sym (start_last earlier s t.id none name)))
   | inr other ↦
@@ -216,7 +216,7 @@ flat_split f [] i x at = absurd cc
 flat_split f (y ∷ xs) zero x at = let same : y ≡ x = same_Some y x at in rw same refl
 flat_split f (y ∷ xs) (suc i) x at = rw (flat_split f xs i x at) (sym (append_assoc (f y) (flat_map f (take i xs)) (f x ++ flat_map f (drop (suc i) xs))))
 
-has_start : (soc : SocValue) (plan : PlanValue) (room : List (Option ℕ)) (place : ℕ) (t : OwnTest) → AreStarts soc plan.starts room → IsOwnTest soc place t → IsStarted soc room place → Contains (names plan.starts) t.id
+has_start : (soc : SocValue) (plan : PlanValue) (room : List (Option ℕ)) (place : ℕ) (t : SelfTest) → AreStarts soc plan.starts room → IsSelfTest soc place t → IsStarted soc room place → Contains (names plan.starts) t.id
 has_start soc plan room place t are own started =
     let s = started t own in
     let found : start_in plan.starts t.id ≡ Some s.0 = same_Some (start_in plan.starts t.id) (Some s.0) (sym (are place t own) ∙ s.1) in
@@ -243,27 +243,27 @@ missing_first soc narrow plan room id place are free started =
         earlier = λ m y less at.
             let r = named_from (take place soc.modules) m y (get_front front (id ∷ behind) m y less (rw split at at)) in
             let there = from_take place soc.modules r.0 r.1 r.3 in
-            subst (Contains (names plan.starts)) r.5 (has_start soc plan room r.0 r.2 are (ap own_test_in there.1 ∙ r.4) (started r.0 there.0));
+            subst (Contains (names plan.starts)) r.5 (has_start soc plan room r.0 r.2 are (ap self_test_in there.1 ∙ r.4) (started r.0 there.0));
       },
     )
 
 -- ---- ends
 
 -- the end of the module at a place, by its start in the room
-pub end_step : (soc : SocValue) (starts : List (TestId × ℕ)) (room : List (Option ℕ)) (place e : ℕ) → AreStarts soc starts room → place < length soc.modules → length soc.modules ≤ length room → ((start : Option ℕ) → slice_get room place ≡ Some start → e ≡ end_by (own_test_at soc place) start) →
-    (m : ModuleValue) × (slice_get soc.modules place ≡ Some m) × (e ≡ end_in starts (own_test_of m))
+pub end_step : (soc : SocValue) (starts : List (TestId × ℕ)) (room : List (Option ℕ)) (place e : ℕ) → AreStarts soc starts room → place < length soc.modules → length soc.modules ≤ length room → ((start : Option ℕ) → slice_get room place ≡ Some start → e ≡ end_by (self_test_at soc place) start) →
+    (m : ModuleValue) × (slice_get soc.modules place ≡ Some m) × (e ≡ end_in starts (self_test_of m))
 end_step soc starts room place e are within enough is = elim ((slice_get_cases soc.modules place).1) [
   | inl m ↦ elim ((slice_get_cases room place).1) [
-    | inl slot ↦ (m.0, m.2, by slot.0 slot.2 (own_test_of m.0) (ap own_test_in m.2))
+    | inl slot ↦ (m.0, m.2, by slot.0 slot.2 (self_test_of m.0) (ap self_test_in m.2))
     | inr past ↦ absurd (omega arith)
   ]
   | inr past ↦ absurd (omega arith)
 ]
   where
-    by : (slot : Option ℕ) → slice_get room place ≡ Some slot → (o : Option OwnTest) → own_test_at soc place ≡ o → e ≡ end_in starts o
-    by slot at None own = is slot at ∙ ap (λ (o : Option OwnTest). end_by o slot) own
-    by slot at (Some t) own = is (start_in starts t.id) (are place t own) ∙ ap (λ (o : Option OwnTest). end_by o (start_in starts t.id)) own
+    by : (slot : Option ℕ) → slice_get room place ≡ Some slot → (o : Option SelfTest) → self_test_at soc place ≡ o → e ≡ end_in starts o
+    by slot at None own = is slot at ∙ ap (λ (o : Option SelfTest). end_by o slot) own
+    by slot at (Some t) own = is (start_in starts t.id) (are place t own) ∙ ap (λ (o : Option SelfTest). end_by o (start_in starts t.id)) own
 
-pub start_small : (soc : SocValue) (starts : List (TestId × ℕ)) (room : List (Option ℕ)) → AreStarts soc starts room → All (λ (s : TestId × ℕ). s.1 ≤ START_MOST) starts → (place : ℕ) (t : OwnTest) (start : ℕ) → IsOwnTest soc place t → slice_get room place ≡ Some (Some start) → start ≤ START_MOST
+pub start_small : (soc : SocValue) (starts : List (TestId × ℕ)) (room : List (Option ℕ)) → AreStarts soc starts room → All (λ (s : TestId × ℕ). s.1 ≤ START_MOST) starts → (place : ℕ) (t : SelfTest) (start : ℕ) → IsSelfTest soc place t → slice_get room place ≡ Some (Some start) → start ≤ START_MOST
 start_small soc starts room are early place t start own at =
     start_early starts early t.id start (same_Some (start_in starts t.id) (Some start) (sym (are place t own) ∙ at))

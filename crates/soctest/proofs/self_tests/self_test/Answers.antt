@@ -1,8 +1,8 @@
 use Rattle.std.proofs.Common.{ap, sym, ◌∙◌}
 use Rattle.std.specs.List.{find}
 use Rattle.soc_model.specs.Chips.{soc_value, is_live}
-use Rattle.soctest.proofs.OwnModules.{own_small}
-use Rattle.soctest.proofs.own_tests.own_test.Goals as goal
+use Rattle.soctest.proofs.SelfTestModules.{own_small}
+use Rattle.soctest.proofs.self_tests.self_test.Goals as goal
 
 pub returns-clause-small : goal.returns-clause-small
 returns-clause-small c =

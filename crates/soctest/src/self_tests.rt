@@ -3,13 +3,13 @@ ghost use Rattle.std.specs.Prelude.{◌≡◌, ◌<◌, ◌^◌, Some, length, s
 ghost use Rattle.soc_model.specs.Chips.{soc_value, module_value, is_live};
 ghost use Rattle.soc_model.specs.SoundChips.{IsSoundChip};
 ghost use Rattle.std.specs.List.{find};
-ghost use Rattle.soctest.specs.OwnTests.{own_test_at};
+ghost use Rattle.soctest.specs.SelfTests.{self_test_at};
 
 use soc_model::{Module, Soc, Test, TestId};
 
 /// The live test of a module, and how many cycles it takes.
 #[derive(Clone, Copy, Drop)]
-pub(crate) struct OwnTest {
+pub(crate) struct SelfTest {
     pub(crate) id: TestId,
     pub(crate) cycles: u64,
 }
@@ -33,15 +33,15 @@ fn first_live(tests: &[Test]) -> Option<Test>
 }
 
 /// The live test of the module at a place.
-pub(crate) fn own_test(soc: &Soc, place: usize) -> Option<OwnTest>
+pub(crate) fn self_test(soc: &Soc, place: usize) -> Option<SelfTest>
     requires sound { IsSoundChip (soc_value soc.now) }
     requires place { place < length (soc_value soc.now).modules }
-    ensures own { result ≡ own_test_at (soc_value soc.now) place }
+    ensures own { result ≡ self_test_at (soc_value soc.now) place }
     ensures small { IfSome result (λ t. t.cycles < 10 ^ 12) }
 {
     let module = module_at(soc, place);
     let test = first_live(&module.tests)?;
-    Some(OwnTest {
+    Some(SelfTest {
         id: TestId {
             module: module.number,
             test: test.number,
