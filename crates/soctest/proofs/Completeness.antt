@@ -1,8 +1,8 @@
 -- The files give at most one answer. So a call that ends otherwise had a fault, or no memory.
-use Rattle.std.proofs.Common.{◌≡◌, ℕ, ◌≤◌, ◌<◌, ◌⊎◌, inl, inr, List, Option, None, Some, Bool, true, false, length, refl, sym, ◌∙◌, ap, subst}
+use Rattle.std.proofs.Common.{◌≡◌, ℕ, ◌⊎◌, inl, inr, List, Option, None, Some, Bool, true, false, length, refl, sym, ◌∙◌, ap, subst}
 use Rattle.std.specs.Prelude.{nat_lt, MatchBool}
 use Rattle.std.specs.FinMap.{get}
-use Rattle.std.proofs.lemmas.Bool.{le-ltb, ltb-false}
+use Rattle.std.proofs.lemmas.Bool.{le-ltb}
 use Rattle.outside.specs.Held.{Files, Rose, Appended}
 use Rattle.soc_model.specs.Chips.{SocValue}
 use Rattle.plan_model.specs.Plans.{LimitsValue, PlanValue}
@@ -18,8 +18,8 @@ use Rattle.soctest.specs.Commands.{CommandValue, Check}
 use Rattle.soctest.specs.LimitsForm.{SaysLimits}
 use Rattle.soctest.specs.PlanForm.{SaysPlan}
 use Rattle.soctest.specs.Texts.{too_long_line, unbuilt_line, fault_line}
-use Rattle.soctest.specs.Answers.{most_of, Stage, Checked, PlanStage, LimitsStage, SocStage, IsAnswer, IsRead}
-use Rattle.soctest.specs.Decides.{MayFail, IsUnread, IsUnreadOf}
+use Rattle.soctest.specs.Answers.{most_of, Stage, Checked, PlanStage, LimitsStage, IsAnswer, IsRead}
+use Rattle.soctest.specs.Decides.{MayFail, IsUnreadOf}
 use Rattle.soctest.specs.Ends.{MayAnswer, Ends, EndsAsWanted, Complete}
 
 -- ---- at most one answer

@@ -1,9 +1,9 @@
 -- From the verdict on what comes after a file to the verdict from that file on.
-use Rattle.std.proofs.Common.{◌≡◌, ℕ, ◌+◌, ◌≤◌, ◌<◌, ◌⊎◌, inl, inr, List, Option, None, Some, IfSome, Bool, true, false, length, refl, sym, ◌∙◌, ap, subst, arith}
+use Rattle.std.proofs.Common.{◌≡◌, ℕ, ◌≤◌, inl, inr, List, Option, None, Some, IfSome, Bool, true, false, length, refl, arith}
 use Rattle.std.specs.Prelude.{nat_lt, MatchBool}
 use Rattle.std.specs.FinMap.{get}
 use Rattle.std.proofs.lemmas.Bool.{le-ltb}
-use Rattle.outside.specs.Held.{Files, Rose, WhereTold, IsMissing, Appended}
+use Rattle.outside.specs.Held.{Files, WhereTold, Appended}
 use Rattle.soc_model.specs.Chips.{SocValue}
 use Rattle.plan_model.specs.Plans.{LimitsValue, PlanValue}
 use Rattle.soc_reader.specs.ChipForm.{SaysChip}
@@ -20,7 +20,7 @@ use Rattle.soctest.specs.Commands.{CommandValue, Check}
 use Rattle.soctest.specs.LimitsForm.{SaysLimits}
 use Rattle.soctest.specs.PlanForm.{SaysPlan}
 use Rattle.soctest.specs.Answers.{most_of, Stage, Checked, PlanStage, LimitsStage, SocStage, IsRead}
-use Rattle.soctest.specs.Decides.{MayFail, Decided, DecidesCheck, DecidesPlan, DecidesLimits, DecidesSoc, Decides, Gives, IsUnreadOf}
+use Rattle.soctest.specs.Decides.{MayFail, DecidesCheck, DecidesPlan, DecidesLimits, DecidesSoc, Decides, Gives, IsUnreadOf}
 
 within_case : (A B : Type 0) (b : Bool) → b ≡ false → B → MatchBool b A B
 within_case A B true e x = absurd cc

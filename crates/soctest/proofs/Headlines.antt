@@ -1,9 +1,9 @@
 -- An accepted plan was read from the held files, runs right, and its bound is one.
-use Rattle.std.proofs.Common.{◌≡◌, ℕ, ◌≤◌, ◌<◌, ◌⊎◌, inl, inr, List, [], ◌∷◌, Option, None, Some, Bool, true, false, length, refl, sym, ◌∙◌, ap, subst, arith}
+use Rattle.std.proofs.Common.{◌≡◌, ℕ, ◌≤◌, ◌⊎◌, inl, inr, List, [], ◌∷◌, Option, None, Some, Bool, true, false, length, refl, subst}
 use Rattle.std.specs.Prelude.{nat_lt, nat_le, nat_eq, MatchBool, ◌&&◌, codes, if◌then◌else◌}
 use Rattle.std.specs.FinMap.{get}
 use Rattle.std.proofs.lemmas.Bool.{ltb-false, leb-true}
-use Rattle.outside.specs.Held.{Files, Rose, Appended}
+use Rattle.outside.specs.Held.{Files, Appended}
 use Rattle.outside.specs.Decimal.{number_of}
 use Rattle.outside.specs.Words.{words_of, same_letters}
 use Rattle.soc_model.specs.Chips.{SocValue}
@@ -22,7 +22,7 @@ use Rattle.soctest.specs.declared.Status.TheVariants.{Done, Refused, TooLong}
 use Rattle.soctest.specs.Commands.{CommandValue, Check}
 use Rattle.soctest.specs.LimitsForm.{SaysLimits, limits_with, limits_at, limits_of}
 use Rattle.soctest.specs.PlanForm.{SaysPlan}
-use Rattle.soctest.specs.Texts.{too_long_line, unbuilt_line, accepted_line}
+use Rattle.soctest.specs.Texts.{too_long_line, unbuilt_line}
 use Rattle.soctest.specs.Answers.{most_of, Stage, Checked, PlanStage, LimitsStage, IsAnswer, IsRead}
 use Rattle.soctest.specs.Ends.{MayAnswer, Ends, IsTrustworthy, Headline}
 

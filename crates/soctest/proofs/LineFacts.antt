@@ -1,7 +1,6 @@
 -- Texts without a line feed, and with one at the end.
-use Rattle.std.proofs.Common.{lit≤, Result, Ok, Err, OnOk, ◌≡◌, ℕ, ◌+◌, ◌%◌, ◌/◌, ◌^◌, ◌<◌, ◌≤◌, List, [], ◌∷◌, ◌++◌, Bool, true, false, decimal, refl, ap, ◌∙◌, sym, arith}
+use Rattle.std.proofs.Common.{lit≤, Result, Ok, Err, OnOk, ◌≡◌, ℕ, ◌+◌, ◌%◌, ◌^◌, ◌<◌, ◌≤◌, List, [], ◌∷◌, ◌++◌, Bool, true, false, decimal, refl, ◌∙◌, arith}
 use Rattle.std.specs.Prelude.{not, ◌&&◌, nat_eq, IsTrue}
-use Rattle.std.specs.List.{list_all}
 use Rattle.std.proofs.lemmas.Grind.{common_steps}
 use Rattle.std.proofs.lemmas.List.Folds.{list_all-append}
 use Rattle.std.proofs.lemmas.Fmt.{decimal_by_steps_wide}

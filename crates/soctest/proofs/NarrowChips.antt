@@ -1,5 +1,5 @@
 -- A chip that is read is narrow in the words of the checks.
-use Rattle.std.proofs.Common.{◌≡◌, ℕ, List, [], ◌∷◌}
+use Rattle.std.proofs.Common.{List, [], ◌∷◌}
 use Rattle.std.specs.List.{All}
 use Rattle.std.proofs.lemmas.List.Elements.{All-head, All-tail, All-cons, All-nil}
 use Rattle.soc_model.specs.Chips.{ModuleValue, SocValue}

@@ -10,13 +10,13 @@ use Rattle.soc_reader.specs.ChipForm.{SaysChip}
 use Rattle.soctest.specs.declared.FileKind.{FileKind}
 use Rattle.soctest.specs.declared.FileKind.TheVariants.{Soc, Limits, Plan}
 use Rattle.soctest.specs.declared.Status.{Status}
-use Rattle.soctest.specs.declared.Status.TheVariants.{Done, Refused, BadWords, ReadFault, TooLong, WriteFault, NoMemory}
+use Rattle.soctest.specs.declared.Status.TheVariants.{Done, BadWords, ReadFault, WriteFault, NoMemory}
 use Rattle.soctest.specs.declared.Verdict.{Verdict}
 use Rattle.soctest.specs.declared.Verdict.TheVariants.{Answered, CannotRead, NoMemory as OutOfMemory}
 use Rattle.soctest.specs.Commands.{CommandValue, Check}
 use Rattle.soctest.specs.LimitsForm.{SaysLimits}
 use Rattle.soctest.specs.Texts.{is_line, bad_words_line}
-use Rattle.soctest.specs.Answers.{Checked, PlanStage, LimitsStage, SocStage, IsAnswer, IsRead}
+use Rattle.soctest.specs.Answers.{Checked, PlanStage, LimitsStage, SocStage, IsRead}
 
 -- a status of a command that is decided before anything is written, and its text: one line, but for an answer
 abbrev pub Suits : Status → List ℕ → Type 0

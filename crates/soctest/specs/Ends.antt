@@ -15,7 +15,7 @@ use Rattle.soctest.specs.declared.Status.TheVariants.{Done, Refused, BadWords, R
 use Rattle.soctest.specs.Commands.{CommandValue, Check}
 use Rattle.soctest.specs.LimitsForm.{SaysLimits}
 use Rattle.soctest.specs.PlanForm.{SaysPlan}
-use Rattle.soctest.specs.Texts.{is_line, unread_line, accepted_line, bad_words_line}
+use Rattle.soctest.specs.Texts.{is_line, unread_line, accepted_line}
 use Rattle.soctest.specs.Answers.{IsAnswer, IsRead}
 use Rattle.soctest.specs.Decides.{IsUnreadOf}
 

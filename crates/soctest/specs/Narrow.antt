@@ -1,6 +1,6 @@
 -- The chips, limits and plans that are read for now: self tests alone, one a module, without any limit but wires, and
 -- certificates of one module.
-use Rattle.std.specs.Prelude.{◌≡◌, ℕ, false, None, List, [], ◌∷◌}
+use Rattle.std.specs.Prelude.{◌≡◌, ℕ, false, None, [], ◌∷◌}
 use Rattle.std.specs.List.{All}
 use Rattle.soc_model.specs.declared.Test.{Test}
 use Rattle.soc_model.specs.Chips.{ModuleValue, SocValue}

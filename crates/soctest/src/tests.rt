@@ -42,6 +42,11 @@ fn answer(
     Ok(status)
 }
 
+/// A text of so many bytes without a word.
+fn spaces(alloc: Global, len: usize) -> Result<Vec<u8>, AllocError> {
+    vec![in alloc; b' '; len]
+}
+
 #[derive(Clone, Copy)]
 struct Row<'a> {
     soc: &'a str,
@@ -186,8 +191,7 @@ fn refuses_words_and_files(rt: HostRuntime) -> Result<(), Fail> {
         assert_eq!(rt; status, Status::ReadFault, "{words}");
         assert_eq!(rt; text.as_slice(), line.as_bytes());
     }
-    let long = vec![in alloc; b' '; 1_048_577]?;
-    let whole = &long[..1_048_576];
+    let long = spaces(alloc, 1_048_577)?;
     for (name, line) in [("a.soc", "too long SOC\n"), ("a.lim", "too long LIMITS\n")] {
         let mut shelf = shelf_of(alloc, SOC, LIMITS, PLAN)?;
         shelf.hold(name, &long)?;
@@ -196,7 +200,8 @@ fn refuses_words_and_files(rt: HostRuntime) -> Result<(), Fail> {
         assert_eq!(rt; text.as_slice(), line.as_bytes());
     }
     let mut shelf = shelf_of(alloc, SOC, LIMITS, "Plan 1 Cycles 0 Bound 0 Module 2")?;
-    shelf.hold("a.soc", whole)?;
+    let whole = spaces(alloc, 1_048_576)?;
+    shelf.hold("a.soc", &whole)?;
     let status = answer(alloc, "check a.soc a.lim a.plan", &mut shelf, &mut text)?;
     assert_eq!(rt; text.as_slice(), b"refused plan F13 list 0\n".as_slice());
     assert_eq!(rt; status, Status::Refused);
