@@ -1,0 +1,37 @@
+-- The layout that is made of a proper wrapper.
+use Rattle.std.proofs.Common.{◌≡◌, ◌+◌, ◌≤◌, ◌^◌, Bool, true, false, List, get_or, map, ap, ◌∙◌, sym, arith, subst}
+use Rattle.std.specs.List.{All, sum, sum_by}
+use Rattle.std.proofs.lemmas.Option.{slice_get-get_or}
+use Rattle.soc_model.specs.Chips.{ModuleValue}
+use Rattle.plan_model.specs.declared.ChainPlan.{ChainPlan}
+use Rattle.plan_model.specs.Cells.{ChainValue, IsProper, is_read, out_length, scan_lengths, chain_cells, dealt}
+use Rattle.plan_model.specs.Listing.{module_size}
+use Rattle.plan_model.specs.Views.{chain_value}
+use Rattle.plan_model.proofs.ChainLengths.{FitsModule, chain_fits}
+use Rattle.plan_model.proofs.LowerTimes.{read_counts, total-is}
+use Rattle.plan_model.proofs.ProperByCounts.{IsCounted, proper_is_counted}
+use Rattle.bit_machine.specs.declared.layout.Layout.{Layout}
+use Rattle.bit_machine.specs.Layouts.{IsListed, IsStarts, IsLayout}
+
+listed_chains : (m : ModuleValue) (scan : Bool) (chains : List ChainPlan) → IsProper m scan (map chain_value chains) → module_size m ≤ 10 ^ 18 → All (IsListed (scan_lengths m scan)) chains
+listed_chains m scan chains proper small = λ k d h.
+    let c : ChainPlan = get_or chains k d in
+    let fits : FitsModule m scan c = chain_fits m scan chains proper k c (slice_get-get_or chains k d h) in
+    record { listed = fits.listed; fits = omega arith }
+
+read_cells : (m : ModuleValue) (scan : Bool) (chains : List ChainPlan) → IsProper m scan (map chain_value chains) →
+    sum_by out_length (chain_cells m scan (map chain_value chains)) ≡ sum (scan_lengths m scan) + sum_by (λ (c : ChainPlan). c.outs) chains
+read_cells m scan chains proper =
+    let counted : IsCounted m scan chains = proper_is_counted m scan chains proper in
+    total-is is_read false true read_counts m scan (map chain_value chains) proper ∙ omega (arith, counted.outs)
+
+pub layout_from : (m : ModuleValue) (scan : Bool) (given : List ChainValue) (l : Layout) → IsProper m scan given → module_size m ≤ 10 ^ 18 → l.lengths.items ≡ scan_lengths m scan → IsStarts (scan_lengths m scan) l.starts.items → l.flops ≡ sum (scan_lengths m scan) →
+    map chain_value l.chains.items ≡ given → IsLayout l
+layout_from m scan given l proper small lengths starts flops copied =
+    let proper' : IsProper m scan (map chain_value l.chains.items) = subst (IsProper m scan) (sym copied) proper in
+    record {
+      starts = subst (λ ns. IsStarts ns l.starts.items) (sym lengths) starts;
+      flops = flops ∙ ap sum (sym lengths);
+      chains = subst (λ ns. All (IsListed ns) l.chains.items) (sym lengths) (listed_chains m scan l.chains.items proper' small);
+      read = subst (λ ns. sum_by out_length (dealt ns 0 0 (map chain_value l.chains.items)) ≡ sum ns + sum_by (λ (c : ChainPlan). c.outs) l.chains.items) (sym lengths) (read_cells m scan l.chains.items proper');
+    }

@@ -1,0 +1,89 @@
+-- The loops over chains and their parts, one step more.
+use Rattle.std.proofs.Common.{◌≡◌, ℕ, zero, suc, ◌+◌, ◌≤◌, ◌<◌, Bool, List, [], ◌∷◌, ◌++◌, length, get_or, map, take, drop, refl, ap, ◌∙◌, sym, arith}
+use Rattle.std.specs.Global.{Vec}
+use Rattle.std.specs.Vec.{with_items}
+use Rattle.std.specs.Prelude.{slice_index}
+use Rattle.std.specs.List.{sum, sum_by, flat_map}
+use Rattle.std.proofs.Math.ListN.{set}
+use Rattle.std.proofs.lemmas.List.{with_items_is, get_or-map, map-set, length-map, take_more, append_assoc, append-nil, length-append}
+use Rattle.std.proofs.lemmas.Grind.{flat_map-append}
+use Rattle.plan_model.specs.Cells.{Cell, Flop, in_cells, flops}
+use Rattle.plan_model.specs.Runs.{captured}
+use Rattle.bit_machine.specs.Sessions.{each_with, bits_of, response_bit}
+use Rattle.bit_machine.proofs.EachWith.{length-each_with, each_with-past, each_with-more}
+use Rattle.bit_machine.proofs.Captures.{AreRead, read_numbered, captured-more, flop_answers}
+use Rattle.bit_machine.proofs.Layouts.{length-ins, length-flops, length-flop}
+
+-- ---- a list of chains
+
+same_length : {X : Type 0} (f : X → List Bool → List Bool) (xs : List X) (before now : List (Vec Bool)) → bits_of now ≡ each_with f xs (bits_of before) → length now ≡ length before
+same_length f xs before now same =
+    sym (length-map now (λ (v : Vec Bool). v.items)) ∙ ap length same ∙ length-each_with f xs (bits_of before) ∙ length-map before (λ (v : Vec Bool). v.items)
+
+-- a chain that no step has reached
+pub item_before : {X : Type 0} (f : X → List Bool → List Bool) (xs : List X) (before now : List (Vec Bool)) (j : ℕ) (e : Vec Bool) → j < length before → bits_of now ≡ each_with f (take j xs) (bits_of before) →
+    (get_or now j e).items ≡ get_or (bits_of before) j []
+item_before f xs before now j e h same =
+    let long : length now ≡ length before = same_length f (take j xs) before now same in
+    let long' : length (bits_of before) ≡ length before = length-map before (λ (v : Vec Bool). v.items) in
+    sym (get_or-map (λ (v : Vec Bool). v.items) now j e [] (omega arith)) ∙ ap (λ bits. get_or bits j []) same ∙ each_with-past f xs (bits_of before) j [] (omega arith)
+
+step_bits : {X : Type 0} (f : X → List Bool → List Bool) (xs : List X) (before now : List (Vec Bool)) (j : ℕ) (d : X) (e v : Vec Bool) → j < length xs → j < length before →
+    bits_of now ≡ each_with f (take j xs) (bits_of before) → v.items ≡ f (get_or xs j d) (get_or now j e).items → bits_of (set now j v) ≡ each_with f (take (j + 1) xs) (bits_of before)
+step_bits f xs before now j d e v h h' same new =
+    let next : j + 1 ≡ suc j = omega arith in
+    let long' : length (bits_of before) ≡ length before = length-map before (λ (v : Vec Bool). v.items) in
+    let there : v.items ≡ f (get_or xs j d) (get_or (bits_of before) j []) = new ∙ ap (f (get_or xs j d)) (item_before f xs before now j e h' same) in
+    map-set (λ (v : Vec Bool). v.items) now j v
+    ∙ rw (same, there, next) (sym (each_with-more f xs (bits_of before) j d [] h (omega arith)))
+
+-- the same where one chain was written in its place
+pub step_chain : {X : Type 0} (f : X → List Bool → List Bool) (xs : List X) (before now : List (Vec Bool)) (j : ℕ) (d : X) (e : Vec Bool) (new : List Bool) → j < length xs → j < length before →
+    bits_of now ≡ each_with f (take j xs) (bits_of before) → length new ≡ length (get_or now j e).items → new ≡ f (get_or xs j d) (get_or now j e).items →
+    bits_of (set now j (with_items (get_or now j e) new)) ≡ each_with f (take (j + 1) xs) (bits_of before)
+step_chain f xs before now j d e new h h' same long is =
+    let v : Vec Bool = get_or now j e in
+    let kept : length new ≡ v.len = omega (arith, v.ok.0) in
+    step_bits f xs before now j d e (with_items (get_or now j e) new) h h' same (with_items_is v new kept ∙ is)
+
+-- what is filled from the front
+pub step_map : {X Y : Type 0} (g : X → Y) (xs : List X) (ys now : List Y) (j : ℕ) (d : X) (y : Y) → j < length xs → j < length ys →
+    now ≡ map g (take j xs) ++ drop j ys → y ≡ g (get_or xs j d) → set now j y ≡ map g (take (j + 1) xs) ++ drop (j + 1) ys
+step_map g xs ys now j d y h h' same new =
+    let next : j + 1 ≡ suc j = omega arith in
+    rw (same, new, next) (fill xs ys j h h')
+  where
+    fill : (xs : List _) (ys : List _) (j : ℕ) → j < length xs → j < length ys → set (map g (take j xs) ++ drop j ys) j (g (get_or xs j d)) ≡ map g (take (suc j) xs) ++ drop (suc j) ys
+    fill [] ys j h h' = absurd (omega arith)
+    fill (x ∷ xs) [] j h h' = absurd (omega arith)
+    fill (x ∷ xs) (y ∷ ys) zero h h' = refl
+    fill (x ∷ xs) (y ∷ ys) (suc j) h h' = ap (λ v. g x ∷ v) (fill xs ys j (omega arith) (omega arith))
+
+-- ---- the parts of one chain
+
+-- the answer of one more part, all cells of which are read
+pub step_part : (f : Cell → Bool) (xs ys : List Cell) (before now next answer : List Bool) (at n : ℕ) → AreRead ys → length xs ≡ at → length ys ≡ n → map f ys ≡ answer → at + n ≤ length before →
+    now ≡ captured f xs before → next ≡ take at now ++ answer ++ drop (at + length answer) now → next ≡ captured f (xs ++ ys) before
+step_part f xs ys before now next answer at n read long long' answers fits same new =
+    let size : length answer ≡ n = sym (ap length answers) ∙ length-map ys f ∙ long' in
+    new ∙ rw (size, same, ← long, ← long', ← answers) (sym (captured-more f xs ys before read (omega arith)))
+
+-- one scan chain more
+pub step_scan : (lengths : List ℕ) (response : List Bool) (scans : List ℕ) (i ins k at start n : ℕ) (before now next answer : List Bool) → k < length scans → at ≡ ins + sum_by (slice_index lengths) (take k scans) →
+    start ≡ sum (take (slice_index scans k) lengths) → n ≡ slice_index lengths (slice_index scans k) → start + n ≤ length response → at + n ≤ length before → answer ≡ take n (drop start response) →
+    now ≡ captured (response_bit lengths response) (in_cells i ins ++ flat_map (flops lengths) (take k scans)) before → next ≡ take at now ++ answer ++ drop (at + length answer) now →
+    next ≡ captured (response_bit lengths response) (in_cells i ins ++ flat_map (flops lengths) (take (k + 1) scans)) before
+step_scan lengths response scans i ins k at start n before now next answer h there starts size fits fits' cut same new =
+    let c : ℕ = slice_index scans k in
+    let front : List Cell = in_cells i ins ++ flat_map (flops lengths) (take k scans) in
+    let long : length (in_cells i ins ++ flat_map (flops lengths) (take k scans)) ≡ at =
+    length-append (in_cells i ins) (flat_map (flops lengths) (take k scans)) ∙ omega (arith, length-ins i ins, length-flops lengths (take k scans)) in
+    let long' : length (flops lengths (slice_index scans k)) ≡ n = length-flop lengths (slice_index scans k) ∙ sym size in
+    let answers : map (response_bit lengths response) (flops lengths (slice_index scans k)) ≡ answer =
+    flop_answers lengths response (slice_index scans k) start starts (omega arith) ∙ rw (← size) (sym cut) in
+    let step : next ≡ captured (response_bit lengths response) ((in_cells i ins ++ flat_map (flops lengths) (take k scans)) ++ flops lengths (slice_index scans k)) before =
+    step_part (response_bit lengths response) (in_cells i ins ++ flat_map (flops lengths) (take k scans)) (flops lengths (slice_index scans k)) before now next answer at n
+    (read_numbered (λ i. Flop (slice_index scans k) i) (λ i. refl) 0 (slice_index lengths (slice_index scans k))) long long' answers fits' same new in
+    let more : flat_map (flops lengths) (take (k + 1) scans) ≡ flat_map (flops lengths) (take k scans) ++ flops lengths (slice_index scans k) =
+    ap (flat_map (flops lengths)) (take_more scans k 0 h) ∙ flat_map-append (flops lengths) (take k scans) (slice_index scans k ∷ []) ∙ ap (λ v. flat_map (flops lengths) (take k scans) ++ v) (append-nil (flops lengths (slice_index scans k))) in
+    step ∙ ap (λ v. captured (response_bit lengths response) v before) (append_assoc (in_cells i ins) (flat_map (flops lengths) (take k scans)) (flops lengths (slice_index scans k)) ∙ ap (λ v. in_cells i ins ++ v) (sym more))

@@ -1,0 +1,7 @@
+use Rattle.std.proofs.Common.{◌≡◌, take}
+use Rattle.std.specs.Prelude.{slice_index}
+use Rattle.std.specs.List.{sum_by}
+use Rattle.bit_machine.proofs.layout.length_of.Given as goal
+
+abbrev pub invariant-loop-scan : goal.invariant-loop-scan
+invariant-loop-scan l = l.flops ≡ sum_by (slice_index l.lengths) (take l.scan-index l.chain.scans.items)

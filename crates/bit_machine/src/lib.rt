@@ -1,0 +1,16 @@
+// Wrapped modules, bit by bit. One module in its wrapper is a [`Session`]: shift and capture do to its chains what one
+// cycle of a test does (the wrapped cores of Iyengar, Chakrabarty and Marinissen 2002).
+//
+// A cycle is one call; lengths are in cells, and each cell and each wire has one bit.
+#![tactic(auto)]
+
+mod bits;
+mod laws;
+mod layout;
+mod session;
+
+pub use laws::{responses_are_numbered, responses_have_lengths};
+pub use session::Session;
+
+#[cfg(test)]
+mod tests;

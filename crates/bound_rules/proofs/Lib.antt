@@ -1,0 +1,4 @@
+pub mod Works
+pub mod Modules
+pub mod SoundWork
+pub mod TestChips

@@ -1,0 +1,22 @@
+use Rattle.std.proofs.Common.{◌∙◌, sym, arith, get_or}
+use Rattle.bound_rules.proofs.Works.{no_test, live_patterns, work_at, next_at, take-le}
+use Rattle.bound_rules.proofs.sizes.Sizes.times.Goals as goal
+
+pub time-sum-requires : goal.time-sum-requires
+time-sum-requires c =
+    let live = sym c.live.ensures ∙ c.if-live.true in
+    record {
+      width = c.requires.width;
+      live = live_patterns (get_or c.args.tests.now c.loop-test.test-index no_test) live;
+      fitting = c.requires.fitting;
+      work = omega (arith, work_at c.args.self.now c.args.tests.now c.loop-test.test-index no_test c.loop-test-test.true live, c.requires.work);
+    }
+
+pub overflow_add-sum : goal.overflow_add-sum
+overflow_add-sum c =
+    let live = sym c.live.ensures ∙ c.if-live.true in
+    omega (arith, c.loop-test.invariant, c.time-sum.ensures.time, c.requires.work, next_at c.args.self.now c.args.width c.args.tests.now c.loop-test.test-index no_test c.requires.width c.requires.fitting c.loop-test-test.true live)
+
+pub returns-clause-small : goal.returns-clause-small
+returns-clause-small c =
+    rw c.loop-test.invariant (take-le c.args.self.now c.args.width c.args.tests.now c.loop-test.test-index c.requires.width c.requires.fitting)

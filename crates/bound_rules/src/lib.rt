@@ -1,0 +1,64 @@
+// Lower bounds on the cycles of every good plan of a chip, by sums over its tests.
+//
+// Lower times are in cycles, widths in wires, lengths of chains in cells. Nothing here takes memory.
+#![tactic(auto)]
+
+ghost use Rattle.std.specs.Prelude.{◌≡◌, ℕ, ◌^◌, ◌<◌, ◌≤◌, true, false, Some, List, length, slice_get, IsTrue};
+ghost use Rattle.soc_model.specs.Chips.{soc_value, module_value, is_live};
+ghost use Rattle.soc_model.specs.Sizes.{test_work};
+ghost use Rattle.soc_model.specs.SoundChips.{IsSoundChip};
+ghost use Rattle.plan_model.specs.Cells.{ChainValue, chain_cells, IsProper};
+ghost use Rattle.plan_model.specs.Plans.{LimitsValue, operations_of};
+ghost use Rattle.plan_model.specs.Rules.{IsBound};
+ghost use Rattle.plan_model.specs.Bounds.{lower_time, module_bound};
+
+mod sizes;
+
+use sizes::Sizes;
+use soc_model::{Module, Soc, Test};
+
+/// The module at a place.
+fn module_at(soc: &Soc, place: usize) -> &Module
+    requires { place < length (soc_value soc.now).modules }
+    ensures { slice_get (soc_value soc.now).modules place ≡ Some (module_value result.now) }
+{
+    match soc.modules.get_index(place) {
+        Some((_, module)) => module,
+        None => unreachable!(),
+    }
+}
+
+/// The cycles that a live test of the module takes at least on `width` wires: for a test over the wires the time of its
+/// patterns after the module's setup (Iyengar, Chakrabarty and Marinissen 2002), with chains as short as cells dealt
+/// over `width` chains and the longest scan chain of the mode allow; for a self test its patterns.
+///
+/// Each live test of a sound chip meets the condition on its work: `live_work-le` of proofs/SoundWork.antt.
+pub fn lower_time(module: &Module, test: &Test, width: u64) -> u64
+    requires width { 1 ≤ width }
+    requires live { IsTrue (is_live test.now) }
+    requires work { test_work (module_value «module».now) test.now ≤ 10 ^ 18 }
+    ensures time { result ≡ lower_time (module_value «module».now) test.now width }
+    ensures small { result ≤ 10 ^ 18 }
+    ensures over_wires { (chains : List ChainValue) → test.now.tam ≡ true → 1 ≤ length chains → length chains ≤ width → IsProper (module_value «module».now) test.now.scan chains →
+        result ≤ length (operations_of (module_value «module».now) test.now (chain_cells (module_value «module».now) test.now.scan chains)) }
+    ensures self_tests { test.now.tam ≡ false → result ≡ test.now.patterns }
+{
+    Sizes::of(module).time(test, width)
+}
+
+/// The cycles that the live tests of a module take at least, one after another, on `wires` wires: their lower times
+/// together.
+pub fn module_bound(soc: &Soc, place: usize, wires: u64) -> u64
+    requires sound { IsSoundChip (soc_value soc.now) }
+    requires place { place < length (soc_value soc.now).modules }
+    requires some_wire { 1 ≤ wires }
+    ensures sum { result ≡ module_bound (soc_value soc.now) wires place }
+    ensures small { result ≤ 10 ^ 18 }
+    ensures bound { (limits : LimitsValue) → limits.wires ≡ wires → IsBound (soc_value soc.now) limits result }
+{
+    let module = module_at(soc, place);
+    Sizes::of(module).times(&module.tests, wires)
+}
+
+#[cfg(test)]
+mod tests;

@@ -1,0 +1,104 @@
+-- The grammar of a plan's text: a set of whole lists of words, what begins a list of the set, and the refused line.
+use Rattle.std.specs.Prelude.{◌≡◌, ◌⊎◌, ◌≤◌, ℕ, ◌++◌, List, [], ◌∷◌, Option, Some, map}
+use Rattle.std.specs.List.{All}
+use Rattle.soc_model.specs.declared.TestId.{TestId}
+use Rattle.plan_model.specs.Cells.{ChainValue}
+use Rattle.plan_model.specs.Plans.{BusValue, WrapperValue, WhyValue, OfModule, OfPair, OfChain, OfArea, OfPower, OfForced, PlanValue}
+use Rattle.plan_model.specs.declared.TheConstants.{PLAN_NUMBER_MOST, START_MOST}
+use Rattle.plan_text.specs.declared.tokens.Token.{Token}
+use Rattle.plan_text.specs.Tokens.{token_of}
+use Rattle.plan_text.specs.PlanLines.{plan_tokens}
+
+-- a word, and the line that it stands on
+abbrev pub Word : Type 0
+Word = List ℕ × ℕ
+
+-- what each word stands for
+abbrev pub meanings : List Word → List (Option Token)
+meanings ws = map (λ (w : Word). token_of w.0) ws
+
+-- the words stand for these, one by one
+abbrev pub Spells : List Word → List Token → Type 0
+Spells ws ts = meanings ws ≡ map Some ts
+
+-- no start is after the greatest that a text may give
+abbrev pub AreSmallStarts : List (TestId × ℕ) → Type 0
+AreSmallStarts starts = All (λ (s : TestId × ℕ). s.1 ≤ START_MOST) starts
+
+-- The words are the plan: those of its lines, where no start is too great.
+pub record IsPlanText (ws : List Word) (plan : PlanValue) : Type 0 where
+  pub words : Spells ws (plan_tokens plan)
+  pub small_starts : AreSmallStarts plan.starts
+
+-- the set of whole lists of words
+abbrev pub InGrammar : List Word → Type 0
+InGrammar ws = (plan : PlanValue) × IsPlanText ws plan
+
+-- some list of the set begins so
+abbrev pub Viable : List Word → Type 0
+Viable ws = (more : List Word) × InGrammar (ws ++ more)
+
+-- the first word with which nothing of the set begins so
+pub record StopsAt (ws : List Word) (line : ℕ) : Type 0 where
+  pub front : List Word
+  pub stop : Word
+  pub rest : List Word
+  pub words : ws ≡ front ++ stop ∷ rest
+  pub before : Viable front
+  pub refused : Viable (front ++ stop ∷ []) → ⊥
+  pub here : line ≡ stop.1
+
+-- the words begin a list of the set, and are none
+pub record EndsEarly (ws : List Word) : Type 0 where
+  pub viable : Viable ws
+  pub refused : InGrammar ws → ⊥
+
+-- the line that is refused: of the first such word, or else the line on which the text ends
+abbrev pub RefusedAt : List Word → ℕ → ℕ → Type 0
+RefusedAt ws end line = StopsAt ws line ⊎ (EndsEarly ws × (line ≡ end))
+
+-- ---- the numbers of a text's plan
+
+abbrev pub IsNumber : ℕ → Type 0
+IsNumber n = n ≤ PLAN_NUMBER_MOST
+
+abbrev pub AreNumbers : List ℕ → Type 0
+AreNumbers ns = All IsNumber ns
+
+pub record IsBusInRange (bus : BusValue) : Type 0 where
+  pub width : IsNumber bus.width
+  pub modules : AreNumbers bus.modules
+
+pub record IsChainInRange (chain : ChainValue) : Type 0 where
+  pub ins : IsNumber chain.ins
+  pub outs : IsNumber chain.outs
+  pub scans : AreNumbers chain.scans
+
+pub record IsWrapperInRange (wrapper : WrapperValue) : Type 0 where
+  pub number : IsNumber wrapper.«module»
+  pub chains : All IsChainInRange wrapper.chains
+
+pub record IsTestInRange (test : TestId) : Type 0 where
+  pub of : IsNumber test.«module»
+  pub number : IsNumber test.test
+
+pub record IsStartInRange (start : TestId × ℕ) : Type 0 where
+  pub of : IsTestInRange start.0
+  pub small : start.1 ≤ START_MOST
+
+abbrev pub IsReasonInRange : WhyValue → Type 0
+IsReasonInRange (OfModule m) = IsNumber m
+IsReasonInRange (OfPair m) = IsNumber m
+IsReasonInRange (OfChain tests) = All IsTestInRange tests
+IsReasonInRange OfArea = Unit {0}
+IsReasonInRange OfPower = Unit {0}
+IsReasonInRange (OfForced modules) = AreNumbers modules
+
+-- every number of the plan is in the grammar's range
+pub record IsInRange (plan : PlanValue) : Type 0 where
+  pub buses : All IsBusInRange plan.buses
+  pub wrappers : All IsWrapperInRange plan.wrappers
+  pub starts : All IsStartInRange plan.starts
+  pub cycles : IsNumber plan.cycles
+  pub claimed : IsNumber plan.bound.cycles
+  pub reason : IsReasonInRange plan.bound.why

@@ -1,0 +1,32 @@
+-- What a text says is settled.
+use Rattle.std.specs.Prelude.{◌≡◌, ℕ, List, Result}
+use Rattle.plan_model.specs.declared.Plan.{Plan}
+use Rattle.plan_model.specs.Plans.{PlanValue}
+use Rattle.plan_text.specs.PlanLines.{plan_text}
+use Rattle.plan_text.specs.Grammar.{Word, IsPlanText, InGrammar, RefusedAt, IsInRange}
+use Rattle.plan_text.specs.declared.PlanTextFault.{PlanTextFault}
+use Rattle.plan_text.specs.Answers.{SaysPlan, PlanRead, IsAnswer}
+
+-- words are the text of at most one plan
+abbrev pub SayOnePlan : Type 0
+SayOnePlan = (ws : List Word) (a b : PlanValue) → IsPlanText ws a → IsPlanText ws b → a ≡ b
+
+-- words that are the text of a plan are refused at no line
+abbrev pub PlansAreNotRefused : Type 0
+PlansAreNotRefused = (ws : List Word) (end line : ℕ) → InGrammar ws → RefusedAt ws end line → ⊥
+
+-- words are refused at no more than one line
+abbrev pub RefusedOnce : Type 0
+RefusedOnce = (ws : List Word) (end a b : ℕ) → RefusedAt ws end a → RefusedAt ws end b → a ≡ b
+
+-- the printed text of a plan in the grammar's range says that plan
+abbrev pub PrintedPlansAreRead : Type 0
+PrintedPlansAreRead = (plan : PlanValue) → IsInRange plan → SaysPlan (plan_text plan) plan
+
+-- a text that says a plan is answered with that plan, unless memory runs out
+abbrev pub PlansAreAnswered : Type 0
+PlansAreAnswered = (bytes : List ℕ) (plan : PlanValue) (answer : Result Plan PlanTextFault) → PlanRead bytes answer → SaysPlan bytes plan → IsAnswer plan answer
+
+-- so is the printed text of a plan in the grammar's range
+abbrev pub PrintedPlansAreAnswered : Type 0
+PrintedPlansAreAnswered = (plan : PlanValue) (answer : Result Plan PlanTextFault) → IsInRange plan → PlanRead (plan_text plan) answer → IsAnswer plan answer

@@ -1,0 +1,7 @@
+pub mod Tokens
+pub mod PlanLines
+pub mod Grammar
+pub mod Steps
+pub mod PartValues
+pub mod Answers
+pub mod Laws

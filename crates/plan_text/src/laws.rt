@@ -1,0 +1,32 @@
+// What a text says is settled. Each law is the contract of a function that does nothing: a caller learns it by the call.
+ghost use Rattle.plan_text.specs.Laws.{SayOnePlan, PlansAreNotRefused, RefusedOnce, PrintedPlansAreRead, PlansAreAnswered, PrintedPlansAreAnswered};
+
+/// A text says at most one plan.
+pub fn say_one_plan()
+    ensures { SayOnePlan }
+{}
+
+/// A text that says a plan is refused at no line.
+pub fn plans_are_not_refused()
+    ensures { PlansAreNotRefused }
+{}
+
+/// A text is refused at no more than one line.
+pub fn refused_once()
+    ensures { RefusedOnce }
+{}
+
+/// The printed text of a plan in the grammar's range says that plan.
+pub fn printed_plans_are_read()
+    ensures { PrintedPlansAreRead }
+{}
+
+/// A text that says a plan is answered with that plan, unless memory runs out.
+pub fn plans_are_answered()
+    ensures { PlansAreAnswered }
+{}
+
+/// The printed text of a plan in the grammar's range is answered with that plan, unless memory runs out.
+pub fn printed_plans_are_answered()
+    ensures { PrintedPlansAreAnswered }
+{}

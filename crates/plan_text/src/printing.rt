@@ -1,0 +1,215 @@
+// Prints a plan, line by line.
+ghost use Rattle.std.specs.Prelude.{◌≡◌, ◌++◌, ◌∷◌, true, map, OnOk, IfOk, decimal};
+ghost use Rattle.plan_model.specs.Views.{bus_value, chain_value, wrapper_value, bound_value, why_value, plan_value};
+ghost use Rattle.plan_text.specs.declared.tokens.Token.TheVariants.{Number};
+ghost use Rattle.std.specs.List.{flat_map};
+ghost use Rattle.plan_text.specs.Tokens.{spelling};
+ghost use Rattle.plan_text.specs.PlanLines.{spaced, listed_text, line_text, text_of, head_lines, bus_line, mode_key, chain_line, wrapper_line, wrapper_lines, start_line, reason_key, reason_numbers, bound_line, test_numbers, plan_text};
+ghost use Rattle.plan_text.specs.Grammar.{IsInRange};
+ghost use Rattle.plan_text.specs.Answers.{SaysPlan};
+
+use outside::{NoMemory, push_number};
+use plan_model::{Bound, Bus, ChainPlan, Plan, Why, Wrapper};
+use soc_model::TestId;
+use std::alloc::Global;
+
+fn push(to: &mut Vec<u8>, text: &[u8]) -> Result<(), NoMemory>
+    ensures { OnOk result (to.new.items ≡ to.old.items ++ text.now) }
+{
+    match to.extend_from_slice(text) {
+        Ok(()) => Ok(()),
+        Err(_) => Err(NoMemory),
+    }
+}
+
+/// A number with a space before it.
+fn push_spaced(to: &mut Vec<u8>, n: u64) -> Result<(), NoMemory>
+    ensures { OnOk result (to.new.items ≡ to.old.items ++ (32 ∷ decimal n)) }
+{
+    push(to, b" ")?;
+    push_number(to, u128::from(n))
+}
+
+/// Numbers, each with a space before it.
+fn push_numbers(to: &mut Vec<u8>, numbers: &[u64]) -> Result<(), NoMemory>
+    ensures { OnOk result (to.new.items ≡ to.old.items ++ spaced (map Number numbers.now)) }
+{
+    for n in numbers {
+        push_spaced(to, *n)?;
+    }
+    Ok(())
+}
+
+/// A list, with a space and a colon before it where it isn't empty.
+fn push_listed(to: &mut Vec<u8>, numbers: &[u64]) -> Result<(), NoMemory>
+    ensures { OnOk result (to.new.items ≡ to.old.items ++ listed_text true numbers.now) }
+{
+    if numbers.is_empty() {
+        return Ok(());
+    }
+    push(to, b" :")?;
+    push_numbers(to, numbers)
+}
+
+fn push_bus(to: &mut Vec<u8>, bus: &Bus) -> Result<(), NoMemory>
+    ensures { OnOk result (to.new.items ≡ to.old.items ++ line_text (bus_line (bus_value bus.now))) }
+{
+    push(to, b"Bus")?;
+    push_spaced(to, bus.width)?;
+    push_listed(to, bus.modules.as_slice())?;
+    push(to, b"\n")
+}
+
+fn push_chain(to: &mut Vec<u8>, chain: &ChainPlan) -> Result<(), NoMemory>
+    ensures { OnOk result (to.new.items ≡ to.old.items ++ line_text (chain_line (chain_value chain.now))) }
+{
+    push(to, b"Chain")?;
+    push_spaced(to, chain.ins)?;
+    push_spaced(to, chain.outs)?;
+    push_listed(to, chain.scans.as_slice())?;
+    push(to, b"\n")
+}
+
+fn push_start(to: &mut Vec<u8>, test: &TestId, start: u64) -> Result<(), NoMemory>
+    ensures { OnOk result (to.new.items ≡ to.old.items ++ line_text (start_line (test.now, start))) }
+{
+    push(to, b"Start")?;
+    push_spaced(to, test.module)?;
+    push_spaced(to, test.test)?;
+    push_spaced(to, start)?;
+    push(to, b"\n")
+}
+
+fn push_mode(to: &mut Vec<u8>, scan: bool) -> Result<(), NoMemory>
+    ensures { OnOk result (to.new.items ≡ to.old.items ++ (32 ∷ spelling (mode_key scan))) }
+{
+    if scan {
+        push(to, b" scan")
+    } else {
+        push(to, b" terminals")
+    }
+}
+
+fn push_wrapper_head(to: &mut Vec<u8>, module: u64, scan: bool) -> Result<(), NoMemory>
+    ensures { OnOk result (to.new.items ≡ to.old.items ++ line_text (wrapper_line «module» scan)) }
+{
+    push(to, b"Wrapper")?;
+    push_spaced(to, module)?;
+    push_mode(to, scan)?;
+    push(to, b"\n")
+}
+
+fn push_chains(to: &mut Vec<u8>, chains: &[ChainPlan]) -> Result<(), NoMemory>
+    ensures { OnOk result (to.new.items ≡ to.old.items ++ text_of (map chain_line (map chain_value chains.now))) }
+{
+    for chain in chains {
+        push_chain(to, chain)?;
+    }
+    Ok(())
+}
+
+fn push_wrapper(to: &mut Vec<u8>, wrapper: &Wrapper) -> Result<(), NoMemory>
+    ensures { OnOk result (to.new.items ≡ to.old.items ++ text_of (wrapper_lines (wrapper_value wrapper.now))) }
+{
+    push_wrapper_head(to, wrapper.module, wrapper.scan)?;
+    push_chains(to, wrapper.chains.as_slice())
+}
+
+/// The word of a bound's reason, with a space before it.
+fn reason_word(why: &Why) -> &'static [u8]
+    ensures { result.now ≡ 32 ∷ spelling (reason_key (why_value why.now)) }
+{
+    match why {
+        Why::Module { .. } => b" Module",
+        Why::Pair { .. } => b" Pair",
+        Why::Chain { .. } => b" Chain",
+        Why::Area => b" Area",
+        Why::Power => b" Power",
+        Why::Forced { .. } => b" Forced",
+    }
+}
+
+/// The numbers of tests, each with a space before it.
+fn push_tests(to: &mut Vec<u8>, tests: &[TestId]) -> Result<(), NoMemory>
+    ensures { OnOk result (to.new.items ≡ to.old.items ++ spaced (map Number (flat_map test_numbers tests.now))) }
+{
+    for test in tests {
+        push_spaced(to, test.module)?;
+        push_spaced(to, test.test)?;
+    }
+    Ok(())
+}
+
+/// The numbers of a bound's reason, each with a space before it.
+fn push_reason_numbers(to: &mut Vec<u8>, why: &Why) -> Result<(), NoMemory>
+    ensures { OnOk result (to.new.items ≡ to.old.items ++ spaced (map Number (reason_numbers (why_value why.now)))) }
+{
+    match why {
+        Why::Module { module } | Why::Pair { module } => push_spaced(to, *module),
+        Why::Chain { tests } => push_tests(to, tests.as_slice()),
+        Why::Area | Why::Power => Ok(()),
+        Why::Forced { modules } => push_numbers(to, modules.as_slice()),
+    }
+}
+
+fn push_bound(to: &mut Vec<u8>, bound: &Bound) -> Result<(), NoMemory>
+    ensures { OnOk result (to.new.items ≡ to.old.items ++ line_text (bound_line (bound_value bound.now))) }
+{
+    push(to, b"Bound")?;
+    push_spaced(to, bound.cycles)?;
+    push(to, reason_word(&bound.why))?;
+    push_reason_numbers(to, &bound.why)?;
+    push(to, b"\n")
+}
+
+fn push_buses(to: &mut Vec<u8>, buses: &[Bus]) -> Result<(), NoMemory>
+    ensures { OnOk result (to.new.items ≡ to.old.items ++ text_of (map bus_line (map bus_value buses.now))) }
+{
+    for bus in buses {
+        push_bus(to, bus)?;
+    }
+    Ok(())
+}
+
+fn push_wrappers(to: &mut Vec<u8>, wrappers: &[Wrapper]) -> Result<(), NoMemory>
+    ensures { OnOk result (to.new.items ≡ to.old.items ++ text_of (flat_map wrapper_lines (map wrapper_value wrappers.now))) }
+{
+    for wrapper in wrappers {
+        push_wrapper(to, wrapper)?;
+    }
+    Ok(())
+}
+
+fn push_starts(to: &mut Vec<u8>, starts: &[(TestId, u64)]) -> Result<(), NoMemory>
+    ensures { OnOk result (to.new.items ≡ to.old.items ++ text_of (map start_line starts.now)) }
+{
+    for start in starts {
+        push_start(to, &start.0, start.1)?;
+    }
+    Ok(())
+}
+
+/// The first two lines: the form, and the cycles.
+fn push_head(to: &mut Vec<u8>, cycles: u64) -> Result<(), NoMemory>
+    ensures { OnOk result (to.new.items ≡ to.old.items ++ text_of (head_lines cycles)) }
+{
+    push(to, b"Plan")?;
+    push_spaced(to, 1)?;
+    push(to, b"\nCycles")?;
+    push_spaced(to, cycles)?;
+    push(to, b"\n")
+}
+
+/// The text of a plan. Reading it gives the plan again, where the plan's numbers are in the grammar's range.
+pub fn print_plan(alloc: Global, plan: &Plan) -> Result<Vec<u8>, NoMemory>
+    ensures text { IfOk result (λ text. text.items ≡ plan_text (plan_value plan.now)) }
+    ensures read_again { IfOk result (λ text. IsInRange (plan_value plan.now) → SaysPlan text.items (plan_value plan.now)) }
+{
+    let mut text = Vec::new(alloc);
+    push_head(&mut text, plan.cycles)?;
+    push_buses(&mut text, plan.buses.as_slice())?;
+    push_wrappers(&mut text, plan.wrappers.as_slice())?;
+    push_starts(&mut text, plan.starts.as_slice())?;
+    push_bound(&mut text, &plan.bound)?;
+    Ok(text)
+}

@@ -1,0 +1,343 @@
+// Reads the words of a plan one by one.
+ghost use Rattle.std.specs.Prelude.{◌≡◌, OnOk, OnErr, option_map};
+ghost use Rattle.plan_model.specs.Views.{bus_value, wrapper_value, chain_value, bound_value};
+ghost use Rattle.plan_text.specs.PartValues.{draft_value, part_value, Begins, Steps};
+ghost use Rattle.plan_text.specs.Steps.{with_bus, with_wrapper, with_start, with_chain, with_module, with_scan, next_if, at, start as state_at_first, step_number as steps_number, step_key as steps_key, step_wrapper as steps_wrapper, step as steps, begin as begins, begin_mode as begins_mode, begin_reason as begins_reason, begin_plan as begins_plan, begin_cycles as begins_cycles, is_chain as chains, bound_at as bound_there, in_bus, wants_form, wants_start};
+
+use crate::parts::{Draft, Part, Section, Stop};
+use crate::tokens::{Keyword, Token};
+use plan_model::{Bound, Bus, ChainPlan, START_MOST, Why, Wrapper};
+use soc_model::TestId;
+use std::alloc::Global;
+
+/// A draft of which nothing was read.
+pub fn new_draft(alloc: Global) -> Draft
+    ensures { at (draft_value result) (part_value Part.WantsPlan) ≡ state_at_first }
+{
+    Draft {
+        cycles: 0,
+        buses: Vec::new(alloc),
+        wrappers: Vec::new(alloc),
+        starts: Vec::new(alloc),
+    }
+}
+
+fn push_bus(draft: &mut Draft, bus: Bus) -> Result<(), Stop>
+    ensures ok { OnOk result (draft_value draft.new ≡ with_bus (draft_value draft.old) (bus_value bus)) }
+    ensures err { OnErr result (result ≡ Err Stop.NoMemory) }
+{
+    match draft.buses.push(bus) {
+        Ok(()) => Ok(()),
+        Err(_) => Err(Stop::NoMemory),
+    }
+}
+
+fn push_wrapper(draft: &mut Draft, wrapper: Wrapper) -> Result<(), Stop>
+    ensures ok { OnOk result (draft_value draft.new ≡ with_wrapper (draft_value draft.old) (wrapper_value wrapper)) }
+    ensures err { OnErr result (result ≡ Err Stop.NoMemory) }
+{
+    match draft.wrappers.push(wrapper) {
+        Ok(()) => Ok(()),
+        Err(_) => Err(Stop::NoMemory),
+    }
+}
+
+fn push_start(draft: &mut Draft, test: TestId, start: u64) -> Result<(), Stop>
+    ensures ok { OnOk result (draft_value draft.new ≡ with_start (draft_value draft.old) test start) }
+    ensures err { OnErr result (result ≡ Err Stop.NoMemory) }
+{
+    match draft.starts.push((test, start)) {
+        Ok(()) => Ok(()),
+        Err(_) => Err(Stop::NoMemory),
+    }
+}
+
+fn push_chain(wrapper: &mut Wrapper, chain: ChainPlan) -> Result<(), Stop>
+    ensures ok { OnOk result (wrapper_value wrapper.new ≡ with_chain (wrapper_value wrapper.old) (chain_value chain)) }
+    ensures err { OnErr result (result ≡ Err Stop.NoMemory) }
+{
+    match wrapper.chains.push(chain) {
+        Ok(()) => Ok(()),
+        Err(_) => Err(Stop::NoMemory),
+    }
+}
+
+fn push_module(bus: &mut Bus, module: u64) -> Result<(), Stop>
+    ensures ok { OnOk result (bus_value bus.new ≡ with_module (bus_value bus.old) «module») }
+    ensures err { OnErr result (result ≡ Err Stop.NoMemory) }
+{
+    match bus.modules.push(module) {
+        Ok(()) => Ok(()),
+        Err(_) => Err(Stop::NoMemory),
+    }
+}
+
+fn push_scan(chain: &mut ChainPlan, scan: u64) -> Result<(), Stop>
+    ensures ok { OnOk result (chain_value chain.new ≡ with_scan (chain_value chain.old) scan) }
+    ensures err { OnErr result (result ≡ Err Stop.NoMemory) }
+{
+    match chain.scans.push(scan) {
+        Ok(()) => Ok(()),
+        Err(_) => Err(Stop::NoMemory),
+    }
+}
+
+/// What a keyword begins, where a section is not over.
+fn begin(key: Keyword, section: Section) -> Result<Part, Stop>
+    ensures { Begins (begins key section) result }
+{
+    match (key, section) {
+        (Keyword::Bus, Section::Buses) => Ok(Part::WantsWidth),
+        (Keyword::Wrapper, Section::Buses | Section::Wrappers) => Ok(Part::WantsModule),
+        (Keyword::Start, _) => Ok(Part::WantsTestModule),
+        (Keyword::Bound, _) => Ok(Part::WantsBound),
+        _ => Err(Stop::Refused),
+    }
+}
+
+/// A wrapper in the mode of its keyword, without chains yet.
+fn begin_mode(alloc: Global, key: Keyword, module: u64) -> Result<Part, Stop>
+    ensures { Begins (begins_mode key «module») result }
+{
+    let scan = match key {
+        Keyword::Scan => true,
+        Keyword::Terminals => false,
+        _ => return Err(Stop::Refused),
+    };
+    Ok(Part::InWrapper(Wrapper {
+        module,
+        scan,
+        chains: Vec::new(alloc),
+    }))
+}
+
+/// A bound for the reason of its keyword.
+fn begin_reason(alloc: Global, key: Keyword, cycles: u64) -> Result<Part, Stop>
+    ensures { Begins (begins_reason key cycles) result }
+{
+    match key {
+        Keyword::Module => Ok(Part::WantsBoundModule { cycles }),
+        Keyword::Pair => Ok(Part::WantsPairModule { cycles }),
+        Keyword::Chain => Ok(Part::InTests {
+            cycles,
+            tests: Vec::new(alloc),
+        }),
+        Keyword::Area => Ok(Part::Whole(Bound {
+            cycles,
+            why: Why::Area,
+        })),
+        Keyword::Power => Ok(Part::Whole(Bound {
+            cycles,
+            why: Why::Power,
+        })),
+        Keyword::Forced => Ok(Part::InForced {
+            cycles,
+            modules: Vec::new(alloc),
+        }),
+        _ => Err(Stop::Refused),
+    }
+}
+
+fn begin_plan(key: Keyword) -> Result<Part, Stop>
+    ensures { Begins (begins_plan key) result }
+{
+    match key {
+        Keyword::Plan => Ok(Part::WantsForm),
+        _ => Err(Stop::Refused),
+    }
+}
+
+fn begin_cycles(key: Keyword) -> Result<Part, Stop>
+    ensures { Begins (begins_cycles key) result }
+{
+    match key {
+        Keyword::Cycles => Ok(Part::WantsCycles),
+        _ => Err(Stop::Refused),
+    }
+}
+
+fn is_chain(key: Keyword) -> bool
+    ensures { result ≡ chains key }
+{
+    matches!(key, Keyword::Chain)
+}
+
+/// A keyword after a wrapper that may go on.
+fn step_wrapper(draft: &mut Draft, wrapper: Wrapper, key: Keyword) -> Result<Part, Stop>
+    ensures { Steps (steps_wrapper (draft_value draft.old) (wrapper_value wrapper) key (chains key)) result draft.new }
+{
+    if is_chain(key) {
+        return Ok(Part::WantsIns(wrapper));
+    }
+    push_wrapper(draft, wrapper)?;
+    begin(key, Section::Wrappers)
+}
+
+/// A keyword after a bus.
+fn step_bus(draft: &mut Draft, bus: Bus, key: Keyword) -> Result<Part, Stop>
+    ensures { Steps (steps_key (draft_value draft.old) (in_bus (bus_value bus)) key) result draft.new }
+{
+    push_bus(draft, bus)?;
+    begin(key, Section::Buses)
+}
+
+/// A keyword as the next word.
+fn step_key(alloc: Global, draft: &mut Draft, part: Part, key: Keyword) -> Result<Part, Stop>
+    ensures { Steps (steps_key (draft_value draft.old) (part_value part) key) result draft.new }
+{
+    match part {
+        Part::WantsPlan => begin_plan(key),
+        Part::WantsCyclesWord => begin_cycles(key),
+        Part::AfterCycles => begin(key, Section::Buses),
+        Part::InBus(bus) => step_bus(draft, bus, key),
+        Part::WantsMode { module } => begin_mode(alloc, key, module),
+        Part::InWrapper(wrapper) => step_wrapper(draft, wrapper, key),
+        Part::InChain { mut wrapper, chain } => {
+            push_chain(&mut wrapper, chain)?;
+            step_wrapper(draft, wrapper, key)
+        }
+        Part::AfterStart => begin(key, Section::Starts),
+        Part::WantsReason { cycles } => begin_reason(alloc, key, cycles),
+        Part::WantsForm
+        | Part::WantsCycles
+        | Part::WantsWidth
+        | Part::WantsModule
+        | Part::WantsIns(_)
+        | Part::WantsOuts { .. }
+        | Part::WantsTestModule
+        | Part::WantsTest { .. }
+        | Part::WantsStart(_)
+        | Part::WantsBound
+        | Part::WantsBoundModule { .. }
+        | Part::WantsPairModule { .. }
+        | Part::InTests { .. }
+        | Part::WantsTestOf { .. }
+        | Part::InForced { .. }
+        | Part::Whole(_) => Err(Stop::Refused),
+    }
+}
+
+/// The number of a plan's form, which is 1.
+fn step_form(draft: &mut Draft, n: u64) -> Result<Part, Stop>
+    ensures { Steps (steps_number (draft_value draft.old) wants_form n) result draft.new }
+{
+    if n == 1 {
+        Ok(Part::WantsCyclesWord)
+    } else {
+        Err(Stop::Refused)
+    }
+}
+
+/// The start of a test.
+fn step_start(draft: &mut Draft, test: TestId, n: u64) -> Result<Part, Stop>
+    ensures { Steps (steps_number (draft_value draft.old) (wants_start test) n) result draft.new }
+{
+    if n > START_MOST {
+        return Err(Stop::Refused);
+    }
+    push_start(draft, test, n)?;
+    Ok(Part::AfterStart)
+}
+
+/// A number as the next word.
+fn step_number(alloc: Global, draft: &mut Draft, part: Part, n: u64) -> Result<Part, Stop>
+    ensures { Steps (steps_number (draft_value draft.old) (part_value part) n) result draft.new }
+{
+    match part {
+        Part::WantsForm => step_form(draft, n),
+        Part::WantsCycles => {
+            draft.cycles = n;
+            Ok(Part::AfterCycles)
+        }
+        Part::WantsWidth => Ok(Part::InBus(Bus {
+            width: n,
+            modules: Vec::new(alloc),
+        })),
+        Part::InBus(mut bus) => {
+            push_module(&mut bus, n)?;
+            Ok(Part::InBus(bus))
+        }
+        Part::WantsModule => Ok(Part::WantsMode { module: n }),
+        Part::WantsIns(wrapper) => Ok(Part::WantsOuts { wrapper, ins: n }),
+        Part::WantsOuts { wrapper, ins } => Ok(Part::InChain {
+            wrapper,
+            chain: ChainPlan {
+                ins,
+                scans: Vec::new(alloc),
+                outs: n,
+            },
+        }),
+        Part::InChain { wrapper, mut chain } => {
+            push_scan(&mut chain, n)?;
+            Ok(Part::InChain { wrapper, chain })
+        }
+        Part::WantsTestModule => Ok(Part::WantsTest { module: n }),
+        Part::WantsTest { module } => Ok(Part::WantsStart(TestId { module, test: n })),
+        Part::WantsStart(test) => step_start(draft, test, n),
+        Part::WantsBound => Ok(Part::WantsReason { cycles: n }),
+        Part::WantsBoundModule { cycles } => Ok(Part::Whole(Bound {
+            cycles,
+            why: Why::Module { module: n },
+        })),
+        Part::WantsPairModule { cycles } => Ok(Part::Whole(Bound {
+            cycles,
+            why: Why::Pair { module: n },
+        })),
+        Part::InTests { cycles, tests } => Ok(Part::WantsTestOf {
+            cycles,
+            tests,
+            module: n,
+        }),
+        Part::WantsTestOf {
+            cycles,
+            mut tests,
+            module,
+        } => match tests.push(TestId { module, test: n }) {
+            Ok(()) => Ok(Part::InTests { cycles, tests }),
+            Err(_) => Err(Stop::NoMemory),
+        },
+        Part::InForced {
+            cycles,
+            mut modules,
+        } => match modules.push(n) {
+            Ok(()) => Ok(Part::InForced { cycles, modules }),
+            Err(_) => Err(Stop::NoMemory),
+        },
+        Part::WantsPlan
+        | Part::WantsCyclesWord
+        | Part::AfterCycles
+        | Part::WantsMode { .. }
+        | Part::InWrapper(_)
+        | Part::AfterStart
+        | Part::WantsReason { .. }
+        | Part::Whole(_) => Err(Stop::Refused),
+    }
+}
+
+/// The next word.
+pub fn step(alloc: Global, draft: &mut Draft, part: Part, token: Token) -> Result<Part, Stop>
+    ensures { Steps (steps (at (draft_value draft.old) (part_value part)) token) result draft.new }
+{
+    match token {
+        Token::Key(key) => step_key(alloc, draft, part, key),
+        Token::Number(n) => step_number(alloc, draft, part, n),
+    }
+}
+
+/// The bound of a plan whose words end here.
+pub fn bound_at(part: Part) -> Option<Bound>
+    ensures { option_map bound_value result ≡ bound_there (part_value part) }
+{
+    match part {
+        Part::Whole(bound) => Some(bound),
+        Part::InTests { cycles, tests } => Some(Bound {
+            cycles,
+            why: Why::Chain { tests },
+        }),
+        Part::InForced { cycles, modules } => Some(Bound {
+            cycles,
+            why: Why::Forced { modules },
+        }),
+        _ => None,
+    }
+}
