@@ -1,5 +1,14 @@
+pub mod WordFacts
+pub mod WordBytes
+pub mod Complete
+pub mod Sound
+pub mod Viable
+pub mod Lists
+pub mod Progress
 pub mod DifferentNumbers
-pub mod EightWords
-pub mod ItemsRead
+pub mod Places
+pub mod Telling
+pub mod TotalFacts
+pub mod SameGiven
 pub mod ChipsSaid
-pub mod Reading
+pub mod OneAnswer

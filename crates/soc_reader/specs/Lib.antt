@@ -1,3 +1,12 @@
+pub mod Keywords
+pub mod Table
+pub mod Grammar
+pub mod Meaning
+pub mod Steps
 pub mod ChipForm
-pub mod ItemReads
 pub mod Refusals
+pub mod Reads
+pub mod Marks
+pub mod Names
+pub mod Views
+pub mod Drafts

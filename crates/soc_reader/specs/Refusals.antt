@@ -1,19 +1,38 @@
--- Why texts and items are refused.
-use Rattle.std.specs.Prelude.{◌≡◌, true}
+-- Why texts are refused.
+use Rattle.std.specs.Prelude.{◌≡◌, ◌⊎◌, ℕ, ◌+◌, List, Some, count_by}
+use Rattle.outside.specs.Words.{words_of, is_line_feed}
+use Rattle.soc_model.specs.declared.SocLimit.{SocLimit}
 use Rattle.soc_model.specs.Chips.{SocValue}
-use Rattle.soc_model.specs.Lookups.{has_module_number}
-use Rattle.soc_reader.specs.declared.items.Item.{Item}
+use Rattle.soc_model.specs.Sizes.{IsFirstPassed}
 use Rattle.soc_reader.specs.declared.SocFault.{SocFault}
 use Rattle.soc_reader.specs.declared.SocFault.TheVariants.{Text, Limit, NoMemory}
+use Rattle.soc_reader.specs.Table.{Item}
+use Rattle.soc_reader.specs.Grammar.{IsText, RefusedAt}
+use Rattle.soc_reader.specs.Meaning.{chip_of, first_wrong}
+use Rattle.soc_reader.specs.ChipForm.{SaysModules}
 
--- A text is refused, always with line 0, where it says no chip; it is not told when memory runs out.
-abbrev pub Refuses : (SocValue → Type 0) → SocFault → Type 0
-Refuses Says (Text line) = (line ≡ 0) × ((soc : SocValue) → Says soc → ⊥)
-Refuses Says (Limit which value) = ⊥
-Refuses Says NoMemory = Unit {0}
+-- the line on which a text ends: 1 more than its line feeds
+abbrev pub last_line : List ℕ → ℕ
+last_line bytes = 1 + count_by is_line_feed bytes
 
--- an item is refused where the chip has a module of its number
-abbrev pub RefusesItem : SocValue → Item → SocFault → Type 0
-RefusesItem soc item (Text line) = (line ≡ 0) × (has_module_number soc item.number ≡ true)
-RefusesItem soc item (Limit which value) = ⊥
-RefusesItem soc item NoMemory = Unit {0}
+-- The words of the bytes are items, and the first of their totals that does not agree stands on this line.
+pub record HasWrongTotal (bytes : List ℕ) (line : ℕ) : Type 0 where
+  pub items : List Item
+  pub text : IsText items (words_of bytes)
+  pub first : first_wrong (chip_of items) items ≡ Some line
+
+-- The grammar or a total refuses the bytes, at this line.
+abbrev pub IsRefusedLine : List ℕ → ℕ → Type 0
+IsRefusedLine bytes line = RefusedAt (words_of bytes) (last_line bytes) line ⊎ HasWrongTotal bytes line
+
+-- The bytes say a chip that is too large: this is the first limit that it passes, with the number that passes it.
+pub record IsTooLarge (bytes : List ℕ) (limit : SocLimit) : Type 0 where
+  pub soc : SocValue
+  pub modules : SaysModules bytes soc
+  pub passed : IsFirstPassed soc limit
+
+-- Why the bytes are refused; it is not told when memory runs out.
+abbrev pub Refuses : List ℕ → SocFault → Type 0
+Refuses bytes (Text line) = IsRefusedLine bytes line
+Refuses bytes (Limit which value) = IsTooLarge bytes (record { which = which; value = value })
+Refuses bytes NoMemory = Unit {0}

@@ -1,87 +1,107 @@
-// The items of a chip's text: `Module m Test k TamUse 0 Patterns p`.
-ghost use Rattle.std.specs.Prelude.{◌≡◌, ◌≤◌, ◌∷◌, length};
-ghost use Rattle.soc_reader.specs.ChipForm.{item_at, is_no};
-ghost use Rattle.soc_reader.specs.ItemReads.{ItemRead};
+// The items of a text, as they are read.
 
-use outside::{Word, Words, number, same_word};
-use soc_model::NUMBER_WORD_MOST;
+use crate::keys::{After, Given, Key, Shape, Subject};
+use indexmap::{IndexMap, IndexSet};
 
-/// What an item says: a module, its one test and how many patterns that has.
-#[derive(Clone, Copy, Debug)]
-pub struct Item {
-    /// The module's number, at least 1.
-    pub number: u64,
-    /// The test's number.
-    pub test: u64,
-    /// The test's patterns.
-    pub patterns: u64,
+/// What an item says of its subject.
+#[derive(Drop)]
+pub enum ReadValue<'a> {
+    /// Nothing but the keyword.
+    Nothing,
+    /// A word.
+    Word(&'a [u8]),
+    /// A number, on a line.
+    Count { number: u64, line: u64 },
+    /// A flag.
+    Flag(bool),
+    /// The lengths of scan chains.
+    Lengths(Vec<u64>),
 }
 
-/// The words of an item: a keyword before each value.
-#[derive(Clone, Copy, Debug)]
-struct ItemWords<'a> {
-    module: &'a [u8],
-    number: &'a [u8],
-    test: &'a [u8],
-    test_number: &'a [u8],
-    tam_use: &'a [u8],
-    flag: &'a [u8],
-    patterns: &'a [u8],
-    count: &'a [u8],
+/// An item.
+#[derive(Drop)]
+pub enum ReadItem<'a> {
+    /// A keyword with its value.
+    Entry {
+        subject: Subject,
+        key: Key,
+        value: ReadValue<'a>,
+    },
+    /// The name of a module.
+    Name {
+        module: u64,
+        name: &'a [u8],
+    },
+    /// The first two words of place data.
+    PlaceData,
+    /// A further word of place data.
+    Coordinate,
 }
 
-/// Whether the word is a flag of value 0.
-fn says_no(word: &[u8]) -> bool
-    ensures { result ≡ is_no word.now }
-{
-    same_word(word, b"0") || same_word(word, b"no")
+/// The items so far, and beside them what the next item is looked up in.
+#[derive(Drop)]
+pub struct Items<'a> {
+    /// The items, in the order of the text.
+    pub list: Vec<ReadItem<'a>>,
+    /// What is spoken of after them.
+    pub opened: Subject,
+    /// Where the next item stands.
+    pub after: After,
+    /// Whether `XY 1` was given.
+    pub xy: bool,
+    /// What was given.
+    pub given: IndexSet<Given>,
+    /// The names that modules were given.
+    pub names: IndexMap<u64, &'a [u8]>,
 }
 
-/// What eight words say. None comes exactly where they make no item.
-fn item_of_words(words: ItemWords<'_>) -> Option<Item>
-    ensures { let w = words.entry in result ≡ item_at w.«module».now w.number.now w.test.now w.test_number.now w.tam_use.now w.flag.now w.patterns.now w.count.now }
-{
-    if !same_word(words.module, b"Module")
-        || !same_word(words.test, b"Test")
-        || !same_word(words.tam_use, b"TamUse")
-        || !same_word(words.patterns, b"Patterns")
-        || !says_no(words.flag)
-    {
-        return None;
-    }
-    let module = number(words.number, NUMBER_WORD_MOST)?;
-    let test = number(words.test_number, NUMBER_WORD_MOST)?;
-    let patterns = number(words.count, NUMBER_WORD_MOST)?;
-    if module < 1 {
-        return None;
-    }
-    Some(Item {
-        number: module,
-        test,
-        patterns,
-    })
+/// What was read of an unfinished item.
+#[derive(Drop)]
+pub enum ReadPart<'a> {
+    /// Nothing: the last item ended.
+    Between,
+    /// A keyword whose value comes next.
+    Wants {
+        subject: Subject,
+        key: Key,
+        shape: Shape,
+    },
+    /// A keyword and how many lengths are to come.
+    Counted {
+        subject: Subject,
+        key: Key,
+        count: u64,
+    },
+    /// Some of the lengths.
+    Listing {
+        subject: Subject,
+        key: Key,
+        read: Vec<u64>,
+        left: u64,
+    },
+    /// The first word of place data.
+    WantsCoordinate,
+    /// A word that is place data where a coordinate comes next, and otherwise a module's name.
+    NameOrData {
+        module: u64,
+        name: &'a [u8],
+    },
 }
 
-/// The item that begins with this word. None comes exactly where no item does.
-pub fn next_item(first: Word<'_>, words: &mut Words<'_>) -> Option<Item>
-    ensures shrinks { length words.new ≤ length words.old }
-    ensures item { ItemRead ((first.entry.bytes.now, first.entry.line) ∷ words.old) result words.new }
-{
-    let number = words.next()?;
-    let test = words.next()?;
-    let test_number = words.next()?;
-    let tam_use = words.next()?;
-    let flag = words.next()?;
-    let patterns = words.next()?;
-    let count = words.next()?;
-    item_of_words(ItemWords {
-        module: first.bytes,
-        number: number.bytes,
-        test: test.bytes,
-        test_number: test_number.bytes,
-        tam_use: tam_use.bytes,
-        flag: flag.bytes,
-        patterns: patterns.bytes,
-        count: count.bytes,
-    })
+/// Why reading stopped.
+#[derive(Clone, Copy, PartialEq, Eq, Debug)]
+pub enum Stop {
+    /// No text of a chip goes on so.
+    Refused,
+    /// There was no memory.
+    NoMemory,
+}
+
+/// Why a text was not read as a chip of any size.
+#[derive(Clone, Copy, PartialEq, Eq, Debug)]
+pub enum TextFault {
+    /// The grammar or a total refuses it at this line.
+    Text { line: u64 },
+    /// There was no memory.
+    NoMemory,
 }

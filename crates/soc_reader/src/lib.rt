@@ -1,29 +1,37 @@
-// Reads the text of a chip. The form that is read now is narrow: `Module m Test k TamUse 0 Patterns p`, any number of
-// times, where every m is at least 1 and stands once.
+// Reads the text of a chip, after the files of the ITC'02 SOC Test Benchmarks.
 #![tactic(auto)]
 
-ghost use Rattle.std.specs.Prelude.{◌≡◌, false, OnOk, OnErr, IfOk, IfErr};
-ghost use Rattle.soc_model.specs.Chips.{soc_value, module_value};
-ghost use Rattle.soc_model.specs.Lookups.{has_module_number};
+ghost use Rattle.std.specs.Prelude.{◌≡◌, ℕ, List, IfOk, IfErr};
+ghost use Rattle.soc_model.specs.declared.SocLimit.{SocLimit};
+ghost use Rattle.soc_model.specs.Chips.{SocValue, soc_value};
 ghost use Rattle.soc_model.specs.SoundChips.{IsSoundChip};
-ghost use Rattle.soc_reader.specs.ChipForm.{SaysChip, SaysModules, IsNarrow, module_of, with_item};
-ghost use Rattle.soc_reader.specs.Refusals.{Refuses, RefusesItem};
+ghost use Rattle.soc_reader.specs.ChipForm.{SaysChip};
+ghost use Rattle.soc_reader.specs.Refusals.{IsRefusedLine, IsTooLarge, Refuses};
 
+mod build;
+mod collect;
 mod items;
+mod keys;
+mod lexicon;
+mod marks;
+mod reader;
+mod totals;
+mod whole;
 
-use items::{Item, next_item};
-use outside::Words;
-use soc_model::{Module, PutFault, Soc, Test, Which, check_size};
+use items::TextFault;
+use soc_model::{Soc, Which, check_size};
 use std::alloc::Global;
 use thiserror::Error;
+use whole::read_chip;
 
 /// Why a text was not read.
 #[derive(Debug, Drop, Error)]
 pub enum SocFault {
-    /// The text says no chip. The line is 0 for now: it isn't told where the text goes wrong.
+    /// No chip is written so: the line of the first word with which no text of a chip begins, or else the line on which
+    /// the text ends too early, or else the line of the first total that does not agree.
     #[error("line {line} of the chip's text: no chip is written so")]
     Text { line: u64 },
-    /// The text says a chip that is too large. It does not come yet: such a text is refused as a `Text`.
+    /// The text says a chip that is too large: the first limit that it passes, and the number that passes it.
     #[error("the chip passes the limit on {which:?} with {value}")]
     Limit { which: Which, value: u128 },
     /// There was no memory for the chip.
@@ -31,79 +39,41 @@ pub enum SocFault {
     NoMemory,
 }
 
-/// The module that an item says: its one test is a self test.
-fn new_module(alloc: Global, item: Item) -> Result<Module, SocFault>
-    ensures said { IfOk result (λ m. module_value m ≡ module_of item) }
-    ensures refused { IfErr result (λ fault. fault ≡ SocFault.NoMemory) }
-{
-    let mut tests = Vec::new(alloc);
-    let test = Test {
-        number: item.test,
-        scan: true,
-        tam: false,
-        patterns: item.patterns,
-        power: 0,
-    };
-    tests.push(test).map_err(|_| SocFault::NoMemory)?;
-    Ok(Module {
-        number: item.number,
-        name: Vec::new(alloc),
-        level: 1,
-        inputs: 0,
-        outputs: 0,
-        bidirs: 0,
-        setup: 0,
-        chains: Vec::new(alloc),
-        tests,
-    })
-}
-
-/// Adds the module that an item says. A module of a number that is there is refused, and the chip is as it was.
-fn add_item(alloc: Global, soc: &mut Soc, item: Item) -> Result<(), SocFault>
-    ensures added { OnOk result (soc_value soc.new ≡ with_item (soc_value soc.old) item) }
-    ensures fresh { OnOk result (has_module_number (soc_value soc.old) item.number ≡ false) }
-    ensures refused { IfErr result (RefusesItem (soc_value soc.old) item) }
-    ensures unchanged { OnErr result (soc_value soc.new ≡ soc_value soc.old) }
-{
-    let module = new_module(alloc, item)?;
-    match soc.put(module) {
-        Ok(()) => Ok(()),
-        Err(PutFault::Known { .. }) => Err(SocFault::Text { line: 0 }),
-        Err(PutFault::NoMemory { .. }) => Err(SocFault::NoMemory),
-    }
-}
-
-/// The modules that a text says, however many there are.
-fn read_modules(alloc: Global, bytes: &[u8]) -> Result<Soc, SocFault>
-    ensures read { IfOk result (λ soc. SaysModules bytes.now (soc_value soc)) }
-    ensures refused { IfErr result (Refuses (SaysModules bytes.now)) }
-{
-    let mut words = Words::new(bytes);
-    let mut soc = Soc::new(alloc);
-    while let Some(first) = words.next() {
-        let Some(item) = next_item(first, &mut words) else {
-            return Err(SocFault::Text { line: 0 });
-        };
-        add_item(alloc, &mut soc, item)?;
-    }
-    Ok(soc)
-}
-
-/// The chip that a text says: its modules in the order of the text, each of level 1 and with one self test. A text says
-/// at most one chip. `Text` comes exactly where the text says none, and that includes a chip of more modules than
-/// `check_size` lets through; only for want of memory another text is refused.
+/// The chip that a text says.
+///
+/// A text is a list of items, each behind the module or test that it speaks of. Modules and tests stand in the order of
+/// their first mention, and what the text leaves out has its default. `Text` comes exactly where the words are no such
+/// list or a total does not agree, and `Limit` exactly where the text says a chip that `check_size` refuses: a text has
+/// only one of these answers.
 pub fn read_soc(alloc: Global, bytes: &[u8]) -> Result<Soc, SocFault>
     ensures read { IfOk result (λ soc. SaysChip bytes.now (soc_value soc)) }
     ensures sound { IfOk result (λ soc. IsSoundChip (soc_value soc)) }
-    ensures narrow { IfOk result (λ soc. IsNarrow (soc_value soc)) }
-    ensures refused { IfErr result (Refuses (SaysChip bytes.now)) }
+    ensures refused { IfErr result (Refuses bytes.now) }
 {
-    let soc = read_modules(alloc, bytes)?;
+    let soc = match read_chip(alloc, bytes) {
+        Ok(soc) => soc,
+        Err(TextFault::Text { line }) => return Err(SocFault::Text { line }),
+        Err(TextFault::NoMemory) => return Err(SocFault::NoMemory),
+    };
     match check_size(&soc) {
         Ok(()) => Ok(soc),
-        Err(_) => Err(SocFault::Text { line: 0 }),
+        Err(limit) => Err(SocFault::Limit {
+            which: limit.which,
+            value: limit.value,
+        }),
     }
 }
+
+/// A text has one answer: it says at most one chip, is refused at most at one line, passes at most one limit first, and
+/// only one of these.
+pub fn texts_have_one_answer()
+    ensures chip { (bytes : List ℕ) (a b : SocValue) → SaysChip bytes a → SaysChip bytes b → a ≡ b }
+    ensures line { (bytes : List ℕ) (m n : ℕ) → IsRefusedLine bytes m → IsRefusedLine bytes n → m ≡ n }
+    ensures limit { (bytes : List ℕ) (a b : SocLimit) → IsTooLarge bytes a → IsTooLarge bytes b → a ≡ b }
+    ensures chip_or_line { (bytes : List ℕ) (soc : SocValue) (line : ℕ) → SaysChip bytes soc → IsRefusedLine bytes line → ⊥ }
+    ensures chip_or_limit { (bytes : List ℕ) (soc : SocValue) (limit : SocLimit) → SaysChip bytes soc → IsTooLarge bytes limit → ⊥ }
+    ensures limit_or_line { (bytes : List ℕ) (limit : SocLimit) (line : ℕ) → IsTooLarge bytes limit → IsRefusedLine bytes line → ⊥ }
+{}
 
 #[cfg(test)]
 mod tests;

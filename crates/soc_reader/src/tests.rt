@@ -1,131 +1,109 @@
 use super::*;
-use outside::push_number;
 use std::test::Fail;
 
-/// Number, test and patterns of each module.
-fn shown(alloc: Global, soc: &Soc) -> Result<Vec<u8>, Fail> {
-    let mut text = Vec::new(alloc);
-    for module in soc.modules.values() {
-        push_number(&mut text, u128::from(module.number))?;
-        for test in &module.tests {
-            text.push(b'.')?;
-            push_number(&mut text, u128::from(test.number))?;
-            text.push(b'=')?;
-            push_number(&mut text, u128::from(test.patterns))?;
-        }
-        text.push(b' ')?;
+/// The line that is refused, or 0.
+fn line_of(alloc: Global, bytes: &[u8]) -> u64 {
+    match read_soc(alloc, bytes) {
+        Err(SocFault::Text { line }) => line,
+        _ => 0,
     }
-    Ok(text)
 }
 
-#[test]
-fn reads_chips(rt: HostRuntime) -> Result<(), Fail> {
-    let alloc = rt.alloc();
-    let rows = [
-        ("", ""),
-        ("# no word", ""),
-        (
-            "Module 1 Test 1 TamUse 0 Patterns 5 Module 2 Test 1 TamUse 0 Patterns 7",
-            "1.1=5 2.1=7 ",
-        ),
-        (
-            "# two self tests\nMODULE:1;test 1\r\n\ttamuse no,PATTERNS 5#Module 3\nmodule 02 Test 1 TAMUSE NO Patterns 007",
-            "1.1=5 2.1=7 ",
-        ),
-        (
-            "Module 7 Test 0 TamUse No Patterns 0 Module 999999999999 Test 3 TamUse nO Patterns 1 Module 2 Test 1 TamUse 0 Patterns 4",
-            "7.0=0 999999999999.3=1 2.1=4 ",
-        ),
-    ];
-    for (text, said) in rows {
-        match read_soc(alloc, text.as_bytes()) {
-            Ok(soc) => {
-                let seen = shown(alloc, &soc)?;
-                assert_eq!(rt; seen.as_slice(), said.as_bytes(), "{text}");
-            }
-            Err(fault) => panic!(rt; "{fault}: {text}"),
-        }
-    }
-    Ok(())
-}
+const WHOLE: &[u8] =
+    b"SocName demo # a comment\nTotalModules 2\nOptions Power 1 XY 0\nModule 0\nModule 1 core_a\nModule 1 Inputs 35\nModule 1 Outputs 49 Bidirs 0\nModule 1 ScanChains 4 : 54 53 52 52\nModule 1 TotalTests 1\nModule 1 Test 1: ScanUse yes; TamUse yes; Patterns 105, Power 20\n";
 
 #[test]
-fn fills_in_what_the_text_leaves_out(rt: HostRuntime) -> Result<(), Fail> {
-    let alloc = rt.alloc();
-    let soc = match read_soc(alloc, b"Module 4 Test 2 TamUse no Patterns 9") {
+fn reads_a_whole_text(rt: HostRuntime) -> Result<(), Fail> {
+    let soc = match read_soc(rt.alloc(), WHOLE) {
         Ok(soc) => soc,
         Err(fault) => panic!(rt; "{fault}"),
     };
-    assert!(rt; soc.name.is_empty() && !soc.power_flag && !soc.xy_flag);
-    match soc.modules.get(&4) {
-        Some(module) => {
-            assert!(rt; module.name.is_empty() && module.chains.is_empty());
-            assert_eq!(rt; module.level, 1);
-            assert_eq!(rt; module.inputs, 0);
-            assert_eq!(rt; module.outputs, 0);
-            assert_eq!(rt; module.bidirs, 0);
-            assert_eq!(rt; module.setup, 0);
-            let test = Test {
-                number: 2,
-                scan: true,
-                tam: false,
-                patterns: 9,
-                power: 0,
-            };
-            assert_eq!(rt; module.tests.as_slice(), [test].as_slice());
+    assert_eq!(rt; soc.name.as_slice(), b"demo".as_slice());
+    assert!(rt; soc.power_flag && !soc.xy_flag);
+    assert_eq!(rt; soc.modules.len(), 2);
+    match soc.modules.get(&0) {
+        Some(found) => assert!(rt; found.level == 0 && found.name.is_empty()),
+        None => panic!(rt; "module 0 is there"),
+    }
+    match soc.modules.get(&1) {
+        Some(found) => {
+            assert_eq!(rt; found.name.as_slice(), b"core_a".as_slice());
+            assert!(rt; found.level == 1 && found.inputs == 35 && found.outputs == 49);
+            assert_eq!(rt; found.chains.as_slice(), [54, 53, 52, 52].as_slice());
+            assert_eq!(rt; found.tests.len(), 1);
+            assert!(rt; found.tests[0].scan && found.tests[0].tam);
+            assert!(rt; found.tests[0].patterns == 105 && found.tests[0].power == 20);
         }
-        None => panic!(rt; "4 is there"),
+        None => panic!(rt; "module 1 is there"),
     }
     Ok(())
 }
 
 #[test]
-fn refuses_other_texts(rt: HostRuntime) {
-    let texts = [
-        "Module",
-        "Module 1",
-        "Module 1 Test 1 TamUse 0 Patterns",
-        "Module 1 Test 1 TamUse 0 Patterns 5 Module",
-        "Module 1 Test 1 TamUse 0 Patterns 5 Module 1 Test 2 TamUse 0 Patterns 7",
-        "Module 1 Test 1 TamUse 0 Patterns 5 Module 2 Test 1 TamUse 0 Patterns 5 Module 01 Test 1 TamUse 0 Patterns 5",
-        "Module 0 Test 1 TamUse 0 Patterns 5",
-        "Module 1 Test 1 TamUse 1 Patterns 5",
-        "Module 1 Test 1 TamUse yes Patterns 5",
-        "Module 1 Test 1 TamUse 00 Patterns 5",
-        "Module 1 Test 1 TamUse none Patterns 5",
-        "Module 1 Test 1 Patterns 5 TamUse 0",
-        "Module 1 Test 1 TamUse 0 Patterns 1000000000000",
-        "Module 1000000000000 Test 1 TamUse 0 Patterns 5",
-        "Module 1 Test -1 TamUse 0 Patterns 5",
-        "Module 1 Test 1 TamUse 0 Pattern 5",
-        "Module 1 Test 1\0 TamUse 0 Patterns 5",
-        "Module 1 Test 1 TamUse 0 Patterns 5 \0",
-        "Module 1 Test 1 TamUse 0 Patterns 5 # 7\n\0",
+fn passes_place_data_over(rt: HostRuntime) -> Result<(), Fail> {
+    match read_soc(rt.alloc(), b"Options XY 1\nModule 1 X1 10 Y1 20 Inputs 5") {
+        Ok(soc) => match soc.modules.get(&1) {
+            Some(found) => assert!(rt; found.name.is_empty() && found.inputs == 5),
+            None => panic!(rt; "module 1 is there"),
+        },
+        Err(fault) => panic!(rt; "{fault}"),
+    }
+    Ok(())
+}
+
+#[test]
+fn refuses_lines(rt: HostRuntime) -> Result<(), Fail> {
+    let cases: [(&[u8], u64); 19] = [
+        (WHOLE, 0),
+        (b"", 0),
+        (b"# no word", 0),
+        (
+            b"#\n#\n#\n#\n#\n#\n#\nModule 1 ScanChains 4 : 54 53 52\nModule 1 TotalTests 1\n",
+            9,
+        ),
+        (b"#\n#\n#\n#\n#\n#\n#\nModule 1 ScanChains 4 : 54 53 52", 8),
+        (
+            b"#\n#\n#\n#\n#\n#\n#\nModule 1 ScanChains 4 : 54 53 52\n",
+            9,
+        ),
+        (b"Module 1 Level 1\nTest 1\nLevel 1\n", 3),
+        (b"Options XY 1 Module 1 a\nModule 1 b\nInputs 1", 3),
+        (b"Module 1 a\nModule 1 b\nInputs 1", 2),
+        (b"Module 1 X1\n10", 2),
+        (b"Module 1 ScanChains 0 ScanChainLengths Level 2", 0),
+        (b"TotalModules 1\nModule 0 Module 1\nTotalTests\n1", 4),
+        (b"TotalModules 1 Module 0 Module 1 TotalTests 0", 0),
+        (b"\nTotalModules 0 Module 1", 2),
+        (b"Module 1\nScanUse 1", 2),
+        (b"Module 1 Test 1 Module 1\nScanUse 1", 2),
+        (b"SocName a\0", 1),
+        (b"Module 1 \x7f", 1),
+        (b"Module 1\nSetup 1000000000000", 2),
     ];
-    for text in texts {
-        match read_soc(rt.alloc(), text.as_bytes()) {
-            Err(SocFault::Text { line }) => assert_eq!(rt; line, 0, "{text}"),
-            _ => panic!(rt; "it is not refused: {text}"),
-        }
+    for (text, line) in cases {
+        assert_eq!(rt; line_of(rt.alloc(), text), line);
     }
-}
-
-fn push_module(text: &mut Vec<u8>, number: u64) -> Result<(), Fail> {
-    text.extend_from_slice(b"Module ")?;
-    push_number(text, u128::from(number))?;
-    text.extend_from_slice(b" Test 1 TamUse 0 Patterns 1\n")?;
     Ok(())
 }
 
 #[test]
-fn refuses_more_than_a_thousand_modules(rt: HostRuntime) -> Result<(), Fail> {
+fn refuses_large_chips(rt: HostRuntime) -> Result<(), Fail> {
     let alloc = rt.alloc();
-    let mut text = Vec::new(alloc);
-    for number in 1..1001u64 {
-        push_module(&mut text, number)?;
+    assert!(rt; read_soc(alloc, b"Module 1 Test 1 Power 1000000000").is_ok());
+    match read_soc(alloc, b"Module 1 Test 1 Power 1000000001") {
+        Err(SocFault::Limit { which, value }) => {
+            assert!(rt; which == Which::Power && value == 1_000_000_001);
+        }
+        _ => panic!(rt; "the power is too great"),
     }
-    assert!(rt; read_soc(alloc, &text).is_ok());
-    push_module(&mut text, 1001)?;
-    assert!(rt; matches!(&read_soc(alloc, &text), Err(SocFault::Text { line: 0 })));
+    match read_soc(
+        alloc,
+        b"Module 1 Inputs 999999999999 Test 1 Patterns 999999999999",
+    ) {
+        Err(SocFault::Limit { which, value }) => {
+            assert!(rt; which == Which::Work && value == 999_999_999_999_000_000_000_000);
+        }
+        _ => panic!(rt; "the work is too great"),
+    }
     Ok(())
 }

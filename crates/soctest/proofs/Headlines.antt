@@ -23,17 +23,21 @@ use Rattle.soctest.specs.Commands.{CommandValue, Check}
 use Rattle.soctest.specs.LimitsForm.{SaysLimits, limits_with, limits_at, limits_of}
 use Rattle.soctest.specs.PlanForm.{SaysPlan}
 use Rattle.soctest.specs.Texts.{too_long_line, unbuilt_line}
-use Rattle.soctest.specs.Answers.{most_of, Stage, Checked, PlanStage, LimitsStage, IsAnswer, IsRead}
+use Rattle.soctest.specs.Answers.{most_of, Stage, IsUnbuilt, Checked, PlanStage, LimitsStage, ChipStage, RefusesChip, IsAnswer, IsRead}
 use Rattle.soctest.specs.Ends.{MayAnswer, Ends, IsTrustworthy, Headline}
 
 -- a stage that ends with Done has read its file
-stage_done : {V : Type 0} (file : FileKind) (Says : List ℕ → V → Type 0) (Next : V → Status → List ℕ → Type 0) (held : Option (List ℕ)) (text : List ℕ) → Stage file Says Next held Done text → (v : V) × IsRead file Says held v × Next v Done text
-stage_done file Says Next None text stage = absurd stage
-stage_done {V} file Says Next (Some bytes) text stage = go (nat_lt (most_of file) (length bytes)) refl stage where
-  go : (long : Bool) → nat_lt (most_of file) (length bytes) ≡ long → MatchBool long ((Done ≡ TooLong) × (text ≡ too_long_line file)) (((v : V) × Says bytes v × Next v Done text) ⊎ ((Done ≡ Refused) × (((v : V) → Says bytes v → ⊥) × (text ≡ unbuilt_line file)))) → (v : V) × IsRead file Says (Some bytes) v × Next v Done text
+stage_done : {V : Type 0} (file : FileKind) (Says : List ℕ → V → Type 0) (Refuses : List ℕ → List ℕ → Type 0) (Next : V → Status → List ℕ → Type 0) (held : Option (List ℕ)) (text : List ℕ) → Stage file Says Refuses Next held Done text → (v : V) × IsRead file Says held v × Next v Done text
+stage_done file Says Refuses Next None text stage = absurd stage
+stage_done {V} file Says Refuses Next (Some bytes) text stage = go (nat_lt (most_of file) (length bytes)) refl stage where
+  go : (long : Bool) → nat_lt (most_of file) (length bytes) ≡ long → MatchBool long ((Done ≡ TooLong) × (text ≡ too_long_line file)) (((v : V) × Says bytes v × Next v Done text) ⊎ ((Done ≡ Refused) × Refuses bytes text)) → (v : V) × IsRead file Says (Some bytes) v × Next v Done text
   go true e a = let wrong : Done ≡ TooLong = a.0 in absurd cc
   go false e (inl a) = (a.0, record { bytes = bytes; held_is = refl; within = ltb-false (most_of file) (length bytes) e; says = a.1 }, a.2)
   go false e (inr a) = let wrong : Done ≡ Refused = a.0 in absurd cc
+
+chip_done : (files : Files) (limits plan : List ℕ) (soc : SocValue) (text : List ℕ) → ChipStage files limits plan soc Done text → LimitsStage soc files limits plan Done text
+chip_done files limits plan soc text (inl a) = a.1
+chip_done files limits plan soc text (inr a) = let wrong : Done ≡ Refused = a.1 in absurd cc
 
 -- limits that are read have a wire
 some_wire_at : (one wires : Option ℕ) (limits : LimitsValue) → limits_at one wires ≡ Some limits → 1 ≤ limits.wires
@@ -67,9 +71,9 @@ pub record Laws : Type 0 where
 
 trusted : Laws → (files : Files) (soc limits plan : List ℕ) (text : List ℕ) (old new : Option (List ℕ)) → IsAnswer (Some (Check soc limits plan)) files Done text → Appended old text new → IsTrustworthy files soc limits plan old new
 trusted laws files soc limits plan text old new answer put =
-    let a = stage_done Soc SaysChip (λ v. LimitsStage v files limits plan) (get files soc) text answer in
-    let b = stage_done Limits SaysLimits (λ w. PlanStage a.0 w (get files plan)) (get files limits) text a.2 in
-    let c = stage_done Plan SaysPlan (Checked a.0 b.0) (get files plan) text b.2 in
+    let a = stage_done Soc SaysChip RefusesChip (ChipStage files limits plan) (get files soc) text answer in
+    let b = stage_done Limits SaysLimits (IsUnbuilt Limits SaysLimits) (λ w. PlanStage a.0 w (get files plan)) (get files limits) text (chip_done files limits plan a.0 text a.2) in
+    let c = stage_done Plan SaysPlan (IsUnbuilt Plan SaysPlan) (Checked a.0 b.0) (get files plan) text b.2 in
     go a.0 b.0 c.0 a.1 b.1 c.1 c.2
   where
     go : (chip : SocValue) (bounds : LimitsValue) (value : PlanValue) → IsRead Soc SaysChip (get files soc) chip → IsRead Limits SaysLimits (get files limits) bounds → IsRead Plan SaysPlan (get files plan) value → Checked chip bounds value Done text → IsTrustworthy files soc limits plan old new

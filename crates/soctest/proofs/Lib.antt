@@ -10,4 +10,3 @@ pub mod SelfTestModules
 pub mod SelfTestStarts
 pub mod PlanLemmas
 pub mod FileStages
-pub mod NarrowChips

@@ -1,21 +1,21 @@
--- Of the rules of good plans a plan without buses can break two, where each module has one self test: those on its starts
--- and on its cycles.
-use Rattle.std.proofs.Common.{◌≡◌, ℕ, zero, suc, ◌+◌, ◌<◌, ◌≤◌, Bool, true, false, Some, List, [], ◌∷◌, ◌++◌, length, map, option_map, refl, sym, ap, subst, ◌∙◌, inl, inr, arith, true≢false}
+-- Of the rules of good plans a plan without buses can break two on a narrow chip: those on its starts and on its cycles.
+use Rattle.std.proofs.Common.{◌≡◌, ℕ, zero, suc, ◌+◌, ◌<◌, ◌≤◌, Bool, true, false, Some, List, [], ◌∷◌, ◌++◌, length, refl, sym, ap, subst, ◌∙◌, inl, inr, arith, true≢false}
 use Rattle.std.specs.Prelude.{slice_get, ◌&&◌}
-use Rattle.std.specs.List.{All, flat_map}
+use Rattle.std.specs.List.{All, filter, flat_map, list_any}
+use Rattle.std.proofs.lemmas.Bool.{or_parts}
 use Rattle.std.proofs.lemmas.List.Elements.{All-head, All-tail}
-use Rattle.std.proofs.lemmas.Option.{slice_get_within, get_or_from_slice_get, slice_get-map, same_Some}
+use Rattle.std.proofs.lemmas.Option.{slice_get_within, get_or_from_slice_get, same_Some}
 use Rattle.soc_model.specs.declared.Test.{Test}
-use Rattle.soc_model.specs.Chips.{ModuleValue, SocValue, LiveTest, is_live, live_of, live_from, level_at}
+use Rattle.soc_model.specs.Chips.{ModuleValue, SocValue, LiveTest, is_live, live_of, live_from}
 use Rattle.plan_model.specs.Faults.{IsFault, FaultValue, Shows, rank_of, fault_rank}
-use Rattle.plan_model.specs.Plans.{PlanValue, LimitsValue, PlannedTest, planned}
+use Rattle.plan_model.specs.Plans.{PlanValue, LimitsValue, PlannedTest, planned, same_mode}
 use Rattle.plan_model.specs.Right.{IsAt}
-use Rattle.plan_model.specs.Rules.{Each, FitsWires, IsKnown, IsNew, IsFitting, HasWrapper, HasProperCells, InOrder, ShareBus, ShareModule, AreParentAndChild, NoClash, listed, named, uses_mode, has_tam, mode_pair, used_pairs, Rule, Widths, Known, Places, Wrappers, Proper, Starts, Wires, Busy, Parents, Precedences, Power, Cycles, Keeps, IsGood}
+use Rattle.plan_model.specs.Rules.{Each, FitsWires, IsKnown, IsNew, IsFitting, HasWrapper, HasProperCells, InOrder, ShareBus, ShareModule, AreParentAndChild, NoClash, listed, named, uses_mode, mode_pair, used_pairs, Rule, Widths, Known, Places, Wrappers, Proper, Starts, Wires, Busy, Parents, Precedences, Power, Cycles, Keeps, IsGood}
 use Rattle.plan_model.proofs.TestsInGoodPlans.{planned_tam}
-use Rattle.plan_model.proofs.Lists.{from_append, from_filter}
+use Rattle.plan_model.proofs.Lists.{from_append, from_filter, any_from}
 use Rattle.plan_model.proofs.PlannedTests.{IsLive, live_here, live_at, Origin, origin}
 use Rattle.plan_model.proofs.GoodPlansRunRight.{planned_place}
-use Rattle.soctest.specs.Narrow.{IsNarrowModule, IsNarrowChip}
+use Rattle.soctest.specs.Narrow.{IsNarrowModule, IsNarrowChip, has_live_at, has_live_in}
 use Rattle.soctest.specs.Stages.{IsNarrow}
 use Rattle.soctest.proofs.SelfTestModules.{IsOwn, Idle, Live, own}
 
@@ -27,15 +27,19 @@ narrow_at ms narrow n m at = subst IsNarrowModule (get_or_from_slice_get ms n m 
 
 -- ---- no test goes over the wires
 
-and_false : (b : Bool) → (b && false) ≡ false
-and_false true = refl
-and_false false = refl
-
-no_tam : (m : ModuleValue) → IsNarrowModule m → has_tam m ≡ false
-no_tam m narrow = rw (narrow.1, narrow.2, and_false (is_live narrow.0)) refl
+and_false : (b c : Bool) → (b && c) ≡ false → (d : Bool) → (b && (c && d)) ≡ false
+and_false true true h d = absurd cc
+and_false true false h d = refl
+and_false false c h d = refl
 
 no_mode : (scan : Bool) (m : ModuleValue) → IsNarrowModule m → uses_mode scan m ≡ false
-no_mode scan m narrow = rw (narrow.1, narrow.2, and_false (is_live narrow.0)) refl
+no_mode scan m narrow = go m.tests narrow.0
+  where
+    go : (ts : List Test) → list_any (λ (t : Test). is_live t && t.tam) ts ≡ false → list_any (λ (t : Test). is_live t && (t.tam && same_mode scan t.scan)) ts ≡ false
+    go [] none = refl
+    go (t ∷ ts) none =
+        let parts = or_parts (is_live t && t.tam) (list_any (λ (t : Test). is_live t && t.tam) ts) none in
+        rw (and_false (is_live t) t.tam parts.0 (same_mode scan t.scan)) (go ts parts.1)
 
 no_pairs : (ms : List ModuleValue) → All IsNarrowModule ms → flat_map (λ (m : ModuleValue). mode_pair true m ++ mode_pair false m) ms ≡ []
 no_pairs [] narrow = refl
@@ -43,25 +47,26 @@ no_pairs (m ∷ ms) narrow =
     let here = All-head IsNarrowModule m ms narrow in
     rw (no_mode true m here, no_mode false m here) (no_pairs ms (All-tail IsNarrowModule m ms narrow))
 
-one_self : (m : ModuleValue) → IsNarrowModule m → (k : ℕ) (t : Test) → slice_get m.tests k ≡ Some t → t.tam ≡ false
-one_self m narrow k t at = go k (rw narrow.1 at at)
+one_self : (ts : List Test) → IsOwn ts → (k : ℕ) (t : Test) → slice_get (filter is_live ts) k ≡ Some t → t.tam ≡ false
+one_self ts (Idle listed found) k t at = let at' = rw listed at at in absurd cc
+one_self ts (Live x listed found self) k t at = go k (rw listed at at)
   where
-    go : (k : ℕ) → slice_get (narrow.0 ∷ []) k ≡ Some t → t.tam ≡ false
-    go zero at = ap (λ (t : Test). t.tam) (sym (same_Some narrow.0 t at)) ∙ narrow.2
+    go : (k : ℕ) → slice_get (x ∷ []) k ≡ Some t → t.tam ≡ false
+    go zero at = ap (λ (t : Test). t.tam) (sym (same_Some x t at)) ∙ self
     go (suc k) at = absurd cc
 
 self : (soc : SocValue) (plan : PlanValue) → IsNarrowChip soc → (i : ℕ) (t : PlannedTest) → IsAt (planned soc plan) i t → t.tam ≡ false
 self soc plan narrow i t at =
     let o : Origin soc plan i t = origin soc plan i t at in
-    let k = from_filter is_live o.l.core.tests o.n o.l.test o.test_at in
-    ap (λ (t : PlannedTest). t.tam) (sym o.is) ∙ planned_tam plan o.l.place o.l.core o.l.test ∙ one_self o.l.core (narrow_at soc.modules narrow o.l.place o.l.core o.module_at) k.0 o.l.test k.1
+    let core = narrow_at soc.modules narrow.modules o.l.place o.l.core o.module_at in
+    ap (λ (t : PlannedTest). t.tam) (sym o.is) ∙ planned_tam plan o.l.place o.l.core o.l.test ∙ one_self o.l.core.tests (own o.l.core core) o.n o.l.test o.test_at
 
 no_wires : (soc : SocValue) (plan : PlanValue) → IsNarrowChip soc → NoClash ShareBus (planned soc plan)
 no_wires soc plan narrow i j c t u clash = absurd (true≢false (sym clash.related.0 ∙ self soc plan narrow i t clash.first))
 
 -- ---- one test in each module
 
-few_here : (base : ℕ) (m : ModuleValue) → IsOwn m → length (live_of base m) ≤ 1
+few_here : (base : ℕ) (m : ModuleValue) → IsOwn m.tests → length (live_of base m) ≤ 1
 few_here base m (Idle listed found) = rw listed (omega arith)
 few_here base m (Live t listed found self) = rw listed (omega arith)
 
@@ -97,22 +102,19 @@ none_busy : (soc : SocValue) (plan : PlanValue) → IsNarrowChip soc → NoClash
 none_busy soc plan narrow i j c t u clash =
     let o : Origin soc plan i t = origin soc plan i t clash.first in
     let o' : Origin soc plan j u = origin soc plan j u clash.second in
-    let one = one_at_place soc.modules 0 i j o.l o'.l narrow o.at o'.at (place_is soc plan i t o ∙ clash.related ∙ sym (place_is soc plan j u o')) in
+    let one = one_at_place soc.modules 0 i j o.l o'.l narrow.modules o.at o'.at (place_is soc plan i t o ∙ clash.related ∙ sym (place_is soc plan j u o')) in
     omega (arith, clash.order)
 
--- ---- no module is another's parent
+-- ---- no module with a live test has a parent with one
 
-level_is : (ms : List ModuleValue) (n : ℕ) (m : ModuleValue) → slice_get ms n ≡ Some m → level_at ms n ≡ m.level
-level_is ms n m at =
-    get_or_from_slice_get (map (λ (m : ModuleValue). m.level) ms) n m.level 0 (slice_get-map (λ (m : ModuleValue). m.level) ms n ∙ ap (option_map (λ (m : ModuleValue). m.level)) at)
-
-level_one : (soc : SocValue) (plan : PlanValue) → IsNarrowChip soc → (i : ℕ) (t : PlannedTest) → IsAt (planned soc plan) i t → level_at soc.modules t.place ≡ 1
-level_one soc plan narrow i t at =
+has_one : (soc : SocValue) (plan : PlanValue) (i : ℕ) (t : PlannedTest) → IsAt (planned soc plan) i t → has_live_at soc.modules t.place ≡ true
+has_one soc plan i t at =
     let o : Origin soc plan i t = origin soc plan i t at in
-    ap (level_at soc.modules) (sym (place_is soc plan i t o)) ∙ level_is soc.modules o.l.place o.l.core o.module_at ∙ (narrow_at soc.modules narrow o.l.place o.l.core o.module_at).3
+    let k = from_filter is_live o.l.core.tests o.n o.l.test o.test_at in
+    ap (has_live_at soc.modules) (sym (place_is soc plan i t o)) ∙ ap has_live_in o.module_at ∙ any_from is_live o.l.core.tests k.0 o.l.test k.1 k.2
 
 no_parents : (soc : SocValue) (plan : PlanValue) → IsNarrowChip soc → NoClash (AreParentAndChild soc) (planned soc plan)
-no_parents soc plan narrow i j c t u clash = omega (arith, clash.related.smaller, level_one soc plan narrow i t clash.first, level_one soc plan narrow j u clash.second)
+no_parents soc plan narrow i j c t u clash = narrow.apart t.place u.place clash.related (has_one soc plan i t clash.first) (has_one soc plan j u clash.second)
 
 -- ---- all rules
 
@@ -121,11 +123,11 @@ kept_before soc limits plan narrow n starts cycles Widths less = each_nil (FitsW
 kept_before soc limits plan narrow n starts cycles Known less = each_nil (IsKnown soc) (named plan) (rw (narrow.plan_only.no_bus, narrow.plan_only.no_wrapper) refl)
 kept_before soc limits plan narrow n starts cycles Places less = (
   each_nil IsNew (listed plan) (rw narrow.plan_only.no_bus refl),
-  λ k m at tam. absurd (true≢false (sym tam ∙ no_tam m (narrow_at soc.modules narrow.chip k m at))),
+  λ k m at tam. absurd (true≢false (sym tam ∙ (narrow_at soc.modules narrow.chip.modules k m at).0)),
 )
 kept_before soc limits plan narrow n starts cycles Wrappers less = (
   each_nil (IsFitting soc plan) plan.wrappers narrow.plan_only.no_wrapper,
-  each_nil (HasWrapper plan) (used_pairs soc) (no_pairs soc.modules narrow.chip),
+  each_nil (HasWrapper plan) (used_pairs soc) (no_pairs soc.modules narrow.chip.modules),
 )
 kept_before soc limits plan narrow n starts cycles Proper less = each_nil (HasProperCells soc) plan.wrappers narrow.plan_only.no_wrapper
 kept_before soc limits plan narrow n starts cycles Starts less = starts less

@@ -1,9 +1,9 @@
--- The live tests of a chip whose modules have one test each, which is a self test: one for each module at most.
-use Rattle.std.proofs.Common.{◌≡◌, ℕ, zero, suc, ◌+◌, ◌<◌, ◌^◌, false, None, Some, List, [], ◌∷◌, ◌++◌, length, map, max, option_map, refl, sym, ap, subst, ◌∙◌, inl, inr, arith}
-use Rattle.std.specs.Prelude.{slice_get, if◌then◌else◌}
-use Rattle.std.specs.List.{All, find, filter, flat_map, sum_by, position_or_len}
+-- The live tests of a narrow chip: one for each module at most, which is a self test.
+use Rattle.std.proofs.Common.{◌≡◌, ℕ, zero, suc, ◌+◌, ◌<◌, ◌≤◌, ◌^◌, false, None, Some, List, [], ◌∷◌, ◌++◌, length, map, max, option_map, refl, sym, ap, subst, ◌∙◌, inl, inr, arith}
+use Rattle.std.specs.Prelude.{slice_get, ◌&&◌, if◌then◌else◌}
+use Rattle.std.specs.List.{All, find, filter, flat_map, sum_by, list_any, position_or_len}
 use Rattle.std.specs.Option.{option_to_list}
-use Rattle.std.proofs.lemmas.Bool.{cases_Bool, eq-eqb, ne_eqb}
+use Rattle.std.proofs.lemmas.Bool.{cases_Bool, eq-eqb, ne_eqb, or_parts}
 use Rattle.std.proofs.lemmas.List.{map-append, length-replicate}
 use Rattle.std.proofs.lemmas.List.Elements.{All-head, All-tail}
 use Rattle.std.proofs.lemmas.List.Folds.{find_at}
@@ -34,23 +34,38 @@ own_small soc small place m at t found =
 
 -- ---- a module
 
--- its one test isn't live, or it is
-pub data IsOwn (m : ModuleValue) : Type 0 where
-  Idle : filter is_live m.tests ≡ [] → find is_live m.tests ≡ None → IsOwn m
-  Live : (t : Test) → filter is_live m.tests ≡ t ∷ [] → find is_live m.tests ≡ Some t → t.tam ≡ false → IsOwn m
+-- of the tests none is live, or one is, which doesn't go over the wires
+pub data IsOwn (tests : List Test) : Type 0 where
+  Idle : filter is_live tests ≡ [] → find is_live tests ≡ None → IsOwn tests
+  Live : (t : Test) → filter is_live tests ≡ t ∷ [] → find is_live tests ≡ Some t → t.tam ≡ false → IsOwn tests
 
-pub own : (m : ModuleValue) → IsNarrowModule m → IsOwn m
-own m narrow = elim (cases_Bool (is_live narrow.0)) [
-  | inl yes' ↦ Live narrow.0 (rw (narrow.1, yes') refl) (rw (narrow.1, yes') refl) narrow.2
-  | inr no' ↦ Idle (rw (narrow.1, no') refl) (rw (narrow.1, no') refl)
+none_more : (t : Test) (ts : List Test) → length (t ∷ ts) ≤ 1 → ts ≡ []
+none_more t [] few = refl
+none_more t (x ∷ ts) few = absurd (omega arith)
+
+after_idle : (t : Test) (ts : List Test) → is_live t ≡ false → IsOwn ts → IsOwn (t ∷ ts)
+after_idle t ts idle (Idle listed found) = Idle (rw idle listed) (rw idle found)
+after_idle t ts idle (Live x listed found self) = Live x (rw idle listed) (rw idle found) self
+
+own_of : (ts : List Test) → list_any (λ (t : Test). is_live t && t.tam) ts ≡ false → length (filter is_live ts) ≤ 1 → IsOwn ts
+own_of [] self few = Idle refl refl
+own_of (t ∷ ts) self few = elim (cases_Bool (is_live t)) [
+  | inl yes' ↦
+      let none : filter is_live ts ≡ [] = none_more t (filter is_live ts) (rw yes' at few) in
+      let self' = or_parts t.tam (list_any (λ (t : Test). is_live t && t.tam) ts) (rw yes' at self) in
+      Live t (rw (yes', none) refl) (rw yes' refl) self'.0
+  | inr no' ↦ after_idle t ts no' (own_of ts (rw no' at self) (rw no' at few))
 ]
+
+pub own : (m : ModuleValue) → IsNarrowModule m → IsOwn m.tests
+own m narrow = own_of m.tests narrow.0 narrow.1
 
 -- ---- the names of the live tests
 
 abbrev pub ids_of : ModuleValue → List TestId
 ids_of m = option_to_list (option_map (λ (t : SelfTest). t.id) (self_test_of m))
 
-ids_here : (base : ℕ) (m : ModuleValue) → IsOwn m → map id_of (live_of base m) ≡ ids_of m
+ids_here : (base : ℕ) (m : ModuleValue) → IsOwn m.tests → map id_of (live_of base m) ≡ ids_of m
 ids_here base m (Idle listed found) = rw (listed, found) refl
 ids_here base m (Live t listed found self) = rw (listed, found) refl
 
@@ -63,7 +78,7 @@ ids_from base (m ∷ ms) narrow =
     ∙ ap (λ v. ids_of m ++ v) (ids_from (base + 1) ms (All-tail IsNarrowModule m ms narrow))
 
 pub live_ids_are : (soc : SocValue) → IsNarrowChip soc → live_ids soc ≡ flat_map ids_of soc.modules
-live_ids_are soc narrow = ids_from 0 soc.modules narrow
+live_ids_are soc narrow = ids_from 0 soc.modules narrow.modules
 
 -- ---- the bound of a module
 
@@ -73,12 +88,12 @@ at_place w place l = if is_of place l then lower w l else 0
 sum_of_one : {X : Type 0} (f : X → ℕ) (x : X) (n : ℕ) → f x ≡ n → sum_by f (x ∷ []) ≡ n
 sum_of_one f x n e = let s = sum_by-cons f x [] in omega arith
 
-sum_here : (w base : ℕ) (m : ModuleValue) → IsOwn m → sum_by (at_place w base) (live_of base m) ≡ cycles_of (self_test_of m)
+sum_here : (w base : ℕ) (m : ModuleValue) → IsOwn m.tests → sum_by (at_place w base) (live_of base m) ≡ cycles_of (self_test_of m)
 sum_here w base m (Idle listed found) = rw (listed, found) refl
 sum_here w base m (Live t listed found self) =
     rw (listed, found) (sum_of_one (at_place w base) (record { place = base; core = m; test = t }) t.patterns (rw (eq-eqb base base refl) (least_self_test m t w self)))
 
-sum_elsewhere : (w place base : ℕ) (m : ModuleValue) → IsOwn m → (base ≡ place → ⊥) → sum_by (at_place w place) (live_of base m) ≡ 0
+sum_elsewhere : (w place base : ℕ) (m : ModuleValue) → IsOwn m.tests → (base ≡ place → ⊥) → sum_by (at_place w place) (live_of base m) ≡ 0
 sum_elsewhere w place base m (Idle listed found) other = rw listed refl
 sum_elsewhere w place base m (Live t listed found self) other =
     rw listed (sum_of_one (at_place w place) (record { place = base; core = m; test = t }) 0 (rw (ne_eqb base place other) refl))
@@ -112,7 +127,7 @@ sum_from w place base (suc k) (x ∷ ms) m narrow at is =
 -- the live test's cycles bound every good plan
 pub module_bound_is : (soc : SocValue) → IsNarrowChip soc → (w place : ℕ) → place < length soc.modules → module_bound soc w place ≡ cycles_of (self_test_at soc place)
 module_bound_is soc narrow w place within = elim ((slice_get_cases soc.modules place).1) [
-  | inl m ↦ rw m.2 (sum_from w place 0 place soc.modules m.0 narrow m.2 (omega arith))
+  | inl m ↦ rw m.2 (sum_from w place 0 place soc.modules m.0 narrow.modules m.2 (omega arith))
   | inr past ↦ absurd (omega arith)
 ]
 
@@ -136,7 +151,7 @@ planned_end plan base m t self = rw self (rw length-replicate (first_start plan.
 abbrev end_at : PlanValue → LiveTest → ℕ
 end_at plan l = end_of (planned_test plan l.place l.core l.test)
 
-ends_here : (plan : PlanValue) (base : ℕ) (m : ModuleValue) → IsOwn m → greatest (map (end_at plan) (live_of base m)) ≡ end_in plan.starts (self_test_of m)
+ends_here : (plan : PlanValue) (base : ℕ) (m : ModuleValue) → IsOwn m.tests → greatest (map (end_at plan) (live_of base m)) ≡ end_in plan.starts (self_test_of m)
 ends_here plan base m (Idle listed found) = rw (listed, found) refl
 ends_here plan base m (Live t listed found self) =
     let e = planned_end plan base m t self in
@@ -159,4 +174,4 @@ map_twice f g (x ∷ xs) = ap (λ v. g (f x) ∷ v) (map_twice f g xs)
 pub ends_are : (soc : SocValue) (plan : PlanValue) → IsNarrowChip soc → greatest (map end_of (planned soc plan)) ≡ greatest (map (λ (m : ModuleValue). end_in plan.starts (self_test_of m)) soc.modules)
 unfolding planned
 ends_are soc plan narrow =
-    ap greatest (map_twice (λ (l : LiveTest). planned_test plan l.place l.core l.test) end_of (live_tests soc)) ∙ ends_from plan 0 soc.modules narrow
+    ap greatest (map_twice (λ (l : LiveTest). planned_test plan l.place l.core l.test) end_of (live_tests soc)) ∙ ends_from plan 0 soc.modules narrow.modules

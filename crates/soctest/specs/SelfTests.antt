@@ -1,4 +1,4 @@
--- The live tests of chips whose modules have one test each, which is a self test, and where they start.
+-- The live tests of chips whose modules have one live test each at most, which is a self test, and where they start.
 use Rattle.std.specs.Prelude.{◌≡◌, ℕ, ◌+◌, Option, None, Some, List, [], ◌∷◌, option_map, slice_get, if◌then◌else◌}
 use Rattle.std.specs.List.{find}
 use Rattle.soc_model.specs.declared.Test.{Test}

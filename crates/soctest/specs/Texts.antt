@@ -2,6 +2,9 @@
 use Rattle.std.specs.Prelude.{ℕ, ◌++◌, List, [], ◌∷◌, Bool, false, not, ◌&&◌, nat_eq, codes, decimal, if◌then◌else◌}
 use Rattle.std.specs.List.{list_all}
 use Rattle.soc_model.specs.declared.TestId.{TestId}
+use Rattle.soc_model.specs.declared.SocLimit.{SocLimit}
+use Rattle.soc_model.specs.declared.Which.{Which}
+use Rattle.soc_model.specs.declared.Which.TheVariants.{Modules, Tests, Chains, Power, Work}
 use Rattle.plan_model.specs.Plans.{PlanValue}
 use Rattle.plan_model.specs.Certificates.{CertificateFault, BadListFault, LessFault}
 use Rattle.plan_model.specs.Faults.{FaultValue, WidthFault, UnknownModuleFault, ModulePlaceFault, WrapperListFault, CellsFault, TestsFault, WireFault, BusyFault, ParentFault, BeforeFault, PowerFault, CyclesFault, BoundFault}
@@ -32,6 +35,20 @@ too_long_line file = codes "too long " ++ file_name file ++ codes "\n"
 -- a file of a form that isn't read yet
 abbrev pub unbuilt_line : FileKind → List ℕ
 unbuilt_line file = codes "refused unbuilt " ++ file_name file ++ codes "\n"
+
+-- a chip's text that is refused at a line, and a chip that is too large
+abbrev pub chip_line : ℕ → List ℕ
+chip_line line = codes "refused soc line " ++ decimal line ++ codes "\n"
+
+abbrev pub limit_name : Which → List ℕ
+limit_name Modules = codes "modules "
+limit_name Tests = codes "tests "
+limit_name Chains = codes "chains "
+limit_name Power = codes "power "
+limit_name Work = codes "work "
+
+abbrev pub chip_limit_line : SocLimit → List ℕ
+chip_limit_line limit = codes "refused soc limit " ++ limit_name limit.which ++ decimal limit.value ++ codes "\n"
 
 abbrev pub bad_words_line : List ℕ
 bad_words_line = codes "bad words\n"

@@ -205,7 +205,7 @@ fn check_rules(
 /// fewer cycles than its certificate claims. Else the error is the first rule that the plan breaks, with what shows that
 /// first. It takes no memory, and the room serves again.
 ///
-/// Chips with one self test in each module are the only ones for now, in plans without buses and limits of wires alone.
+/// Chips that [`crate::is_narrow`] takes are the only ones for now, in plans without buses and limits of wires alone.
 pub fn check_plan(
     soc: &Soc,
     limits: &Limits,

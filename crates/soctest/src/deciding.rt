@@ -9,11 +9,14 @@ ghost use Rattle.plan_model.specs.Views.{limits_value, plan_value};
 ghost use Rattle.plan_model.specs.SoundLimits.{IsSoundLimits};
 ghost use Rattle.soctest.specs.Narrow.{IsNarrowChip, IsNarrowLimits, IsNarrowPlan};
 ghost use Rattle.soctest.specs.Commands.{command_of};
-ghost use Rattle.soctest.specs.Decides.{DecidesCheck, DecidesPlan, DecidesLimits, DecidesSoc, Decides, Gives, GivesText};
+ghost use Rattle.soctest.specs.Decides.{DecidesCheck, DecidesPlan, DecidesLimits, DecidesChip, DecidesSoc, DecidesPrint, LoadsChip, Decides, Gives, GivesText, GivesRefusal};
 
 use crate::check::{Scratch, check_plan};
 use crate::limits_form::read_limits;
-use crate::lines::{accepted_line, fault_line, too_long_line, unbuilt_line};
+use crate::lines::{
+    accepted_line, chip_limit_line, chip_line, fault_line, too_long_line, unbuilt_line,
+};
+use crate::narrow::is_narrow;
 use crate::plan_form::read_plan;
 use crate::words::command;
 use crate::{
@@ -21,7 +24,8 @@ use crate::{
 };
 use outside::{Loaded, NoMemory, Shelf};
 use plan_model::{Limits, Plan};
-use soc_model::Soc;
+use soc_model::{Soc, SocLimit};
+use soc_printer::print_soc;
 use soc_reader::{SocFault, read_soc};
 use std::alloc::Global;
 
@@ -128,7 +132,72 @@ fn decide_limits<H: Shelf>(
     }
 }
 
-/// `check SOC LIMITS PLAN`: loads and reads the chip, and goes on with the limits.
+/// Goes on with the limits, where the check takes the chip for now.
+fn decide_chip<H: Shelf>(
+    alloc: Global,
+    soc: &Soc,
+    limits: &str,
+    plan: &str,
+    shelf: &mut H,
+) -> Verdict
+    requires { IsSoundChip (soc_value soc.now) }
+    ensures held_stays { H.held shelf.new ≡ H.held shelf.old }
+    ensures faults_never_fall { H.faults shelf.old ≤ H.faults shelf.new }
+    ensures decides { DecidesChip (soc_value soc.now) limits.now plan.now (H.held shelf.old) (H.faults shelf.old) (H.faults shelf.new) result }
+{
+    if !is_narrow(soc) {
+        return answered(alloc, Status::Refused, unbuilt_line(FileKind::Soc));
+    }
+    decide_limits(alloc, soc, limits, plan, shelf)
+}
+
+/// The answer to a chip's text that isn't read.
+fn refused_chip(alloc: Global, fault: SocFault) -> Verdict
+    ensures { GivesRefusal fault result }
+{
+    match fault {
+        SocFault::Text { line } => answered_with(Status::Refused, chip_line(alloc, line)),
+        SocFault::Limit { which, value } => {
+            let limit = SocLimit { which, value };
+            answered_with(Status::Refused, chip_limit_line(alloc, &limit))
+        }
+        SocFault::NoMemory => Verdict::NoMemory,
+    }
+}
+
+/// Loads and reads a chip, else how the command ends.
+fn load_chip<H: Shelf>(alloc: Global, name: &str, shelf: &mut H) -> Result<Soc, Verdict>
+    ensures held_stays { H.held shelf.new ≡ H.held shelf.old }
+    ensures faults_never_fall { H.faults shelf.old ≤ H.faults shelf.new }
+    ensures loads { LoadsChip name.now (H.held shelf.old) (H.faults shelf.old) (H.faults shelf.new) result }
+{
+    let mut bytes = Vec::new(alloc);
+    match shelf.load(name, FILE_MOST, &mut bytes) {
+        Loaded::Whole => match read_soc(alloc, bytes.as_slice()) {
+            Ok(soc) => Ok(soc),
+            Err(fault) => Err(refused_chip(alloc, fault)),
+        },
+        Loaded::TooLong => Err(answered(alloc, Status::TooLong, too_long_line(FileKind::Soc))),
+        Loaded::Failed => Err(Verdict::CannotRead {
+            file: FileKind::Soc,
+        }),
+        Loaded::NoMemory => Err(Verdict::NoMemory),
+    }
+}
+
+/// `print SOC`: loads, reads and prints the chip.
+fn decide_print<H: Shelf>(alloc: Global, name: &str, shelf: &mut H) -> Verdict
+    ensures held_stays { H.held shelf.new ≡ H.held shelf.old }
+    ensures faults_never_fall { H.faults shelf.old ≤ H.faults shelf.new }
+    ensures decides { DecidesPrint name.now (H.held shelf.old) (H.faults shelf.old) (H.faults shelf.new) result }
+{
+    match load_chip(alloc, name, shelf) {
+        Ok(soc) => answered_with(Status::Done, print_soc(alloc, &soc)),
+        Err(verdict) => verdict,
+    }
+}
+
+/// `check SOC LIMITS PLAN`: loads and reads the chip, and goes on with it.
 fn decide_soc<H: Shelf>(
     alloc: Global,
     name: &str,
@@ -140,21 +209,9 @@ fn decide_soc<H: Shelf>(
     ensures faults_never_fall { H.faults shelf.old ≤ H.faults shelf.new }
     ensures decides { DecidesSoc name.now limits.now plan.now (H.held shelf.old) (H.faults shelf.old) (H.faults shelf.new) result }
 {
-    let mut bytes = Vec::new(alloc);
-    match shelf.load(name, FILE_MOST, &mut bytes) {
-        Loaded::Whole => match read_soc(alloc, bytes.as_slice()) {
-            Ok(soc) => decide_limits(alloc, &soc, limits, plan, shelf),
-            Err(SocFault::Text { .. }) => {
-                answered(alloc, Status::Refused, unbuilt_line(FileKind::Soc))
-            }
-            Err(SocFault::Limit { .. }) => unreachable!(),
-            Err(SocFault::NoMemory) => Verdict::NoMemory,
-        },
-        Loaded::TooLong => answered(alloc, Status::TooLong, too_long_line(FileKind::Soc)),
-        Loaded::Failed => Verdict::CannotRead {
-            file: FileKind::Soc,
-        },
-        Loaded::NoMemory => Verdict::NoMemory,
+    match load_chip(alloc, name, shelf) {
+        Ok(soc) => decide_chip(alloc, &soc, limits, plan, shelf),
+        Err(verdict) => verdict,
     }
 }
 
@@ -166,6 +223,7 @@ pub fn decide<H: Shelf>(alloc: Global, words: &[String], shelf: &mut H) -> Verdi
     ensures untouched { command_of (map string_bytes words.now) ≡ None → shelf.new ≡ shelf.old }
 {
     match command(words) {
+        Some(Command::Print { soc }) => decide_print(alloc, soc, shelf),
         Some(Command::Check { soc, limits, plan }) => decide_soc(alloc, soc, limits, plan, shelf),
         None => answered(alloc, Status::BadWords, b"bad words\n"),
     }

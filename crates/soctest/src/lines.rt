@@ -2,12 +2,12 @@
 ghost use Rattle.std.specs.Prelude.{◌≡◌, ◌++◌, ◌&&◌, OnOk, IfOk, decimal, IsTrue};
 ghost use Rattle.plan_model.specs.Views.{plan_value};
 ghost use Rattle.soctest.specs.FaultValues.{fault_value, certificate_fault};
-ghost use Rattle.soctest.specs.Texts.{is_line, no_feed, unread_line as unread_text, too_long_line as too_long_text, unbuilt_line as unbuilt_text, accepted_line as accepted_text, test_text, wrapper_text, pair_text, clash_text, two_numbers, certificate_text, fault_keyword, carried_text, fault_line as fault_line_text};
+ghost use Rattle.soctest.specs.Texts.{is_line, no_feed, unread_line as unread_text, too_long_line as too_long_text, unbuilt_line as unbuilt_text, chip_line as chip_line_text, chip_limit_line as chip_limit_text, limit_name, accepted_line as accepted_text, test_text, wrapper_text, pair_text, clash_text, two_numbers, certificate_text, fault_keyword, carried_text, fault_line as fault_line_text};
 
 use crate::{BoundFault, FileKind, PlanFault};
 use outside::{NoMemory, push_number};
 use plan_model::Plan;
-use soc_model::TestId;
+use soc_model::{SocLimit, TestId, Which};
 use std::alloc::Global;
 
 /// `cannot read FILE`.
@@ -43,6 +43,20 @@ pub fn unbuilt_line(file: FileKind) -> &'static [u8]
         FileKind::Soc => b"refused unbuilt SOC\n",
         FileKind::Limits => b"refused unbuilt LIMITS\n",
         FileKind::Plan => b"refused unbuilt PLAN\n",
+    }
+}
+
+/// The name of a limit on the size of a chip, with a space behind it.
+fn limit_word(which: Which) -> &'static [u8]
+    ensures text { result.now ≡ limit_name which }
+    ensures plain { IsTrue (no_feed result.now) }
+{
+    match which {
+        Which::Modules => b"modules ",
+        Which::Tests => b"tests ",
+        Which::Chains => b"chains ",
+        Which::Power => b"power ",
+        Which::Work => b"work ",
     }
 }
 
@@ -171,6 +185,31 @@ fn push_carried(to: &mut Vec<u8>, fault: &PlanFault) -> Result<(), NoMemory>
         PlanFault::Cycles { right } => push_decimal(to, u128::from(*right)),
         PlanFault::Bound(fault) => push_certificate(to, fault),
     }
+}
+
+/// `refused soc line` and the line.
+pub fn chip_line(alloc: Global, line: u64) -> Result<Vec<u8>, NoMemory>
+    ensures text { IfOk result (λ text. text.items ≡ chip_line_text line) }
+    ensures line { IfOk result (λ text. IsTrue (is_line text.items)) }
+{
+    let mut text = Vec::new(alloc);
+    push(&mut text, b"refused soc line ")?;
+    push_decimal(&mut text, u128::from(line))?;
+    push(&mut text, b"\n")?;
+    Ok(text)
+}
+
+/// `refused soc limit`, the name of the limit and the number that passes it.
+pub fn chip_limit_line(alloc: Global, limit: &SocLimit) -> Result<Vec<u8>, NoMemory>
+    ensures text { IfOk result (λ text. text.items ≡ chip_limit_text limit.now) }
+    ensures line { IfOk result (λ text. IsTrue (is_line text.items)) }
+{
+    let mut text = Vec::new(alloc);
+    push(&mut text, b"refused soc limit ")?;
+    push(&mut text, limit_word(limit.which))?;
+    push_decimal(&mut text, limit.value)?;
+    push(&mut text, b"\n")?;
+    Ok(text)
 }
 
 /// `refused plan` and the fault.

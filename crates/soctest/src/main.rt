@@ -9,6 +9,7 @@ mod deciding;
 mod four_words;
 mod limits_form;
 mod lines;
+mod narrow;
 mod plan_form;
 mod self_tests;
 mod top;
@@ -17,6 +18,7 @@ mod words;
 pub use certificate::{BoundScratch, check_bound};
 pub use check::{Scratch, check_plan};
 pub use limits_form::read_limits;
+pub use narrow::is_narrow;
 use outside::{RealShelf, RealSink};
 pub use plan_form::read_plan;
 use soc_model::TestId;
@@ -64,6 +66,10 @@ pub enum FileKind {
 /// A command, with the names of its files.
 #[derive(Clone, Copy)]
 pub enum Command<'a> {
+    /// The text of a chip, in one form.
+    Print {
+        soc: &'a str,
+    },
     /// Whether a plan is good, and its certificate accepted.
     Check {
         soc: &'a str,
@@ -183,5 +189,7 @@ fn main(rt: HostRuntime) -> ExitCode {
 
 #[cfg(test)]
 mod form_tests;
+#[cfg(test)]
+mod narrow_tests;
 #[cfg(test)]
 mod tests;

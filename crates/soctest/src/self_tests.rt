@@ -1,4 +1,4 @@
-// The live tests of chips whose modules have one test each, which is a self test.
+// The live tests of chips whose modules have one live test each at most, which is a self test.
 ghost use Rattle.std.specs.Prelude.{◌≡◌, ◌<◌, ◌^◌, Some, length, slice_get, IfSome};
 ghost use Rattle.soc_model.specs.Chips.{soc_value, module_value, is_live};
 ghost use Rattle.soc_model.specs.SoundChips.{IsSoundChip};
@@ -15,7 +15,7 @@ pub(crate) struct SelfTest {
 }
 
 /// The module at a place.
-fn module_at(soc: &Soc, place: usize) -> &Module
+pub(crate) fn module_at(soc: &Soc, place: usize) -> &Module
     requires { place < length (soc_value soc.now).modules }
     ensures { slice_get (soc_value soc.now).modules place ≡ Some (module_value result.now) }
 {

@@ -126,24 +126,18 @@ fn refuses_other_forms(rt: HostRuntime) -> Result<(), Fail> {
     let rows = [
         (
             "Module 1 Test 1 TamUse 1 Patterns 5",
-            LIMITS,
-            PLAN,
+            "Limits",
+            "",
             unbuilt_soc,
         ),
         (
-            "Module 0 Test 1 TamUse 0 Patterns 5",
-            LIMITS,
-            PLAN,
+            "Module 1 Test 1 TamUse 0 Patterns 5 Test 2 TamUse 0 Patterns 5",
+            "",
+            "",
             unbuilt_soc,
         ),
         (
-            "Module 1 Test 1 TamUse 0 Patterns 5 Module 1 Test 2 TamUse 0 Patterns 5",
-            LIMITS,
-            PLAN,
-            unbuilt_soc,
-        ),
-        (
-            "Module 1 Test 1 TamUse 0 Patterns",
+            "Module 1 Test 1 TamUse 0 Patterns 5 Module 2 Level 2 Test 1 TamUse 0 Patterns 5",
             LIMITS,
             PLAN,
             unbuilt_soc,
@@ -166,6 +160,63 @@ fn refuses_other_forms(rt: HostRuntime) -> Result<(), Fail> {
 }
 
 #[test]
+fn refuses_chips(rt: HostRuntime) -> Result<(), Fail> {
+    let alloc = rt.alloc();
+    let rows = [
+        ("Module 1 Test 1 TamUse 0\nPatterns", "refused soc line 2\n"),
+        ("Module 1\n\nLevel 1 Level 2", "refused soc line 3\n"),
+        ("TotalModules 2\nModule 1", "refused soc line 1\n"),
+        (
+            "Module 1 Test 1 Power 1000000001",
+            "refused soc limit power 1000000001\n",
+        ),
+        ("Module 1 name \x07", "refused soc line 1\n"),
+    ];
+    let mut text = Vec::new(alloc);
+    for (soc, line) in rows {
+        let mut shelf = shelf_of(alloc, soc, LIMITS, PLAN)?;
+        for words in ["print a.soc", "check a.soc a.lim a.plan"] {
+            let status = answer(alloc, words, &mut shelf, &mut text)?;
+            assert_eq!(rt; text.as_slice(), line.as_bytes(), "{words} {soc}");
+            assert_eq!(rt; status, Status::Refused);
+        }
+    }
+    Ok(())
+}
+
+#[test]
+fn prints_chips(rt: HostRuntime) -> Result<(), Fail> {
+    let alloc = rt.alloc();
+    let rows = [
+        ("", "TotalModules 0\nOptions Power 0 XY 0\n"),
+        (
+            "SocName chip options xy yes module 7 core place 1 -2 scanchains 2 3 4 setup 5 test 2 power 6",
+            "SocName chip\nTotalModules 1\nOptions Power 0 XY 1\n\
+             Module 7 core Level 1 Inputs 0 Outputs 0 Bidirs 0 Setup 5 ScanChains 2 : 3 4\n\
+             Module 7 TotalTests 1\nModule 7 Test 2 ScanUse 1 TamUse 1 Patterns 0 Power 6\n",
+        ),
+        (
+            "Options Power 1 Module 3 yes Module 0 Module 3 yes Inputs 1 Outputs 2 Bidirs 3",
+            "TotalModules 2\nOptions Power 1 XY 0\n\
+             Module 3 yes Level 1 Inputs 1 Outputs 2 Bidirs 3 ScanChains 0\nModule 3 TotalTests 0\n\
+             Module 0 Level 0 Inputs 0 Outputs 0 Bidirs 0 ScanChains 0\nModule 0 TotalTests 0\n",
+        ),
+    ];
+    let mut text = Vec::new(alloc);
+    for (soc, printed) in rows {
+        let mut shelf = shelf_of(alloc, soc, LIMITS, PLAN)?;
+        let status = answer(alloc, "print a.soc", &mut shelf, &mut text)?;
+        assert_eq!(rt; text.as_slice(), printed.as_bytes(), "{soc}");
+        assert_eq!(rt; status, Status::Done);
+        shelf.hold("a.soc", printed.as_bytes())?;
+        let status = answer(alloc, "print a.soc", &mut shelf, &mut text)?;
+        assert_eq!(rt; text.as_slice(), printed.as_bytes(), "{soc}");
+        assert_eq!(rt; status, Status::Done);
+    }
+    Ok(())
+}
+
+#[test]
 fn refuses_words_and_files(rt: HostRuntime) -> Result<(), Fail> {
     let alloc = rt.alloc();
     let mut text = Vec::new(alloc);
@@ -174,6 +225,9 @@ fn refuses_words_and_files(rt: HostRuntime) -> Result<(), Fail> {
         "check",
         "check a.soc a.lim",
         "check a b c d",
+        "print",
+        "print a.soc a.lim",
+        "PRINT a.soc",
         "Check a.soc a.lim a.plan",
     ] {
         let mut shelf = shelf_of(alloc, SOC, LIMITS, PLAN)?;
@@ -182,6 +236,7 @@ fn refuses_words_and_files(rt: HostRuntime) -> Result<(), Fail> {
         assert_eq!(rt; text.as_slice(), b"bad words\n".as_slice());
     }
     for (words, line) in [
+        ("print b.soc", "cannot read SOC\n"),
         ("check b.soc a.lim a.plan", "cannot read SOC\n"),
         ("check a.soc b.lim a.plan", "cannot read LIMITS\n"),
         ("check a.soc a.lim b.plan", "cannot read PLAN\n"),

@@ -9,6 +9,7 @@ pub fn command(words: &[String]) -> Option<Command<'_>>
     ensures { option_map command_value result ≡ command_of (map string_bytes words.now) }
 {
     match words {
+        [word, soc] if word.as_str() == "print" => Some(Command::Print { soc: soc.as_str() }),
         [word, soc, limits, plan] if word.as_str() == "check" => Some(Command::Check {
             soc: soc.as_str(),
             limits: limits.as_str(),

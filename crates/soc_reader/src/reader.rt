@@ -1,0 +1,423 @@
+// Reads a text word by word.
+ghost use Rattle.std.specs.Prelude.{◌≡◌, ◌∷◌, ◌++◌, [], true, option_map};
+ghost use Rattle.soc_reader.specs.Grammar.{after as after_done, open_after, has_xy, may_name as may_be_named};
+ghost use Rattle.soc_reader.specs.Steps.{begin_if, after_value, at, between, begun, begin_entry as begins_entry, begin_name as begins_name, begin_data as begins_data, begin_free as begins_free, begin as begins, is_data_word as is_data_word_after, list_from as lists_from, after_length as lists_after, step_value as steps_value, step_counted as steps_counted, step_listing as steps_listing, step_name as steps_name, step_at, closed_at};
+ghost use Rattle.soc_reader.specs.Views.{value_of, item_of, done_of, part_of, InStep, Steps, Closes};
+ghost use Rattle.soc_reader.specs.Table.{word_value as value_that_is, owner as owner_of, shape_of as shape_that_follows, entry, name as named_item, place_data, lengths};
+ghost use Rattle.soc_reader.specs.Keywords.{number as number_in, is_lengths_word as says_lengths, is_coordinate as is_number_like};
+ghost use Rattle.soc_reader.specs.Names.{KeepsNames};
+
+use crate::collect::{may_give, may_name, push};
+use crate::items::{Items, ReadItem, ReadPart, ReadValue, Stop};
+use crate::keys::{After, Key, Shape, Subject};
+use crate::lexicon::{
+    flag_of, is_coordinate, is_free_word, is_lengths_word, is_letter_word, is_printable, key_of,
+    number_of,
+};
+use outside::Word;
+use std::alloc::Global;
+
+/// One more item.
+fn pushed<'a>(items: &mut Items<'a>, item: ReadItem<'a>) -> Result<ReadPart<'a>, Stop>
+    requires in_step { InStep items.old }
+    requires names { KeepsNames items.old.names (item_of item) }
+    ensures { Steps (at (item_of item.entry ∷ done_of items.old) between) result items.new }
+{
+    push(items, item)?;
+    Ok(ReadPart::Between)
+}
+
+/// After a keyword.
+fn begin_value<'a>(
+    items: &mut Items<'a>,
+    subject: Subject,
+    key: Key,
+    shape: Shape,
+) -> Result<ReadPart<'a>, Stop>
+    requires { InStep items.old }
+    ensures { Steps (begun (done_of items.old) subject key shape) result items.new }
+{
+    match shape {
+        Shape::NoWord => pushed(
+            items,
+            ReadItem::Entry {
+                subject,
+                key,
+                value: ReadValue::Nothing,
+            },
+        ),
+        _ => Ok(ReadPart::Wants {
+            subject,
+            key,
+            shape,
+        }),
+    }
+}
+
+/// What a keyword speaks of, where it may stand.
+fn owner(key: Key, opened: Subject) -> Option<Subject>
+    ensures { result ≡ owner_of key opened }
+{
+    match key {
+        Key::SocName
+        | Key::TotalModules
+        | Key::Options
+        | Key::PowerFlag
+        | Key::XyFlag
+        | Key::Module => Some(Subject::Chip),
+        Key::ScanUse | Key::TamUse | Key::Patterns | Key::Power => match opened {
+            Subject::OfTest(number, test) => Some(Subject::OfTest(number, test)),
+            _ => None,
+        },
+        _ => match opened {
+            Subject::Chip => None,
+            Subject::OfModule(number) | Subject::OfTest(number, _) => Some(Subject::OfModule(
+                number,
+            )),
+        },
+    }
+}
+
+/// What follows a keyword.
+fn shape_of(key: Key) -> Shape
+    ensures { result ≡ shape_that_follows key }
+{
+    match key {
+        Key::SocName => Shape::OneWord,
+        Key::Options => Shape::NoWord,
+        Key::PowerFlag | Key::XyFlag | Key::ScanUse | Key::TamUse => Shape::OneFlag,
+        Key::ScanChains => Shape::ManyNumbers,
+        _ => Shape::OneNumber,
+    }
+}
+
+/// A keyword, where it may stand and may be given.
+fn begin_entry<'a>(items: &mut Items<'a>, key: Key) -> Result<ReadPart<'a>, Stop>
+    requires { InStep items.old }
+    ensures { Steps (begins_entry (done_of items.old) key (owner_of key (open_after (done_of items.old)))) result items.new }
+{
+    let Some(subject) = owner(key, items.opened) else {
+        return Err(Stop::Refused);
+    };
+    if !may_give(items, subject, key) {
+        return Err(Stop::Refused);
+    }
+    begin_value(items, subject, key, shape_of(key))
+}
+
+/// A module's name, where it may have that.
+fn name_module<'a>(items: &mut Items<'a>, number: u64, name: &'a [u8]) -> Result<ReadPart<'a>, Stop>
+    requires { InStep items.old }
+    ensures { Steps (begin_if (may_be_named number name.now (done_of items.old)) (at (named_item number name.now ∷ done_of items.old) between)) result items.new }
+{
+    if !may_name(items, number, name) {
+        return Err(Stop::Refused);
+    }
+    pushed(
+        items,
+        ReadItem::Name {
+            module: number,
+            name,
+        },
+    )
+}
+
+/// The first word of place data, where it may stand.
+fn begin_data<'a>(items: &mut Items<'a>, is_data: bool) -> Result<ReadPart<'a>, Stop>
+    requires { InStep items.old }
+    ensures { Steps (begins_data (done_of items.old) is_data (open_after (done_of items.old))) result items.new }
+{
+    if items.opened == Subject::Chip || !is_data {
+        return Err(Stop::Refused);
+    }
+    Ok(ReadPart::WantsCoordinate)
+}
+
+/// A word that is no keyword, where it may be a name or begin place data.
+fn begin_free<'a>(items: &mut Items<'a>, word: &'a [u8]) -> Result<ReadPart<'a>, Stop>
+    requires { InStep items.old }
+    ensures { Steps (begins_free (done_of items.old) word.now (after_done (done_of items.old)) (open_after (done_of items.old))) result items.new }
+{
+    let is_data = items.xy && is_letter_word(word);
+    match (items.after, items.opened) {
+        (After::AfterNumber, Subject::OfModule(number)) => {
+            if is_data {
+                return Ok(ReadPart::NameOrData {
+                    module: number,
+                    name: word,
+                });
+            }
+            name_module(items, number, word)
+        }
+        _ => begin_data(items, is_data),
+    }
+}
+
+/// The first word of an item.
+fn begin<'a>(items: &mut Items<'a>, word: &'a [u8]) -> Result<ReadPart<'a>, Stop>
+    requires { InStep items.old }
+    ensures { Steps (begins (done_of items.old) word.now) result items.new }
+{
+    if let Some(key) = key_of(items.after == After::AfterOptions, word) {
+        return begin_entry(items, key);
+    }
+    if items.after == After::AfterData && is_coordinate(word) {
+        return pushed(items, ReadItem::Coordinate);
+    }
+    if !is_free_word(word) {
+        return Err(Stop::Refused);
+    }
+    begin_free(items, word)
+}
+
+/// After a keyword and its value.
+fn give<'a>(
+    items: &mut Items<'a>,
+    subject: Subject,
+    key: Key,
+    value: Option<ReadValue<'a>>,
+) -> Result<ReadPart<'a>, Stop>
+    requires { InStep items.old }
+    ensures { Steps (after_value (done_of items.old) subject key (option_map value_of value.entry)) result items.new }
+{
+    match value {
+        Some(value) => pushed(
+            items,
+            ReadItem::Entry {
+                subject,
+                key,
+                value,
+            },
+        ),
+        None => Err(Stop::Refused),
+    }
+}
+
+/// With so many lengths to come.
+fn go_on_listing<'a>(
+    items: &mut Items<'a>,
+    subject: Subject,
+    key: Key,
+    read: Vec<u64>,
+    left: u64,
+) -> Result<ReadPart<'a>, Stop>
+    requires { InStep items.old }
+    ensures { Steps (lists_from (done_of items.old) subject key read.items left) result items.new }
+{
+    if left == 0 {
+        return pushed(
+            items,
+            ReadItem::Entry {
+                subject,
+                key,
+                value: ReadValue::Lengths(read),
+            },
+        );
+    }
+    Ok(ReadPart::Listing {
+        subject,
+        key,
+        read,
+        left,
+    })
+}
+
+/// The value that one word is.
+fn word_value<'a>(shape: Shape, word: Word<'a>) -> Option<ReadValue<'a>>
+    ensures { option_map value_of result ≡ value_that_is shape (word.entry.bytes.now, word.entry.line) }
+{
+    match shape {
+        Shape::NoWord | Shape::ManyNumbers => None,
+        Shape::OneWord => is_printable(word.bytes).then_some(ReadValue::Word(word.bytes)),
+        Shape::OneNumber => match number_of(word.bytes) {
+            Some(number) => Some(ReadValue::Count {
+                number,
+                line: word.line,
+            }),
+            None => None,
+        },
+        Shape::OneFlag => match flag_of(word.bytes) {
+            Some(b) => Some(ReadValue::Flag(b)),
+            None => None,
+        },
+    }
+}
+
+/// The word behind a keyword.
+fn step_value<'a>(
+    items: &mut Items<'a>,
+    subject: Subject,
+    key: Key,
+    shape: Shape,
+    word: Word<'a>,
+) -> Result<ReadPart<'a>, Stop>
+    requires { InStep items.old }
+    ensures { Steps (steps_value (done_of items.old) subject key shape (word.entry.bytes.now, word.entry.line)) result items.new }
+{
+    if shape == Shape::ManyNumbers {
+        return match number_of(word.bytes) {
+            Some(count) => Ok(ReadPart::Counted {
+                subject,
+                key,
+                count,
+            }),
+            None => Err(Stop::Refused),
+        };
+    }
+    give(items, subject, key, word_value(shape, word))
+}
+
+/// One more length, and then so many are left.
+fn step_length<'a>(
+    items: &mut Items<'a>,
+    subject: Subject,
+    key: Key,
+    mut read: Vec<u64>,
+    left: u64,
+    word: &'a [u8],
+) -> Result<ReadPart<'a>, Stop>
+    requires { InStep items.old }
+    ensures { Steps (lists_after (done_of items.old) subject key read.items left (number_in word.now)) result items.new }
+{
+    let Some(length) = number_of(word) else {
+        return Err(Stop::Refused);
+    };
+    if read.push(length).is_err() {
+        return Err(Stop::NoMemory);
+    }
+    go_on_listing(items, subject, key, read, left)
+}
+
+/// Directly after the number of scan chains.
+fn step_counted<'a>(
+    alloc: Global,
+    items: &mut Items<'a>,
+    subject: Subject,
+    key: Key,
+    count: u64,
+    word: &'a [u8],
+) -> Result<ReadPart<'a>, Stop>
+    requires { InStep items.old }
+    ensures { Steps (steps_counted (done_of items.old) subject key count word.now (says_lengths word.now)) result items.new }
+{
+    if is_lengths_word(word) {
+        return go_on_listing(items, subject, key, Vec::new(alloc), count);
+    }
+    if count == 0 {
+        push(
+            items,
+            ReadItem::Entry {
+                subject,
+                key,
+                value: ReadValue::Lengths(Vec::new(alloc)),
+            },
+        )?;
+        return begin(items, word);
+    }
+    step_length(items, subject, key, Vec::new(alloc), count - 1, word)
+}
+
+/// After a word that may be a name or begin place data.
+fn step_name<'a>(
+    items: &mut Items<'a>,
+    number: u64,
+    name: &'a [u8],
+    word: &'a [u8],
+) -> Result<ReadPart<'a>, Stop>
+    requires { InStep items.old }
+    ensures { Steps (steps_name (done_of items.old) number name.now word.now (is_number_like word.now)) result items.new }
+{
+    if is_coordinate(word) {
+        return pushed(items, ReadItem::PlaceData);
+    }
+    if !may_name(items, number, name) {
+        return Err(Stop::Refused);
+    }
+    push(
+        items,
+        ReadItem::Name {
+            module: number,
+            name,
+        },
+    )?;
+    begin(items, word)
+}
+
+/// The next word.
+pub fn step<'a>(
+    alloc: Global,
+    items: &mut Items<'a>,
+    part: ReadPart<'a>,
+    word: Word<'a>,
+) -> Result<ReadPart<'a>, Stop>
+    requires { InStep items.old }
+    ensures { Steps (step_at (done_of items.old) (part_of part.entry) (word.entry.bytes.now, word.entry.line)) result items.new }
+{
+    match part {
+        ReadPart::Between => begin(items, word.bytes),
+        ReadPart::Wants {
+            subject,
+            key,
+            shape,
+        } => step_value(items, subject, key, shape, word),
+        ReadPart::Counted {
+            subject,
+            key,
+            count,
+        } => step_counted(alloc, items, subject, key, count, word.bytes),
+        ReadPart::Listing {
+            subject,
+            key,
+            read,
+            left,
+        } => {
+            if left == 0 {
+                return Err(Stop::Refused);
+            }
+            step_length(items, subject, key, read, left - 1, word.bytes)
+        }
+        ReadPart::WantsCoordinate => {
+            if !is_coordinate(word.bytes) {
+                return Err(Stop::Refused);
+            }
+            pushed(items, ReadItem::PlaceData)
+        }
+        ReadPart::NameOrData { module, name } => step_name(items, module, name, word.bytes),
+    }
+}
+
+/// The text ends here.
+pub fn close<'a>(alloc: Global, items: &mut Items<'a>, part: ReadPart<'a>) -> Result<(), Stop>
+    requires { InStep items.old }
+    ensures { Closes (closed_at (done_of items.old) (part_of part.entry)) result items.new }
+{
+    match part {
+        ReadPart::Between => Ok(()),
+        ReadPart::Counted {
+            subject,
+            key,
+            count,
+        } => {
+            if count > 0 {
+                return Err(Stop::Refused);
+            }
+            push(
+                items,
+                ReadItem::Entry {
+                    subject,
+                    key,
+                    value: ReadValue::Lengths(Vec::new(alloc)),
+                },
+            )
+        }
+        ReadPart::NameOrData { module, name } => {
+            if !may_name(items, module, name) {
+                return Err(Stop::Refused);
+            }
+            push(items, ReadItem::Name { module, name })
+        }
+        ReadPart::Wants { .. } | ReadPart::Listing { .. } | ReadPart::WantsCoordinate => {
+            Err(Stop::Refused)
+        }
+    }
+}
