@@ -1,0 +1,136 @@
+-- Tests and their places among the live tests.
+use Rattle.std.proofs.Common.{◌≡◌, ℕ, zero, suc, ◌+◌, ◌-◌, ◌<◌, List, [], ◌∷◌, ◌++◌, length, get_or, take, map, Bool, true, false, cond, Option, Some, None, slice_get, refl, sym, ◌∙◌, ap, subst, arith, add-one}
+use Rattle.std.specs.List.{All, Contains}
+use Rattle.std.proofs.lemmas.Grind.{common_steps}
+use Rattle.std.proofs.lemmas.Bool.Decides.{nat_tests}
+use Rattle.std.proofs.lemmas.List.{take_more, map-append}
+use Rattle.std.proofs.lemmas.List.Elements.{All-nil, All-cons, All-append, All-contains, All-get_or, All-from_get_or, Contains-append_left, Contains-append_right}
+use Rattle.std.proofs.lemmas.Option.{slice_get-get_or, slice_get_within}
+use Rattle.soc_model.specs.declared.TestId.{TestId}
+use Rattle.soc_model.specs.Chips.{SocValue, LiveTest, live_tests, id_of, same_test}
+use Rattle.plan_model.specs.Plans.{LimitsValue}
+use Rattle.plan_model.specs.Rules.{live_ids}
+use Rattle.plan_model.specs.SoundLimits.{IsAcyclic}
+use Rattle.plan_model.proofs.Lists.{contains_at}
+use Rattle.limits_text.specs.Meaning.{or_first, line_if, live_powers}
+use Rattle.limits_text.specs.Cycles.{place_from, place_among, pair_if, pairs_among, precedences, IsWalk, IsFirstCycle, HasRank, AreAt}
+use Rattle.limits_text.proofs.Complete.{some_same}
+use Rattle.limits_text.proofs.SoundText.{live_powers_are}
+use Rattle.limits_text.proofs.Taking.{contains_here}
+use Rattle.limits_text.proofs.FirstCycles.{AreWithin}
+
+-- ---- places
+
+place-push : (n m : ℕ) (xs : List TestId) (x id : TestId) → n + length xs ≡ m → place_from n (xs ++ x ∷ []) id ≡ or_first (place_from n xs id) (line_if (same_test id x) m)
+place-push n m [] x id e = by (same_test id x)
+  where
+    same : n ≡ m
+    same = omega arith
+
+    by : (b : Bool) → cond b (Some n) None ≡ line_if b m
+    by true = ap Some same
+    by false = refl
+place-push n m (y ∷ xs) x id e = by (same_test id y) (place-push (n + 1) m xs x id (omega arith))
+  where
+    by : (b : Bool) → place_from (n + 1) (xs ++ x ∷ []) id ≡ or_first (place_from (n + 1) xs id) (line_if (same_test id x) m) → cond b (Some n) (place_from (n + 1) (xs ++ x ∷ []) id) ≡ or_first (cond b (Some n) (place_from (n + 1) xs id)) (line_if (same_test id x) m)
+    by true f = refl
+    by false f = f
+
+pub places_more : (ids : List TestId) (k : ℕ) (test d : TestId) (found new : TestId → Option ℕ) → k < length ids → test ≡ get_or ids k d → ((id : TestId) → found id ≡ place_among (take k ids) id) → ((id : TestId) → new id ≡ or_first (found id) (line_if (same_test id test) k)) → (id : TestId) → new id ≡ place_among (take (k + 1) ids) id
+places_more ids k test d found new less is are give id =
+    let front : length (take k ids) ≡ k = grind (arith, common_steps) in
+    give id ∙ ap (λ o. or_first o (line_if (same_test id test) k)) (are id) ∙ sym (place-push 0 k (take k ids) test id (omega (arith, front)))
+    ∙ ap (λ l. place_among l id) (ap (λ x. take k ids ++ x ∷ []) is ∙ sym (take_more ids k d less))
+
+place_within : (n p : ℕ) (ids : List TestId) (id : TestId) → place_from n ids id ≡ Some p → p < n + length ids
+place_within n p [] id e = cc
+place_within n p (x ∷ ids) id e = by (same_test id x) (place_within (n + 1) p ids id) e
+  where
+    by : (b : Bool) → (place_from (n + 1) ids id ≡ Some p → p < (n + 1) + length ids) → cond b (Some n) (place_from (n + 1) ids id) ≡ Some p → p < n + length (x ∷ ids)
+    by true again e = let same = some_same n p e in omega arith
+    by false again e = omega (arith, again e)
+
+same_itself : (id : TestId) → same_test id id ≡ true
+same_itself id = grind (arith, nat_tests)
+
+-- a test that stands somewhere has a place
+place_there : (n k : ℕ) (ids : List TestId) (id : TestId) → slice_get ids k ≡ Some id → (p : ℕ) × (place_from n ids id ≡ Some p)
+place_there n k [] id at = cc
+place_there n zero (x ∷ ids) id at = (n, ap (λ b. cond b (Some n) (place_from (n + 1) ids id)) (ap (same_test id) (some_same x id at) ∙ same_itself id))
+place_there n (suc k) (x ∷ ids) id at = by (same_test id x) (place_there (n + 1) k ids id at)
+  where
+    by : (b : Bool) → (p : ℕ) × (place_from (n + 1) ids id ≡ Some p) → (p : ℕ) × (cond b (Some n) (place_from (n + 1) ids id) ≡ Some p)
+    by true f = (n, refl)
+    by false f = f
+
+-- ---- pairs
+
+pub pairs_within : (ids : List TestId) (before : List (TestId × TestId)) → AreWithin (pairs_among ids before) (length ids)
+pairs_within ids [] = All-nil (λ (e : ℕ × ℕ). (e.0 < length ids) × (e.1 < length ids))
+pairs_within ids (p ∷ before) =
+    All-append (λ (e : ℕ × ℕ). (e.0 < length ids) × (e.1 < length ids)) (pair_if (place_among ids p.0) (place_among ids p.1)) (pairs_among ids before) (one (place_among ids p.0) (place_among ids p.1) (λ i e. within p.0 i e) (λ i e. within p.1 i e)) (pairs_within ids before)
+  where
+    within : (id : TestId) (i : ℕ) → place_among ids id ≡ Some i → i < length ids
+    within id i e = omega (arith, place_within 0 i ids id e)
+
+    one : (a b : Option ℕ) → ((i : ℕ) → a ≡ Some i → i < length ids) → ((i : ℕ) → b ≡ Some i → i < length ids) → All (λ (e : ℕ × ℕ). (e.0 < length ids) × (e.1 < length ids)) (pair_if a b)
+    one (Some i) (Some j) f g = All-cons (λ (e : ℕ × ℕ). (e.0 < length ids) × (e.1 < length ids)) (i, j) [] (f i refl, g j refl) (All-nil (λ (e : ℕ × ℕ). (e.0 < length ids) × (e.1 < length ids)))
+    one None b f g = All-nil (λ (e : ℕ × ℕ). (e.0 < length ids) × (e.1 < length ids))
+    one (Some i) None f g = All-nil (λ (e : ℕ × ℕ). (e.0 < length ids) × (e.1 < length ids))
+
+pair_there : (ids : List TestId) (before : List (TestId × TestId)) (k i j : ℕ) (a b : TestId) → slice_get before k ≡ Some (a, b) → place_among ids a ≡ Some i → place_among ids b ≡ Some j → Contains (pairs_among ids before) (i, j)
+pair_there ids [] k i j a b at e f = cc
+pair_there ids (p ∷ before) zero i j a b at e f =
+    let same = some_same p (a, b) at in
+    Contains-append_left (pair_if (place_among ids p.0) (place_among ids p.1)) (pairs_among ids before) (i, j)
+    (subst (λ (q : TestId × TestId). Contains (pair_if (place_among ids q.0) (place_among ids q.1)) (i, j)) (sym same) (rw (e, f) (contains_here ((i, j) ∷ []) (i, j) 0 refl)))
+pair_there ids (p ∷ before) (suc k) i j a b at e f = Contains-append_right (pair_if (place_among ids p.0) (place_among ids p.1)) (pairs_among ids before) (i, j) (pair_there ids before k i j a b at e f)
+
+-- the live tests alone
+firsts : (ls : List LiveTest) → map {A = TestId × ℕ} (λ t. t.0) (map (λ (l : LiveTest). (id_of l, l.test.power)) ls) ≡ map id_of ls
+firsts [] = refl
+firsts (l ∷ ls) = ap (λ ids. id_of l ∷ ids) (firsts ls)
+
+pub ids_are : (soc : SocValue) → map {A = TestId × ℕ} (λ t. t.0) (live_powers soc) ≡ live_ids soc
+ids_are soc = ap (map {A = TestId × ℕ} (λ t. t.0)) (sym (live_powers_are soc)) ∙ firsts (live_tests soc)
+
+-- ranks of places are ranks of tests
+rank_of : (ℕ → ℕ) → Option ℕ → ℕ
+rank_of rank None = 0
+rank_of rank (Some i) = rank i
+
+pub acyclic : (soc : SocValue) (limits : LimitsValue) → HasRank (precedences soc limits) → IsAcyclic soc limits
+unfolding rank_of
+acyclic soc limits r = (λ id. rank_of r.0 (place_among (live_ids soc) id), λ a b c live_a live_b. grows a b c live_a live_b)
+  where
+    grows : (a b : TestId) → Contains limits.before (a, b) → Contains (live_ids soc) a → Contains (live_ids soc) b → rank_of r.0 (place_among (live_ids soc) a) < rank_of r.0 (place_among (live_ids soc) b)
+    grows a b c live_a live_b =
+        let k = contains_at limits.before (a, b) c in
+        let at_a = contains_at (live_ids soc) a live_a in
+        let at_b = contains_at (live_ids soc) b live_b in
+        let i = place_there 0 at_a.0 (live_ids soc) a at_a.1 in
+        let j = place_there 0 at_b.0 (live_ids soc) b at_b.1 in
+        let less : r.0 i.0 < r.0 j.0 = r.1 i.0 j.0 (pair_there (live_ids soc) limits.before k.0 i.0 j.0 a b k.1 i.1 j.1) in
+        let left : rank_of r.0 (place_among (live_ids soc) a) ≡ r.0 i.0 = ap (rank_of r.0) i.1 in
+        let right : rank_of r.0 (place_among (live_ids soc) b) ≡ r.0 j.0 = ap (rank_of r.0) j.1 in
+        omega (arith, less, left, right)
+
+-- ---- the tests of a cycle
+
+walk_within : (pairs : List (ℕ × ℕ)) (count : ℕ) (walk : List ℕ) → AreWithin pairs count → IsWalk pairs count walk → (k x : ℕ) → slice_get walk k ≡ Some x → x < count
+walk_within pairs count walk all w zero x at = (w.begins x at).within
+walk_within pairs count walk all w (suc k) x at =
+    let within = slice_get_within walk (suc k) x at in
+    let before : slice_get walk k ≡ Some (get_or walk k 0) = slice_get-get_or walk k 0 (omega (arith, within)) in
+    let f = w.goes k (get_or walk k 0) x before (ap (slice_get walk) (add-one k) ∙ at) in
+    (All-contains (λ (e : ℕ × ℕ). (e.0 < count) × (e.1 < count)) pairs (x, get_or walk k 0) all f.precedes).0
+
+pub cycle_within : (pairs : List (ℕ × ℕ)) (count : ℕ) (cycle : List ℕ) → AreWithin pairs count → IsFirstCycle pairs count cycle → All (λ p. p < count) cycle
+cycle_within pairs count cycle all c =
+    All-from_get_or (λ p. p < count) cycle 0 (λ k less. walk_within pairs count c.walk all c.is_walk (c.last - k) (get_or cycle k 0) (sym (c.cycle_is k less) ∙ slice_get-get_or cycle k 0 less))
+
+pub tests_more : (ids : List TestId) (places : List ℕ) (tests : List TestId) (k : ℕ) (test d : TestId) → AreAt ids (take k places) tests → k < length places → All (λ p. p < length ids) places → test ≡ get_or ids (get_or places k 0) d → AreAt ids (take (k + 1) places) (tests ++ test ∷ [])
+tests_more ids places tests k test d are less all is =
+    let small = All-get_or (λ p. p < length ids) places k 0 less all in
+    ap (map (slice_get ids)) (take_more places k 0 less) ∙ map-append (slice_get ids) (take k places) (get_or places k 0 ∷ [])
+    ∙ ap (λ l. l ++ slice_get ids (get_or places k 0) ∷ []) are ∙ ap (λ o. map Some tests ++ o ∷ []) (slice_get-get_or ids (get_or places k 0) d small ∙ ap Some (sym is)) ∙ sym (map-append Some tests (test ∷ []))

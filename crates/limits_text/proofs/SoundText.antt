@@ -1,0 +1,282 @@
+-- The limits that a text says keep their ranges, and are sound for a chip that refuses nothing of them.
+use Rattle.std.proofs.Common.{◌≡◌, ◌⊎◌, inl, inr, ℕ, zero, suc, ◌+◌, ◌≤◌, List, [], ◌∷◌, ◌++◌, length, Bool, true, false, ◌&&◌, ◌||◌, not, map, reverse, Option, None, Some, slice_get, nat_lt, cond, option_map, refl, sym, ◌∙◌, ap, subst, arith}
+use Rattle.std.specs.Prelude.{nat_le, IfSome, find}
+use Rattle.std.specs.List.{All, filter, flat_map}
+use Rattle.std.proofs.lemmas.Grind.{common_steps}
+use Rattle.std.proofs.lemmas.Bool.Decides.{nat_tests}
+use Rattle.std.proofs.lemmas.List.{reverse-append, map-append}
+use Rattle.std.proofs.lemmas.List.Elements.{All-nil, All-push, All-cons, All-head, All-tail}
+use Rattle.std.proofs.lemmas.Option.{slice_get-map}
+use Rattle.soc_model.specs.declared.Test.{Test}
+use Rattle.soc_model.specs.declared.TestId.{TestId}
+use Rattle.soc_model.specs.declared.TheConstants.{NUMBER_WORD_MOST, POWER_MOST}
+use Rattle.soc_model.specs.Chips.{ModuleValue, SocValue, LiveTest, live_of, live_from, live_tests, id_of, is_live, same_test}
+use Rattle.plan_model.specs.declared.TheConstants.{WIRES_MOST, BUDGET_MOST}
+use Rattle.plan_model.specs.Plans.{ProfileValue, LimitsValue, of_first, step_power, power_of_id}
+use Rattle.plan_model.specs.SoundLimits.{HasTest, IsSoundProfile, IsAcyclic, IsSoundLimits}
+use Rattle.limits_text.specs.declared.items.Amount.TheVariants.{Wires, Power, Budget}
+use Rattle.limits_text.specs.Items.{Word, number, Item, amount_item, before_item, profile_item, has_amount, has_profile, ArePairs}
+use Rattle.limits_text.specs.Grammar.{AreItems, IsText, ProfileComes}
+use Rattle.limits_text.specs.Meaning.{limits_of, is_known, line_if, unknown_line, or_first, first_line, first_unknown, powers_among, with_test, first_passing, live_powers_in, live_powers, under, test_power}
+use Rattle.limits_text.proofs.WordFacts.{both_true}
+use Rattle.limits_text.proofs.Complete.{some_same}
+
+-- ---- ranges
+
+most_true : (a b : ℕ) → nat_le a b ≡ true → a ≤ b
+most_true a b e = grind (arith, nat_tests)
+
+pub record HasWires (limits : LimitsValue) : Type 0 where
+  pub some : 1 ≤ limits.wires
+  pub few : limits.wires ≤ WIRES_MOST
+
+pub wires_in_range : (form : Bool) (items : List Item) (ws : List Word) → AreItems form items ws → has_amount Wires items ≡ true → HasWires (limits_of items)
+wires_in_range form [] ws is has = cc
+wires_in_range form (amount_item Wires n ∷ earlier) ws is has =
+    let parts = both_true (nat_le 1 n) (nat_le n WIRES_MOST) is.4.range in
+    record { some = most_true 1 n parts.0; few = most_true n WIRES_MOST parts.1 }
+wires_in_range form (amount_item Power n ∷ earlier) ws is has = let e = wires_in_range form earlier is.0 is.3 has in record { some = e.some; few = e.few }
+wires_in_range form (amount_item Budget n ∷ earlier) ws is has = let e = wires_in_range form earlier is.0 is.3 has in record { some = e.some; few = e.few }
+wires_in_range form (before_item line a b ∷ earlier) ws is has = let e = wires_in_range form earlier is.0 is.3 has in record { some = e.some; few = e.few }
+wires_in_range form (profile_item line id steps ∷ earlier) ws is has = let e = wires_in_range form earlier is.0 is.3 has in record { some = e.some; few = e.few }
+
+pub power_in_range : (form : Bool) (items : List Item) (ws : List Word) → AreItems form items ws → IfSome (limits_of items).power (λ most. most ≤ POWER_MOST)
+power_in_range form [] ws is = tt
+power_in_range form (amount_item Power n ∷ earlier) ws is = most_true n POWER_MOST is.4.range
+power_in_range form (amount_item Wires n ∷ earlier) ws is = power_in_range form earlier is.0 is.3
+power_in_range form (amount_item Budget n ∷ earlier) ws is = power_in_range form earlier is.0 is.3
+power_in_range form (before_item line a b ∷ earlier) ws is = power_in_range form earlier is.0 is.3
+power_in_range form (profile_item line id steps ∷ earlier) ws is = power_in_range form earlier is.0 is.3
+
+pub budget_in_range : (form : Bool) (items : List Item) (ws : List Word) → AreItems form items ws → (limits_of items).budget ≤ BUDGET_MOST
+budget_in_range form [] ws is = omega arith
+budget_in_range form (amount_item Budget n ∷ earlier) ws is = most_true n BUDGET_MOST is.4.range
+budget_in_range form (amount_item Wires n ∷ earlier) ws is = budget_in_range form earlier is.0 is.3
+budget_in_range form (amount_item Power n ∷ earlier) ws is = budget_in_range form earlier is.0 is.3
+budget_in_range form (before_item line a b ∷ earlier) ws is = budget_in_range form earlier is.0 is.3
+budget_in_range form (profile_item line id steps ∷ earlier) ws is = budget_in_range form earlier is.0 is.3
+
+-- ---- known tests
+
+first_line-append : (soc : SocValue) (xs ys : List Item) → first_line soc (xs ++ ys) ≡ or_first (first_line soc xs) (first_line soc ys)
+first_line-append soc [] ys = refl
+first_line-append soc (x ∷ xs) ys = ap (or_first (unknown_line soc x)) (first_line-append soc xs ys) ∙ assoc (unknown_line soc x) (first_line soc xs) (first_line soc ys)
+  where
+    assoc : (a b c : Option ℕ) → or_first a (or_first b c) ≡ or_first (or_first a b) c
+    assoc None b c = refl
+    assoc (Some n) b c = refl
+
+both_none : (a b : Option ℕ) → or_first a (or_first b None) ≡ None → (a ≡ None) × (b ≡ None)
+both_none None None e = (refl, refl)
+both_none None (Some n) e = cc
+both_none (Some n) b e = cc
+
+-- nothing is unknown in the latest item and in the earlier ones
+none_unknown : (soc : SocValue) (x : Item) (earlier : List Item) → first_unknown soc (x ∷ earlier) ≡ None → (first_unknown soc earlier ≡ None) × (unknown_line soc x ≡ None)
+none_unknown soc x earlier e =
+    let split : first_unknown soc (x ∷ earlier) ≡ or_first (first_line soc (reverse earlier)) (or_first (unknown_line soc x) None)
+    = ap (first_line soc) (reverse-append (x ∷ []) earlier) ∙ first_line-append soc (reverse earlier) (x ∷ []) in
+    both_none (first_line soc (reverse earlier)) (unknown_line soc x) (sym split ∙ e)
+
+none_if : (b : Bool) (line : ℕ) → line_if (not b) line ≡ None → b ≡ true
+none_if true line e = refl
+none_if false line e = cc
+
+abbrev Known : SocValue → TestId × TestId → Type 0
+Known soc p = HasTest soc p.0 × HasTest soc p.1
+
+pub before_known : (soc : SocValue) (items : List Item) → first_unknown soc items ≡ None → All (λ (p : TestId × TestId). HasTest soc p.0 × HasTest soc p.1) (limits_of items).before
+before_known soc [] e = All-nil _
+before_known soc (amount_item Wires n ∷ earlier) e = before_known soc earlier (none_unknown soc (amount_item Wires n) earlier e).0
+before_known soc (amount_item Power n ∷ earlier) e = before_known soc earlier (none_unknown soc (amount_item Power n) earlier e).0
+before_known soc (amount_item Budget n ∷ earlier) e = before_known soc earlier (none_unknown soc (amount_item Budget n) earlier e).0
+before_known soc (profile_item line id steps ∷ earlier) e = before_known soc earlier (none_unknown soc (profile_item line id steps) earlier e).0
+before_known soc (before_item line a b ∷ earlier) e =
+    let parts = none_unknown soc (before_item line a b) earlier e in
+    let known = both_true (is_known soc a) (is_known soc b) (none_if (is_known soc a && is_known soc b) line parts.1) in
+    All-push (λ (p : TestId × TestId). HasTest soc p.0 × HasTest soc p.1) (limits_of earlier).before (a, b) (before_known soc earlier parts.0) known
+
+-- ---- profiles
+
+number_small : (w : List ℕ) (n : ℕ) → number w ≡ Some n → n ≤ NUMBER_WORD_MOST
+unfolding number
+number_small w n e = grind (arith, common_steps)
+
+pairs_small : (ws : List Word) (steps : List (ℕ × ℕ)) → ArePairs ws steps → All (λ (s : ℕ × ℕ). s.1 ≤ POWER_MOST) steps → All (λ (s : ℕ × ℕ). (s.0 ≤ NUMBER_WORD_MOST) × (s.1 ≤ POWER_MOST)) steps
+pairs_small ws [] are all = All-nil _
+pairs_small ws (s ∷ steps) are all =
+    All-cons (λ (s : ℕ × ℕ). (s.0 ≤ NUMBER_WORD_MOST) × (s.1 ≤ POWER_MOST)) s steps (number_small are.0.0 s.0 are.4, All-head (λ (s : ℕ × ℕ). s.1 ≤ POWER_MOST) s steps all)
+    (pairs_small are.2 steps are.6 (All-tail (λ (s : ℕ × ℕ). s.1 ≤ POWER_MOST) s steps all))
+
+profile_sound : (soc : SocValue) (form : Bool) (earlier : List Item) (line : ℕ) (id : TestId) (steps : List (ℕ × ℕ)) (ws : List Word) → ProfileComes form earlier line id steps ws → HasTest soc id → IsSoundProfile soc (record { test = id; steps = steps })
+profile_sound soc form earlier line id steps ws c known = record {
+  test = known;
+  some_step = omega (arith, ap length c.steps_are.begins.2);
+  few_steps = c.steps_are.few;
+  begins = (c.steps_are.begins.0, ap (λ l. slice_get l 0) c.steps_are.begins.2);
+  grows = c.steps_are.grows;
+  small = pairs_small c.pairs steps c.are c.steps_are.small;
+}
+
+pub profiles_sound : (soc : SocValue) (form : Bool) (items : List Item) (ws : List Word) → AreItems form items ws → first_unknown soc items ≡ None → All (IsSoundProfile soc) (limits_of items).profiles
+profiles_sound soc form [] ws is e = All-nil _
+profiles_sound soc form (amount_item Wires n ∷ earlier) ws is e = profiles_sound soc form earlier is.0 is.3 (none_unknown soc (amount_item Wires n) earlier e).0
+profiles_sound soc form (amount_item Power n ∷ earlier) ws is e = profiles_sound soc form earlier is.0 is.3 (none_unknown soc (amount_item Power n) earlier e).0
+profiles_sound soc form (amount_item Budget n ∷ earlier) ws is e = profiles_sound soc form earlier is.0 is.3 (none_unknown soc (amount_item Budget n) earlier e).0
+profiles_sound soc form (before_item line a b ∷ earlier) ws is e = profiles_sound soc form earlier is.0 is.3 (none_unknown soc (before_item line a b) earlier e).0
+profiles_sound soc form (profile_item line id steps ∷ earlier) ws is e =
+    let parts = none_unknown soc (profile_item line id steps) earlier e in
+    All-push (IsSoundProfile soc) (limits_of earlier).profiles (record { test = id; steps = steps }) (profiles_sound soc form earlier is.0 is.3 parts.0)
+    (profile_sound soc form earlier line id steps is.1 is.4 (none_if (is_known soc id) line parts.1))
+
+-- what stands in a list and one more element
+pub push_cases : {X : Type 0} (xs : List X) (y x : X) (p : ℕ) → slice_get (xs ++ y ∷ []) p ≡ Some x → (slice_get xs p ≡ Some x) ⊎ ((p ≡ length xs) × (y ≡ x))
+push_cases [] y x zero e = inr (refl, some_same y x e)
+push_cases [] y x (suc p) e = cc
+push_cases (z ∷ xs) y x zero e = inl e
+push_cases (z ∷ xs) y x (suc p) e = next (push_cases xs y x p e)
+  where
+    next : (slice_get xs p ≡ Some x) ⊎ ((p ≡ length xs) × (y ≡ x)) → (slice_get (z ∷ xs) (suc p) ≡ Some x) ⊎ ((suc p ≡ length (z ∷ xs)) × (y ≡ x))
+    next (inl f) = inl f
+    next (inr f) = inr (ap suc f.0, f.1)
+
+same_itself : (id : TestId) → same_test id id ≡ true
+same_itself id = grind (arith, nat_tests)
+
+or_true : (a b : Bool) → b ≡ true → (a || b) ≡ true
+or_true true b e = refl
+or_true false b e = e
+
+-- a profile was given
+profile_given : (items : List Item) (p : ℕ) (x : ProfileValue) → slice_get (limits_of items).profiles p ≡ Some x → has_profile x.test items ≡ true
+profile_given [] p x e = cc
+profile_given (amount_item Wires n ∷ earlier) p x e = profile_given earlier p x e
+profile_given (amount_item Power n ∷ earlier) p x e = profile_given earlier p x e
+profile_given (amount_item Budget n ∷ earlier) p x e = profile_given earlier p x e
+profile_given (before_item line a b ∷ earlier) p x e = profile_given earlier p x e
+profile_given (profile_item line id steps ∷ earlier) p x e = by (push_cases (limits_of earlier).profiles (record { test = id; steps = steps }) x p e) (profile_given earlier p x)
+  where
+    by : (slice_get (limits_of earlier).profiles p ≡ Some x) ⊎ ((p ≡ length (limits_of earlier).profiles) × (record { test = id; steps = steps } ≡ x)) → (slice_get (limits_of earlier).profiles p ≡ Some x → has_profile x.test earlier ≡ true) → has_profile x.test (profile_item line id steps ∷ earlier) ≡ true
+    by (inl f) again = or_true (same_test x.test id) (has_profile x.test earlier) (again f)
+    by (inr f) again = subst (λ (y : ProfileValue). has_profile y.test (profile_item line id steps ∷ earlier) ≡ true) f.1 (ap (λ b. b || has_profile id earlier) (same_itself id))
+
+false_true : (b : Bool) → b ≡ false → b ≡ true → ⊥
+false_true b e f = cc
+
+abbrev OneProfile : List ProfileValue → Type 0
+OneProfile profiles = (p q : ℕ) (x y : ProfileValue) → slice_get profiles p ≡ Some x → slice_get profiles q ≡ Some y → x.test ≡ y.test → p ≡ q
+
+one_more : (earlier : List Item) (new : ProfileValue) → has_profile new.test earlier ≡ false → OneProfile (limits_of earlier).profiles → OneProfile ((limits_of earlier).profiles ++ new ∷ [])
+one_more earlier new once one p q x y at there same =
+    by (push_cases (limits_of earlier).profiles new x p at) (push_cases (limits_of earlier).profiles new y q there)
+  where
+    apart : (k : ℕ) (z : ProfileValue) → slice_get (limits_of earlier).profiles k ≡ Some z → z.test ≡ new.test → ⊥
+    apart k z e f = false_true (has_profile new.test earlier) once (ap (λ id. has_profile id earlier) (sym f) ∙ profile_given earlier k z e)
+
+    by : (slice_get (limits_of earlier).profiles p ≡ Some x) ⊎ ((p ≡ length (limits_of earlier).profiles) × (new ≡ x)) → (slice_get (limits_of earlier).profiles q ≡ Some y) ⊎ ((q ≡ length (limits_of earlier).profiles) × (new ≡ y)) → p ≡ q
+    by (inl e) (inl f) = one p q x y e f same
+    by (inl e) (inr f) = absurd (apart p x e (same ∙ sym (ap (λ (z : ProfileValue). z.test) f.1)))
+    by (inr e) (inl f) = absurd (apart q y f (sym same ∙ sym (ap (λ (z : ProfileValue). z.test) e.1)))
+    by (inr e) (inr f) = e.0 ∙ sym f.0
+
+no_profiles : OneProfile []
+no_profiles p q x y at there same = cc
+
+pub one_profile : (form : Bool) (items : List Item) (ws : List Word) → AreItems form items ws → (p q : ℕ) (x y : ProfileValue) → slice_get (limits_of items).profiles p ≡ Some x → slice_get (limits_of items).profiles q ≡ Some y → x.test ≡ y.test → p ≡ q
+one_profile form [] ws is = no_profiles
+one_profile form (amount_item Wires n ∷ earlier) ws is = one_profile form earlier is.0 is.3
+one_profile form (amount_item Power n ∷ earlier) ws is = one_profile form earlier is.0 is.3
+one_profile form (amount_item Budget n ∷ earlier) ws is = one_profile form earlier is.0 is.3
+one_profile form (before_item line a b ∷ earlier) ws is = one_profile form earlier is.0 is.3
+one_profile form (profile_item line id steps ∷ earlier) ws is = one_more earlier (record { test = id; steps = steps }) is.4.once (one_profile form earlier is.0 is.3)
+
+-- ---- powers
+
+live_powers_at : (place : ℕ) (m : ModuleValue) (ts : List Test) → map (λ (l : LiveTest). (id_of l, l.test.power)) (map {B = LiveTest} (λ (t : Test). record { place = place; core = m; test = t }) ts) ≡ map {B = TestId × ℕ} (λ (t : Test). (record { «module» = m.number; test = t.number }, t.power)) ts
+live_powers_at place m [] = refl
+live_powers_at place m (t ∷ ts) = ap (λ l. (record { «module» = m.number; test = t.number }, t.power) ∷ l) (live_powers_at place m ts)
+
+live_powers_from : (place : ℕ) (ms : List ModuleValue) → map (λ (l : LiveTest). (id_of l, l.test.power)) (live_from place ms) ≡ flat_map live_powers_in ms
+unfolding live_from
+live_powers_from place [] = refl
+live_powers_from place (m ∷ ms) =
+    map-append (λ (l : LiveTest). (id_of l, l.test.power)) (live_of place m) (live_from (place + 1) ms)
+    ∙ ap (λ l. l ++ map (λ (l : LiveTest). (id_of l, l.test.power)) (live_from (place + 1) ms)) (live_powers_at place m (filter is_live m.tests))
+    ∙ ap (λ l. live_powers_in m ++ l) (live_powers_from (place + 1) ms)
+
+-- the live tests with their powers, as the chip lists them
+pub live_powers_are : (soc : SocValue) → map (λ (l : LiveTest). (id_of l, l.test.power)) (live_tests soc) ≡ live_powers soc
+live_powers_are soc = live_powers_from 0 soc.modules
+
+not_found : (most x : ℕ) (xs : List ℕ) → find (nat_lt most) (x ∷ xs) ≡ None → (x ≤ most) × (find (nat_lt most) xs ≡ None)
+not_found most x xs e = by (nat_lt most x) refl e
+  where
+    less_false : (a b : ℕ) → nat_lt a b ≡ false → b ≤ a
+    less_false a b e = grind (arith, nat_tests)
+
+    by : (b : Bool) → nat_lt most x ≡ b → find (nat_lt most) (x ∷ xs) ≡ None → (x ≤ most) × (find (nat_lt most) xs ≡ None)
+    by true is e = let none = rw is at e in cc
+    by false is e = (less_false most x is, rw is at e)
+
+step_within : (most r now : ℕ) (steps : List (ℕ × ℕ)) → now ≤ most → find (nat_lt most) (map (λ (s : ℕ × ℕ). s.1) steps) ≡ None → step_power r now steps ≤ most
+step_within most r now [] small none = small
+step_within most r now (s ∷ steps) small none =
+    let parts = not_found most s.1 (map (λ (s : ℕ × ℕ). s.1) steps) none in
+    by (nat_le s.0 r) (step_within most r s.1 steps parts.0 parts.1) (step_within most r now steps small parts.1)
+  where
+    by : (b : Bool) → step_power r s.1 steps ≤ most → step_power r now steps ≤ most → cond b (step_power r s.1 steps) (step_power r now steps) ≤ most
+    by true e f = e
+    by false e f = f
+
+power_within : (most r : ℕ) (profiles : List ProfileValue) (id : TestId) (own : ℕ) → find (nat_lt most) (powers_among profiles id own) ≡ None → of_first (λ (p : ProfileValue). same_test p.test id) (λ p. step_power r 0 p.steps) own profiles ≤ most
+power_within most r [] id own none = (not_found most own [] none).0
+power_within most r (p ∷ profiles) id own none = by (same_test p.test id) refl (power_within most r profiles id own)
+  where
+    by : (b : Bool) → same_test p.test id ≡ b → (find (nat_lt most) (powers_among profiles id own) ≡ None → of_first (λ (p : ProfileValue). same_test p.test id) (λ p. step_power r 0 p.steps) own profiles ≤ most)
+        → of_first (λ (p : ProfileValue). same_test p.test id) (λ p. step_power r 0 p.steps) own (p ∷ profiles) ≤ most
+    by true is again = rw is (step_within most r 0 p.steps (omega arith) (rw is at none))
+    by false is again = rw is (again (rw is at none))
+
+or_none : {X : Type 0} (a b : Option X) → or_first a b ≡ None → (a ≡ None) × (b ≡ None)
+or_none None b e = (refl, e)
+or_none (Some x) b e = cc
+
+with_none : (id : TestId) (o : Option ℕ) → with_test id o ≡ None → o ≡ None
+with_none id None e = refl
+with_none id (Some n) e = cc
+
+none_passes : (profiles : List ProfileValue) (most : ℕ) (tests : List (TestId × ℕ)) (i : ℕ) (t : TestId × ℕ) → first_passing profiles most tests ≡ None → slice_get tests i ≡ Some t → find (nat_lt most) (powers_among profiles t.0 t.1) ≡ None
+none_passes profiles most [] i t e at = cc
+none_passes profiles most (x ∷ tests) i t e at = by i at (none_passes profiles most tests) (or_none (with_test x.0 (find (nat_lt most) (powers_among profiles x.0 x.1))) (first_passing profiles most tests) e)
+  where
+    by : (i : ℕ) → slice_get (x ∷ tests) i ≡ Some t → ((j : ℕ) (t : TestId × ℕ) → first_passing profiles most tests ≡ None → slice_get tests j ≡ Some t → find (nat_lt most) (powers_among profiles t.0 t.1) ≡ None)
+        → (with_test x.0 (find (nat_lt most) (powers_among profiles x.0 x.1)) ≡ None) × (first_passing profiles most tests ≡ None) → find (nat_lt most) (powers_among profiles t.0 t.1) ≡ None
+    by zero at again parts = subst (λ (y : TestId × ℕ). find (nat_lt most) (powers_among profiles y.0 y.1) ≡ None) (some_same x t at) (with_none x.0 (find (nat_lt most) (powers_among profiles x.0 x.1)) parts.0)
+    by (suc j) at again parts = again j t parts.1 at
+
+-- where no live test passes the limit, none does at any cycle
+pub all_within : (soc : SocValue) (limits : LimitsValue) → test_power soc limits ≡ None → (i : ℕ) (l : LiveTest) → slice_get (live_tests soc) i ≡ Some l → (r : ℕ) → IfSome limits.power (λ most. power_of_id limits (id_of l) l.test.power r ≤ most)
+all_within soc limits none i l at r = by limits.power none
+  where
+    there : slice_get (live_powers soc) i ≡ Some (id_of l, l.test.power)
+    there = ap (λ ts. slice_get ts i) (sym (live_powers_are soc)) ∙ slice_get-map (λ (l : LiveTest). (id_of l, l.test.power)) (live_tests soc) i ∙ ap (option_map (λ (l : LiveTest). (id_of l, l.test.power))) at
+
+    by : (o : Option ℕ) → under o limits.profiles (live_powers soc) ≡ None → IfSome o (λ most. power_of_id limits (id_of l) l.test.power r ≤ most)
+    by None e = tt
+    by (Some most) e = power_within most r limits.profiles (id_of l) l.test.power (none_passes limits.profiles most (live_powers soc) i (id_of l, l.test.power) e there)
+
+-- limits that a chip refuses nothing of are sound
+pub text_sound : (soc : SocValue) (form : Bool) (items : List Item) (ws : List Word) → IsText form items ws → first_unknown soc items ≡ None → IsAcyclic soc (limits_of items) → test_power soc (limits_of items) ≡ None → IsSoundLimits soc (limits_of items)
+text_sound soc form items ws is known acyclic power =
+    let wires = wires_in_range form items is.rest is.are is.wires in
+    record {
+      some_wire = wires.some;
+      few_wires = wires.few;
+      power = power_in_range form items is.rest is.are;
+      budget = budget_in_range form items is.rest is.are;
+      before = before_known soc items known;
+      profiles = profiles_sound soc form items is.rest is.are known;
+      one_profile = one_profile form items is.rest is.are;
+      acyclic = acyclic;
+      within = all_within soc (limits_of items) power;
+    }

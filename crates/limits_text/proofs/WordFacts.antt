@@ -1,0 +1,112 @@
+-- A keyword is no number.
+use Rattle.std.proofs.Common.{◌≡◌, ℕ, ◌<◌, ◌≤◌, List, [], ◌∷◌, length, Bool, true, false, ◌&&◌, not, nat_eq, codes, decimal, Option, None, Some, refl, arith, cond}
+use Rattle.std.specs.Prelude.{nat_le}
+use Rattle.std.specs.Char.{to_ascii_lowercase, is_ascii_digit}
+use Rattle.std.specs.Str.{all_ascii_digits}
+use Rattle.std.proofs.lemmas.Grind.{common_steps}
+use Rattle.outside.specs.Words.{same_letters}
+use Rattle.outside.specs.Decimal.{value_after}
+use Rattle.outside.proofs.DecimalLemmas.{number_of-decimal}
+use Rattle.soc_model.specs.declared.TheConstants.{NUMBER_WORD_MOST}
+use Rattle.limits_text.specs.declared.items.Amount.{Amount}
+use Rattle.limits_text.specs.declared.items.Amount.TheVariants.{Wires, Power, Budget}
+use Rattle.limits_text.specs.declared.items.Key.{Key}
+use Rattle.limits_text.specs.declared.items.Key.TheVariants.{One}
+use Rattle.limits_text.specs.Items.{Word, number, is_title, key_of, is_in_range}
+
+pub both_true : (p q : Bool) → (p && q) ≡ true → (p ≡ true) × (q ≡ true)
+both_true true q e = (refl, e)
+both_true false q e = cc
+
+-- the first letter of a spelling
+abbrev begins_lower : List ℕ → Bool
+begins_lower [] = false
+begins_lower (b ∷ bs) = nat_le 97 (to_ascii_lowercase b)
+
+low_head : (b x : ℕ) (bs xs : List ℕ) → b < 65 → nat_le 97 (to_ascii_lowercase x) ≡ true → same_letters (b ∷ bs) (x ∷ xs) ≡ false
+low_head b x bs xs low high = grind (arith, common_steps)
+
+low_other : (b : ℕ) (bs y : List ℕ) → b < 65 → begins_lower y ≡ true → same_letters (b ∷ bs) y ≡ false
+low_other b bs [] low high = cc
+low_other b bs (x ∷ xs) low high = low_head b x bs xs low high
+
+digit_low : (b : ℕ) → is_ascii_digit b ≡ true → b < 65
+digit_low b e = grind (arith, common_steps)
+
+cond_yes : {X : Type 0} (b : Bool) (x y : X) → cond b (Some x) None ≡ Some y → b ≡ true
+cond_yes true x y e = refl
+cond_yes false x y e = cc
+
+number_low : (c : ℕ) (cs : List ℕ) (n : ℕ) → number (c ∷ cs) ≡ Some n → c < 65
+unfolding number
+number_low c cs n e =
+    let whole = cond_yes (all_ascii_digits (c ∷ cs) && not (nat_eq (length (c ∷ cs)) 0) && nat_le (value_after 0 (c ∷ cs)) NUMBER_WORD_MOST) (value_after 0 (c ∷ cs)) n e in
+    let digits = (both_true (all_ascii_digits (c ∷ cs)) _ (both_true (all_ascii_digits (c ∷ cs) && not (nat_eq (length (c ∷ cs)) 0)) _ whole).0).0 in
+    digit_low c (both_true (is_ascii_digit c) (all_ascii_digits cs) digits).0
+
+no_number_at_end : (n : ℕ) → number [] ≡ Some n → ⊥
+unfolding number
+no_number_at_end n e = cc
+
+low_no_key : (c : ℕ) (cs : List ℕ) → c < 65 → key_of (c ∷ cs) ≡ None
+unfolding key_of
+low_no_key c cs low =
+    rw (low_other c cs (codes "Wires") low refl, low_other c cs (codes "Power") low refl, low_other c cs (codes "Budget") low refl, low_other c cs (codes "Before") low refl, low_other c cs (codes "Profile") low refl) refl
+
+number_no_key : (w : List ℕ) (n : ℕ) → number w ≡ Some n → key_of w ≡ None
+number_no_key [] n e = absurd (no_number_at_end n e)
+number_no_key (c ∷ cs) n e = low_no_key c cs (number_low c cs n e)
+
+some_none : {X : Type 0} (o : Option X) (x : X) → o ≡ Some x → o ≡ None → ⊥
+some_none o x e f = cc
+
+-- a keyword is no number
+pub key_no_number : (w : List ℕ) (k : Key) → key_of w ≡ Some k → number w ≡ None
+key_no_number w k e = by_cases (number w) refl
+  where
+    by_cases : (o : Option ℕ) → number w ≡ o → number w ≡ None
+    by_cases None f = f
+    by_cases (Some n) f = absurd (some_none (key_of w) k e (number_no_key w n f))
+
+-- ---- words that complete a text
+
+abbrev pub word_at : List ℕ → Word
+word_at w = (w, 0)
+
+abbrev pub one_word : Word
+one_word = word_at (codes "1")
+
+abbrev pub zero_word : Word
+zero_word = word_at (codes "0")
+
+abbrev pub title_word : Word
+title_word = word_at (codes "Limits")
+
+abbrev pub wires_word : Word
+wires_word = word_at (codes "Wires")
+
+pub one_is : number (codes "1") ≡ Some 1
+unfolding number
+one_is = refl
+
+pub zero_is : number (codes "0") ≡ Some 0
+unfolding number
+zero_is = refl
+
+pub title_is : is_title (codes "Limits") ≡ true
+unfolding is_title
+title_is = refl
+
+pub wires_is : key_of (codes "Wires") ≡ Some (One Wires)
+unfolding key_of
+wires_is = refl
+
+pub one_in_range : (a : Amount) → is_in_range a 1 ≡ true
+one_in_range Wires = refl
+one_in_range Power = refl
+one_in_range Budget = refl
+
+-- the decimal text of a number is that number
+pub number-decimal : (n : ℕ) → n ≤ NUMBER_WORD_MOST → number (decimal n) ≡ Some n
+unfolding number
+number-decimal n small = number_of-decimal n NUMBER_WORD_MOST (omega arith) small

@@ -1,0 +1,74 @@
+-- What is answered of a text.
+use Rattle.std.specs.Prelude.{◌≡◌, ℕ, ◌+◌, Bool, List, None, Some, Result, Ok, Err, count_by}
+use Rattle.outside.specs.Words.{words_of, is_line_feed}
+use Rattle.soc_model.specs.declared.TestId.{TestId}
+use Rattle.soc_model.specs.Chips.{SocValue}
+use Rattle.plan_model.specs.declared.Limits.{Limits}
+use Rattle.plan_model.specs.Plans.{LimitsValue}
+use Rattle.plan_model.specs.Views.{limits_value}
+use Rattle.plan_model.specs.SoundLimits.{IsAcyclic, IsSoundLimits}
+use Rattle.limits_text.specs.declared.LimFault.{LimFault}
+use Rattle.limits_text.specs.declared.LimFault.TheVariants as fault
+use Rattle.limits_text.specs.declared.items.Items.{Items}
+use Rattle.limits_text.specs.declared.whole.TextFault.{TextFault}
+use Rattle.limits_text.specs.declared.whole.TextFault.TheVariants.{Text, NoMemory}
+use Rattle.limits_text.specs.Items.{Item}
+use Rattle.limits_text.specs.Grammar.{IsText, RefusedAt}
+use Rattle.limits_text.specs.Meaning.{limits_of, first_unknown, test_power}
+use Rattle.limits_text.specs.Cycles.{IsCycleOf}
+use Rattle.limits_text.specs.Views.{done_of}
+
+-- the line at the end of a text
+abbrev pub last_line : List ℕ → ℕ
+last_line bytes = 1 + count_by is_line_feed bytes
+
+-- The text is these items; or the grammar refuses it at that line; or memory ran out.
+abbrev pub ItemsRead : List ℕ → Result Items TextFault → Type 0
+ItemsRead bytes (Ok items) = IsText items.second (done_of items) (words_of bytes)
+ItemsRead bytes (Err (Text line)) = RefusedAt (words_of bytes) (last_line bytes) line
+ItemsRead bytes (Err NoMemory) = Unit {0}
+
+-- the text says these limits
+pub record SaysLimits (bytes : List ℕ) (limits : LimitsValue) : Type 0 where
+  pub form : Bool
+  pub items : List Item
+  pub text : IsText form items (words_of bytes)
+  pub limits_are : limits ≡ limits_of items
+
+-- the text says these limits, and names tests of the chip alone
+pub record SaysKnown (bytes : List ℕ) (soc : SocValue) (limits : LimitsValue) : Type 0 where
+  pub says : SaysLimits bytes limits
+  pub known : first_unknown soc says.items ≡ None
+
+-- limits that are read of a text for a chip
+pub record AreReadLimits (bytes : List ℕ) (soc : SocValue) (limits : LimitsValue) : Type 0 where
+  pub said : SaysKnown bytes soc limits
+  pub sound : IsSoundLimits soc limits
+
+-- the text says limits, and names first on this line a test that the chip hasn't
+pub record NamesUnknown (bytes : List ℕ) (soc : SocValue) (line : ℕ) : Type 0 where
+  pub limits : LimitsValue
+  pub says : SaysLimits bytes limits
+  pub first : first_unknown soc says.items ≡ Some line
+
+-- the text says limits for the chip whose precedences have this cycle
+pub record HasCycle (bytes : List ℕ) (soc : SocValue) (tests : List TestId) : Type 0 where
+  pub limits : LimitsValue
+  pub said : SaysKnown bytes soc limits
+  pub cycle : IsCycleOf soc limits tests
+
+-- the text says limits for the chip without a cycle, and this live test is the first that passes the limit, with this power
+pub record PassesPower (bytes : List ℕ) (soc : SocValue) (test : TestId) (power : ℕ) : Type 0 where
+  pub limits : LimitsValue
+  pub said : SaysKnown bytes soc limits
+  pub acyclic : IsAcyclic soc limits
+  pub passes : test_power soc limits ≡ Some (test, power)
+
+-- The answer is the limits that the text says, and they are sound; or the first refusal that stands; or memory ran out.
+abbrev pub LimitsRead : List ℕ → SocValue → Result Limits LimFault → Type 0
+LimitsRead bytes soc (Ok limits) = AreReadLimits bytes soc (limits_value limits)
+LimitsRead bytes soc (Err (fault.Text line)) = RefusedAt (words_of bytes) (last_line bytes) line
+LimitsRead bytes soc (Err (fault.UnknownTest line)) = NamesUnknown bytes soc line
+LimitsRead bytes soc (Err (fault.Cycle tests)) = HasCycle bytes soc tests.items
+LimitsRead bytes soc (Err (fault.TestPower test power)) = PassesPower bytes soc test power
+LimitsRead bytes soc (Err fault.NoMemory) = Unit {0}

@@ -1,0 +1,81 @@
+-- Cycles of precedences. Live tests go by their places among the live tests, in the order of the chip.
+use Rattle.std.specs.Prelude.{◌≡◌, ℕ, ◌+◌, ◌-◌, ◌<◌, List, [], ◌∷◌, Option, None, Some, map, length, slice_get, if◌then◌else◌}
+use Rattle.std.specs.List.{flat_map, Contains}
+use Rattle.soc_model.specs.declared.TestId.{TestId}
+use Rattle.soc_model.specs.Chips.{SocValue, same_test}
+use Rattle.plan_model.specs.Plans.{LimitsValue}
+use Rattle.plan_model.specs.Rules.{live_ids}
+
+-- the place of a test among these, where the first has this place
+abbrev pub place_from : ℕ → List TestId → TestId → Option ℕ
+place_from place [] id = None
+place_from place (x ∷ ids) id = if same_test id x then Some place else place_from (place + 1) ids id
+
+-- the place of a test among these
+abbrev pub place_among : List TestId → TestId → Option ℕ
+place_among ids id = place_from 0 ids id
+
+abbrev pub pair_if : Option ℕ → Option ℕ → List (ℕ × ℕ)
+pair_if (Some i) (Some j) = (i, j) ∷ []
+pair_if None other = []
+pair_if (Some i) None = []
+
+-- the precedences of tests that are among these, by their places
+abbrev pub pairs_among : List TestId → List (TestId × TestId) → List (ℕ × ℕ)
+pairs_among ids before = flat_map (λ (p : TestId × TestId). pair_if (place_among ids p.0) (place_among ids p.1)) before
+
+-- the precedences of live tests, by their places
+abbrev pub precedences : SocValue → LimitsValue → List (ℕ × ℕ)
+precedences soc limits = pairs_among (live_ids soc) limits.before
+
+-- A test is taken away once no test that remains precedes it: all that precede it were taken away.
+pub data IsTaken (pairs : List (ℕ × ℕ)) : ℕ → Type 0 where
+  take_away : (j : ℕ) → ((i : ℕ) → Contains pairs (i, j) → IsTaken pairs i) → IsTaken pairs j
+
+-- a test is never taken away
+abbrev pub Remains : List (ℕ × ℕ) → ℕ → Type 0
+Remains pairs j = IsTaken pairs j → ⊥
+
+-- the first of so many tests that remains
+pub record IsFirstRemaining (pairs : List (ℕ × ℕ)) (count i : ℕ) : Type 0 where
+  pub within : i < count
+  pub remains : Remains pairs i
+  pub earlier : (k : ℕ) → k < i → IsTaken pairs k
+
+-- the first remaining test that precedes test `j`
+pub record IsForerunner (pairs : List (ℕ × ℕ)) (j i : ℕ) : Type 0 where
+  pub precedes : Contains pairs (i, j)
+  pub remains : Remains pairs i
+  pub earlier : (k : ℕ) → k < i → Contains pairs (k, j) → IsTaken pairs k
+
+-- tests from the first remaining one on, after each its forerunner
+pub record IsWalk (pairs : List (ℕ × ℕ)) (count : ℕ) (walk : List ℕ) : Type 0 where
+  pub begins : (x : ℕ) → slice_get walk 0 ≡ Some x → IsFirstRemaining pairs count x
+  pub goes : (k x y : ℕ) → slice_get walk k ≡ Some x → slice_get walk (k + 1) ≡ Some y → IsForerunner pairs x y
+
+-- The walk up to its first test, at place `last`, that equals an earlier one, at place `meets`; the cycle is the walk
+-- from `last` back to the place after `meets`.
+pub record IsFirstCycle (pairs : List (ℕ × ℕ)) (count : ℕ) (cycle : List ℕ) : Type 0 where
+  pub walk : List ℕ
+  pub meets : ℕ
+  pub last : ℕ
+  pub is_walk : IsWalk pairs count walk
+  pub long : length walk ≡ last + 1
+  pub before_last : meets < last
+  pub again : slice_get walk meets ≡ slice_get walk last
+  pub differ : (p q x : ℕ) → p < last → q < last → slice_get walk p ≡ Some x → slice_get walk q ≡ Some x → p ≡ q
+  pub cycle_long : length cycle + meets ≡ last
+  pub cycle_is : (k : ℕ) → k < length cycle → slice_get cycle k ≡ slice_get walk (last - k)
+
+-- the tests at these places
+abbrev pub AreAt : List TestId → List ℕ → List TestId → Type 0
+AreAt ids places tests = map (slice_get ids) places ≡ map Some tests
+
+-- the cycle that a chip refuses of limits
+abbrev pub IsCycleOf : SocValue → LimitsValue → List TestId → Type 0
+IsCycleOf soc limits tests =
+    (cycle : List ℕ) × IsFirstCycle (precedences soc limits) (length (live_ids soc)) cycle × AreAt (live_ids soc) cycle tests
+
+-- the tests have ranks that grow with each pair
+abbrev pub HasRank : List (ℕ × ℕ) → Type 0
+HasRank pairs = (rank : ℕ → ℕ) × ((i j : ℕ) → Contains pairs (i, j) → rank i < rank j)

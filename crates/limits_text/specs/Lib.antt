@@ -1,0 +1,9 @@
+pub mod Items
+pub mod Grammar
+pub mod Steps
+pub mod Views
+pub mod Meaning
+pub mod Cycles
+pub mod Orders
+pub mod Texts
+pub mod Answers

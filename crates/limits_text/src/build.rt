@@ -1,0 +1,59 @@
+// The limits that the items of a text say.
+ghost use Rattle.std.specs.Prelude.{◌≡◌, map, reverse, OnOk, OnErr, IfOk};
+ghost use Rattle.plan_model.specs.Views.{limits_value};
+ghost use Rattle.limits_text.specs.Meaning.{says, no_limits as no_limits_said, limits_of as limits_said};
+ghost use Rattle.limits_text.specs.Views.{item_of};
+
+use crate::BUDGET;
+use crate::items::{Amount, Item};
+use outside::NoMemory;
+use plan_model::{Limits, Profile};
+use std::alloc::Global;
+
+/// Limits before any item.
+fn no_limits(alloc: Global) -> Limits
+    ensures { limits_value result ≡ no_limits_said }
+{
+    Limits {
+        wires: 0,
+        power: None,
+        before: Vec::new(alloc),
+        budget: BUDGET,
+        profiles: Vec::new(alloc),
+    }
+}
+
+/// Changes the limits as an item says.
+fn tell(limits: &mut Limits, item: Item) -> Result<(), NoMemory>
+    ensures { OnOk result (limits_value limits.new ≡ says (item_of item) (limits_value limits.old)) }
+{
+    match item {
+        Item::Number { amount, value } => match amount {
+            Amount::Wires => limits.wires = value,
+            Amount::Power => limits.power = Some(value),
+            Amount::Budget => limits.budget = value,
+        },
+        Item::Precedence { first, second, .. } => {
+            if limits.before.push((first, second)).is_err() {
+                return Err(NoMemory);
+            }
+        }
+        Item::Steps { test, steps, .. } => {
+            if limits.profiles.push(Profile { test, steps }).is_err() {
+                return Err(NoMemory);
+            }
+        }
+    }
+    Ok(())
+}
+
+/// The limits of all items, in the order of the text.
+pub fn limits_of(alloc: Global, list: Vec<Item>) -> Result<Limits, NoMemory>
+    ensures { IfOk result (λ limits. limits_value limits ≡ limits_said (reverse (map item_of list.items))) }
+{
+    let mut limits = no_limits(alloc);
+    for item in list {
+        tell(&mut limits, item)?;
+    }
+    Ok(limits)
+}

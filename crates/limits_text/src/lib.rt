@@ -1,0 +1,45 @@
+// Reads and prints the text of limits: wires, power, budget, precedences and power profiles for the tests of a chip.
+#![tactic(auto)]
+
+mod build;
+mod collect;
+mod cycles;
+mod graph;
+mod items;
+mod lexicon;
+mod print;
+mod read;
+mod reader;
+mod refusals;
+mod whole;
+
+pub use print::print_limits;
+pub use read::read_limits;
+use soc_model::TestId;
+use thiserror::Error;
+
+/// Prefixes that a search may enter where the text names no budget.
+pub const BUDGET: u64 = 20_000;
+
+/// Why limits were not read. The refusals are tried in this order.
+#[derive(Debug, Drop, Error)]
+pub enum LimFault {
+    /// No text of limits begins with the words up to one on this line, or the text ends too early on this line.
+    #[error("line {line} of the limits' text: no limits are written so")]
+    Text { line: u64 },
+    /// The item whose keyword stands on this line is the first that names a test which isn't in the chip.
+    #[error("line {line} of the limits' text: the chip has no such test")]
+    UnknownTest { line: u64 },
+    /// The precedences of live tests have this cycle: each test precedes the next, and the last the first.
+    #[error("the precedences of the limits have a cycle")]
+    Cycle { tests: Vec<TestId> },
+    /// This live test is the first with a power that passes the limit, and this is the first such power of it.
+    #[error("a test's power of {power} passes the limit")]
+    TestPower { test: TestId, power: u64 },
+    /// There was no memory for the limits.
+    #[error("out of memory while the limits' text was read")]
+    NoMemory,
+}
+
+#[cfg(test)]
+mod tests;

@@ -1,0 +1,41 @@
+// Reads the limits of a text for a chip.
+ghost use Rattle.soc_model.specs.Chips.{soc_value};
+ghost use Rattle.limits_text.specs.Answers.{LimitsRead};
+
+use crate::LimFault;
+use crate::build::limits_of;
+use crate::cycles::cycle_of;
+use crate::refusals::{first_unknown, live_list, test_power};
+use crate::whole::{TextFault, read_items};
+use plan_model::Limits;
+use soc_model::Soc;
+use std::alloc::Global;
+
+/// The limits that a text says for a chip; they are sound for it. The refusals are tried in the order of [`LimFault`].
+pub fn read_limits(alloc: Global, bytes: &[u8], soc: &Soc) -> Result<Limits, LimFault>
+    ensures { LimitsRead bytes.now (soc_value soc.now) result }
+{
+    let items = match read_items(alloc, bytes) {
+        Ok(items) => items,
+        Err(TextFault::Text { line }) => return Err(LimFault::Text { line }),
+        Err(TextFault::NoMemory) => return Err(LimFault::NoMemory),
+    };
+    if let Some(line) = first_unknown(soc, items.list.as_slice()) {
+        return Err(LimFault::UnknownTest { line });
+    }
+    let Ok(limits) = limits_of(alloc, items.list) else {
+        return Err(LimFault::NoMemory);
+    };
+    let Ok(tests) = live_list(alloc, soc) else {
+        return Err(LimFault::NoMemory);
+    };
+    match cycle_of(alloc, soc, &limits, tests.as_slice()) {
+        Ok(None) => {}
+        Ok(Some(tests)) => return Err(LimFault::Cycle { tests }),
+        Err(_) => return Err(LimFault::NoMemory),
+    }
+    if let Some((test, power)) = test_power(&limits, tests.as_slice()) {
+        return Err(LimFault::TestPower { test, power });
+    }
+    Ok(limits)
+}

@@ -1,0 +1,264 @@
+// Reads a text word by word.
+ghost use Rattle.std.specs.Prelude.{◌≡◌, ◌∷◌, ◌++◌, [], IfOk};
+ghost use Rattle.soc_model.specs.declared.TestId.{TestId};
+ghost use Rattle.limits_text.specs.Items.{number as number_in, is_title as says_title, amount_item, profile_item};
+ghost use Rattle.limits_text.specs.Steps.{at, between, begin as begins, after_title as goes_after_title, after_version as goes_after_version, after_amount as goes_after_amount, named as goes_after_name, after_test as goes_after_test, may_follow as may_come_next, end_profile as goes_on, after_step as goes_after_step, after_power as goes_after_power, step_at, ended_at, whole_of};
+ghost use Rattle.limits_text.specs.Views.{item_of, done_of, part_of, InStep, Steps, Closes};
+
+use crate::collect::{has_amount, has_profile, push};
+use crate::items::{Amount, Item, Items, Key, Naming, Part, Stop};
+use crate::lexicon::{is_in_range, is_title, key_of, number_of};
+use outside::Word;
+use plan_model::STEPS_MOST;
+use soc_model::{POWER_MOST, TestId};
+use std::alloc::Global;
+
+fn pushed(items: &mut Items, item: Item) -> Result<Part, Stop>
+    requires { InStep items.old }
+    ensures { Steps (at items.old.second (item_of item ∷ done_of items.old) between) result items.new }
+{
+    push(items, item)?;
+    Ok(Part::Between)
+}
+
+/// The first word of an item.
+fn begin(items: &Items, word: Word<'_>) -> Result<Part, Stop>
+    requires { InStep items.now }
+    ensures { Steps (begins items.now.second (done_of items.now) (word.entry.bytes.now, word.entry.line)) result items.now }
+{
+    let line = word.line;
+    match key_of(word.bytes) {
+        Some(Key::One(amount)) => {
+            if has_amount(items, amount) {
+                return Err(Stop::Refused);
+            }
+            Ok(Part::Wants(amount))
+        }
+        Some(Key::Before) => Ok(Part::ModuleFor(Naming::First { line })),
+        Some(Key::Profile) => {
+            if !items.second {
+                return Err(Stop::Refused);
+            }
+            Ok(Part::ModuleFor(Naming::Profiled { line }))
+        }
+        None => Err(Stop::Refused),
+    }
+}
+
+/// The word `Limits`.
+fn step_title(items: &Items, word: &[u8]) -> Result<Part, Stop>
+    requires { InStep items.now }
+    ensures { Steps (goes_after_title items.now.second (done_of items.now) (says_title word.now)) result items.now }
+{
+    if !is_title(word) {
+        return Err(Stop::Refused);
+    }
+    Ok(Part::Version)
+}
+
+/// The number of the form.
+fn step_version(items: &mut Items, word: &[u8]) -> Result<Part, Stop>
+    requires { InStep items.old }
+    ensures { Steps (goes_after_version (done_of items.old) (number_in word.now)) result items.new }
+{
+    match number_of(word) {
+        Some(form) if 1 <= form && form <= 2 => {
+            items.second = form == 2;
+            Ok(Part::Between)
+        }
+        _ => Err(Stop::Refused),
+    }
+}
+
+/// The number of an amount.
+fn step_amount(items: &mut Items, amount: Amount, word: &[u8]) -> Result<Part, Stop>
+    requires { InStep items.old }
+    ensures { Steps (goes_after_amount items.old.second (done_of items.old) amount (number_in word.now)) result items.new }
+{
+    let Some(value) = number_of(word) else {
+        return Err(Stop::Refused);
+    };
+    if !is_in_range(amount, value) {
+        return Err(Stop::Refused);
+    }
+    pushed(items, Item::Number { amount, value })
+}
+
+/// After both numbers of a test.
+fn name_test(alloc: Global, items: &mut Items, naming: Naming, test: TestId) -> Result<Part, Stop>
+    requires { InStep items.old }
+    ensures { Steps (goes_after_name items.old.second (done_of items.old) naming test) result items.new }
+{
+    match naming {
+        Naming::First { line } => Ok(Part::ModuleFor(Naming::Second { line, first: test })),
+        Naming::Second { line, first } => pushed(
+            items,
+            Item::Precedence {
+                line,
+                first,
+                second: test,
+            },
+        ),
+        Naming::Profiled { line } => {
+            if has_profile(items, test) {
+                return Err(Stop::Refused);
+            }
+            Ok(Part::StepsFor {
+                line,
+                test,
+                steps: Vec::new(alloc),
+            })
+        }
+    }
+}
+
+/// The number of a test in its module.
+fn step_test(
+    alloc: Global,
+    items: &mut Items,
+    naming: Naming,
+    module: u64,
+    word: &[u8],
+) -> Result<Part, Stop>
+    requires { InStep items.old }
+    ensures { Steps (goes_after_test items.old.second (done_of items.old) naming «module» (number_in word.now)) result items.new }
+{
+    match number_of(word) {
+        Some(test) => name_test(alloc, items, naming, TestId { module, test }),
+        None => Err(Stop::Refused),
+    }
+}
+
+/// Whether a step from here may follow the steps.
+fn may_follow(steps: &[(u64, u64)], from: u64) -> bool
+    ensures { result ≡ may_come_next steps.now from }
+{
+    match steps.last() {
+        None => from == 0,
+        Some((last, _)) => *last < from && steps.len() < STEPS_MOST,
+    }
+}
+
+/// After a word that is no number: the profile ends before it, and an item begins.
+fn end_profile(
+    items: &mut Items,
+    line: u64,
+    test: TestId,
+    steps: Vec<(u64, u64)>,
+    word: Word<'_>,
+) -> Result<Part, Stop>
+    requires { InStep items.old }
+    ensures { Steps (goes_on items.old.second (done_of items.old) line test steps.items (word.entry.bytes.now, word.entry.line)) result items.new }
+{
+    if steps.is_empty() {
+        return Err(Stop::Refused);
+    }
+    push(items, Item::Steps { line, test, steps })?;
+    begin(items, word)
+}
+
+/// The first number of a step, or the first word after the profile.
+fn step_steps(
+    items: &mut Items,
+    line: u64,
+    test: TestId,
+    steps: Vec<(u64, u64)>,
+    word: Word<'_>,
+) -> Result<Part, Stop>
+    requires { InStep items.old }
+    ensures { Steps (goes_after_step items.old.second (done_of items.old) line test steps.items (word.entry.bytes.now, word.entry.line) (number_in word.entry.bytes.now)) result items.new }
+{
+    let Some(from) = number_of(word.bytes) else {
+        return end_profile(items, line, test, steps, word);
+    };
+    if !may_follow(steps.as_slice(), from) {
+        return Err(Stop::Refused);
+    }
+    Ok(Part::PowerFor {
+        line,
+        test,
+        steps,
+        from,
+    })
+}
+
+/// The second number of a step.
+fn step_power(
+    items: &Items,
+    line: u64,
+    test: TestId,
+    mut steps: Vec<(u64, u64)>,
+    from: u64,
+    word: &[u8],
+) -> Result<Part, Stop>
+    requires { InStep items.now }
+    ensures { Steps (goes_after_power items.now.second (done_of items.now) line test steps.items from (number_in word.now)) result items.now }
+{
+    let Some(power) = number_of(word) else {
+        return Err(Stop::Refused);
+    };
+    if power > POWER_MOST {
+        return Err(Stop::Refused);
+    }
+    if steps.push((from, power)).is_err() {
+        return Err(Stop::NoMemory);
+    }
+    Ok(Part::StepsFor { line, test, steps })
+}
+
+/// The next word.
+pub fn step(alloc: Global, items: &mut Items, part: Part, word: Word<'_>) -> Result<Part, Stop>
+    requires { InStep items.old }
+    ensures { Steps (step_at items.old.second (done_of items.old) (part_of part) (word.entry.bytes.now, word.entry.line)) result items.new }
+{
+    match part {
+        Part::Title => step_title(items, word.bytes),
+        Part::Version => step_version(items, word.bytes),
+        Part::Between => begin(items, word),
+        Part::Wants(amount) => step_amount(items, amount, word.bytes),
+        Part::ModuleFor(naming) => match number_of(word.bytes) {
+            Some(number) => Ok(Part::TestFor { naming, number }),
+            None => Err(Stop::Refused),
+        },
+        Part::TestFor { naming, number } => step_test(alloc, items, naming, number, word.bytes),
+        Part::StepsFor { line, test, steps } => step_steps(items, line, test, steps, word),
+        Part::PowerFor {
+            line,
+            test,
+            steps,
+            from,
+        } => step_power(items, line, test, steps, from, word.bytes),
+    }
+}
+
+/// Ends the last item, where it may end.
+fn end_item(mut items: Items, part: Part) -> Result<Items, Stop>
+    requires { InStep items }
+    ensures items { Closes (ended_at (done_of items) (part_of part)) result }
+    ensures form { IfOk result (λ whole. whole.second ≡ items.second) }
+{
+    match part {
+        Part::Between => Ok(items),
+        Part::StepsFor { line, test, steps } => {
+            if steps.is_empty() {
+                return Err(Stop::Refused);
+            }
+            push(&mut items, Item::Steps { line, test, steps })?;
+            Ok(items)
+        }
+        _ => Err(Stop::Refused),
+    }
+}
+
+/// The text ends here.
+pub fn close(items: Items, part: Part) -> Result<Items, Stop>
+    requires { InStep items }
+    ensures items { Closes (whole_of (ended_at (done_of items) (part_of part))) result }
+    ensures form { IfOk result (λ whole. whole.second ≡ items.second) }
+{
+    let items = end_item(items, part)?;
+    if !has_amount(&items, Amount::Wires) {
+        return Err(Stop::Refused);
+    }
+    Ok(items)
+}
