@@ -1,7 +1,8 @@
 -- Tests and their places among the live tests.
-use Rattle.std.proofs.Common.{◌≡◌, ℕ, zero, suc, ◌+◌, ◌-◌, ◌<◌, List, [], ◌∷◌, ◌++◌, length, get_or, take, map, Bool, true, false, cond, Option, Some, None, slice_get, refl, sym, ◌∙◌, ap, subst, arith, add-one}
+use Rattle.std.proofs.Common.{◌≡◌, ℕ, zero, suc, ◌+◌, ◌-◌, ◌<◌, List, [], ◌∷◌, ◌++◌, length, get_or, take, map, Bool, true, false, cond, nat_eq, Option, Some, None, slice_get, refl, sym, ◌∙◌, ap, subst, arith, add-one}
 use Rattle.std.specs.List.{All, Contains}
 use Rattle.std.proofs.lemmas.Grind.{common_steps}
+use Rattle.std.proofs.lemmas.Bool.{eqb-true}
 use Rattle.std.proofs.lemmas.Bool.Decides.{nat_tests}
 use Rattle.std.proofs.lemmas.List.{take_more, map-append}
 use Rattle.std.proofs.lemmas.List.Elements.{All-nil, All-cons, All-append, All-contains, All-get_or, All-from_get_or, Contains-append_left, Contains-append_right}
@@ -11,9 +12,10 @@ use Rattle.soc_model.specs.Chips.{SocValue, LiveTest, live_tests, id_of, same_te
 use Rattle.plan_model.specs.Plans.{LimitsValue}
 use Rattle.plan_model.specs.Rules.{live_ids}
 use Rattle.plan_model.specs.SoundLimits.{IsAcyclic}
-use Rattle.plan_model.proofs.Lists.{contains_at}
+use Rattle.plan_model.proofs.Lists.{contains_at, at_contains, from_flat_map}
 use Rattle.limits_text.specs.Meaning.{or_first, line_if, live_powers}
 use Rattle.limits_text.specs.Cycles.{place_from, place_among, pair_if, pairs_among, precedences, IsWalk, IsFirstCycle, HasRank, AreAt}
+use Rattle.limits_text.proofs.WordFacts.{both_true}
 use Rattle.limits_text.proofs.Complete.{some_same}
 use Rattle.limits_text.proofs.SoundText.{live_powers_are}
 use Rattle.limits_text.proofs.Taking.{contains_here}
@@ -49,6 +51,11 @@ place_within n p (x ∷ ids) id e = by (same_test id x) (place_within (n + 1) p 
     by : (b : Bool) → (place_from (n + 1) ids id ≡ Some p → p < (n + 1) + length ids) → cond b (Some n) (place_from (n + 1) ids id) ≡ Some p → p < n + length (x ∷ ids)
     by true again e = let same = some_same n p e in omega arith
     by false again e = omega (arith, again e)
+
+pub same_is : (a b : TestId) → same_test a b ≡ true → a ≡ b
+same_is a b e =
+    let parts = both_true (nat_eq a.«module» b.«module») (nat_eq a.test b.test) e in
+    ap (λ n. record { «module» = n; test = a.test }) (eqb-true a.«module» b.«module» parts.0) ∙ ap (λ n. record { «module» = b.«module»; test = n }) (eqb-true a.test b.test parts.1)
 
 same_itself : (id : TestId) → same_test id id ≡ true
 same_itself id = grind (arith, nat_tests)
@@ -113,6 +120,64 @@ acyclic soc limits r = (λ id. rank_of r.0 (place_among (live_ids soc) id), λ a
         let less : r.0 i.0 < r.0 j.0 = r.1 i.0 j.0 (pair_there (live_ids soc) limits.before k.0 i.0 j.0 a b k.1 i.1 j.1) in
         let left : rank_of r.0 (place_among (live_ids soc) a) ≡ r.0 i.0 = ap (rank_of r.0) i.1 in
         let right : rank_of r.0 (place_among (live_ids soc) b) ≡ r.0 j.0 = ap (rank_of r.0) j.1 in
+        omega (arith, less, left, right)
+
+-- the test that has a place
+pub test_there : (n p : ℕ) (ids : List TestId) (id : TestId) → place_from n ids id ≡ Some p → (q : ℕ) × (n + q ≡ p) × (slice_get ids q ≡ Some id)
+test_there n p [] id e = cc
+test_there n p (x ∷ ids) id e = by (same_test id x) refl (test_there (n + 1) p ids id) e
+  where
+    by : (b : Bool) → same_test id x ≡ b → (place_from (n + 1) ids id ≡ Some p → (q : ℕ) × ((n + 1) + q ≡ p) × (slice_get ids q ≡ Some id)) → cond b (Some n) (place_from (n + 1) ids id) ≡ Some p → (q : ℕ) × (n + q ≡ p) × (slice_get (x ∷ ids) q ≡ Some id)
+    by true is again e = (0, omega (arith, some_same n p e), ap Some (sym (same_is id x is)))
+    by false is again e = let k = again e in (suc k.0, omega (arith, k.1), k.2)
+
+-- the precedence that a pair stands for
+pub record StandsFor (ids : List TestId) (before : List (TestId × TestId)) (i j : ℕ) : Type 0 where
+  pub first : TestId
+  pub second : TestId
+  pub precedes : Contains before (first, second)
+  pub first_at : slice_get ids i ≡ Some first
+  pub second_at : slice_get ids j ≡ Some second
+  pub first_place : place_among ids first ≡ Some i
+  pub second_place : place_among ids second ≡ Some j
+
+pair_of : (a b : Option ℕ) (i j k : ℕ) → slice_get (pair_if a b) k ≡ Some (i, j) → (a ≡ Some i) × (b ≡ Some j)
+pair_of (Some m) (Some n) i j zero e = let same : (m, n) ≡ (i, j) = some_same {X = ℕ × ℕ} (m, n) (i, j) e in (ap Some (ap (λ (p : ℕ × ℕ). p.0) same), ap Some (ap (λ (p : ℕ × ℕ). p.1) same))
+pair_of (Some m) (Some n) i j (suc k) e = cc
+pair_of None b i j k e = cc
+pair_of (Some m) None i j k e = cc
+
+pub stands_for : (ids : List TestId) (before : List (TestId × TestId)) (i j : ℕ) → Contains (pairs_among ids before) (i, j) → StandsFor ids before i j
+stands_for ids before i j c =
+    let at = contains_at (pairs_among ids before) (i, j) c in
+    let k = from_flat_map (λ (p : TestId × TestId). pair_if (place_among ids p.0) (place_among ids p.1)) before at.0 (i, j) at.1 in
+    let places = pair_of (place_among ids k.1.0) (place_among ids k.1.1) i j k.2 k.4 in
+    let a = test_there 0 i ids k.1.0 places.0 in
+    let b = test_there 0 j ids k.1.1 places.1 in
+    record {
+      first = k.1.0;
+      second = k.1.1;
+      precedes = at_contains before k.0 k.1 k.3;
+      first_at = ap (slice_get ids) (sym (omega (arith, a.1))) ∙ a.2;
+      second_at = ap (slice_get ids) (sym (omega (arith, b.1))) ∙ b.2;
+      first_place = places.0;
+      second_place = places.1;
+    }
+
+-- ranks of tests are ranks of their places
+rank_at : (TestId → ℕ) → Option TestId → ℕ
+rank_at rank None = 0
+rank_at rank (Some id) = rank id
+
+pub ranked : (soc : SocValue) (limits : LimitsValue) → IsAcyclic soc limits → HasRank (precedences soc limits)
+unfolding rank_at
+ranked soc limits r = (λ i. rank_at r.0 (slice_get (live_ids soc) i), λ i j c. grows i j (stands_for (live_ids soc) limits.before i j c))
+  where
+    grows : (i j : ℕ) → StandsFor (live_ids soc) limits.before i j → rank_at r.0 (slice_get (live_ids soc) i) < rank_at r.0 (slice_get (live_ids soc) j)
+    grows i j s =
+        let less : r.0 s.first < r.0 s.second = r.1 s.first s.second s.precedes (at_contains (live_ids soc) i s.first s.first_at) (at_contains (live_ids soc) j s.second s.second_at) in
+        let left : rank_at r.0 (slice_get (live_ids soc) i) ≡ r.0 s.first = ap (rank_at r.0) s.first_at in
+        let right : rank_at r.0 (slice_get (live_ids soc) j) ≡ r.0 s.second = ap (rank_at r.0) s.second_at in
         omega (arith, less, left, right)
 
 -- ---- the tests of a cycle

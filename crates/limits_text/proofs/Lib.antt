@@ -17,3 +17,11 @@ pub mod PrintedWords
 pub mod Printing
 pub mod PrintedTexts
 pub mod WordCounts
+pub mod Refused
+pub mod PowersWithin
+pub mod OneCycle
+pub mod OneAnswer
+pub mod PrintedAnswers
+pub mod RoundCycles
+pub mod RanksOrCycles
+pub mod EachText

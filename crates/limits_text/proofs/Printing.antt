@@ -1,7 +1,6 @@
 -- Reading the text of limits gives them again.
-use Rattle.std.proofs.Common.{◌≡◌, ◌⊎◌, inl, inr, ℕ, zero, suc, ◌+◌, ◌<◌, ◌≤◌, List, [], ◌∷◌, ◌++◌, length, codes, decimal, Bool, true, false, ◌&&◌, ◌||◌, nat_eq, Some, slice_get, refl, sym, ◌∙◌, ap, subst, arith, append_assoc, append-nil}
+use Rattle.std.proofs.Common.{◌≡◌, ◌⊎◌, inl, inr, ℕ, zero, suc, ◌+◌, ◌<◌, ◌≤◌, List, [], ◌∷◌, ◌++◌, length, codes, decimal, Bool, true, false, ◌||◌, Some, slice_get, refl, sym, ◌∙◌, ap, subst, arith, append_assoc, append-nil}
 use Rattle.std.specs.List.{All, flat_map}
-use Rattle.std.proofs.lemmas.Bool.{eqb-true}
 use Rattle.std.proofs.lemmas.List.Elements.{All-head, All-tail, All-weaker}
 use Rattle.std.proofs.lemmas.Option.{slice_get_within}
 use Rattle.outside.specs.Words.{words_left, AllInWord, IsEnd}
@@ -21,6 +20,7 @@ use Rattle.limits_text.specs.Texts.{test_fields, number_line, before_line, step_
 use Rattle.limits_text.proofs.WordFacts.{number-decimal}
 use Rattle.limits_text.proofs.PrintedWords.{IsSmall, IsSmallTest, AreSmall, names_test, test_words, test_fields_words, number_line_words, before_words, before_line_words, pair_words, pairs_are, step_fields_words}
 use Rattle.limits_text.proofs.Taking.{false_from}
+use Rattle.limits_text.proofs.CycleTests.{same_is}
 
 -- the words of the items of a text are these items, and then the words of the rest
 pub record Printed (whole : List Word) (form : Bool) (items : List Item) (line : ℕ) (rest : List ℕ) : Type 0 where
@@ -139,17 +139,6 @@ profile_line_words line p rest test steps =
 or_cases : (a b : Bool) → (a || b) ≡ true → (a ≡ true) ⊎ (b ≡ true)
 or_cases true b e = inl refl
 or_cases false b e = inr e
-
-both : (a b : Bool) → (a && b) ≡ true → (a ≡ true) × (b ≡ true)
-both true b e = (refl, e)
-both false b e = cc
-
-same_is : (a b : TestId) → same_test a b ≡ true → a ≡ b
-same_is a b e =
-    let parts = both (nat_eq a.«module» b.«module») (nat_eq a.test b.test) e in
-    let m = eqb-true a.«module» b.«module» parts.0 in
-    let t = eqb-true a.test b.test parts.1 in
-    ap (λ n. record { «module» = n; test = a.test }) m ∙ ap (λ n. record { «module» = b.«module»; test = n }) t
 
 in_front : {X : Type 0} (xs ys : List X) (p : ℕ) (x : X) → slice_get xs p ≡ Some x → slice_get (xs ++ ys) p ≡ Some x
 in_front [] ys p x e = cc

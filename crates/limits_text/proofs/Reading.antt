@@ -1,12 +1,12 @@
 -- What is answered of a text, once its items are read.
-use Rattle.std.proofs.Common.{◌≡◌, inl, inr, ℕ, List, [], ◌∷◌, ◌++◌, reverse, Bool, None, Some, refl, sym, ◌∙◌, ap, subst, append_assoc}
+use Rattle.std.proofs.Common.{◌≡◌, ℕ, List, reverse, Bool, None, Some, refl, sym, ◌∙◌, ap, subst}
 use Rattle.std.proofs.lemmas.List.{reverse-reverse}
 use Rattle.outside.specs.Words.{words_of}
 use Rattle.soc_model.specs.Chips.{SocValue}
 use Rattle.plan_model.specs.Plans.{LimitsValue}
 use Rattle.plan_model.specs.SoundLimits.{IsAcyclic, IsSoundLimits}
-use Rattle.limits_text.specs.Items.{Word, Item}
-use Rattle.limits_text.specs.Grammar.{IsText, InGrammar, RefusedAt}
+use Rattle.limits_text.specs.Items.{Item}
+use Rattle.limits_text.specs.Grammar.{IsText}
 use Rattle.limits_text.specs.Meaning.{limits_of, first_line, first_unknown, test_power}
 use Rattle.limits_text.specs.Answers.{SaysLimits, SaysKnown, AreReadLimits, NamesUnknown}
 use Rattle.limits_text.proofs.Complete.{some_same}
@@ -35,16 +35,6 @@ sound_said bytes soc limits k acyclic power =
 pub one_limits : (bytes : List ℕ) (a b : LimitsValue) → SaysLimits bytes a → SaysLimits bytes b → a ≡ b
 one_limits bytes a b x y =
     x.limits_are ∙ ap limits_of (one_text (words_of bytes) x.form y.form x.items y.items x.text y.text).1 ∙ sym y.limits_are
-
-in_or_refused : (ws : List Word) (end line : ℕ) → InGrammar ws → RefusedAt ws end line → ⊥
-in_or_refused ws end line g (inl s) =
-    let split : ws ≡ (s.front ++ s.stop ∷ []) ++ s.rest = s.words ∙ sym (append_assoc s.front (s.stop ∷ []) s.rest) in
-    s.refused (s.rest, (g.0, g.1, subst (λ l. IsText g.0 g.1 l) split g.2))
-in_or_refused ws end line g (inr e) = e.0.refused g
-
--- a text that says limits is refused at no line
-pub not_refused : (bytes : List ℕ) (limits : LimitsValue) (end line : ℕ) → SaysLimits bytes limits → RefusedAt (words_of bytes) end line → ⊥
-not_refused bytes limits end line x refused = in_or_refused (words_of bytes) end line (x.form, x.items, x.text) refused
 
 -- a text that says limits first names at most one line's test that the chip hasn't, and then it says no known ones
 pub one_unknown : (bytes : List ℕ) (soc : SocValue) (a b : ℕ) → NamesUnknown bytes soc a → NamesUnknown bytes soc b → a ≡ b

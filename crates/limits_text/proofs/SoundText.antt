@@ -71,12 +71,13 @@ both_none None None e = (refl, refl)
 both_none None (Some n) e = cc
 both_none (Some n) b e = cc
 
+-- the latest item comes after the earlier ones
+pub unknown_more : (soc : SocValue) (x : Item) (earlier : List Item) → first_unknown soc (x ∷ earlier) ≡ or_first (first_unknown soc earlier) (or_first (unknown_line soc x) None)
+unknown_more soc x earlier = ap (first_line soc) (reverse-append (x ∷ []) earlier) ∙ first_line-append soc (reverse earlier) (x ∷ [])
+
 -- nothing is unknown in the latest item and in the earlier ones
 none_unknown : (soc : SocValue) (x : Item) (earlier : List Item) → first_unknown soc (x ∷ earlier) ≡ None → (first_unknown soc earlier ≡ None) × (unknown_line soc x ≡ None)
-none_unknown soc x earlier e =
-    let split : first_unknown soc (x ∷ earlier) ≡ or_first (first_line soc (reverse earlier)) (or_first (unknown_line soc x) None)
-    = ap (first_line soc) (reverse-append (x ∷ []) earlier) ∙ first_line-append soc (reverse earlier) (x ∷ []) in
-    both_none (first_line soc (reverse earlier)) (unknown_line soc x) (sym split ∙ e)
+none_unknown soc x earlier e = both_none (first_unknown soc earlier) (unknown_line soc x) (sym (unknown_more soc x earlier) ∙ e)
 
 none_if : (b : Bool) (line : ℕ) → line_if (not b) line ≡ None → b ≡ true
 none_if true line e = refl

@@ -1,5 +1,5 @@
 -- What is answered of a text.
-use Rattle.std.specs.Prelude.{◌≡◌, ℕ, ◌+◌, Bool, List, None, Some, Result, Ok, Err, count_by}
+use Rattle.std.specs.Prelude.{◌≡◌, ℕ, ◌+◌, Bool, List, Option, None, Some, Result, Ok, Err, count_by}
 use Rattle.outside.specs.Words.{words_of, is_line_feed}
 use Rattle.soc_model.specs.declared.TestId.{TestId}
 use Rattle.soc_model.specs.Chips.{SocValue}
@@ -72,3 +72,28 @@ LimitsRead bytes soc (Err (fault.UnknownTest line)) = NamesUnknown bytes soc lin
 LimitsRead bytes soc (Err (fault.Cycle tests)) = HasCycle bytes soc tests.items
 LimitsRead bytes soc (Err (fault.TestPower test power)) = PassesPower bytes soc test power
 LimitsRead bytes soc (Err fault.NoMemory) = Unit {0}
+
+-- what a text may be for a chip: limits, or a refusal with what it shows
+pub data Reading : Type 0 where
+  read_as : LimitsValue → Reading
+  refused_line : ℕ → Reading
+  unknown_line : ℕ → Reading
+  shown_cycle : List TestId → Reading
+  passing_power : TestId → ℕ → Reading
+
+-- the text is that for the chip
+abbrev pub IsReading : List ℕ → SocValue → Reading → Type 0
+IsReading bytes soc (read_as limits) = AreReadLimits bytes soc limits
+IsReading bytes soc (refused_line line) = RefusedAt (words_of bytes) (last_line bytes) line
+IsReading bytes soc (unknown_line line) = NamesUnknown bytes soc line
+IsReading bytes soc (shown_cycle tests) = HasCycle bytes soc tests
+IsReading bytes soc (passing_power test power) = PassesPower bytes soc test power
+
+-- what an answer says that the text is; want of memory says nothing
+abbrev pub reading_of : Result Limits LimFault → Option Reading
+reading_of (Ok limits) = Some (read_as (limits_value limits))
+reading_of (Err (fault.Text line)) = Some (refused_line line)
+reading_of (Err (fault.UnknownTest line)) = Some (unknown_line line)
+reading_of (Err (fault.Cycle tests)) = Some (shown_cycle tests.items)
+reading_of (Err (fault.TestPower test power)) = Some (passing_power test power)
+reading_of (Err fault.NoMemory) = None

@@ -1,5 +1,5 @@
 -- Cycles of precedences. Live tests go by their places among the live tests, in the order of the chip.
-use Rattle.std.specs.Prelude.{◌≡◌, ℕ, ◌+◌, ◌-◌, ◌<◌, List, [], ◌∷◌, Option, None, Some, map, length, slice_get, if◌then◌else◌}
+use Rattle.std.specs.Prelude.{◌≡◌, ℕ, ◌+◌, ◌-◌, ◌<◌, ◌≤◌, List, [], ◌∷◌, Option, None, Some, map, length, slice_get, if◌then◌else◌}
 use Rattle.std.specs.List.{flat_map, Contains}
 use Rattle.soc_model.specs.declared.TestId.{TestId}
 use Rattle.soc_model.specs.Chips.{SocValue, same_test}
@@ -79,3 +79,11 @@ IsCycleOf soc limits tests =
 -- the tests have ranks that grow with each pair
 abbrev pub HasRank : List (ℕ × ℕ) → Type 0
 HasRank pairs = (rank : ℕ → ℕ) × ((i j : ℕ) → Contains pairs (i, j) → rank i < rank j)
+
+-- Live tests in a circle, each of them once: each precedes the next by a precedence of the limits, and the last the first.
+pub record GoesRound (soc : SocValue) (limits : LimitsValue) (tests : List TestId) : Type 0 where
+  pub some : 1 ≤ length tests
+  pub live : (k : ℕ) (a : TestId) → slice_get tests k ≡ Some a → Contains (live_ids soc) a
+  pub precedes : (k : ℕ) (a b : TestId) → slice_get tests k ≡ Some a → slice_get tests (k + 1) ≡ Some b → Contains limits.before (a, b)
+  pub closes : (a b : TestId) → slice_get tests 0 ≡ Some a → slice_get tests (length tests - 1) ≡ Some b → Contains limits.before (b, a)
+  pub once : (p q : ℕ) (a : TestId) → slice_get tests p ≡ Some a → slice_get tests q ≡ Some a → p ≡ q

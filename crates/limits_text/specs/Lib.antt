@@ -7,3 +7,4 @@ pub mod Cycles
 pub mod Orders
 pub mod Texts
 pub mod Answers
+pub mod Laws

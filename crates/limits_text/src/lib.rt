@@ -6,6 +6,7 @@ mod collect;
 mod cycles;
 mod graph;
 mod items;
+mod laws;
 mod lexicon;
 mod print;
 mod read;
@@ -13,6 +14,11 @@ mod reader;
 mod refusals;
 mod whole;
 
+pub use laws::{
+    cycles_are_where_no_rank_is, cycles_go_round, each_text_has_an_answer,
+    printed_limits_are_answered, printed_limits_are_read, texts_are_answered,
+    texts_have_one_answer,
+};
 pub use print::print_limits;
 pub use read::read_limits;
 use soc_model::TestId;

@@ -5,7 +5,7 @@ ghost use Rattle.plan_model.specs.Views.{limits_value, profile_value};
 ghost use Rattle.soc_model.specs.Chips.{SocValue};
 ghost use Rattle.soc_model.specs.SoundChips.{IsSoundChip};
 ghost use Rattle.plan_model.specs.SoundLimits.{IsSoundLimits};
-ghost use Rattle.limits_text.specs.Answers.{SaysLimits};
+ghost use Rattle.limits_text.specs.Answers.{AreReadLimits};
 ghost use Rattle.limits_text.specs.Texts.{field, test_fields, number_line, power_lines, before_line, step_fields, profile_line, form_of as form_number_of, limits_text};
 
 use outside::{NoMemory, push_number};
@@ -134,10 +134,10 @@ fn text_of(alloc: Global, limits: &Limits) -> Result<Vec<u8>, NoMemory>
     Ok(text)
 }
 
-/// The text of limits, one item a line. For limits that are sound for a chip it says them again.
+/// The text of limits, one item a line. Where the limits are sound for a sound chip, it is read for it as these limits.
 pub fn print_limits(alloc: Global, limits: &Limits) -> Result<Vec<u8>, NoMemory>
     ensures text { IfOk result (λ text. text.items ≡ limits_text (limits_value limits.now)) }
-    ensures says { IfOk result (λ text. (soc : SocValue) → IsSoundChip soc → IsSoundLimits soc (limits_value limits.now) → SaysLimits text.items (limits_value limits.now)) }
+    ensures read { IfOk result (λ text. (soc : SocValue) → IsSoundChip soc → IsSoundLimits soc (limits_value limits.now) → AreReadLimits text.items soc (limits_value limits.now)) }
 {
     let text = text_of(alloc, limits)?;
     Ok(text)

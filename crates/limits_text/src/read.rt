@@ -12,6 +12,10 @@ use soc_model::Soc;
 use std::alloc::Global;
 
 /// The limits that a text says for a chip; they are sound for it. The refusals are tried in the order of [`LimFault`].
+///
+/// What is answered is what the text is for the chip. It is exactly one such thing (`texts_have_one_answer`,
+/// `each_text_has_an_answer`), so each answer comes exactly where the text is that, unless memory runs out
+/// (`texts_are_answered`). A text of 10^12 bytes or more is `NoMemory`.
 pub fn read_limits(alloc: Global, bytes: &[u8], soc: &Soc) -> Result<Limits, LimFault>
     ensures { LimitsRead bytes.now (soc_value soc.now) result }
 {

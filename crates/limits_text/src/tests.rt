@@ -4,18 +4,18 @@ use soc_model::{Module, Soc, Test};
 use std::alloc::Global;
 use std::test::Fail;
 
-/// Modules 1 to `powers.len()`, each with a self test of five cycles and of this power.
-fn self_tests(alloc: Global, powers: &[u64]) -> Result<Soc, NoMemory> {
+/// Modules 1 to `tests.len()`, each with a self test of so many cycles and of this power.
+fn self_tests(alloc: Global, tests: &[(u64, u64)]) -> Result<Soc, NoMemory> {
     let mut soc = Soc::new(alloc);
     let mut number = 0u64;
-    for power in powers {
+    for (cycles, power) in tests {
         number = number.saturating_add(1);
         let mut tests = Vec::new(alloc);
         let test = Test {
             number: 1,
             scan: true,
             tam: false,
-            patterns: 5,
+            patterns: *cycles,
             power: *power,
         };
         if tests.push(test).is_err() {
@@ -47,10 +47,25 @@ fn text_line(alloc: Global, text: &str, soc: &Soc) -> u64 {
     }
 }
 
+/// The modules of the cycle of precedences, as digits, or 0.
+fn cycle_modules(alloc: Global, precedences: &str, soc: &Soc) -> u64 {
+    let Ok(text) = format!(in alloc; "Limits 1 Wires 1 {precedences}") else {
+        return 0;
+    };
+    let Err(LimFault::Cycle { tests }) = read_limits(alloc, text.as_bytes(), soc) else {
+        return 0;
+    };
+    let mut modules = 0u64;
+    for test in tests.iter() {
+        modules = modules.saturating_mul(10).saturating_add(test.module);
+    }
+    modules
+}
+
 #[test]
 fn refuses_lines(rt: HostRuntime) -> Result<(), Fail> {
     let alloc = rt.alloc();
-    let Ok(soc) = self_tests(alloc, &[3, 4]) else {
+    let Ok(soc) = self_tests(alloc, &[(5, 3), (5, 4)]) else {
         panic!(rt; "no memory");
     };
     let rows = [
@@ -80,7 +95,7 @@ fn refuses_lines(rt: HostRuntime) -> Result<(), Fail> {
 #[test]
 fn refuses_for_a_chip(rt: HostRuntime) -> Result<(), Fail> {
     let alloc = rt.alloc();
-    let Ok(soc) = self_tests(alloc, &[7, 4, 1]) else {
+    let Ok(soc) = self_tests(alloc, &[(5, 7), (5, 4), (5, 1)]) else {
         panic!(rt; "no memory");
     };
     match read_limits(alloc, b"Limits 1 Wires 2\nBefore 1 1 9 1", &soc) {
@@ -103,19 +118,17 @@ fn refuses_for_a_chip(rt: HostRuntime) -> Result<(), Fail> {
         }
         _ => panic!(rt; "8 passes 6"),
     }
-    let cycle = b"Limits 1 Wires 1 Before 1 1 2 1 Before 2 1 3 1 Before 3 1 1 1";
-    match read_limits(alloc, cycle, &soc) {
-        Err(LimFault::Cycle { tests }) => {
-            assert_eq!(rt; tests.len(), 3);
-            for (k, test) in tests.iter().enumerate() {
-                assert_eq!(rt; test.module, k as u64 + 1);
-            }
-        }
-        _ => panic!(rt; "a cycle of three"),
-    }
-    match read_limits(alloc, b"Limits 1 Wires 1 Before 2 1 2 1", &soc) {
-        Err(LimFault::Cycle { tests }) => assert_eq!(rt; tests.len(), 1),
-        _ => panic!(rt; "a test before itself"),
+    let rows = [
+        ("Before 1 1 2 1 Before 2 1 3 1 Before 3 1 1 1", 123),
+        ("Before 2 1 1 1 Before 2 1 3 1 Before 3 1 2 1", 23),
+        ("Before 2 1 2 1", 2),
+    ];
+    for (precedences, modules) in rows {
+        assert_eq!(rt;
+            cycle_modules(alloc, precedences, &soc),
+            modules,
+            "{precedences}"
+        );
     }
     Ok(())
 }
@@ -123,7 +136,7 @@ fn refuses_for_a_chip(rt: HostRuntime) -> Result<(), Fail> {
 #[test]
 fn prints_what_it_reads(rt: HostRuntime) -> Result<(), Fail> {
     let alloc = rt.alloc();
-    let Ok(soc) = self_tests(alloc, &[0, 0]) else {
+    let Ok(soc) = self_tests(alloc, &[(5, 0), (0, 9)]) else {
         panic!(rt; "no memory");
     };
     let rows = [
@@ -132,6 +145,10 @@ fn prints_what_it_reads(rt: HostRuntime) -> Result<(), Fail> {
             "Limits 1\nWires 1\nBudget 20000\nBefore 1 1 2 1\n",
         ),
         ("Limits 2 Wires 3", "Limits 1\nWires 3\nBudget 20000\n"),
+        (
+            "Limits 1 Wires 1 Power 1 Before 2 1 1 1 Before 1 1 2 1",
+            "Limits 1\nWires 1\nPower 1\nBudget 20000\nBefore 2 1 1 1\nBefore 1 1 2 1\n",
+        ),
         (
             "Limits 2 Profile 2 1 0 3 4 2 Wires 2 Budget 7 Power 6",
             "Limits 2\nWires 2\nPower 6\nBudget 7\nProfile 2 1 0 3 4 2\n",

@@ -1,0 +1,5 @@
+use Rattle.limits_text.proofs.PrintedAnswers.{printed_read}
+use Rattle.limits_text.proofs.laws.printed_limits_are_read.Goals as goal
+
+pub returns : goal.returns
+returns c = printed_read
