@@ -1,6 +1,6 @@
 -- Sums over the live tests of a chip that are over one module, by the tests of that module.
 use Rattle.std.proofs.Common.{◌≡◌, ◌≢◌, ℕ, zero, suc, ◌+◌, ◌*◌, ◌≤◌, ◌<◌, ◌^◌, max, Bool, true, false, Some, List, [], ◌∷◌, length, map, refl, ◌∙◌, sym, arith}
-use Rattle.std.specs.Prelude.{slice_get, nat_eq, if◌then◌else◌}
+use Rattle.std.specs.Prelude.{slice_get, nat_eq, ◌&&◌, if◌then◌else◌}
 use Rattle.std.specs.List.{sum, sum_by, filter}
 use Rattle.std.proofs.lemmas.Bool.{eq-eqb, ne_eqb}
 use Rattle.std.proofs.lemmas.List.Sums.{sum_by-cons, sum_by-append}
@@ -11,9 +11,9 @@ use Rattle.soc_model.proofs.Sums.{sum_by-map}
 use Rattle.plan_model.specs.Listing.{module_size}
 use Rattle.plan_model.specs.Operations.{ops_of}
 use Rattle.plan_model.specs.Plans.{greatest}
-use Rattle.plan_model.specs.Bounds.{quotient_up, least_length, lower_time, lower, is_of, module_bound}
+use Rattle.plan_model.specs.Bounds.{quotient_up, least_length, lower_time, lower, is_of, module_bound, lower_tam_time}
 use Rattle.plan_model.proofs.Sums.{sum_by-filter, sum_by-le_at}
-use Rattle.bound_rules.specs.Sizes.{sizes_of, least_chain, time_by, work_by, times_by, works_by, IsFitting}
+use Rattle.bound_rules.specs.Sizes.{sizes_of, least_chain, time_by, work_by, times_by, tam_times_by, works_by, is_tam, IsFitting}
 
 -- ---- the sizes of a module
 
@@ -88,7 +88,7 @@ sum_at g p base (suc up) (n ∷ ms) m only at is =
     sum_by-append g (live_of base n) (live_from (base + 1) ms) ∙ omega arith
 
 -- a sum over the live tests of one module, by its tests
-sum_of_module : (g : LiveTest → ℕ) (p : ℕ) (m : ModuleValue) → sum_by g (live_of p m) ≡ sum_by (λ t. if is_live t then g (the_live p m t) else 0) m.tests
+pub sum_of_module : (g : LiveTest → ℕ) (p : ℕ) (m : ModuleValue) → sum_by g (live_of p m) ≡ sum_by (λ t. if is_live t then g (the_live p m t) else 0) m.tests
 sum_of_module g p m = sum_by-map g (the_live p m) (filter is_live m.tests) ∙ sum_by-filter is_live (λ t. g (the_live p m t)) m.tests
 
 -- a sum over all live tests that is over one module's
@@ -109,13 +109,27 @@ module_bound_is soc w p m at =
     each t false = refl
     each t true = rw (eq-eqb p p refl) (sym (time_by_sizes m t w))
 
+-- the same over the wires
+elsewhere : (p : ℕ) (l : LiveTest) (n : ℕ) (tam : Bool) → l.place ≢ p → (if tam && is_of p l then n else 0) ≡ 0
+elsewhere p l n true other = rw (ne_eqb l.place p other) refl
+elsewhere p l n false other = refl
+
+pub tam_times_are : (soc : SocValue) (w p : ℕ) (m : ModuleValue) → slice_get soc.modules p ≡ Some m → lower_tam_time soc p w ≡ tam_times_by (sizes_of m) w m.tests
+tam_times_are soc w p m at =
+    only_module (λ l. if l.test.tam && is_of p l then lower w l else 0) soc p m (λ l other. elsewhere p l (lower w l) l.test.tam other) at
+    ∙ same_sum (λ t. if is_live t then (if t.tam && is_of p (the_live p m t) then lower w (the_live p m t) else 0) else 0) (λ t. if is_tam t then time_by (sizes_of m) w t else 0) m.tests (λ t. each t (is_live t) t.tam)
+  where
+    each : (t : Test) (live tam : Bool) → (if live then (if tam && nat_eq p p then lower_time m t w else 0) else 0) ≡ (if live && tam then time_by (sizes_of m) w t else 0)
+    each t false tam = refl
+    each t true true = rw (eq-eqb p p refl) (sym (time_by_sizes m t w))
+    each t true false = refl
+
 -- ---- the work of one module
 
-work_at_place : SocValue → ℕ → ℕ
+abbrev pub work_at_place : SocValue → ℕ → ℕ
 work_at_place soc p = sum_by (λ (l : LiveTest). if is_of p l then test_work l.core l.test else 0) (live_tests soc)
 
-works_are : (soc : SocValue) (p : ℕ) (m : ModuleValue) → slice_get soc.modules p ≡ Some m → works_by (sizes_of m) m.tests ≡ work_at_place soc p
-unfolding work_at_place
+pub works_are : (soc : SocValue) (p : ℕ) (m : ModuleValue) → slice_get soc.modules p ≡ Some m → works_by (sizes_of m) m.tests ≡ work_at_place soc p
 works_are soc p m at =
     sym (only_module (λ l. if is_of p l then test_work l.core l.test else 0) soc p m (λ l other. rw (ne_eqb l.place p other) refl) at
     ∙ same_sum (λ t. if is_live t then (if is_of p (the_live p m t) then test_work m t else 0) else 0) (λ t. if is_live t then work_by (sizes_of m) t else 0) m.tests (λ t. each t (is_live t)))
@@ -125,7 +139,6 @@ works_are soc p m at =
     each t true = rw (eq-eqb p p refl) (sym (work_by_sizes m t))
 
 work_at_place-le : (soc : SocValue) (p : ℕ) → work_at_place soc p ≤ work soc
-unfolding work_at_place
 work_at_place-le soc p = sum_by-le_at (λ (l : LiveTest). if is_of p l then test_work l.core l.test else 0) (λ (l : LiveTest). test_work l.core l.test) (live_tests soc) (λ i l at. each l (nat_eq l.place p)) where
   each : (l : LiveTest) (b : Bool) → (if b then test_work l.core l.test else 0) ≤ test_work l.core l.test
   each l true = omega arith

@@ -1,7 +1,7 @@
 -- Lower times are at most cells times patterns, so their sums fit in a machine's number.
 use Rattle.std.proofs.Common.{◌≡◌, ℕ, zero, suc, ◌+◌, ◌*◌, ◌/◌, ◌-◌, ◌≤◌, ◌<◌, max, min, Bool, true, false, Some, List, [], ◌∷◌, length, get_or, take, refl, arith, inl, inr, ◌⊎◌}
-use Rattle.std.specs.Prelude.{slice_get, ◌%◌, if◌then◌else◌}
-use Rattle.std.proofs.lemmas.Bool.{cases_Bool, cases_lt}
+use Rattle.std.specs.Prelude.{slice_get, sum_by, ◌%◌, if◌then◌else◌}
+use Rattle.std.proofs.lemmas.Bool.{cases_Bool, cases_lt, and_parts}
 use Rattle.std.proofs.lemmas.Bool.Decides.{nat_tests}
 use Rattle.std.proofs.lemmas.Grind.{div_ceil_times}
 use Rattle.std.proofs.lemmas.List.Sums.{sum_by-cons, sum_by-take-le}
@@ -14,7 +14,7 @@ use Rattle.plan_model.proofs.OperationCounts.{ops_length}
 use Rattle.plan_model.proofs.LowerTimes.{quotient_up-le}
 use Rattle.plan_model.proofs.Sums.{sum_by-le_at, item-le-sum_by}
 use Rattle.bound_rules.specs.declared.sizes.Sizes.{Sizes}
-use Rattle.bound_rules.specs.Sizes.{least_chain, time_by, work_by, times_by, works_by, IsFitting}
+use Rattle.bound_rules.specs.Sizes.{least_chain, time_by, work_by, works_by, is_tam, IsFitting}
 
 -- ---- quotients
 
@@ -31,7 +31,7 @@ div_ceil_is a b some =
       | inr same ↦ omega arith
     ]
 
-up-le : (a w : ℕ) → 1 ≤ w → quotient_up a w ≤ a
+pub up-le : (a w : ℕ) → 1 ≤ w → quotient_up a w ≤ a
 up-le a w some =
     let product : a * 1 ≤ a * w = mul-le-mul_left a some in
     quotient_up-le a a w some (omega arith)
@@ -86,39 +86,53 @@ time_by-le s t w some live fits = elim (cases_Bool t.tam) [
 pub live_patterns : (t : Test) → is_live t ≡ true → 1 ≤ t.patterns
 live_patterns t live = grind (arith, nat_tests)
 
-item_work : (s : Sizes) (ts : List Test) (i : ℕ) (t : Test) → slice_get ts i ≡ Some t → is_live t ≡ true → work_by s t ≤ works_by s ts
+pub item_work : (s : Sizes) (ts : List Test) (i : ℕ) (t : Test) → slice_get ts i ≡ Some t → is_live t ≡ true → work_by s t ≤ works_by s ts
 item_work s ts i t at live =
     let here : (if is_live t then work_by s t else 0) ≤ works_by s ts = item-le-sum_by (λ t. if is_live t then work_by s t else 0) ts i t at in
     rw live at here
 
-pub times_by-le : (s : Sizes) (w : ℕ) (ts : List Test) → 1 ≤ w → IsFitting s → times_by s w ts ≤ works_by s ts
-times_by-le s w ts some fits = sum_by-le_at (λ t. if is_live t then time_by s w t else 0) (λ t. if is_live t then work_by s t else 0) ts (λ i t at. each t (cases_Bool (is_live t))) where
-  each : (t : Test) → (is_live t ≡ true) ⊎ (is_live t ≡ false) → (if is_live t then time_by s w t else 0) ≤ (if is_live t then work_by s t else 0)
+-- a test that passes is live
+abbrev pub OnlyLive : (Test → Bool) → Type 0
+OnlyLive p = (t : Test) → p t ≡ true → is_live t ≡ true
+
+-- the lower times of the tests of a list that pass, together
+abbrev pub times_of : (Test → Bool) → Sizes → ℕ → List Test → ℕ
+times_of p s w ts = sum_by (λ t. if p t then time_by s w t else 0) ts
+
+pub times_of-le : (p : Test → Bool) (s : Sizes) (w : ℕ) (ts : List Test) → OnlyLive p → 1 ≤ w → IsFitting s → times_of p s w ts ≤ works_by s ts
+times_of-le p s w ts only some fits = sum_by-le_at (λ t. if p t then time_by s w t else 0) (λ t. if is_live t then work_by s t else 0) ts (λ i t at. each t (cases_Bool (p t))) where
+  each : (t : Test) → (p t ≡ true) ⊎ (p t ≡ false) → (if p t then time_by s w t else 0) ≤ (if is_live t then work_by s t else 0)
   each t (inr no') = rw no' (omega arith)
-  each t (inl live) = rw live (time_by-le s t w some (live_patterns t live) fits)
+  each t (inl yes') = rw (yes', only t yes') (time_by-le s t w some (live_patterns t (only t yes')) fits)
 
 -- one more test
-next_time : (s : Sizes) (w : ℕ) (ts : List Test) (i : ℕ) (t : Test) → slice_get ts i ≡ Some t → is_live t ≡ true → times_by s w (take i ts) + time_by s w t ≤ times_by s w ts
-next_time s w [] i t at live = absurd cc
-next_time s w (x ∷ ts) zero t at live =
+next_time : (p : Test → Bool) (s : Sizes) (w : ℕ) (ts : List Test) (i : ℕ) (t : Test) → slice_get ts i ≡ Some t → p t ≡ true → times_of p s w (take i ts) + time_by s w t ≤ times_of p s w ts
+next_time p s w [] i t at yes' = absurd cc
+next_time p s w (x ∷ ts) zero t at yes' =
     let same : x ≡ t = cc in
-    let split : times_by s w (x ∷ ts) ≡ (if is_live x then time_by s w x else 0) + times_by s w ts = sum_by-cons (λ t. if is_live t then time_by s w t else 0) x ts in
-    let here : (if is_live x then time_by s w x else 0) ≡ time_by s w t = rw (same, live) refl in
+    let split : times_of p s w (x ∷ ts) ≡ (if p x then time_by s w x else 0) + times_of p s w ts = sum_by-cons (λ t. if p t then time_by s w t else 0) x ts in
+    let here : (if p x then time_by s w x else 0) ≡ time_by s w t = rw (same, yes') refl in
     omega arith
-next_time s w (x ∷ ts) (suc i) t at live =
-    let a : times_by s w (x ∷ ts) ≡ (if is_live x then time_by s w x else 0) + times_by s w ts = sum_by-cons (λ t. if is_live t then time_by s w t else 0) x ts in
-    let b : times_by s w (x ∷ take i ts) ≡ (if is_live x then time_by s w x else 0) + times_by s w (take i ts) = sum_by-cons (λ t. if is_live t then time_by s w t else 0) x (take i ts) in
-    omega (arith, next_time s w ts i t at live)
+next_time p s w (x ∷ ts) (suc i) t at yes' =
+    let a : times_of p s w (x ∷ ts) ≡ (if p x then time_by s w x else 0) + times_of p s w ts = sum_by-cons (λ t. if p t then time_by s w t else 0) x ts in
+    let b : times_of p s w (x ∷ take i ts) ≡ (if p x then time_by s w x else 0) + times_of p s w (take i ts) = sum_by-cons (λ t. if p t then time_by s w t else 0) x (take i ts) in
+    omega (arith, next_time p s w ts i t at yes')
 
 -- the same of the test that stands at a place
 pub work_at : (s : Sizes) (ts : List Test) (i : ℕ) (d : Test) → i < length ts → is_live (get_or ts i d) ≡ true → work_by s (get_or ts i d) ≤ works_by s ts
 work_at s ts i d within live = item_work s ts i (get_or ts i d) (slice_get-get_or ts i d within) live
 
-pub next_at : (s : Sizes) (w : ℕ) (ts : List Test) (i : ℕ) (d : Test) → 1 ≤ w → IsFitting s → i < length ts → is_live (get_or ts i d) ≡ true → times_by s w (take i ts) + time_by s w (get_or ts i d) ≤ works_by s ts
-next_at s w ts i d some fits within live = omega (arith, next_time s w ts i (get_or ts i d) (slice_get-get_or ts i d within) live, times_by-le s w ts some fits)
+pub next_at : (p : Test → Bool) (s : Sizes) (w : ℕ) (ts : List Test) (i : ℕ) (d : Test) → OnlyLive p → 1 ≤ w → IsFitting s → i < length ts → p (get_or ts i d) ≡ true → times_of p s w (take i ts) + time_by s w (get_or ts i d) ≤ works_by s ts
+next_at p s w ts i d only some fits within yes' = omega (arith, next_time p s w ts i (get_or ts i d) (slice_get-get_or ts i d within) yes', times_of-le p s w ts only some fits)
 
-pub take-le : (s : Sizes) (w : ℕ) (ts : List Test) (n : ℕ) → 1 ≤ w → IsFitting s → times_by s w (take n ts) ≤ works_by s ts
-take-le s w ts n some fits = omega (arith, sum_by-take-le (λ t. if is_live t then time_by s w t else 0) ts n, times_by-le s w ts some fits)
+pub take-le : (p : Test → Bool) (s : Sizes) (w : ℕ) (ts : List Test) (n : ℕ) → OnlyLive p → 1 ≤ w → IsFitting s → times_of p s w (take n ts) ≤ works_by s ts
+take-le p s w ts n only some fits = omega (arith, sum_by-take-le (λ t. if p t then time_by s w t else 0) ts n, times_of-le p s w ts only some fits)
+
+pub live_only : OnlyLive is_live
+live_only t live = live
+
+pub tam_only : OnlyLive is_tam
+tam_only t tam = (and_parts (is_live t) t.tam tam).0
 
 -- what stands past the end of a list of tests
 abbrev pub no_test : Test

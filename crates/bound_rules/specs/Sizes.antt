@@ -1,5 +1,5 @@
 -- The lower times of tests, by the sizes of their module.
-use Rattle.std.specs.Prelude.{ℕ, ◌+◌, ◌*◌, ◌^◌, ◌≤◌, Bool, List, length, max, if◌then◌else◌}
+use Rattle.std.specs.Prelude.{ℕ, ◌+◌, ◌*◌, ◌^◌, ◌≤◌, Bool, ◌&&◌, List, length, max, if◌then◌else◌}
 use Rattle.std.specs.List.{sum, sum_by}
 use Rattle.soc_model.specs.declared.Test.{Test}
 use Rattle.soc_model.specs.Chips.{ModuleValue, is_live}
@@ -31,6 +31,14 @@ pub record IsFitting (s : Sizes) : Type 0 where
 -- the lower times of the live tests of a list together, and their work
 abbrev pub times_by : Sizes → ℕ → List Test → ℕ
 times_by s w ts = sum_by (λ t. if is_live t then time_by s w t else 0) ts
+
+-- live, and over the wires
+abbrev pub is_tam : Test → Bool
+is_tam t = is_live t && t.tam
+
+-- the lower times of the tests of a list that go over the wires, together
+abbrev pub tam_times_by : Sizes → ℕ → List Test → ℕ
+tam_times_by s w ts = sum_by (λ t. if is_tam t then time_by s w t else 0) ts
 
 abbrev pub works_by : Sizes → List Test → ℕ
 works_by s ts = sum_by (λ t. if is_live t then work_by s t else 0) ts

@@ -3,22 +3,28 @@
 // Lower times are in cycles, widths in wires, lengths of chains in cells. Nothing here takes memory.
 #![tactic(auto)]
 
-ghost use Rattle.std.specs.Prelude.{◌≡◌, ℕ, ◌^◌, ◌<◌, ◌≤◌, true, false, Some, List, length, slice_get, IsTrue};
-ghost use Rattle.soc_model.specs.Chips.{soc_value, module_value, is_live};
+ghost use Rattle.std.specs.Prelude.{◌≡◌, ℕ, ◌*◌, ◌^◌, ◌<◌, ◌≤◌, true, false, Some, List, length, option_map, slice_get, IfSome, IsTrue};
+ghost use Rattle.soc_model.specs.Chips.{soc_value, module_value, is_live, parent_place};
 ghost use Rattle.soc_model.specs.Sizes.{test_work};
 ghost use Rattle.soc_model.specs.SoundChips.{IsSoundChip};
 ghost use Rattle.plan_model.specs.Cells.{ChainValue, chain_cells, IsProper};
 ghost use Rattle.plan_model.specs.Plans.{LimitsValue, operations_of};
 ghost use Rattle.plan_model.specs.Rules.{IsBound};
-ghost use Rattle.plan_model.specs.Bounds.{lower_time, module_bound};
+ghost use Rattle.plan_model.specs.Bounds.{quotient_up, lower_time, module_bound, pair_bound};
 
+mod energy;
+mod names;
 mod sizes;
+mod widths;
 
+pub use energy::power_bound;
+pub use names::{chain_bound, live_time};
 use sizes::Sizes;
-use soc_model::{Module, Soc, Test};
+use soc_model::{Module, Soc, Test, parent};
+pub use widths::{area_bound, lower_tam_time, need};
 
 /// The module at a place.
-fn module_at(soc: &Soc, place: usize) -> &Module
+pub fn module_at(soc: &Soc, place: usize) -> &Module
     requires { place < length (soc_value soc.now).modules }
     ensures { slice_get (soc_value soc.now).modules place ≡ Some (module_value result.now) }
 {
@@ -26,6 +32,16 @@ fn module_at(soc: &Soc, place: usize) -> &Module
         Some((_, module)) => module,
         None => unreachable!(),
     }
+}
+
+/// A total over so many parts, rounded up.
+fn quotient_up(total: u128, parts: u64) -> u64
+    requires some { 1 ≤ parts }
+    requires fits { total ≤ 10 ^ 18 * parts }
+    ensures quotient { result ≡ quotient_up total parts }
+    ensures small { result ≤ 10 ^ 18 }
+{
+    total.div_ceil(u128::from(parts)) as u64
 }
 
 /// The cycles that a live test of the module takes at least on `width` wires: for a test over the wires the time of its
@@ -58,6 +74,22 @@ pub fn module_bound(soc: &Soc, place: usize, wires: u64) -> u64
 {
     let module = module_at(soc, place);
     Sizes::of(module).times(&module.tests, wires)
+}
+
+/// The cycles that the live tests of a module and of its parent take at least on `wires` wires, one after another: a
+/// module is never under test beside its parent. None comes exactly where the module has no parent.
+pub fn pair_bound(soc: &Soc, place: usize, wires: u64) -> Option<u64>
+    requires sound { IsSoundChip (soc_value soc.now) }
+    requires place { place < length (soc_value soc.now).modules }
+    requires some_wire { 1 ≤ wires }
+    ensures sum { result ≡ option_map (λ parent. pair_bound (soc_value soc.now) wires parent place) (parent_place (soc_value soc.now).modules place) }
+    ensures small { IfSome result (λ n. n ≤ 2 * 10 ^ 18) }
+    ensures bound { IfSome result (λ n. (limits : LimitsValue) → limits.wires ≡ wires → IsBound (soc_value soc.now) limits n) }
+{
+    match parent(soc, place) {
+        Some(above) => Some(module_bound(soc, above, wires) + module_bound(soc, place, wires)),
+        None => None,
+    }
 }
 
 #[cfg(test)]

@@ -5,7 +5,7 @@ ghost use Rattle.soc_model.specs.Chips.{module_value};
 ghost use Rattle.plan_model.specs.Listing.{module_size};
 ghost use Rattle.plan_model.specs.Plans.{greatest};
 ghost use Rattle.plan_model.specs.Bounds.{quotient_up};
-ghost use Rattle.bound_rules.specs.Sizes.{sizes_of, least_chain, time_by, work_by, times_by, works_by, IsFitting};
+ghost use Rattle.bound_rules.specs.Sizes.{sizes_of, least_chain, time_by, work_by, times_by, tam_times_by, works_by, is_tam, IsFitting};
 
 use plan_model::closed_time;
 use soc_model::{Module, Test, live};
@@ -50,6 +50,13 @@ fn dealt_length(cells: u64, width: u64) -> u64
     ensures { result ≡ quotient_up cells width }
 {
     cells.div_ceil(width)
+}
+
+/// Whether a test is live and goes over the wires.
+pub fn over_wires(test: &Test) -> bool
+    ensures { result ≡ is_tam test.now }
+{
+    live(test) && test.tam
 }
 
 impl Sizes {
@@ -110,6 +117,23 @@ impl Sizes {
         let mut sum = 0;
         for test in tests {
             if live(test) {
+                sum += self.time(test, width);
+            }
+        }
+        sum
+    }
+
+    /// The lower times of those tests of a list that go over the wires, together.
+    pub fn tam_times(&self, tests: &[Test], width: u64) -> u64
+        requires width { 1 ≤ width }
+        requires fitting { IsFitting self.now }
+        requires work { works_by self.now tests.now ≤ 10 ^ 18 }
+        ensures time { result ≡ tam_times_by self.now width tests.now }
+        ensures small { result ≤ works_by self.now tests.now }
+    {
+        let mut sum = 0;
+        for test in tests {
+            if over_wires(test) {
                 sum += self.time(test, width);
             }
         }

@@ -1,5 +1,6 @@
 use Rattle.std.proofs.Common.{◌∙◌, sym, arith, get_or}
-use Rattle.bound_rules.proofs.Works.{no_test, live_patterns, work_at, next_at, take-le}
+use Rattle.soc_model.specs.Chips.{is_live}
+use Rattle.bound_rules.proofs.Works.{no_test, live_patterns, live_only, work_at, next_at, take-le}
 use Rattle.bound_rules.proofs.sizes.Sizes.times.Goals as goal
 
 pub time-sum-requires : goal.time-sum-requires
@@ -15,8 +16,8 @@ time-sum-requires c =
 pub overflow_add-sum : goal.overflow_add-sum
 overflow_add-sum c =
     let live = sym c.live.ensures ∙ c.if-live.true in
-    omega (arith, c.loop-test.invariant, c.time-sum.ensures.time, c.requires.work, next_at c.args.self.now c.args.width c.args.tests.now c.loop-test.test-index no_test c.requires.width c.requires.fitting c.loop-test-test.true live)
+    omega (arith, c.loop-test.invariant, c.time-sum.ensures.time, c.requires.work, next_at is_live c.args.self.now c.args.width c.args.tests.now c.loop-test.test-index no_test live_only c.requires.width c.requires.fitting c.loop-test-test.true live)
 
 pub returns-clause-small : goal.returns-clause-small
 returns-clause-small c =
-    rw c.loop-test.invariant (take-le c.args.self.now c.args.width c.args.tests.now c.loop-test.test-index c.requires.width c.requires.fitting)
+    rw c.loop-test.invariant (take-le is_live c.args.self.now c.args.width c.args.tests.now c.loop-test.test-index live_only c.requires.width c.requires.fitting)
