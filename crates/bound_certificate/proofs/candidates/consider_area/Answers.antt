@@ -1,0 +1,15 @@
+use Rattle.std.proofs.Common.{◌∙◌, refl}
+use Rattle.plan_model.specs.declared.Why.TheVariants as why
+use Rattle.soc_model.specs.Chips.{soc_value}
+use Rattle.plan_model.specs.Views.{limits_value}
+use Rattle.plan_model.specs.Certificates.{certificate_value}
+use Rattle.bound_certificate.proofs.Considered.{seen_considered, value_considered}
+use Rattle.bound_certificate.proofs.candidates.consider_area.Goals as goal
+
+pub returns-clause-seen : goal.returns-clause-seen
+unfolding certificate_value
+returns-clause-seen c = rw c.consider.ensures (seen_considered (soc_value c.args.soc.now) (limits_value c.args.limits.now) c.args.best c.from.result why.Area c.requires.value (c.from.ensures ∙ c.area_bound.ensures.quotient))
+
+pub returns-clause-value : goal.returns-clause-value
+unfolding certificate_value
+returns-clause-value c = rw c.consider.ensures (value_considered (soc_value c.args.soc.now) (limits_value c.args.limits.now) c.args.best c.from.result why.Area c.requires.value (c.from.ensures ∙ c.area_bound.ensures.quotient) (rw c.from.ensures (c.area_bound.ensures.bound (limits_value c.args.limits.now) refl)) tt)

@@ -1,0 +1,9 @@
+pub mod Breaches
+pub mod Checks
+pub mod Forced
+pub mod Best
+pub mod Winners
+pub mod Needs
+pub mod Nodes
+pub mod Sums
+pub mod Chains

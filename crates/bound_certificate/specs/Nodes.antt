@@ -1,0 +1,79 @@
+-- The live tests of a chip as nodes of a graph, whose edges are the precedences of live tests.
+use Rattle.std.specs.Prelude.{◌≡◌, ℕ, zero, suc, ◌^◌, ◌≤◌, Option, Some, None, List, [], ◌∷◌, ◌++◌, map, slice_get, true}
+use Rattle.std.specs.List.{flat_map, filter, Contains}
+use Rattle.soc_model.specs.declared.Test.{Test}
+use Rattle.soc_model.specs.declared.TestId.{TestId}
+use Rattle.soc_model.specs.Chips.{ModuleValue, SocValue, is_live}
+use Rattle.soc_model.specs.Sizes.{test_work}
+use Rattle.plan_model.specs.Plans.{LimitsValue}
+use Rattle.plan_model.specs.Bounds.{lower_time}
+use Rattle.plan_model.specs.Rules.{live_ids}
+use Rattle.plan_model.specs.Certificates.{lower_of_id}
+use Rattle.bound_certificate.specs.declared.nodes.Node.{Node}
+
+-- a live test with its lower time, and the places of those that precede it
+pub record NodeValue : Type 0 where
+  pub id : TestId
+  pub time : ℕ
+  pub before : List ℕ
+
+abbrev pub node_value : Node → NodeValue
+node_value n = record { id = n.id; time = n.time; before = n.before.items }
+
+abbrev pub node_values : List Node → List NodeValue
+node_values nodes = map node_value nodes
+
+abbrev pub ids_of : List NodeValue → List TestId
+ids_of nodes = map (λ (n : NodeValue). n.id) nodes
+
+-- all but the precedences
+abbrev pub fixed_parts : List NodeValue → List (TestId × ℕ)
+fixed_parts nodes = map (λ (n : NodeValue). (n.id, n.time)) nodes
+
+-- no item stands at two places
+abbrev pub AllDiffer : {X : Type 0} → List X → Type 0
+AllDiffer {X} xs = (p q : ℕ) (x : X) → slice_get xs p ≡ Some x → slice_get xs q ≡ Some x → p ≡ q
+
+-- ---- without precedences
+
+-- the work of each live test fits in a machine's number
+pub record HasSmallWork (m : ModuleValue) : Type 0 where
+  pub each : (k : ℕ) (t : Test) → slice_get m.tests k ≡ Some t → is_live t ≡ true → test_work m t ≤ 10 ^ 18
+
+abbrev pub node_in : ℕ → ModuleValue → Test → NodeValue
+node_in wires m t = record { id = record { «module» = m.number; test = t.number }; time = lower_time m t wires; before = [] }
+
+-- the live tests of a module
+abbrev pub nodes_in : ℕ → ModuleValue → List NodeValue
+nodes_in wires m = map (node_in wires m) (filter is_live m.tests)
+
+-- the live tests of a chip
+abbrev pub live_nodes : SocValue → ℕ → List NodeValue
+live_nodes soc wires = flat_map (nodes_in wires) soc.modules
+
+-- ---- precedences
+
+-- one more test precedes the test at a place
+unfoldable pub add_before : (first place : ℕ) → List NodeValue → List NodeValue
+add_before first place [] = []
+add_before first zero (n ∷ nodes) = record n { before = n.before ++ first ∷ [] } ∷ nodes
+add_before first (suc place) (n ∷ nodes) = n ∷ add_before first place nodes
+
+-- one more precedence, where both tests have a place
+abbrev pub linked : Option ℕ → Option ℕ → List NodeValue → List NodeValue
+linked (Some first) (Some place) nodes = add_before first place nodes
+linked None second nodes = nodes
+linked (Some first) None nodes = nodes
+
+-- the nodes have exactly these precedences
+pub record AreLinked (before : List (TestId × TestId)) (nodes : List NodeValue) : Type 0 where
+  pub listed : (j p : ℕ) (n : NodeValue) → slice_get nodes j ≡ Some n → Contains n.before p → (m : NodeValue) × (slice_get nodes p ≡ Some m) × Contains before (m.id, n.id)
+  pub all : (i j : ℕ) (m n : NodeValue) → slice_get nodes i ≡ Some m → slice_get nodes j ≡ Some n → Contains before (m.id, n.id) → Contains n.before i
+
+-- the live tests of the chip with their lower times and precedences
+pub record AreNodes (soc : SocValue) (limits : LimitsValue) (nodes : List NodeValue) : Type 0 where
+  pub ids : ids_of nodes ≡ live_ids soc
+  pub times : (i : ℕ) (n : NodeValue) → slice_get nodes i ≡ Some n → n.time ≡ lower_of_id soc limits.wires n.id
+  pub some_time : (i : ℕ) (n : NodeValue) → slice_get nodes i ≡ Some n → 1 ≤ n.time
+  pub short : (i : ℕ) (n : NodeValue) → slice_get nodes i ≡ Some n → n.time ≤ 10 ^ 18
+  pub linked : AreLinked limits.before nodes

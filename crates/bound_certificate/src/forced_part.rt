@@ -1,0 +1,117 @@
+// The forced list that is tried where no other certificate reaches the cycles of a plan.
+ghost use Rattle.std.specs.Prelude.{◌≡◌, ◌++◌, ◌<◌, IfOk, OnOk, length, map};
+ghost use Rattle.soc_model.specs.Chips.{soc_value};
+ghost use Rattle.soc_model.specs.SoundChips.{IsSoundChip};
+ghost use Rattle.plan_model.specs.Views.{limits_value};
+ghost use Rattle.plan_model.specs.SoundLimits.{IsSoundLimits};
+ghost use Rattle.bound_certificate.specs.Best.{places, by_need, up_to, IsForcedPart};
+ghost use Rattle.bound_certificate.specs.Needs.{need_or_zero, of_need};
+
+use crate::forced_lists::{forced_breach, has_tam_test};
+use bound_rules::{module_at, need};
+use outside::NoMemory;
+use plan_model::Limits;
+use soc_model::Soc;
+use std::alloc::Global;
+
+/// The need of the module at a place, or 0 where it has no test over the wires.
+fn need_or_zero(soc: &Soc, limits: &Limits, claimed: u64, place: usize) -> u64
+    requires sound { IsSoundChip (soc_value soc.now) }
+    requires limits { IsSoundLimits (soc_value soc.now) (limits_value limits.now) }
+    requires place { place < length (soc_value soc.now).modules }
+    ensures { result ≡ need_or_zero (soc_value soc.now) limits.now.wires claimed place }
+{
+    if has_tam_test(module_at(soc, place)) {
+        need(soc, place, limits.wires, claimed)
+    } else {
+        0
+    }
+}
+
+/// The needs of all modules by their places.
+fn needs_of(alloc: Global, soc: &Soc, limits: &Limits, claimed: u64) -> Result<Vec<u64>, NoMemory>
+    requires sound { IsSoundChip (soc_value soc.now) }
+    requires limits { IsSoundLimits (soc_value soc.now) (limits_value limits.now) }
+    ensures { IfOk result (λ v. v.items ≡ map (need_or_zero (soc_value soc.now) limits.now.wires claimed) (places (soc_value soc.now))) }
+{
+    let mut needs = Vec::new(alloc);
+    for place in 0..soc.modules.len() {
+        if needs
+            .push(need_or_zero(soc, limits, claimed, place))
+            .is_err()
+        {
+            return Err(NoMemory);
+        }
+    }
+    Ok(needs)
+}
+
+/// Adds the numbers of the modules of one need.
+fn push_with_need(
+    soc: &Soc,
+    needs: &[u64],
+    needed: u64,
+    order: &mut Vec<u64>,
+) -> Result<(), NoMemory>
+    requires sound { IsSoundChip (soc_value soc.now) }
+    requires long { length needs.now ≡ length (soc_value soc.now).modules }
+    ensures { OnOk result (order.new.items ≡ order.old.items ++ of_need (soc_value soc.now) needs.now needed) }
+{
+    for place in 0..needs.len() {
+        if needs[place] != needed {
+            continue;
+        }
+        if order.push(module_at(soc, place).number).is_err() {
+            return Err(NoMemory);
+        }
+    }
+    Ok(())
+}
+
+/// The numbers of the modules with a test over the wires, by need, greatest first, and then by place.
+fn forced_order(
+    alloc: Global,
+    soc: &Soc,
+    limits: &Limits,
+    claimed: u64,
+) -> Result<Vec<u64>, NoMemory>
+    requires sound { IsSoundChip (soc_value soc.now) }
+    requires limits { IsSoundLimits (soc_value soc.now) (limits_value limits.now) }
+    ensures { IfOk result (λ v. v.items ≡ by_need (soc_value soc.now) limits.now.wires claimed) }
+{
+    let needs = needs_of(alloc, soc, limits, claimed)?;
+    let mut order = Vec::new(alloc);
+    for step in 0..limits.wires + 1 {
+        push_with_need(soc, &needs, limits.wires + 1 - step, &mut order)?;
+    }
+    Ok(order)
+}
+
+/// The list up to a place, or all of it.
+fn cut(mut order: Vec<u64>, place: Option<usize>) -> Vec<u64>
+    ensures { result.items ≡ up_to place order.items }
+{
+    if let Some(end) = place {
+        order.truncate(end);
+    }
+    order
+}
+
+/// The longest part of that order from its front on that keeps the rule of forced lists.
+pub fn forced_part(
+    alloc: Global,
+    soc: &Soc,
+    limits: &Limits,
+    claimed: u64,
+) -> Result<Vec<u64>, NoMemory>
+    requires sound { IsSoundChip (soc_value soc.now) }
+    requires limits { IsSoundLimits (soc_value soc.now) (limits_value limits.now) }
+    ensures { IfOk result (λ v. IsForcedPart (soc_value soc.now) (limits_value limits.now) claimed v.items) }
+{
+    let order = forced_order(alloc, soc, limits, claimed)?;
+    let Ok(mut marks) = Vec::from_elem(alloc, false, 1_000) else {
+        return Err(NoMemory);
+    };
+    let place = forced_breach(soc, limits, claimed, &order, &mut marks);
+    Ok(cut(order, place))
+}

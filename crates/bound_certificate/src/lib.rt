@@ -1,0 +1,161 @@
+// Certificates of lower bounds on the cycles of a chip's plans: their check, and the planner's bound.
+//
+// Claims and values are in cycles; a certificate's modules and tests go by their numbers.
+#![tactic(auto)]
+
+ghost use Rattle.std.specs.Prelude.{◌≡◌, ◌<◌, Ok, Err, IfErr, OnOk, length, nat_lt, if◌then◌else◌, vec_len};
+ghost use Rattle.soc_model.specs.Chips.{soc_value};
+ghost use Rattle.soc_model.specs.SoundChips.{IsSoundChip};
+ghost use Rattle.plan_model.specs.Views.{limits_value, bound_value, why_value};
+ghost use Rattle.plan_model.specs.Plans.{OfModule, OfPair, OfArea, OfPower};
+ghost use Rattle.plan_model.specs.Rules.{IsBound};
+ghost use Rattle.plan_model.specs.SoundLimits.{IsSoundLimits};
+ghost use Rattle.plan_model.specs.Certificates.{IsAccepted, IsCertificateFault};
+ghost use Rattle.bound_certificate.specs.Checks.{certificate_fault, IsCheck};
+
+mod best;
+mod candidates;
+mod chains;
+mod forced_lists;
+mod forced_part;
+mod nodes;
+mod precedence_lists;
+mod sums;
+
+pub use best::best_bound;
+use bound_rules::{area_bound, module_bound, pair_bound, power_bound};
+use forced_lists::check_forced;
+use outside::NoMemory;
+use plan_model::{Bound, Limits, Why};
+use precedence_lists::check_chain;
+use soc_model::{Soc, place_of};
+use std::alloc::Global;
+
+/// Why a certificate isn't accepted.
+#[derive(Clone, Copy, PartialEq, Eq, Debug)]
+pub enum BoundFault {
+    /// The entry at this place breaks the rule of the list, and none before it does. Module and Pair have their module at
+    /// place 0.
+    BadList { place: usize },
+    /// The list keeps its rule, and its value `shown` is less than the `claimed` cycles.
+    Less { claimed: u64, shown: u128 },
+}
+
+/// Room for the check of a certificate: a mark for each module that a chip may have. Every room does for every
+/// certificate.
+#[derive(Drop)]
+pub struct BoundScratch {
+    /// Whether the module at a place is listed.
+    marks: Vec<bool>,
+    ghost marks_len: { vec_len marks ≡ 1000 },
+}
+
+impl BoundScratch {
+    /// Room for the check of this certificate.
+    pub fn new(alloc: Global, _bound: &Bound) -> Result<BoundScratch, NoMemory> {
+        match Vec::from_elem(alloc, false, 1_000) {
+            Ok(marks) => Ok(BoundScratch { marks }),
+            Err(_) => Err(NoMemory),
+        }
+    }
+}
+
+/// A certificate whose list keeps its rule is accepted where its value is at least the claim.
+fn enough(claimed: u64, shown: u128) -> Result<(), BoundFault>
+    ensures { result ≡ (if nat_lt shown claimed then Err (BoundFault.Less claimed shown) else Ok tt) }
+{
+    if shown < u128::from(claimed) {
+        return Err(BoundFault::Less { claimed, shown });
+    }
+    Ok(())
+}
+
+/// The check of kind Module.
+fn check_module(soc: &Soc, limits: &Limits, module: u64, claimed: u64) -> Result<(), BoundFault>
+    requires sound { IsSoundChip (soc_value soc.now) }
+    requires limits { IsSoundLimits (soc_value soc.now) (limits_value limits.now) }
+    ensures { IsCheck (soc_value soc.now) (limits_value limits.now) claimed (OfModule «module») result }
+{
+    match place_of(soc, module) {
+        None => Err(BoundFault::BadList { place: 0 }),
+        Some(place) => enough(claimed, u128::from(module_bound(soc, place, limits.wires))),
+    }
+}
+
+/// The check of kind Pair.
+fn check_pair(soc: &Soc, limits: &Limits, module: u64, claimed: u64) -> Result<(), BoundFault>
+    requires sound { IsSoundChip (soc_value soc.now) }
+    requires limits { IsSoundLimits (soc_value soc.now) (limits_value limits.now) }
+    ensures { IsCheck (soc_value soc.now) (limits_value limits.now) claimed (OfPair «module») result }
+{
+    match place_of(soc, module) {
+        None => Err(BoundFault::BadList { place: 0 }),
+        Some(place) => match pair_bound(soc, place, limits.wires) {
+            None => Err(BoundFault::BadList { place: 0 }),
+            Some(shown) => enough(claimed, u128::from(shown)),
+        },
+    }
+}
+
+/// The check of kind Area.
+fn check_area(soc: &Soc, limits: &Limits, claimed: u64) -> Result<(), BoundFault>
+    requires sound { IsSoundChip (soc_value soc.now) }
+    requires limits { IsSoundLimits (soc_value soc.now) (limits_value limits.now) }
+    ensures { IsCheck (soc_value soc.now) (limits_value limits.now) claimed OfArea result }
+{
+    enough(claimed, u128::from(area_bound(soc, limits.wires)))
+}
+
+/// The check of kind Power.
+fn check_power(soc: &Soc, limits: &Limits, claimed: u64) -> Result<(), BoundFault>
+    requires sound { IsSoundChip (soc_value soc.now) }
+    requires limits { IsSoundLimits (soc_value soc.now) (limits_value limits.now) }
+    ensures { IsCheck (soc_value soc.now) (limits_value limits.now) claimed OfPower result }
+{
+    enough(claimed, u128::from(power_bound(soc, limits)))
+}
+
+/// The check by the kind of the certificate.
+fn check_why(
+    soc: &Soc,
+    limits: &Limits,
+    why: &Why,
+    claimed: u64,
+    room: &mut BoundScratch,
+) -> Result<(), BoundFault>
+    requires sound { IsSoundChip (soc_value soc.now) }
+    requires limits { IsSoundLimits (soc_value soc.now) (limits_value limits.now) }
+    ensures { IsCheck (soc_value soc.now) (limits_value limits.now) claimed (why_value why.now) result }
+{
+    match why {
+        Why::Module { module } => check_module(soc, limits, *module, claimed),
+        Why::Pair { module } => check_pair(soc, limits, *module, claimed),
+        Why::Chain { tests } => check_chain(soc, limits, tests, claimed),
+        Why::Area => check_area(soc, limits, claimed),
+        Why::Power => check_power(soc, limits, claimed),
+        Why::Forced { modules } => check_forced(soc, limits, modules, claimed, &mut room.marks),
+    }
+}
+
+/// Whether a certificate is accepted, for a sound chip and sound limits. Ok comes exactly where its list keeps the rule of
+/// its kind and its value is at least the cycles that it claims; then no good plan has fewer cycles. `BadList` comes
+/// exactly where an entry breaks the rule, with the first such place, and `Less` exactly where the rule is kept and the
+/// value is less than claimed. No memory is taken.
+pub fn check_bound(
+    soc: &Soc,
+    limits: &Limits,
+    bound: &Bound,
+    room: &mut BoundScratch,
+) -> Result<(), BoundFault>
+    requires sound { IsSoundChip (soc_value soc.now) }
+    requires limits { IsSoundLimits (soc_value soc.now) (limits_value limits.now) }
+    ensures accepted { OnOk result (IsAccepted (soc_value soc.now) (limits_value limits.now) (bound_value bound.now)) }
+    ensures fault { IfErr result (λ f. IsCertificateFault (soc_value soc.now) (limits_value limits.now) (bound_value bound.now) (certificate_fault f)) }
+    ensures exact { IsAccepted (soc_value soc.now) (limits_value limits.now) (bound_value bound.now) → result ≡ Ok tt }
+    ensures bound { OnOk result (IsBound (soc_value soc.now) (limits_value limits.now) bound.now.cycles) }
+{
+    check_why(soc, limits, &bound.why, bound.cycles, room)
+}
+
+#[cfg(test)]
+mod tests;
