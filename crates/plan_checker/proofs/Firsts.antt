@@ -1,0 +1,112 @@
+-- The first item of a list that breaks a rule: an item at a time, and over lists that are joined.
+use Rattle.std.proofs.Common.{◌≡◌, ℕ, zero, suc, ◌+◌, ◌≤◌, ◌<◌, Some, List, [], ◌∷◌, ◌++◌, length, take, refl, ap, ◌∙◌, subst, arith, inl, inr}
+use Rattle.std.specs.Prelude.{slice_get}
+use Rattle.std.proofs.lemmas.Bool.{cases_eq}
+use Rattle.std.proofs.lemmas.Option.{slice_get_within}
+use Rattle.plan_model.specs.Rules.{IsFirstBreach, Each}
+use Rattle.plan_model.proofs.Lists.{from_append}
+use Rattle.plan_model.proofs.Lists.{split_at}
+
+-- the rule is kept by the first `n` items
+abbrev pub EachTo : {X : Type 0} → (List X → X → Type 0) → List X → ℕ → Type 0
+EachTo {X} P xs n = (m : ℕ) (x : X) → m < n → slice_get xs m ≡ Some x → P (take m xs) x
+
+pub each_none : {X : Type 0} (P : List X → X → Type 0) (xs : List X) → EachTo P xs 0
+each_none P xs m x h at = absurd (omega arith)
+
+pub each_more : {X : Type 0} (P : List X → X → Type 0) (xs : List X) (n : ℕ) (x : X) → EachTo P xs n → slice_get xs n ≡ Some x → P (take n xs) x → EachTo P xs (n + 1)
+each_more P xs n x h at here m y less at' = elim (cases_eq m n) [
+  | inl same ↦
+      let there : slice_get xs m ≡ Some x = rw same at in
+      let one : x ≡ y = cc in
+      rw same (subst (P (take n xs)) one here)
+  | inr other ↦ h m y (omega (arith, other)) at'
+]
+
+pub each_all : {X : Type 0} (P : List X → X → Type 0) (xs : List X) (n : ℕ) → length xs ≤ n → EachTo P xs n → Each P xs
+each_all P xs n all h m x at = h m x (omega (arith, slice_get_within xs m x at)) at
+
+pub each_to : {X : Type 0} (P : List X → X → Type 0) (xs : List X) (n : ℕ) → Each P xs → EachTo P xs n
+each_to P xs n h m x less at = h m x at
+
+pub first_here : {X : Type 0} (P : List X → X → Type 0) (xs : List X) (n : ℕ) (x : X) → EachTo P xs n → slice_get xs n ≡ Some x → (P (take n xs) x → ⊥) → IsFirstBreach P xs n x
+first_here P xs n x h at broken = record { there = at; breaks = broken; earlier = h }
+
+-- ---- joined lists
+
+length_split : {X : Type 0} (xs ys : List X) (n : ℕ) → take (length xs + n) (xs ++ ys) ≡ xs ++ take n ys
+length_split [] ys n = let e : 0 + n ≡ n = omega arith in rw e refl
+length_split (x ∷ xs) ys n = let e : suc (length xs) + n ≡ suc (length xs + n) = omega arith in rw e (ap (λ v. x ∷ v) (length_split xs ys n))
+
+pub get_behind : {X : Type 0} (xs ys : List X) (n : ℕ) → slice_get (xs ++ ys) (length xs + n) ≡ slice_get ys n
+get_behind [] ys n = let e : 0 + n ≡ n = omega arith in rw e refl
+get_behind (x ∷ xs) ys n = let e : suc (length xs) + n ≡ suc (length xs + n) = omega arith in rw e (get_behind xs ys n)
+
+pub get_front : {X : Type 0} (xs ys : List X) (n : ℕ) (x : X) → slice_get xs n ≡ Some x → slice_get (xs ++ ys) n ≡ Some x
+get_front [] ys n x e = absurd cc
+get_front (y ∷ xs) ys zero x e = e
+get_front (y ∷ xs) ys (suc n) x e = get_front xs ys n x e
+
+pub take_front : {X : Type 0} (xs ys : List X) (n : ℕ) → n ≤ length xs → take n (xs ++ ys) ≡ take n xs
+take_front [] ys zero h = refl
+take_front [] ys (suc n) h = absurd (omega arith)
+take_front (x ∷ xs) ys zero h = refl
+take_front (x ∷ xs) ys (suc n) h = ap (λ v. x ∷ v) (take_front xs ys n (omega arith))
+
+-- a rule behind a list
+abbrev pub Behind : {X : Type 0} → List X → (List X → X → Type 0) → List X → X → Type 0
+Behind xs P earlier y = P (xs ++ earlier) y
+
+pub each_append : {X : Type 0} (P : List X → X → Type 0) (xs ys : List X) → Each P xs → Each (Behind xs P) ys → Each P (xs ++ ys)
+each_append P xs ys a b n x at = elim (from_append xs ys n x at) [
+  | inl e ↦ rw (take_front xs ys n (omega (arith, slice_get_within xs n x e))) (a n x e)
+  | inr e ↦ rw (e.1, length_split xs ys e.0) (b e.0 x e.2)
+]
+
+pub each_front : {X : Type 0} (P : List X → X → Type 0) (xs ys : List X) → Each P (xs ++ ys) → Each P xs
+each_front P xs ys h n x at = rw (take_front xs ys n (omega (arith, slice_get_within xs n x at))) at (h n x (get_front xs ys n x at))
+
+pub first_front : {X : Type 0} (P : List X → X → Type 0) (xs ys : List X) (n : ℕ) (x : X) → IsFirstBreach P xs n x → IsFirstBreach P (xs ++ ys) n x
+first_front P xs ys n x f =
+    let within : n < length xs = slice_get_within xs n x f.there in
+    record {
+      there = get_front xs ys n x f.there;
+      breaks = rw (take_front xs ys n (omega arith)) f.breaks;
+      earlier = λ m y less at. elim (from_append xs ys m y at) [
+        | inl e ↦ rw (take_front xs ys m (omega arith)) (f.earlier m y less e)
+        | inr e ↦ absurd (omega (arith, e.1))
+      ];
+    }
+
+pub first_behind : {X : Type 0} (P : List X → X → Type 0) (xs ys : List X) (n : ℕ) (y : X) → Each P xs → IsFirstBreach (Behind xs P) ys n y → IsFirstBreach P (xs ++ ys) (length xs + n) y
+first_behind P xs ys n y a f = record {
+  there = get_behind xs ys n ∙ f.there;
+  breaks = rw (length_split xs ys n) f.breaks;
+  earlier = λ m z less at. elim (from_append xs ys m z at) [
+    | inl e ↦ rw (take_front xs ys m (omega (arith, slice_get_within xs m z e))) (a m z e)
+    | inr e ↦ rw (e.1, length_split xs ys e.0) (f.earlier e.0 z (omega (arith, e.1)) e.2)
+  ];
+}
+
+-- ---- items that differ and stand in a list are no more than it has
+
+in_rest : {X : Type 0} (p : List X) (x : X) (q : List X) (y : X) → (y ≡ x → ⊥) → (i : ℕ) → slice_get (p ++ x ∷ q) i ≡ Some y → (j : ℕ) × (slice_get (p ++ q) j ≡ Some y)
+in_rest [] x q y other zero at = absurd (other cc)
+in_rest [] x q y other (suc i) at = (i, at)
+in_rest (z ∷ p) x q y other zero at = (0, at)
+in_rest (z ∷ p) x q y other (suc i) at = let r = in_rest p x q y other i at in (suc r.0, r.1)
+
+length_rest : {X : Type 0} (p : List X) (x : X) (q : List X) → length (p ++ x ∷ q) ≡ suc (length (p ++ q))
+length_rest [] x q = refl
+length_rest (z ∷ p) x q = ap suc (length_rest p x q)
+
+pub pigeon : {X : Type 0} (n : ℕ) (f : ℕ → X) (ys : List X) → ((i j : ℕ) → i < j → j < n → f i ≡ f j → ⊥) → ((i : ℕ) → i < n → (k : ℕ) × (slice_get ys k ≡ Some (f i))) → n ≤ length ys
+pigeon zero f ys apart in_ys = omega arith
+pigeon (suc n) f ys apart in_ys =
+    let k = in_ys n (omega arith) in
+    let s = split_at ys k.0 (f n) k.1 in
+    let few : n ≤ length (s.0 ++ s.1) = pigeon n f (s.0 ++ s.1) (λ i j less within e. apart i j less (omega arith) e) (λ i less.
+    let at = in_ys i (omega arith) in
+    in_rest s.0 (f n) s.1 (f i) (λ e. apart i n less (omega arith) e) at.0 (rw s.2 at at.1)) in
+    let long : length ys ≡ suc (length (s.0 ++ s.1)) = ap length s.2 ∙ length_rest s.0 (f n) s.1 in
+    omega arith

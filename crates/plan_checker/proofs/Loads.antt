@@ -1,0 +1,120 @@
+-- The jobs of a plan of a sound chip: their names, and that their powers leave room for sums.
+use Rattle.std.proofs.Common.{◌≡◌, ℕ, ◌+◌, ◌≤◌, ◌^◌, Some, List, [], ◌∷◌, length, map, refl, ap, ◌∙◌, sym, arith, inl, inr}
+use Rattle.std.specs.Prelude.{slice_get}
+use Rattle.std.specs.List.{flat_map, filter, sum_by}
+use Rattle.std.proofs.lemmas.List.Sums.{sum_by-cons}
+use Rattle.std.proofs.lemmas.List.{length-append}
+use Rattle.std.proofs.lemmas.Option.{slice_get_within, get_or_from_slice_get}
+use Rattle.std.proofs.lemmas.Bool.{cases_Bool}
+use Rattle.soc_model.specs.declared.Test.{Test}
+use Rattle.soc_model.specs.declared.TestId.{TestId}
+use Rattle.soc_model.specs.Chips.{ModuleValue, SocValue, LiveTest, is_live, live_of, live_from, live_tests, id_of, same_test}
+use Rattle.soc_model.specs.SoundChips.{IsSoundChip}
+use Rattle.soc_model.proofs.Limits.{tests-le}
+use Rattle.plan_model.specs.Plans.{ProfileValue, LimitsValue, PlanValue, PlannedTest, planned, planned_test, of_first, power_of_id}
+use Rattle.plan_model.specs.Rules.{live_ids}
+use Rattle.plan_model.specs.SoundLimits.{IsSoundLimits, IsSoundProfile}
+use Rattle.plan_model.proofs.PlannedTests.{Origin, origin}
+use Rattle.plan_checker.specs.declared.jobs.Job.{Job}
+use Rattle.plan_checker.specs.Jobs.{job_of, jobs_of, StartEarly}
+use Rattle.plan_checker.specs.Named.{names_of, AllApart}
+use Rattle.plan_checker.specs.Power.{AreProfiles, IsLoad}
+use Rattle.plan_checker.proofs.Filling.{jobs_length}
+use Rattle.plan_checker.proofs.Listing.{start_early}
+use Rattle.plan_checker.proofs.NamesApart.{live_ids_apart}
+use Rattle.plan_checker.proofs.Rooms.{at_map, length_values}
+
+-- ---- names
+
+names_live : (plan : PlanValue) (ls : List LiveTest) → names_of (map job_of (map (λ (l : LiveTest). planned_test plan l.place l.core l.test) ls)) ≡ map id_of ls
+unfolding planned_test
+names_live plan [] = refl
+names_live plan (l ∷ ls) = ap (λ v. id_of l ∷ v) (names_live plan ls)
+
+names_are : (soc : SocValue) (plan : PlanValue) → names_of (jobs_of soc plan) ≡ live_ids soc
+unfolding planned
+names_are soc plan = names_live plan (live_tests soc)
+
+pub jobs_apart : (soc : SocValue) (plan : PlanValue) (jobs : List Job) → IsSoundChip soc → jobs ≡ jobs_of soc plan → AllApart (names_of jobs)
+jobs_apart soc plan jobs sound same = rw (same, names_are soc plan) (live_ids_apart soc sound)
+
+-- ---- how many
+
+filter_le : (tests : List Test) → length (filter is_live tests) ≤ length tests
+filter_le [] = omega arith
+filter_le (t ∷ ts) = elim (cases_Bool (is_live t)) [
+  | inl yes' ↦ rw yes' (omega (arith, filter_le ts))
+  | inr no' ↦ rw no' (omega (arith, filter_le ts))
+]
+
+live_le : (base : ℕ) (ms : List ModuleValue) → length (live_from base ms) ≤ length (flat_map (λ (m : ModuleValue). m.tests) ms)
+unfolding live_from
+live_le base [] = omega arith
+live_le base (m ∷ ms) =
+    let here : length (live_of base m) ≤ length m.tests = omega (arith, filter_le m.tests, length_values (λ (t : Test). the_test base m t) (filter is_live m.tests)) in
+    let rest : length (live_from (base + 1) ms) ≤ length (flat_map (λ (m : ModuleValue). m.tests) ms) = live_le (base + 1) ms in
+    rw (length-append (live_of base m) (live_from (base + 1) ms), length-append m.tests (flat_map (λ (m : ModuleValue). m.tests) ms)) (omega (arith, here, rest))
+  where
+    the_test : ℕ → ModuleValue → Test → LiveTest
+    the_test base m t = record { place = base; core = m; test = t }
+
+pub live_tests-le : (soc : SocValue) → IsSoundChip soc → length (live_tests soc) ≤ 4096
+live_tests-le soc sound = omega (arith, live_le 0 soc.modules, tests-le soc sound.size)
+
+pub live_tests_are : (base : ℕ) (ms : List ModuleValue) → length (live_from base ms) ≡ sum_by (λ (m : ModuleValue). length (filter is_live m.tests)) ms
+unfolding live_from
+live_tests_are base [] = refl
+live_tests_are base (m ∷ ms) =
+    let here : length (live_of base m) ≡ length (filter is_live m.tests) = length_values (λ (t : Test). the_test base m t) (filter is_live m.tests) in
+    let rest : length (live_from (base + 1) ms) ≡ sum_by (λ (m : ModuleValue). length (filter is_live m.tests)) ms = live_tests_are (base + 1) ms in
+    rw (length-append (live_of base m) (live_from (base + 1) ms), sum_by-cons (λ (m : ModuleValue). length (filter is_live m.tests)) m ms) (omega (arith, here, rest))
+  where
+    the_test : ℕ → ModuleValue → Test → LiveTest
+    the_test base m t = record { place = base; core = m; test = t }
+
+-- ---- what they draw
+
+-- the live test that a job is of
+record JobOrigin (soc : SocValue) (plan : PlanValue) (i : ℕ) (j : Job) : Type 0 where
+  l : LiveTest
+  at : slice_get (live_tests soc) i ≡ Some l
+  id_is : j.id ≡ id_of l
+  power_is : j.power ≡ l.test.power
+  start_is : j.start ≡ of_first (λ (s : TestId × ℕ). same_test s.0 (id_of l)) (λ s. s.1) 0 plan.starts
+
+job_origin : (soc : SocValue) (plan : PlanValue) (i : ℕ) (j : Job) → slice_get (jobs_of soc plan) i ≡ Some j → JobOrigin soc plan i j
+unfolding planned_test
+job_origin soc plan i j at =
+    let t = at_map job_of (planned soc plan) i j at in
+    let o : Origin soc plan i t.0 = origin soc plan i t.0 t.1 in
+    record {
+      l = o.l;
+      at = o.at;
+      id_is = sym (ap (λ (j : Job). j.id) t.2) ∙ sym (ap (λ (t : PlannedTest). t.id) o.is);
+      power_is = sym (ap (λ (j : Job). j.power) t.2) ∙ sym (ap (λ (t : PlannedTest). t.power) o.is);
+      start_is = sym (ap (λ (j : Job). j.start) t.2) ∙ sym (ap (λ (t : PlannedTest). t.start) o.is);
+    }
+
+step_small : (soc : SocValue) (limits : LimitsValue) → IsSoundLimits soc limits → (k n : ℕ) (p : ProfileValue) (s : ℕ × ℕ) → slice_get limits.profiles k ≡ Some p → slice_get p.steps n ≡ Some s → s.0 ≤ 10 ^ 12
+step_small soc limits sound k n p s at there =
+    let profile : IsSoundProfile soc p = rw (get_or_from_slice_get limits.profiles k p p at) at (sound.profiles k p (slice_get_within limits.profiles k p at)) in
+    let small = rw (get_or_from_slice_get p.steps n s s there) at (profile.small n s (slice_get_within p.steps n s there)) in
+    omega (arith, small.0)
+
+as_weak : (limits : LimitsValue) (id id' : TestId) (own own' r most : ℕ) → id ≡ id' → own ≡ own' → power_of_id limits id' own' r ≤ most → power_of_id limits id own r ≤ most
+as_weak limits id id' own own' r most a b h = rw (a, b) h
+
+pub load_is : (soc : SocValue) (limits : LimitsValue) (plan : PlanValue) (jobs : List Job) (profiles : List ℕ) (most : ℕ) → IsSoundChip soc → IsSoundLimits soc limits → StartEarly plan.starts → jobs ≡ jobs_of soc plan → AreProfiles limits jobs profiles → limits.power ≡ Some most → IsLoad limits jobs profiles most
+load_is soc limits plan jobs profiles most sound sound_limits early same places limit = record {
+  places = places;
+  few = omega (arith, ap length same, jobs_length soc plan, live_tests-le soc sound);
+  early = λ i j at.
+      let o : JobOrigin soc plan i j = job_origin soc plan i j (rw same at at) in
+      omega (arith, o.start_is, start_early (id_of o.l) plan.starts early);
+  small = step_small soc limits sound_limits;
+  weak = λ i j r at.
+      let o : JobOrigin soc plan i j = job_origin soc plan i j (rw same at at) in
+      let within = rw limit at (sound_limits.within i o.l o.at r) in
+      as_weak limits j.id (id_of o.l) j.power o.l.test.power r most o.id_is o.power_is within;
+  limit = rw limit at sound_limits.power;
+}

@@ -1,0 +1,107 @@
+-- What the rooms of the checker hold, and that they have place for it.
+use Rattle.std.proofs.Common.{◌≡◌, ℕ, zero, suc, ◌≤◌, ◌<◌, Bool, true, false, eqb, Some, None, Result, Ok, Err, List, [], ◌∷◌, length, get_or, map, set, take, is_some, refl, ap, ◌∙◌, sym, arith, inl, inr, eq-eqb, true≢false}
+use Rattle.std.specs.Prelude.{slice_get, IsOk, OnOk}
+use Rattle.std.specs.List.{list_any, Contains}
+use Rattle.std.specs.Map.{lookup}
+use Rattle.std.proofs.lemmas.Bool.{cases_Bool, and_parts, eqb-true}
+use Rattle.std.proofs.lemmas.Option.{slice_get-get_or}
+use Rattle.soc_model.specs.declared.TestId.{TestId}
+use Rattle.soc_model.specs.Chips.{same_test}
+use Rattle.plan_model.specs.Rules.{IsNew}
+use Rattle.plan_model.proofs.Lists.{contains_at, any_from}
+use Rattle.plan_checker.proofs.Firsts.{EachTo, pigeon}
+use Rattle.plan_checker.proofs.Finding.{contains_from}
+
+pub on_ok : {T E : Type 0} (r : Result T E) (P : Type 0) → IsOk r → OnOk r P → P
+on_ok (Ok x) P is p = p
+on_ok (Err e) P is p = absurd (true≢false (sym is))
+
+-- whether a key is in a map
+pub some_any : {K V : Type 0} (test : K → Bool) (es : List (K × V)) → is_some (lookup test es) ≡ list_any (λ (e : K × V). test e.0) es
+some_any test [] = refl
+some_any test (e ∷ es) = elim (cases_Bool (test e.0)) [
+  | inl yes' ↦ rw yes' refl
+  | inr no' ↦ rw no' (some_any test es)
+]
+
+pub none_absent : {K V : Type 0} (test : K → Bool) (es : List (K × V)) → list_any (λ (e : K × V). test e.0) es ≡ false → lookup test es ≡ None
+none_absent test [] h = refl
+none_absent test (e ∷ es) h = elim (cases_Bool (test e.0)) [
+  | inl yes' ↦ let h' = rw yes' at h in absurd (true≢false h')
+  | inr no' ↦ let h' = rw no' at h in rw no' (none_absent test es h')
+]
+
+pub same_test_is : (a b : TestId) → same_test a b ≡ true → a ≡ b
+same_test_is a b h =
+    let p = and_parts (eqb a.«module» b.«module») (eqb a.test b.test) h in
+    let m : a.«module» ≡ b.«module» = eqb-true a.«module» b.«module» p.0 in
+    let t : a.test ≡ b.test = eqb-true a.test b.test p.1 in
+    join a.«module» a.test b.«module» b.test m t
+  where
+    made : ℕ → ℕ → TestId
+    made x y = record { «module» = x; test = y }
+
+    join : (x y z w : ℕ) → x ≡ z → y ≡ w → made x y ≡ made z w
+    join x y z w e f = rw (e, f) refl
+
+pub same_test_itself : (a : TestId) → same_test a a ≡ true
+same_test_itself a = rw (eq-eqb a.«module» a.«module» refl, eq-eqb a.test a.test refl) refl
+
+pub any_item : {X : Type 0} (p : X → Bool) (xs : List X) → list_any p xs ≡ true → (i : ℕ) × (x : X) × (slice_get xs i ≡ Some x) × (p x ≡ true)
+any_item p [] h = absurd (true≢false (sym h))
+any_item p (x ∷ xs) h = elim (cases_Bool (p x)) [
+  | inl yes' ↦ (0, x, refl, yes')
+  | inr no' ↦ let h' = rw no' at h in let r = any_item p xs h' in (suc r.0, r.1, r.2, r.3)
+]
+
+pub map_at : {X Y : Type 0} (f : X → Y) (xs : List X) (i : ℕ) (x : X) → slice_get xs i ≡ Some x → slice_get (map f xs) i ≡ Some (f x)
+map_at f [] i x e = absurd cc
+map_at f (y ∷ xs) zero x e = let same : y ≡ x = cc in rw same refl
+map_at f (y ∷ xs) (suc i) x e = map_at f xs i x e
+
+pub at_map : {X Y : Type 0} (f : X → Y) (xs : List X) (i : ℕ) (y : Y) → slice_get (map f xs) i ≡ Some y → (x : X) × (slice_get xs i ≡ Some x) × (f x ≡ y)
+at_map f [] i y e = absurd cc
+at_map f (x ∷ xs) zero y e = (x, refl, cc)
+at_map f (x ∷ xs) (suc i) y e = at_map f xs i y e
+
+pub started : (id : TestId) (starts : List (TestId × ℕ)) → list_any (λ (s : TestId × ℕ). same_test id s.0) starts ≡ true → Contains (map (λ (e : TestId × ℕ). e.0) starts) id
+started id starts h =
+    let r = any_item (λ (s : TestId × ℕ). same_test id s.0) starts h in
+    let same : id ≡ (r.1).0 = same_test_is id (r.1).0 r.3 in
+    contains_from (map (λ (e : TestId × ℕ). e.0) starts) id r.0 (map_at (λ (e : TestId × ℕ). e.0) starts r.0 r.1 r.2 ∙ ap Some (sym same))
+
+pub not_started : (id : TestId) (starts : List (TestId × ℕ)) → list_any (λ (s : TestId × ℕ). same_test id s.0) starts ≡ false → Contains (map (λ (e : TestId × ℕ). e.0) starts) id → ⊥
+not_started id starts no' c =
+    let k = contains_at (map (λ (e : TestId × ℕ). e.0) starts) id c in
+    let s = at_map (λ (e : TestId × ℕ). e.0) starts k.0 id k.1 in
+    absurd (true≢false (sym (any_from (λ (s : TestId × ℕ). same_test id s.0) starts k.0 s.0 s.1 (rw s.2 (same_test_itself id))) ∙ no'))
+
+-- ---- place for one more
+
+take_at : {X : Type 0} (xs : List X) (i j : ℕ) (x : X) → i < j → slice_get xs i ≡ Some x → slice_get (take j xs) i ≡ Some x
+take_at [] i j x less e = absurd cc
+take_at (y ∷ xs) i zero x less e = absurd (omega arith)
+take_at (y ∷ xs) zero (suc j) x less e = e
+take_at (y ∷ xs) (suc i) (suc j) x less e = take_at xs i j x (omega arith) e
+
+-- where each of the first `n` items is new and stands in a list, that list has as many
+pub new_fit : {X Y : Type 0} (f : X → Y) (xs : List X) (ys : List Y) (n : ℕ) (d : X) → n ≤ length xs → EachTo (λ earlier x. IsNew (map f earlier) (f x)) xs n → EachTo (λ earlier x. Contains ys (f x)) xs n → n ≤ length ys
+new_fit f xs ys n d within new in_ys = pigeon n (λ i. f (get_or xs i d)) ys
+    (λ i j less below e. new j (get_or xs j d) below (slice_get-get_or xs j d (omega arith)) (contains_from (map f (take j xs)) (f (get_or xs j d)) i (map_at f (take j xs) i (get_or xs i d) (take_at xs i j (get_or xs i d) less (slice_get-get_or xs i d (omega arith))) ∙ ap Some e)))
+    (λ i below. contains_at ys (f (get_or xs i d)) (in_ys i (get_or xs i d) below (slice_get-get_or xs i d (omega arith))))
+
+pub set_here : {X : Type 0} (xs : List X) (i : ℕ) (y : X) → i < length xs → slice_get (set xs i y) i ≡ Some y
+set_here [] i y h = absurd (omega arith)
+set_here (x ∷ xs) zero y h = refl
+set_here (x ∷ xs) (suc i) y h = set_here xs i y (omega arith)
+
+pub set_else : {X : Type 0} (xs : List X) (i j : ℕ) (y : X) → (j ≡ i → ⊥) → slice_get (set xs i y) j ≡ slice_get xs j
+set_else [] i j y h = refl
+set_else (x ∷ xs) zero zero y h = absurd (h refl)
+set_else (x ∷ xs) zero (suc j) y h = refl
+set_else (x ∷ xs) (suc i) zero y h = refl
+set_else (x ∷ xs) (suc i) (suc j) y h = set_else xs i j y (λ e. h (ap suc e))
+
+pub length_values : {X Y : Type 0} (f : X → Y) (xs : List X) → length (map f xs) ≡ length xs
+length_values f [] = refl
+length_values f (x ∷ xs) = ap suc (length_values f xs)

@@ -1,0 +1,14 @@
+use Rattle.std.proofs.Common.{arith, ◌∙◌, inl, inr}
+use Rattle.std.proofs.lemmas.Bool.{cases_eq}
+use Rattle.soc_model.specs.Chips.{soc_value}
+use Rattle.plan_checker.specs.Clashes.{HasParentAt}
+use Rattle.plan_checker.proofs.Rooms.{set_here, set_else}
+use Rattle.plan_checker.proofs.parents.fill_parents.Goals as goal
+
+pub loop-place-preserved : goal.loop-place-preserved
+loop-place-preserved c = λ p less. elim (cases_eq p c.loop-place.place) [
+  | inl same ↦ rw same (record { q = c.parent_of.result; at = set_here c.loop-place.parents c.loop-place.place c.parent_of.result (omega arith); is = c.parent_of.ensures.is; only = c.parent_of.ensures.only })
+  | inr other ↦
+      let h : HasParentAt (soc_value c.args.soc.now) c.loop-place.parents p = c.loop-place.invariant p (omega (arith, other)) in
+      record { q = h.q; at = set_else c.loop-place.parents c.loop-place.place p c.parent_of.result other ∙ h.at; is = h.is; only = h.only }
+]

@@ -1,0 +1,75 @@
+-- Pairs of jobs that may not meet and do.
+use Rattle.std.specs.Prelude.{◌≡◌, ℕ, ◌<◌, ◌≤◌, ◌⊎◌, ◌&&◌, Bool, true, Option, Some, None, List, length, slice_get, slice_index, nat_eq, nat_le, if◌then◌else◌}
+use Rattle.soc_model.specs.Chips.{SocValue, IsParent}
+use Rattle.soc_model.specs.declared.TestId.{TestId}
+use Rattle.plan_checker.specs.declared.PlanFault.{PlanFault}
+use Rattle.plan_checker.specs.declared.PlanFault.TheVariants as fault
+use Rattle.plan_model.specs.Rules.{Rule, Wires, Busy, Parents}
+use Rattle.plan_checker.specs.declared.jobs.Job.{Job}
+use Rattle.plan_checker.specs.declared.clashes.Found.{Found}
+use Rattle.plan_checker.specs.declared.clashes.Apart.{Apart}
+use Rattle.plan_checker.specs.declared.clashes.Apart.TheVariants as apart
+
+-- whether the rule keeps the two apart, the first being before the second in the order of the chip
+abbrev pub keeps_apart : List ℕ → Apart → Job → Job → Bool
+keeps_apart parents apart.OneBus a b = a.tam && (b.tam && nat_eq a.bus b.bus)
+keeps_apart parents apart.OneModule a b = nat_eq a.place b.place
+keeps_apart parents apart.ParentAndChild a b = nat_eq a.place (slice_index parents b.place)
+
+-- both are kept apart and active at the cycle
+pub record BothAt (r : Job → Job → Bool) (a b : Job) (c : ℕ) : Type 0 where
+  pub related : r a b ≡ true
+  pub begun : a.start ≤ c
+  pub begun' : b.start ≤ c
+  pub active : c < a.end
+  pub active' : c < b.end
+
+pub record Clash (r : Job → Job → Bool) (jobs : List Job) (i j c : ℕ) : Type 0 where
+  pub a : Job
+  pub b : Job
+  pub at : slice_get jobs i ≡ Some a
+  pub at' : slice_get jobs j ≡ Some b
+  pub order : i < j
+  pub both : BothAt r a b c
+
+-- pairs in the order of their first and then their second place
+abbrev pub IsBefore : (i j i' j' : ℕ) → Type 0
+IsBefore i j i' j' = (i < i') ⊎ ((i ≡ i') × (j < j'))
+
+-- the least cycle, and the least pair there, of the pairs that stand before `i`, `j`
+pub record IsLeast (r : Job → Job → Bool) (jobs : List Job) (i j : ℕ) (f : Found) : Type 0 where
+  pub clash : Clash r jobs f.first f.second f.cycle
+  pub least : (x y c : ℕ) → IsBefore x y i j → Clash r jobs x y c → f.cycle ≤ c
+  pub first : (x y : ℕ) → IsBefore x y f.first f.second → Clash r jobs x y f.cycle → ⊥
+
+abbrev pub IsBest : (Job → Job → Bool) → List Job → ℕ → ℕ → Option Found → Type 0
+IsBest r jobs i j None = (x y c : ℕ) → IsBefore x y i j → Clash r jobs x y c → ⊥
+IsBest r jobs i j (Some f) = IsLeast r jobs i j f
+
+-- what was found before, or the pair with its cycle where that is earlier
+abbrev pub better_of : Option Found → ℕ → ℕ → ℕ → Option Found
+better_of None i j c = Some (record { first = i; second = j; cycle = c })
+better_of (Some f) i j c = if nat_le f.cycle c then Some f else Some (record { first = i; second = j; cycle = c })
+
+-- for each module the place of its parent; where it has none, a number that is no place
+pub record HasParentAt (soc : SocValue) (parents : List ℕ) (p : ℕ) : Type 0 where
+  pub q : ℕ
+  pub at : slice_get parents p ≡ Some q
+  pub is : q < length soc.modules → IsParent soc.modules q p
+  pub only : (r : ℕ) → IsParent soc.modules r p → r ≡ q
+
+abbrev pub AreParents : SocValue → List ℕ → Type 0
+AreParents soc parents = (p : ℕ) → p < length soc.modules → HasParentAt soc parents p
+
+abbrev pub rule_for : Apart → Rule
+rule_for apart.OneBus = Wires
+rule_for apart.OneModule = Busy
+rule_for apart.ParentAndChild = Parents
+
+abbrev pub PlacesWithin : ℕ → List Job → Type 0
+PlacesWithin n jobs = (i : ℕ) (j : Job) → slice_get jobs i ≡ Some j → j.place < n
+
+abbrev pub clash_fault : Apart → TestId → TestId → ℕ → PlanFault
+clash_fault apart.OneBus a b c = fault.Wire a b c
+clash_fault apart.OneModule a b c = fault.Busy a b c
+clash_fault apart.ParentAndChild a b c = fault.Parent a b c

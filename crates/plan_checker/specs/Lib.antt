@@ -1,0 +1,13 @@
+pub mod FaultValues
+pub mod Broken
+pub mod Stages
+pub mod Jobs
+pub mod Placing
+pub mod Clashes
+pub mod Order
+pub mod Named
+pub mod Power
+pub mod Wires
+pub mod Marks
+pub mod Pairs
+pub mod Room

@@ -1,0 +1,219 @@
+// The checker's room and its public call.
+
+ghost use Rattle.std.specs.Prelude.{◌≡◌, ℕ, ◌+◌, ◌≤◌, OnOk, IfOk, IfErr, IfSome, IsOk, length};
+ghost use Rattle.std.specs.List.{All, filter};
+ghost use Rattle.soc_model.specs.declared.TestId.{TestId};
+ghost use Rattle.soc_model.specs.Chips.{soc_value, is_live, live_tests};
+ghost use Rattle.soc_model.specs.SoundChips.{IsSoundChip};
+ghost use Rattle.plan_model.specs.declared.TheConstants.{START_MOST};
+ghost use Rattle.plan_model.specs.Views.{limits_value, plan_value};
+ghost use Rattle.plan_model.specs.Faults.{IsFault, IsFaultless};
+ghost use Rattle.plan_model.specs.Right.{IsRight};
+ghost use Rattle.plan_model.specs.Rules.{IsBound};
+ghost use Rattle.plan_model.specs.Runs.{Content};
+ghost use Rattle.plan_model.specs.SoundLimits.{IsSoundLimits};
+ghost use Rattle.indexmap.specs.IndexMap.{index_map_len, spare as spare_places};
+ghost use Rattle.indexmap.specs.IndexSet.{keys, spare};
+ghost use Rattle.plan_checker.specs.FaultValues.{fault_value};
+ghost use Rattle.plan_checker.specs.Room.{HasRoom};
+
+use crate::PlanFault;
+use crate::jobs::{Job, NO_JOB};
+use crate::lookups::{module_at, module_count};
+use crate::verdict::check_rules;
+use bound_certificate::{BoundScratch, check_bound};
+use indexmap::{IndexMap, IndexSet};
+use outside::NoMemory;
+use plan_model::{Limits, Plan, faults_are_exact, good_plans_run_right};
+use soc_model::{Soc, Test, TestId, live};
+use std::alloc::Global;
+use std::marker::Model;
+
+/// Room for checking plans of a chip. Its model is the number of modules, of pairs of a module and a mode, and of live
+/// tests that there is room for.
+#[derive(Drop)]
+pub struct Scratch {
+    /// For each module the place of its bus.
+    marks: Vec<usize>,
+    /// For each module the place of its parent.
+    parents: Vec<usize>,
+    /// The pairs of a module and a mode that have a wrapper, in the order of the plan.
+    wrappers: IndexSet<(u64, bool)>,
+    /// The start of each test, in the order of the plan.
+    starts: IndexMap<TestId, u64>,
+    /// The live tests as the plan places them, in the order of the chip.
+    jobs: Vec<Job>,
+    /// Their names, in the same order.
+    names: IndexSet<TestId>,
+    /// For each of them the place of its profile in the limits.
+    profiles: Vec<usize>,
+    /// Room for the list of the certificate.
+    bound: BoundScratch,
+}
+
+impl Model for Scratch {
+    ghost use Rattle.std.specs.Prelude.{◌≡◌, ◌+◌, ◌≤◌, length};
+    ghost use Rattle.indexmap.specs.IndexMap.{index_map_len, spare as spare_places};
+    ghost use Rattle.indexmap.specs.IndexSet.{keys, spare};
+    ghost use Rattle.plan_checker.specs.Room.{RoomValue};
+
+    ghost Value = { RoomValue };
+
+    ghost view = { λ s. record {
+      modules = length s.marks.items;
+      pairs = length (keys s.wrappers) + spare s.wrappers;
+      tests = length s.jobs.items;
+    } };
+
+    ghost invariant = { λ s. (length s.parents.items ≡ length s.marks.items) × (length s.profiles.items ≡ length s.jobs.items)
+        × (length s.jobs.items ≤ index_map_len s.starts + spare_places s.starts) × (length s.jobs.items ≤ length (keys s.names) + spare s.names) };
+}
+
+/// The number of live tests of a list.
+fn live_in(tests: &[Test]) -> usize
+    ensures { result ≡ length (filter is_live tests.now) }
+{
+    tests.iter().filter(|test| live(test)).count()
+}
+
+/// The number of live tests of the chip. None comes only where it passes its type.
+fn live_count(soc: &Soc) -> Option<usize>
+    ensures { IfSome result (λ count. count ≡ length (live_tests (soc_value soc.now))) }
+{
+    let mut count: usize = 0;
+    for place in 0..module_count(soc) {
+        count = count.checked_add(live_in(&module_at(soc, place).tests))?;
+    }
+    Some(count)
+}
+
+/// So many places.
+fn place_room(alloc: Global, count: usize) -> Result<Vec<usize>, NoMemory>
+    ensures { IfOk result (λ room. length room.items ≡ count) }
+{
+    match Vec::from_elem(alloc, 0, count) {
+        Ok(room) => Ok(room),
+        Err(_) => Err(NoMemory),
+    }
+}
+
+/// So many jobs.
+fn job_room(alloc: Global, count: usize) -> Result<Vec<Job>, NoMemory>
+    ensures { IfOk result (λ room. length room.items ≡ count) }
+{
+    match Vec::from_elem(alloc, NO_JOB, count) {
+        Ok(room) => Ok(room),
+        Err(_) => Err(NoMemory),
+    }
+}
+
+/// Room for so many pairs of a module and a mode.
+fn pair_room(alloc: Global, count: usize) -> Result<IndexSet<(u64, bool)>, NoMemory>
+    ensures { IfOk result (λ room. count ≤ length (keys room) + spare room) }
+{
+    match IndexSet::with_capacity(alloc, count) {
+        Ok(room) => Ok(room),
+        Err(_) => Err(NoMemory),
+    }
+}
+
+/// Room for so many names.
+fn name_room(alloc: Global, count: usize) -> Result<IndexSet<TestId>, NoMemory>
+    ensures { IfOk result (λ room. count ≤ length (keys room) + spare room) }
+{
+    match IndexSet::with_capacity(alloc, count) {
+        Ok(room) => Ok(room),
+        Err(_) => Err(NoMemory),
+    }
+}
+
+/// Room for so many starts.
+fn start_room(alloc: Global, count: usize) -> Result<IndexMap<TestId, u64>, NoMemory>
+    ensures { IfOk result (λ room. count ≤ index_map_len room + spare_places room) }
+{
+    match IndexMap::with_capacity(alloc, count) {
+        Ok(room) => Ok(room),
+        Err(_) => Err(NoMemory),
+    }
+}
+
+impl Scratch {
+    /// Room for so many modules, pairs of a module and a mode, and live tests.
+    fn sized(
+        alloc: Global,
+        modules: usize,
+        pairs: usize,
+        tests: usize,
+        bound: BoundScratch,
+    ) -> Result<Scratch, NoMemory>
+        ensures { IfOk result (λ room. (room.modules ≡ modules) × (pairs ≤ room.pairs) × (room.tests ≡ tests)) }
+    {
+        Ok(Scratch {
+            marks: place_room(alloc, modules)?,
+            parents: place_room(alloc, modules)?,
+            wrappers: pair_room(alloc, pairs)?,
+            starts: start_room(alloc, tests)?,
+            jobs: job_room(alloc, tests)?,
+            names: name_room(alloc, tests)?,
+            profiles: place_room(alloc, tests)?,
+            bound,
+        })
+    }
+
+    /// Room for this chip and this plan, the list of its certificate included.
+    pub fn new(alloc: Global, soc: &Soc, plan: &Plan) -> Result<Scratch, NoMemory>
+        ensures { IfOk result (HasRoom (soc_value soc.now)) }
+    {
+        let bound = BoundScratch::new(alloc, &plan.bound)?;
+        let modules = module_count(soc);
+        let Some(pairs) = modules.checked_mul(2) else {
+            return Err(NoMemory);
+        };
+        let Some(tests) = live_count(soc) else {
+            return Err(NoMemory);
+        };
+        Scratch::sized(alloc, modules, pairs, tests, bound)
+    }
+}
+
+/// Whether the plan is good and its certificate accepted. Then it runs right for every content, and no good plan has
+/// fewer cycles than its certificate claims. Else the error is the first rule that the plan breaks, in their order, with
+/// what shows that first, and last the fault of the certificate. It takes no memory, and the room serves again.
+pub fn check_plan(
+    soc: &Soc,
+    limits: &Limits,
+    plan: &Plan,
+    room: &mut Scratch,
+) -> Result<(), PlanFault>
+    requires sound { IsSoundChip (soc_value soc.now) }
+    requires limits { IsSoundLimits (soc_value soc.now) (limits_value limits.now) }
+    requires early { All (λ (s : TestId × ℕ). s.1 ≤ START_MOST) plan.now.starts.items }
+    requires room { HasRoom (soc_value soc.now) room.old }
+    ensures ok { OnOk result (IsFaultless (soc_value soc.now) (limits_value limits.now) (plan_value plan.now)) }
+    ensures fault { IfErr result (λ f. IsFault (soc_value soc.now) (limits_value limits.now) (plan_value plan.now) (fault_value f)) }
+    ensures exact { IsFaultless (soc_value soc.now) (limits_value limits.now) (plan_value plan.now) → IsOk result }
+    ensures right { OnOk result ((content : Content) → IsRight (soc_value soc.now) (limits_value limits.now) (plan_value plan.now) content) }
+    ensures bound { OnOk result (IsBound (soc_value soc.now) (limits_value limits.now) (plan_value plan.now).bound.cycles) }
+    ensures room { HasRoom (soc_value soc.now) room.new }
+{
+    good_plans_run_right();
+    faults_are_exact();
+    match check_rules(
+        soc,
+        limits,
+        plan,
+        &mut room.marks,
+        &mut room.parents,
+        &mut room.wrappers,
+        &mut room.starts,
+        &mut room.jobs,
+        &mut room.names,
+        &mut room.profiles,
+    ) {
+        Some(fault) => Err(fault),
+        None => match check_bound(soc, limits, &plan.bound, &mut room.bound) {
+            Ok(()) => Ok(()),
+            Err(fault) => Err(PlanFault::Bound(fault)),
+        },
+    }
+}

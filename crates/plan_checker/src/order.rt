@@ -1,0 +1,76 @@
+// Precedences, and the cycles that a plan says it takes.
+
+ghost use Rattle.std.specs.Prelude.{◌≡◌, ℕ, ◌⊎◌, ◌≤◌, [], IsTrue, false, Some, slice_get};
+ghost use Rattle.soc_model.specs.declared.TestId.{TestId};
+ghost use Rattle.soc_model.specs.Chips.{SocValue};
+ghost use Rattle.plan_model.specs.Plans.{PlanValue, LimitsValue};
+ghost use Rattle.plan_model.specs.Rules.{Precedences, Cycles};
+ghost use Rattle.plan_checker.specs.declared.jobs.Job.{Job};
+ghost use Rattle.plan_checker.specs.Jobs.{jobs_of};
+ghost use Rattle.indexmap.specs.IndexSet.{keys};
+ghost use Rattle.plan_checker.specs.Named.{names_of, AllApart};
+ghost use Rattle.plan_checker.specs.Stages.{IsStage};
+ghost use Rattle.plan_checker.specs.Order.{AreInOrder, last_end};
+
+use crate::PlanFault;
+use crate::jobs::Job;
+use crate::named::job_named;
+use indexmap::IndexSet;
+use soc_model::TestId;
+
+/// Whether the first test has ended as the second starts, where both are live.
+fn in_order(jobs: &[Job], names: &IndexSet<TestId>, first: TestId, second: TestId) -> bool
+    requires named { keys names.now ≡ names_of jobs.now }
+    requires apart { AllApart (names_of jobs.now) }
+    ensures kept { IsTrue result → AreInOrder jobs.now [] (first, second) }
+    ensures broken { result ≡ false → AreInOrder jobs.now [] (first, second) → ⊥ }
+{
+    match job_named(jobs, names, first) {
+        None => true,
+        Some(before) => match job_named(jobs, names, second) {
+            None => true,
+            Some(after) => before.end <= after.start,
+        },
+    }
+}
+
+/// The precedences of the limits against the jobs of a plan.
+pub(crate) fn check_before(
+    before: &[(TestId, TestId)],
+    jobs: &[Job],
+    names: &IndexSet<TestId>,
+) -> Option<PlanFault>
+    requires named { keys names.now ≡ names_of jobs.now }
+    requires apart { AllApart (names_of jobs.now) }
+    ensures { (soc : SocValue) (limits : LimitsValue) (plan : PlanValue) → jobs.now ≡ jobs_of soc plan → before.now ≡ limits.before → IsStage soc limits plan Precedences result }
+{
+    for (a, b) in before {
+        if !in_order(jobs, names, *a, *b) {
+            return Some(PlanFault::Before { a: *a, b: *b });
+        }
+    }
+    None
+}
+
+/// The greatest end, 0 without jobs.
+fn latest(jobs: &[Job]) -> u64
+    ensures { result ≡ last_end jobs.now }
+{
+    let mut end: u64 = 0;
+    for job in jobs {
+        end = end.max(job.end);
+    }
+    end
+}
+
+/// The cycles that a plan says it takes against its jobs.
+pub(crate) fn check_cycles(cycles: u64, jobs: &[Job]) -> Option<PlanFault>
+    ensures { (soc : SocValue) (limits : LimitsValue) (plan : PlanValue) → jobs.now ≡ jobs_of soc plan → cycles ≡ plan.cycles → IsStage soc limits plan Cycles result }
+{
+    let right = latest(jobs);
+    if cycles == right {
+        None
+    } else {
+        Some(PlanFault::Cycles { right })
+    }
+}
