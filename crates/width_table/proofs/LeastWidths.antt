@@ -1,0 +1,221 @@
+-- The least of some numbers, from one width to the next.
+use Rattle.std.proofs.Common.{◌≡◌, ℕ, zero, suc, ◌+◌, ◌-◌, ◌^◌, ◌≤◌, ◌<◌, Some, List, [], ◌∷◌, ◌++◌, length, replicate, refl, ap, ◌∙◌, sym, arith, inl, inr, ◌⊎◌}
+use Rattle.std.specs.Prelude.{slice_get}
+use Rattle.std.proofs.lemmas.Bool.{cases_lt, cases_eq}
+use Rattle.std.proofs.lemmas.List.{length_push, length-replicate}
+use Rattle.plan_model.specs.Bounds.{least_from_one}
+use Rattle.width_table.specs.Times.{IsChosen}
+use Rattle.width_table.specs.Choices.{IsChoice, AreChoices}
+use Rattle.width_table.specs.declared.choosing.Choice.{Choice}
+use Rattle.width_table.specs.declared.rows.ModuleRow.{ModuleRow}
+use Rattle.std.proofs.Common.{Option, None, Bool, true, false}
+use Rattle.std.specs.Prelude.{IfSome}
+use Rattle.soc_model.specs.Chips.{ModuleValue, SocValue}
+use Rattle.plan_model.specs.Cells.{ChainValue}
+use Rattle.wrapper_design.specs.Design.{mode_of, design}
+use Rattle.width_table.specs.Times.{mode_time, time, time_in, least_time}
+use Rattle.width_table.specs.Choices.{AreRows, HasRows, choices_of}
+use Rattle.std.proofs.lemmas.Option.{slice_get_within, slice_get-get_or}
+use Rattle.std.proofs.Common.{get_or}
+
+pub chosen_first : (f : ℕ → ℕ) → IsChosen f 1 1
+chosen_first f = record { some = omega arith; within = omega arith; least = λ u a b. let e : u ≡ 1 = omega arith in let s : f u ≡ f 1 = ap f e in omega arith; first = λ u a b. absurd (omega arith) }
+
+pub chosen_new : (f : ℕ → ℕ) (w v n : ℕ) → n ≡ w + 1 → IsChosen f w v → f n < f v → IsChosen f n n
+chosen_new f w v n e h less = record {
+  some = omega arith;
+  within = omega arith;
+  least = λ u a b. elim (cases_eq u n) [
+    | inl s ↦ let t : f u ≡ f n = ap f s in omega arith
+    | inr ne ↦ let old : f v ≤ f u = h.least u a (omega (arith, ne)) in omega arith
+  ];
+  first = λ u a b. let old : f v ≤ f u = h.least u a (omega arith) in omega arith;
+}
+
+pub chosen_old : (f : ℕ → ℕ) (w v n : ℕ) → n ≡ w + 1 → IsChosen f w v → f v ≤ f n → IsChosen f n v
+chosen_old f w v n e h le = record {
+  some = h.some;
+  within = omega (arith, h.within);
+  least = λ u a b. elim (cases_eq u n) [
+    | inl s ↦ let t : f u ≡ f n = ap f s in omega arith
+    | inr ne ↦ h.least u a (omega (arith, ne))
+  ];
+  first = h.first;
+}
+
+pub chosen_unique : (f : ℕ → ℕ) (w v u : ℕ) → IsChosen f w v → IsChosen f w u → v ≡ u
+chosen_unique f w v u a b = elim (cases_lt v u) [
+  | inl less ↦ let x : f u < f v = b.first v a.some less in let y : f v ≤ f u = a.least u b.some b.within in absurd (omega arith)
+  | inr not_less ↦ elim (cases_lt u v) [
+    | inl less ↦ let x : f v < f u = a.first u b.some less in let y : f u ≤ f v = b.least v a.some a.within in absurd (omega arith)
+    | inr not_more ↦ omega arith
+  ]
+]
+
+-- ---- the least value
+
+least-le : (f : ℕ → ℕ) (w u : ℕ) → 1 ≤ u → u ≤ w → least_from_one f w ≤ f u
+least-le f zero u a b = absurd (omega arith)
+least-le f (suc zero) u a b = let e : u ≡ 1 = omega arith in let s : f u ≡ f 1 = ap f e in omega arith
+least-le f (suc (suc n)) u a b = elim (cases_eq u (suc (suc n))) [
+  | inl e ↦ let s : f u ≡ f (suc (suc n)) = ap f e in omega arith
+  | inr ne ↦ let ih : least_from_one f (suc n) ≤ f u = least-le f (suc n) u a (omega (arith, ne)) in omega arith
+]
+
+pub least-ge : (f : ℕ → ℕ) (b w : ℕ) → 1 ≤ w → ((u : ℕ) → 1 ≤ u → u ≤ w → b ≤ f u) → b ≤ least_from_one f w
+least-ge f b zero some h = absurd (omega arith)
+least-ge f b (suc zero) some h = h 1 (omega arith) (omega arith)
+least-ge f b (suc (suc n)) some h =
+    let last : b ≤ f (suc (suc n)) = h (suc (suc n)) (omega arith) (omega arith) in
+    let ih : b ≤ least_from_one f (suc n) = least-ge f b (suc n) (omega arith) (λ u x y. h u x (omega arith)) in
+    omega arith
+
+pub chosen_is_least : (f : ℕ → ℕ) (w v : ℕ) → IsChosen f w v → least_from_one f w ≡ f v
+chosen_is_least f w v h =
+    let up : least_from_one f w ≤ f v = least-le f w v h.some h.within in
+    let down : f v ≤ least_from_one f w = least-ge f (f v) w (omega (arith, h.some, h.within)) h.least in
+    omega arith
+
+pub least_falls : (f : ℕ → ℕ) (v w : ℕ) → 1 ≤ v → v ≤ w → least_from_one f w ≤ least_from_one f v
+least_falls f v w some le = least-ge f (least_from_one f w) v some (λ u a b. least-le f w u a (omega arith))
+
+-- ---- the list of choices
+
+pub get_push : {X : Type 0} (xs : List X) (x : X) (k : ℕ) (y : X) → slice_get (xs ++ x ∷ []) k ≡ Some y → ((k ≡ length xs) × (x ≡ y)) ⊎ (slice_get xs k ≡ Some y)
+get_push [] x zero y at = inl (refl, cc)
+get_push [] x (suc k) y at = absurd cc
+get_push (z ∷ zs) x zero y at = inr at
+get_push (z ∷ zs) x (suc k) y at = elim (get_push zs x k y at) [ inl h ↦ inl (ap suc h.0, h.1) | inr h ↦ inr h ]
+
+pub push_choice : (f : ℕ → ℕ) (w n : ℕ) (cs : List Choice) (c : Choice) → n ≡ w + 1 → AreChoices f w cs → IsChoice f n c → c.cycles ≤ 10 ^ 18 → AreChoices f n (cs ++ c ∷ [])
+push_choice f w n cs c e h now small = record {
+  size = length_push cs c ∙ omega (arith, h.size);
+  each = λ k d at. elim (get_push cs c k d at) [
+    | inl new ↦ let s : n ≡ k + 1 = omega (arith, h.size, new.0) in rw (← s, ← new.1) now
+    | inr old ↦ h.each k d old
+  ];
+  fits = λ k d at. elim (get_push cs c k d at) [
+    | inl new ↦ rw (← new.1) small
+    | inr old ↦ h.fits k d old
+  ];
+}
+
+-- where nothing takes any time, the first width is chosen
+get_replicate : {X : Type 0} (n : ℕ) (x : X) (k : ℕ) (y : X) → slice_get (replicate n x) k ≡ Some y → x ≡ y
+get_replicate zero x k y at = absurd cc
+get_replicate (suc n) x zero y at = cc
+get_replicate (suc n) x (suc k) y at = get_replicate n x k y at
+
+pub idle_choices : (f : ℕ → ℕ) (w : ℕ) → ((u : ℕ) → f u ≡ 0) → AreChoices f w (replicate w (record { cycles = 0; width = 1 }))
+idle_choices f w none = record {
+  size = length-replicate w (record { cycles = 0; width = 1 });
+  each = λ k c at. let e : record { cycles = 0; width = 1 } ≡ c = get_replicate w (record { cycles = 0; width = 1 }) k c at in rw (← e) (record {
+    chosen = record {
+      some = omega arith;
+      within = omega arith;
+      least = λ u a b. omega (arith, none 1, none u);
+      first = λ u a b. absurd (omega arith);
+    };
+    cycles = sym (none 1);
+  });
+  fits = λ k c at. let e : record { cycles = 0; width = 1 } ≡ c = get_replicate w (record { cycles = 0; width = 1 }) k c at in rw (← e) (omega arith);
+}
+
+-- the choice at a width, from the one before it
+pub choose : (f : ℕ → ℕ) (w cycles : ℕ) (old new : Choice) → 1 ≤ w → cycles ≡ f w → cycles ≤ 10 ^ 18 → (1 < w → IsChosen f (w - 1) old.width) → (1 < w → old.cycles ≡ f old.width) → (w ≤ 1 → old.cycles + 1 ≡ 2 ^ 64) →
+    ((cycles < old.cycles) × (new ≡ record { cycles = cycles; width = w })) ⊎ ((old.cycles ≤ cycles) × (new ≡ old)) → IsChosen f w new.width × (new.cycles ≡ f new.width)
+choose f w cycles old new some is small chosen same start (inl better) = rw better.1 (
+  elim (cases_lt 1 w) [
+    | inl later ↦
+        let before = chosen later in
+        let e : old.cycles ≡ f old.width = same later in
+        chosen_new f (w - 1) old.width w (omega arith) before (omega (arith, better.0))
+    | inr first ↦ let e : w ≡ 1 = omega arith in rw e (chosen_first f)
+  ],
+  is,
+)
+choose f w cycles old new some is small chosen same start (inr kept) = rw kept.1 (elim (cases_lt 1 w) [
+  | inl later ↦
+      let e : old.cycles ≡ f old.width = same later in
+      (chosen_old f (w - 1) old.width w (omega arith) (chosen later) (omega (arith, kept.0)), same later)
+  | inr first ↦ absurd (omega (arith, start first, kept.0))
+])
+
+-- the new choice takes no more than the one before
+pub chosen_fits : (w cycles : ℕ) (old new : Choice) → cycles ≤ 10 ^ 18 → ((cycles < old.cycles) × (new ≡ record { cycles = cycles; width = w })) ⊎ ((old.cycles ≤ cycles) × (new ≡ old)) → new.cycles ≤ 10 ^ 18
+chosen_fits w cycles old new small (inl better) = rw better.1 small
+chosen_fits w cycles old new small (inr kept) = rw kept.1 (omega (arith, kept.0))
+
+-- ---- the table
+
+if_some : {X : Type 0} (o : Option X) (P : X → Type 0) → ((x : X) → o ≡ Some x → P x) → IfSome o P
+if_some None P h = tt
+if_some (Some x) P h = h x refl
+
+-- what holds of the module at a place
+pub at_place : {X : Type 0} (xs : List X) (k : ℕ) (P : X → Type 0) → ((x : X) → slice_get xs k ≡ Some x → P x) → IfSome (slice_get xs k) P
+at_place xs k P h = if_some (slice_get xs k) P h
+
+pub push_row : (ms : List ModuleValue) (w k : ℕ) (rows : List ModuleRow) (m : ModuleValue) (r : ModuleRow) → length rows ≡ k → slice_get ms k ≡ Some m → AreRows ms w rows → AreChoices (mode_time m true) w r.scan.items → AreChoices (mode_time m false) w r.terminals.items → AreRows ms w (rows ++ r ∷ [])
+push_row ms w k rows m r e here h a b = record {
+  scan = λ p n s at at'. elim (get_push rows r p s at') [
+    | inl new ↦ let i : p ≡ k = new.0 ∙ e in let same : m ≡ n = same_at ms k p m n here (sym i) at in rw (← same, ← new.1) a
+    | inr old ↦ h.scan p n s at old
+  ];
+  terminals = λ p n s at at'. elim (get_push rows r p s at') [
+    | inl new ↦ let i : p ≡ k = new.0 ∙ e in let same : m ≡ n = same_at ms k p m n here (sym i) at in rw (← same, ← new.1) b
+    | inr old ↦ h.terminals p n s at old
+  ];
+} where
+  same_at : (ms : List ModuleValue) (k p : ℕ) (m n : ModuleValue) → slice_get ms k ≡ Some m → k ≡ p → slice_get ms p ≡ Some n → m ≡ n
+  same_at ms k p m n here i at = let t : slice_get ms k ≡ Some n = ap (slice_get ms) i ∙ at in cc
+
+choices_in_row : (soc : SocValue) (w : ℕ) (rows : List ModuleRow) (place : ℕ) (scan : Bool) (r : ModuleRow) (m : ModuleValue) → HasRows soc w rows → slice_get soc.modules place ≡ Some m → slice_get rows place ≡ Some r → AreChoices (mode_time m scan) w (choices_of scan r)
+choices_in_row soc w rows place true r m t at at' = t.rows_are.scan place m r at at'
+choices_in_row soc w rows place false r m t at at' = t.rows_are.terminals place m r at at'
+
+row_at : (rows : List ModuleRow) (place : ℕ) (r : ModuleRow) → r ≡ get_or rows place r → place < length rows → slice_get rows place ≡ Some r
+row_at rows place r e h = slice_get-get_or rows place r h ∙ ap Some (sym e)
+
+-- the row that is read has the choices of the module at the place
+pub row_choices : (soc : SocValue) (w : ℕ) (rows : List ModuleRow) (place : ℕ) (scan : Bool) (r : ModuleRow) (m : ModuleValue) → HasRows soc w rows → slice_get soc.modules place ≡ Some m → r ≡ get_or rows place r → AreChoices (mode_time m scan) w (choices_of scan r)
+row_choices soc w rows place scan r m t at e = choices_in_row soc w rows place scan r m t at (row_at rows place r e (omega (arith, t.as_many, slice_get_within soc.modules place m at)))
+
+pub module_there : (soc : SocValue) (place : ℕ) → place < length soc.modules → (m : ModuleValue) × (slice_get soc.modules place ≡ Some m)
+module_there soc place h = go soc.modules place h where
+  go : (ms : List ModuleValue) (k : ℕ) → k < length ms → (m : ModuleValue) × (slice_get ms k ≡ Some m)
+  go [] k h = absurd (omega arith)
+  go (m ∷ ms) zero h = (m, refl)
+  go (m ∷ ms) (suc k) h = go ms k (omega arith)
+
+pub choice_read : (f : ℕ → ℕ) (w width k : ℕ) (cs : List Choice) (c d : Choice) → AreChoices f w cs → c ≡ get_or cs k d → k + 1 ≡ width → width ≤ w → IsChoice f width c × (c.cycles ≤ 10 ^ 18)
+choice_read f w width k cs c d h e is le =
+    let at : slice_get cs k ≡ Some c = slice_get-get_or cs k d (omega (arith, h.size)) ∙ ap Some (sym e) in
+    (rw (← is) (h.each k c at), h.fits k c at)
+
+-- ---- both modes together
+
+pub time_from : (m : ModuleValue) (w : ℕ) (a b : Choice) → IsChoice (mode_time m true) w a → IsChoice (mode_time m false) w b → a.cycles + b.cycles ≡ time m w
+unfolding time
+time_from m w a b x y = omega (arith, x.cycles, y.cycles, chosen_is_least (mode_time m true) w a.width x.chosen, chosen_is_least (mode_time m false) w b.width y.chosen)
+
+pub time_falls : (m : ModuleValue) (v w : ℕ) → 1 ≤ v → v ≤ w → time m w ≤ time m v
+unfolding time
+time_falls m v w some le = omega (arith, least_falls (mode_time m true) v w some le, least_falls (mode_time m false) v w some le)
+
+pub cycles_at_chosen : (f : ℕ → ℕ) (w v : ℕ) (c : Choice) → IsChoice f w c → IsChosen f w v → c.cycles ≡ f v
+cycles_at_chosen f w v c x h = let e : c.width ≡ v = chosen_unique f w c.width v x.chosen h in x.cycles ∙ ap f e
+
+both_some : {X : Type 0} (o : Option X) (P Q R : X → Type 0) → IfSome o P → IfSome o Q → ((x : X) → P x → Q x → R x) → IfSome o R
+both_some None P Q R p q h = tt
+both_some (Some x) P Q R p q h = h x p q
+
+pub both_at : {X : Type 0} (xs : List X) (k : ℕ) (P Q R : X → Type 0) → IfSome (slice_get xs k) P → IfSome (slice_get xs k) Q → ((x : X) → P x → Q x → R x) → IfSome (slice_get xs k) R
+both_at xs k P Q R p q h = both_some (slice_get xs k) P Q R p q h
+
+-- in the design at the chosen width the mode's tests take the least time
+pub wrapper_attains : (ms : List ModuleValue) (place : ℕ) (scan : Bool) (width v : ℕ) (own : ModuleValue) (chains : List ChainValue) → slice_get ms place ≡ Some own → IfSome (slice_get ms place) (λ m. IsChosen (mode_time m scan) width v) → chains ≡ design (mode_of own scan) v → IfSome (slice_get ms place) (λ m. time_in m scan chains ≡ least_time m scan width)
+unfolding mode_time
+wrapper_attains ms place scan width v own chains at chosen is =
+    let here : IsChosen (mode_time own scan) width v = rw at at chosen in
+    rw at (ap (time_in own scan) is ∙ sym (chosen_is_least (mode_time own scan) width v here))

@@ -1,0 +1,5 @@
+pub mod Work
+pub mod LeastWidths
+pub mod TableLaws
+pub mod WorkedRows
+pub mod TestChips

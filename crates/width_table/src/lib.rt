@@ -1,0 +1,149 @@
+// The times of the modules of a chip on buses of 1 to so many wires, and the widths whose designs are taken (after the
+// widths of TR-ARCHITECT, Goel and Marinissen 2002). A wider bus may leave wires unused, so no time grows with the width.
+//
+// Times are in cycles, widths in wires; modules go by their places in the chip, from 0.
+#![tactic(auto)]
+
+ghost use Rattle.std.specs.Prelude.{◌≡◌, ℕ, ◌+◌, ◌^◌, ◌<◌, ◌≤◌, length, slice_get, IfOk, IfSome, true, false};
+ghost use Rattle.soc_model.specs.Chips.{soc_value};
+ghost use Rattle.soc_model.specs.SoundChips.{IsSoundChip};
+ghost use Rattle.plan_model.specs.Views.{wrapper_value};
+ghost use Rattle.plan_model.specs.Cells.{IsProper};
+ghost use Rattle.wrapper_design.specs.Design.{mode_of, design};
+ghost use Rattle.wrapper_design.specs.Balance.{IsBalanced};
+ghost use Rattle.width_table.specs.Times.{mode_time, time_in, least_time, IsChosen};
+ghost use Rattle.width_table.specs.Tables.{TableValue, IsTable, places_of, time_of, has_tam};
+ghost use Rattle.width_table.specs.Choices.{IsChoice};
+
+mod choosing;
+mod rows;
+
+use choosing::Choice;
+use outside::NoMemory;
+use plan_model::Wrapper;
+use rows::{ModuleRow, module_at, rows_of};
+use soc_model::Soc;
+use std::alloc::Global;
+use std::marker::Model;
+use wrapper_design::design;
+
+/// The times of all modules of a chip on 1 to so many wires, and the widths whose designs are taken.
+#[derive(Drop)]
+pub struct WidthTable<'a> {
+    soc: &'a Soc,
+    wires: u64,
+    rows: Vec<ModuleRow>,
+}
+
+impl<'a> Model for WidthTable<'a> {
+    ghost use Rattle.soc_model.specs.Chips.{soc_value};
+    ghost use Rattle.width_table.specs.Tables.{TableValue};
+    ghost use Rattle.width_table.specs.Choices.{HasRows};
+
+    ghost Value = { TableValue };
+
+    ghost view = { λ t. record { soc = soc_value t.soc.now; wires = t.wires } };
+
+    ghost invariant = { λ t. HasRows (soc_value t.soc.now) t.wires t.rows.items };
+}
+
+impl<'a> WidthTable<'a> {
+    /// Takes the times of all modules of the chip at all widths from 1 to `wires`. `NoMemory` where memory runs out.
+    pub fn new(alloc: Global, soc: &'a Soc, wires: u64) -> Result<WidthTable<'a>, NoMemory>
+        requires sound { IsSoundChip (soc_value soc.now) }
+        requires some { 1 ≤ wires }
+        requires few { wires ≤ 256 }
+        ensures value { IfOk result (λ t. t ≡ record { soc = soc_value soc.now; wires = wires }) }
+    {
+        match rows_of(alloc, soc, wires) {
+            Ok(rows) => Ok(WidthTable { soc, wires, rows }),
+            Err(_) => Err(NoMemory),
+        }
+    }
+
+    /// The wires of the table.
+    pub fn wires(&self) -> u64
+        ensures value { result ≡ self.now.wires }
+        ensures table { IsTable self.now }
+    {
+        self.wires
+    }
+
+    /// The number of modules of the chip.
+    pub fn places(&self) -> usize
+        ensures value { result ≡ places_of self.now }
+        ensures table { IsTable self.now }
+    {
+        self.soc.modules.len()
+    }
+
+    /// The choice for a mode of the module at a place on a bus of a width.
+    fn choice(&self, place: usize, scan: bool, width: u64) -> Choice
+        requires place { place < places_of self.now }
+        requires some { 1 ≤ width }
+        requires within { width ≤ self.now.wires }
+        ensures choice { IfSome (slice_get self.now.soc.modules place) (λ m. IsChoice (mode_time m scan) width result) }
+        ensures fits { result.cycles ≤ 10 ^ 18 }
+    {
+        let choices = self.rows[place].choices(scan);
+        choices[(width - 1) as usize]
+    }
+
+    /// The cycles of all tests over the wires of the module at a place, one after another, on a bus of a width: in each
+    /// mode in the wrapper that takes the fewest. It never grows with the width, and takes no memory.
+    pub fn time(&self, place: usize, width: u64) -> u64
+        requires place { place < places_of self.now }
+        requires some { 1 ≤ width }
+        requires within { width ≤ self.now.wires }
+        ensures time { result ≡ time_of self.now place width }
+        ensures falls { (v : ℕ) → 1 ≤ v → v ≤ width → result ≤ time_of self.now place v }
+        ensures attained { IfSome (slice_get self.now.soc.modules place) (λ m. (v u : ℕ) → IsChosen (mode_time m true) width v → IsChosen (mode_time m false) width u → result ≡ mode_time m true v + mode_time m false u) }
+    {
+        self.choice(place, true, width).cycles + self.choice(place, false, width).cycles
+    }
+
+    /// Whether the module at a place has a live test over the wires. It takes no memory.
+    pub fn has_tam_test(&self, place: usize) -> bool
+        requires place { place < places_of self.now }
+        ensures tam { result ≡ has_tam self.now place }
+    {
+        self.time(place, self.wires) > 0
+    }
+
+    /// The width up to the bus's whose design is taken for a mode of the module at a place: the least one that takes the
+    /// fewest cycles. It takes no memory.
+    pub fn chosen(&self, place: usize, scan: bool, width: u64) -> u64
+        requires place { place < places_of self.now }
+        requires some { 1 ≤ width }
+        requires within { width ≤ self.now.wires }
+        ensures chosen { IfSome (slice_get self.now.soc.modules place) (λ m. IsChosen (mode_time m scan) width result) }
+    {
+        self.choice(place, scan, width).width
+    }
+
+    /// The wrapper for a mode of the module at a place on a bus of a width: the design at the chosen width. The tests of
+    /// the mode take the fewest cycles in it. `NoMemory` where memory runs out.
+    pub fn wrapper(
+        &self,
+        alloc: Global,
+        place: usize,
+        scan: bool,
+        width: u64,
+    ) -> Result<Wrapper, NoMemory>
+        requires place { place < places_of self.now }
+        requires some { 1 ≤ width }
+        requires within { width ≤ self.now.wires }
+        ensures designed { IfOk result (λ w. IfSome (slice_get self.now.soc.modules place) (λ m. (v : ℕ) → IsChosen (mode_time m scan) width v → wrapper_value w ≡ record { «module» = m.number; scan = scan; chains = design (mode_of m scan) v })) }
+        ensures proper { IfOk result (λ w. IfSome (slice_get self.now.soc.modules place) (λ m. IsProper m scan (wrapper_value w).chains)) }
+        ensures balanced { IfOk result (λ w. IfSome (slice_get self.now.soc.modules place) (λ m. IsBalanced (mode_of m scan) (wrapper_value w).chains)) }
+        ensures some_chain { IfOk result (λ w. 1 ≤ length (wrapper_value w).chains) }
+        ensures few_chains { IfOk result (λ w. length (wrapper_value w).chains ≤ width) }
+        ensures attained { IfOk result (λ w. IfSome (slice_get self.now.soc.modules place) (λ m. time_in m scan (wrapper_value w).chains ≡ least_time m scan width)) }
+    {
+        let chosen = self.chosen(place, scan, width);
+        design(alloc, module_at(self.soc, place), scan, chosen)
+    }
+}
+
+#[cfg(test)]
+mod tests;

@@ -1,0 +1,10 @@
+pub mod Parts
+pub mod Filled
+pub mod Laws
+pub mod OneOrder
+pub mod Heap
+pub mod Follow
+pub mod Chains
+pub mod Limits
+pub mod Shortest
+pub mod Rows

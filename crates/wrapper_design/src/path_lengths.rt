@@ -1,0 +1,87 @@
+// The longest scan-in and scan-out paths of the designs of one mode, at any width, without the wrappers.
+ghost use Rattle.std.specs.Prelude.{◌≡◌, ◌+◌, ◌^◌, ◌≤◌, IfOk};
+ghost use Rattle.std.specs.List.{sum};
+ghost use Rattle.soc_model.specs.Chips.{module_value};
+ghost use Rattle.plan_model.specs.Listing.{module_size};
+ghost use Rattle.wrapper_design.specs.Design.{mode_of, design, longest_part};
+ghost use Rattle.wrapper_design.specs.Balance.{in_length_of, out_length_of};
+
+use crate::dealing::level;
+use crate::loads::longest_part;
+use crate::order::{ScanChain, flops_of, longest_first, mode_chains};
+use soc_model::Module;
+use std::alloc::{AllocError, Global};
+use std::marker::Model;
+
+/// What the path lengths of one mode of a module are taken from, at any widths: its scan chains in their order and its
+/// cells. No wrapper is made.
+#[derive(Drop)]
+pub struct PathLengths<'a> {
+    lengths: &'a [u64],
+    order: Vec<ScanChain>,
+    loads: Vec<u64>,
+    flops: u64,
+    ins: u64,
+    outs: u64,
+}
+
+impl<'a> Model for PathLengths<'a> {
+    ghost use Rattle.wrapper_design.specs.Design.{Mode};
+    ghost use Rattle.wrapper_design.specs.Loads.{IsPrepared};
+
+    ghost Value = { Mode };
+
+    ghost view = { λ d. record { lengths = d.lengths.now; ins = d.ins; outs = d.outs } };
+
+    ghost invariant = { λ d. IsPrepared d.lengths.now d.order.items d.flops d.ins d.outs };
+}
+
+impl<'a> PathLengths<'a> {
+    /// Takes the scan chains of the mode (the scan mode, or else the one over the terminals alone) in their order.
+    /// `AllocError` where memory runs out.
+    pub fn new(alloc: Global, module: &'a Module, scan: bool) -> Result<PathLengths<'a>, AllocError>
+        requires { module_size (module_value «module».now) ≤ 10 ^ 18 }
+        ensures { IfOk result (λ d. d ≡ mode_of (module_value «module».now) scan) }
+    {
+        let lengths = mode_chains(module, scan);
+        let order = longest_first(alloc, lengths)?;
+        let flops = flops_of(lengths);
+        Ok(PathLengths {
+            lengths,
+            order,
+            loads: Vec::new(alloc),
+            flops,
+            ins: module.inputs + module.bidirs,
+            outs: module.outputs + module.bidirs,
+        })
+    }
+
+    /// The longest scan length of the design on `width` wires.
+    fn longest(&mut self, width: u64) -> Result<u64, AllocError>
+        requires some_wire { 1 ≤ width }
+        requires few_wires { width ≤ 256 }
+        ensures kept { self.new ≡ self.old }
+        ensures longest { IfOk result (λ longest. longest ≡ longest_part self.old.lengths width) }
+    {
+        self.loads.clear();
+        self.loads.resize(width as usize, 0)?;
+        Ok(longest_part(&self.order, &mut self.loads))
+    }
+
+    /// The greatest in-length and the greatest out-length of the design on `width` wires, in cells. `AllocError` where
+    /// memory runs out.
+    pub fn at(&mut self, width: u64) -> Result<(u64, u64), AllocError>
+        requires some_wire { 1 ≤ width }
+        requires few_wires { width ≤ 256 }
+        ensures kept { self.new ≡ self.old }
+        ensures si { IfOk result (λ r. r.0 ≡ in_length_of self.old (design self.old width)) }
+        ensures so { IfOk result (λ r. r.1 ≡ out_length_of self.old (design self.old width)) }
+        ensures si_bounded { IfOk result (λ r. r.0 ≤ self.old.ins + sum self.old.lengths) }
+        ensures so_bounded { IfOk result (λ r. r.1 ≤ self.old.outs + sum self.old.lengths) }
+    {
+        let longest = self.longest(width)?;
+        let si = level(longest, self.ins, self.flops, width);
+        let so = level(longest, self.outs, self.flops, width);
+        Ok((si, so))
+    }
+}
