@@ -1,0 +1,44 @@
+// Merging one bus into another.
+ghost use Rattle.std.specs.Prelude.{◌≡◌, ◌≢◌, ℕ, ◌+◌, ◌-◌, ◌<◌, ◌≤◌, List, length, map, min, All, IfOk, OnOk, vec_len, vec_capacity};
+ghost use Rattle.std.specs.List.{IsFirstMaxByKey};
+ghost use Rattle.width_table.specs.Tables.{TableValue, IsTable};
+ghost use Rattle.bus_model.specs.Buses.{BusValue, bus_value, arch_value, bus_at, places_time, bus_time_of, cost_of, spread_of};
+ghost use Rattle.bus_model.specs.Sound.{IsSoundBus, IsSoundArch, wires_used};
+ghost use Rattle.arch_settle.specs.Neighbours.{joined_at, merged};
+
+use crate::growing::extend_from_slice;
+use bus_model::{Arch, spread};
+use outside::NoMemory;
+use width_table::WidthTable;
+
+/// Merges a bus into another and spreads the smaller of their widths.
+pub fn merge(table: &WidthTable, arch: &mut Arch, from: usize, into: usize) -> Result<(), NoMemory>
+    requires sound { IsSoundArch table.now (arch_value arch.old) }
+    requires from { from < length (arch_value arch.old) }
+    requires into { into < length (arch_value arch.old) }
+    requires differ { from ≢ into }
+    ensures value { OnOk result (arch_value arch.new ≡ merged table.now (arch_value arch.old) from into) }
+    ensures sound { OnOk result (IsSoundArch table.now (arch_value arch.new)) }
+{
+    let smaller = join(arch, from, into)?;
+    spread(table, arch, smaller);
+    Ok(())
+}
+
+/// Puts the modules of a bus after those of another, which takes the greater width, and removes the bus. Answers the
+/// smaller width, the wires that are free by then.
+fn join(arch: &mut Arch, from: usize, into: usize) -> Result<u64, NoMemory>
+    requires from { from < length (arch_value arch.old) }
+    requires into { into < length (arch_value arch.old) }
+    requires differ { from ≢ into }
+    ensures value { OnOk result (arch_value arch.new ≡ joined_at (arch_value arch.old) from into) }
+    ensures smaller { IfOk result (λ n. n ≡ min (bus_at (arch_value arch.old) from).width (bus_at (arch_value arch.old) into).width) }
+{
+    let gone = arch.buses.remove(from);
+    let at = if into < from { into } else { into - 1 };
+    let bus = &mut arch.buses[at];
+    extend_from_slice(&mut bus.places, gone.places.as_slice())?;
+    let smaller = bus.width.min(gone.width);
+    bus.width = bus.width.max(gone.width);
+    Ok(smaller)
+}

@@ -1,0 +1,191 @@
+// What a merge would cost, from the widths and times of the buses alone: no candidate is made.
+ghost use Rattle.std.specs.Prelude.{◌≡◌, ◌≢◌, ℕ, ◌+◌, ◌-◌, ◌^◌, ◌<◌, ◌≤◌, List, length, map, min, max, All, IfOk, OnOk, vec_len};
+ghost use Rattle.std.specs.List.{IsFirstMaxByKey};
+ghost use Rattle.width_table.specs.Tables.{TableValue, IsTable};
+ghost use Rattle.bus_model.specs.Buses.{BusValue, bus_value, arch_value, bus_at, places_time, bus_time_of, cost_of, spread_of};
+ghost use Rattle.bus_model.specs.Sound.{IsSoundBus, IsSoundArch, wires_used};
+ghost use Rattle.arch_settle.specs.Neighbours.{joined_at, merged};
+ghost use Rattle.arch_settle.specs.Loads.{AreLoads, IsHeldIn, held_places, load_value, loads_value};
+
+use crate::growing::{extend_from_slice, push};
+use bus_model::{Arch, bus_time, time_at};
+use outside::NoMemory;
+use std::alloc::Global;
+use width_table::WidthTable;
+
+/// Whose modules a bus of a candidate has: those of one bus, by its place, or of the two that are merged.
+#[derive(Clone, Copy)]
+pub(crate) enum Held {
+    One(usize),
+    Both,
+}
+
+/// A bus of a candidate: whose modules it has, its width in wires and its time in cycles.
+#[derive(Clone, Copy)]
+pub(crate) struct Load {
+    pub held: Held,
+    pub width: u64,
+    pub time: u64,
+}
+
+/// The first load of greatest time.
+fn slowest(loads: &[Load]) -> usize
+    requires { 0 < length loads.now }
+    ensures { IsFirstMaxByKey (λ load. load.time) loads.now (length loads.now) result }
+{
+    let mut at = 0;
+    let mut most = loads[0].time;
+    for i in 1..loads.len() {
+        let time = loads[i].time;
+        if most < time {
+            at = i;
+            most = time;
+        }
+    }
+    at
+}
+
+/// The time of a bus's modules at a width, in cycles.
+fn time_on(table: &WidthTable, arch: &Arch, bus: usize, width: u64) -> u64
+    requires sound { IsSoundArch table.now (arch_value arch.now) }
+    requires bus { bus < length (arch_value arch.now) }
+    requires some { 1 ≤ width }
+    requires width { width ≤ table.now.wires }
+    ensures value { result ≡ places_time table.now width (bus_at (arch_value arch.now) bus).places }
+    ensures bound { result ≤ 10 ^ 18 }
+{
+    // the call tells what every table keeps
+    let _wires = table.wires();
+    time_at(table, arch.buses[bus].places.as_slice(), width)
+}
+
+/// The time of the modules of a candidate's bus at a width, in cycles.
+fn held_time(
+    table: &WidthTable,
+    arch: &Arch,
+    from: usize,
+    into: usize,
+    held: Held,
+    width: u64,
+) -> u64
+    requires sound { IsSoundArch table.now (arch_value arch.now) }
+    requires from { from < length (arch_value arch.now) }
+    requires into { into < length (arch_value arch.now) }
+    requires held { IsHeldIn (arch_value arch.now) held }
+    requires some { 1 ≤ width }
+    requires width { width ≤ table.now.wires }
+    ensures { result ≡ places_time table.now width (held_places (arch_value arch.now) from into held) }
+{
+    match held {
+        Held::One(bus) => time_on(table, arch, bus, width),
+        Held::Both => time_on(table, arch, into, width) + time_on(table, arch, from, width),
+    }
+}
+
+/// Gives the slowest load one wire more.
+fn widen_slowest(table: &WidthTable, arch: &Arch, from: usize, into: usize, loads: &mut Vec<Load>)
+    requires sound { IsSoundArch table.now (arch_value arch.now) }
+    requires from { from < length (arch_value arch.now) }
+    requires into { into < length (arch_value arch.now) }
+    requires loads { AreLoads table.now (arch_value arch.now) from into loads.old.items }
+    requires some { 0 < vec_len loads.old }
+    requires fits { IsSoundArch table.now (loads_value (arch_value arch.now) from into loads.old.items) }
+    requires free { wires_used (loads_value (arch_value arch.now) from into loads.old.items) + 1 ≤ table.now.wires }
+    ensures value { loads_value (arch_value arch.now) from into loads.new.items ≡ spread_of table.now 1 (loads_value (arch_value arch.now) from into loads.old.items) }
+    ensures loads { AreLoads table.now (arch_value arch.now) from into loads.new.items }
+    ensures count { vec_len loads.new ≡ vec_len loads.old }
+    ensures sound { IsSoundArch table.now (loads_value (arch_value arch.now) from into loads.new.items) }
+    ensures used { wires_used (loads_value (arch_value arch.now) from into loads.new.items) ≡ wires_used (loads_value (arch_value arch.now) from into loads.old.items) + 1 }
+{
+    // the call tells what every table keeps
+    let _wires = table.wires();
+    let at = slowest(loads.as_slice());
+    let load = loads[at];
+    let width = load.width + 1;
+    let time = held_time(table, arch, from, into, load.held, width);
+    loads[at] = Load {
+        held: load.held,
+        width,
+        time,
+    };
+}
+
+/// The cost in cycles once so many wires are spread over the loads.
+fn spread_cost(
+    table: &WidthTable,
+    arch: &Arch,
+    from: usize,
+    into: usize,
+    loads: &mut Vec<Load>,
+    wires: u64,
+) -> u64
+    requires sound { IsSoundArch table.now (arch_value arch.now) }
+    requires from { from < length (arch_value arch.now) }
+    requires into { into < length (arch_value arch.now) }
+    requires loads { AreLoads table.now (arch_value arch.now) from into loads.old.items }
+    requires some { 0 < vec_len loads.old }
+    requires fits { IsSoundArch table.now (loads_value (arch_value arch.now) from into loads.old.items) }
+    requires free { wires_used (loads_value (arch_value arch.now) from into loads.old.items) + wires ≤ table.now.wires }
+    ensures { result ≡ cost_of table.now (spread_of table.now wires (loads_value (arch_value arch.now) from into loads.old.items)) }
+{
+    for _given in 0..wires {
+        widen_slowest(table, arch, from, into, loads);
+    }
+    let at = slowest(loads.as_slice());
+    loads[at].time
+}
+
+/// The loads of the buses as they are.
+pub(crate) fn loads_of(
+    alloc: Global,
+    table: &WidthTable,
+    arch: &Arch,
+) -> Result<Vec<Load>, NoMemory>
+    requires sound { IsSoundArch table.now (arch_value arch.now) }
+    ensures value { IfOk result (λ loads. (from into : ℕ) → loads_value (arch_value arch.now) from into loads.items ≡ arch_value arch.now) }
+    ensures loads { IfOk result (λ loads. (from into : ℕ) → AreLoads table.now (arch_value arch.now) from into loads.items) }
+{
+    let mut loads = Vec::new(alloc);
+    for (at, bus) in arch.buses.iter().enumerate() {
+        let load = Load {
+            held: Held::One(at),
+            width: bus.width,
+            time: bus_time(table, bus),
+        };
+        push(&mut loads, load)?;
+    }
+    Ok(loads)
+}
+
+/// The cost in cycles once a bus is merged into another, by the loads of the buses as they are. `room` may hold
+/// anything; with room for the loads no memory is taken.
+pub(crate) fn merged_cost(
+    table: &WidthTable,
+    arch: &Arch,
+    from: usize,
+    into: usize,
+    loads: &[Load],
+    room: &mut Vec<Load>,
+) -> Result<u64, NoMemory>
+    requires sound { IsSoundArch table.now (arch_value arch.now) }
+    requires from { from < length (arch_value arch.now) }
+    requires into { into < length (arch_value arch.now) }
+    requires differ { from ≢ into }
+    requires value { loads_value (arch_value arch.now) from into loads.now ≡ arch_value arch.now }
+    requires loads { AreLoads table.now (arch_value arch.now) from into loads.now }
+    ensures { IfOk result (λ n. n ≡ cost_of table.now (merged table.now (arch_value arch.now) from into)) }
+{
+    let own = arch.buses[into].width;
+    let further = arch.buses[from].width;
+    let width = own.max(further);
+    let time = held_time(table, arch, from, into, Held::Both, width);
+    room.clear();
+    extend_from_slice(room, loads)?;
+    room[into] = Load {
+        held: Held::Both,
+        width,
+        time,
+    };
+    let _gone = room.remove(from);
+    Ok(spread_cost(table, arch, from, into, room, further.min(own)))
+}
