@@ -1,0 +1,99 @@
+-- Where a test fits, by what a table keeps.
+use Rattle.std.proofs.Common.{◌≡◌, ℕ, ◌+◌, ◌*◌, ◌<◌, ◌≤◌, ◌^◌, Option, Some, List, [], ◌∷◌, length, get_or, map, arith, sym, ap, ◌∙◌, subst}
+use Rattle.std.specs.Prelude.{slice_get, IfSome}
+use Rattle.std.specs.List.{All, sum_by}
+use Rattle.std.specs.Global.{Vec}
+use Rattle.std.proofs.lemmas.List.{length-map}
+use Rattle.std.proofs.lemmas.Option.{slice_get-get_or, get_or_from_slice_get}
+use Rattle.std.proofs.lemmas.List.Elements.{All-head, All-tail}
+use Rattle.std.proofs.lemmas.List.Sums.{sum_by-cons}
+use Rattle.smallvec.specs.SmallVec.{SmallVec}
+use Rattle.soc_model.specs.declared.TheConstants.{POWER_MOST, NUMBER_WORD_MOST}
+use Rattle.resource_table.specs.declared.JobTest.{JobTest}
+use Rattle.resource_table.specs.declared.Placement.{Placement}
+use Rattle.resource_table.specs.declared.busy.Needs.{Needs}
+use Rattle.resource_table.specs.declared.busy.Busy.{Busy}
+use Rattle.resource_table.specs.declared.power.Draw.{Draw}
+use Rattle.resource_table.specs.Jobs.{TestValue, JobValue, test_value, test_at, no_test, cycles_of, IsSoundTest}
+use Rattle.resource_table.specs.Schedules.{needs_of, last_end, MeetsNone, StaysWithin}
+use Rattle.resource_table.specs.Resources.{IsApart, load_of, StepsFit}
+use Rattle.resource_table.specs.Kept.{IsKept}
+use Rattle.resource_table.proofs.Fitting.{in_map, apart_from_meets, meets_from_apart, times_end, draws_ended, last_small, cycles_small, steps_from_within, within_from_steps}
+
+-- a test that was read is the one of the job
+pub wanted_is : (tests : List JobTest) (test : ℕ) (r : JobTest) → test < length (map test_value tests) → r ≡ get_or tests test r → test_value r ≡ get_or (map test_value tests) test no_test
+wanted_is tests test r inside is =
+    let lt : test < length tests = omega (arith, length-map tests test_value) in
+    let there : slice_get tests test ≡ Some r = slice_get-get_or tests test r lt ∙ ap Some (sym is) in
+    sym (get_or_from_slice_get (map test_value tests) test (test_value r) no_test (in_map test_value tests test r there))
+
+module _ (job : JobValue) (trail : SmallVec Placement) (ends : Vec (Option ℕ)) (busy : Vec Busy) (draws : Vec Draw) (kept : IsKept job trail ends busy draws) (test : ℕ) (inside : test < length job.tests) (wanted : TestValue) (wanted_at : wanted ≡ test_at job test) where
+  -- ---- numbers
+
+  pub short_enough : (last : ℕ) → last ≡ last_end job trail.items → last + wanted.cycles ≤ 2 * 10 ^ 18
+  short_enough last is =
+      let most = last_small (record { job = job; placed = trail.items }) kept.sound in
+      let length' = cycles_small job test kept.sound.job inside in
+      let same : wanted.cycles ≡ cycles_of job test = ap (λ (t : TestValue). t.cycles) wanted_at in
+      omega arith
+
+  -- ---- busy times
+
+  pub times_ended : (times : List Busy) (last : ℕ) → times ≡ busy.items → last ≡ last_end job trail.items → All (λ (b : Busy). b.to ≤ last) times
+  times_ended times last times_is is =
+      subst (λ (v : ℕ). All (λ (b : Busy). b.to ≤ v) times) (sym is) (subst (λ (v : List Busy). All (λ (b : Busy). b.to ≤ last_end job trail.items) v) (sym (times_is ∙ kept.busy_are)) (times_end job trail.items))
+
+  pub apart_here : (start : ℕ) (needs : Needs) (times : List Busy) → needs ≡ needs_of wanted → times ≡ busy.items → MeetsNone job trail.items test start → All (IsApart needs wanted.cycles start) times
+  apart_here start needs times needs_is times_is meets =
+      let lasts = (kept.sound.job.tests test no_test inside).lasts in
+      let base = apart_from_meets (record { job = job; placed = trail.items }) test start kept.sound lasts meets in
+      subst (λ (n : Needs). All (IsApart n wanted.cycles start) times) (sym needs_is)
+      (subst (λ (w : TestValue). All (IsApart (needs_of w) w.cycles start) times) (sym wanted_at)
+      (subst (λ (v : List Busy). All (IsApart (needs_of (test_at job test)) (cycles_of job test) start) v) (sym (times_is ∙ kept.busy_are)) base))
+
+  pub meets_here : (start : ℕ) (needs : Needs) (times : List Busy) → needs ≡ needs_of wanted → times ≡ busy.items → All (IsApart needs wanted.cycles start) times → MeetsNone job trail.items test start
+  meets_here start needs times needs_is times_is all =
+      meets_from_apart (record { job = job; placed = trail.items }) test start
+      (subst (λ (v : List Busy). All (IsApart (needs_of (test_at job test)) (cycles_of job test) start) v) (times_is ∙ kept.busy_are)
+      (subst (λ (w : TestValue). All (IsApart (needs_of w) w.cycles start) times) wanted_at
+      (subst (λ (n : Needs). All (IsApart n wanted.cycles start) times) needs_is all)))
+
+  -- ---- power
+
+  pub draws_ended_by : (ds : List Draw) (last : ℕ) → ds ≡ draws.items → last ≡ last_end job trail.items → All (λ (d : Draw). d.to ≤ last) ds
+  draws_ended_by ds last ds_is is =
+      subst (λ (v : ℕ). All (λ (d : Draw). d.to ≤ v) ds) (sym is) (subst (λ (v : List Draw). All (λ (d : Draw). d.to ≤ last_end job trail.items) v) (sym (ds_is ∙ kept.draws_are)) (draws_ended job trail.items))
+
+  pub small_steps : (steps : List (ℕ × ℕ)) → steps ≡ wanted.steps → All (λ (s : ℕ × ℕ). s.0 ≤ NUMBER_WORD_MOST) steps
+  small_steps steps steps_is = λ k d lt.
+      (subst (λ (v : List (ℕ × ℕ)). All (λ (s : ℕ × ℕ). (s.0 ≤ NUMBER_WORD_MOST) × (s.1 ≤ POWER_MOST)) v) (sym (steps_is ∙ ap (λ (t : TestValue). t.steps) wanted_at)) (kept.sound.job.tests test no_test inside).small k d lt).0
+
+  pub steps_within_limit : (steps : List (ℕ × ℕ)) (limit : ℕ) → steps ≡ wanted.steps → job.power ≡ Some limit → All (λ (s : ℕ × ℕ). s.1 ≤ limit) steps
+  steps_within_limit steps limit steps_is is =
+      subst (λ (v : List (ℕ × ℕ)). All (λ (s : ℕ × ℕ). s.1 ≤ limit) v) (sym (steps_is ∙ ap (λ (t : TestValue). t.steps) wanted_at))
+      (subst (λ (o : Option ℕ). IfSome o (λ most. All (λ (s : ℕ × ℕ). s.1 ≤ most) (test_at job test).steps)) is (kept.sound.job.tests test no_test inside).within)
+
+  pub steps_here : (start limit : ℕ) (ds : List Draw) (steps : List (ℕ × ℕ)) → ds ≡ draws.items → steps ≡ wanted.steps → job.power ≡ Some limit → StaysWithin job trail.items test start → StepsFit (load_of ds) limit start wanted.cycles steps
+  steps_here start limit ds steps ds_is steps_is is within =
+      let base = steps_from_within (record { job = job; placed = trail.items }) test start limit kept.sound inside is within in
+      subst (λ (v : List (ℕ × ℕ)). StepsFit (load_of ds) limit start wanted.cycles v) (sym steps_is)
+      (subst (λ (w : TestValue). StepsFit (load_of ds) limit start w.cycles w.steps) (sym wanted_at)
+      (subst (λ (v : List Draw). StepsFit (load_of v) limit start (cycles_of job test) (test_at job test).steps) (sym (ds_is ∙ kept.draws_are)) base))
+
+  pub within_here : (start limit : ℕ) (ds : List Draw) (steps : List (ℕ × ℕ)) → ds ≡ draws.items → steps ≡ wanted.steps → job.power ≡ Some limit → StepsFit (load_of ds) limit start wanted.cycles steps → StaysWithin job trail.items test start
+  within_here start limit ds steps ds_is steps_is is fit =
+      within_from_steps (record { job = job; placed = trail.items }) test start limit kept.sound inside is
+      (subst (λ (v : List Draw). StepsFit (load_of v) limit start (cycles_of job test) (test_at job test).steps) (ds_is ∙ kept.draws_are)
+      (subst (λ (w : TestValue). StepsFit (load_of ds) limit start w.cycles w.steps) wanted_at
+      (subst (λ (v : List (ℕ × ℕ)). StepsFit (load_of ds) limit start wanted.cycles v) steps_is fit)))
+
+-- the steps of all tests together are few enough to be counted
+pub steps_counted : (limit : Option ℕ) (tests : List JobTest) → All (IsSoundTest limit) (map test_value tests) →
+    sum_by (λ (t : JobTest). length t.power.items) tests ≤ 16 * sum_by (λ (t : TestValue). t.cycles) (map test_value tests)
+steps_counted limit [] all = omega arith
+steps_counted limit (t ∷ tests) all =
+    let here = All-head (IsSoundTest limit) (test_value t) (map test_value tests) all in
+    let lasts = here.lasts in
+    let few = here.few_steps in
+    let ih = steps_counted limit tests (All-tail (IsSoundTest limit) (test_value t) (map test_value tests) all) in
+    omega (arith, lasts, few, ih, sum_by-cons (λ (t : JobTest). length t.power.items) t tests, sum_by-cons (λ (t : TestValue). t.cycles) (test_value t) (map test_value tests))

@@ -1,0 +1,12 @@
+pub mod Places
+pub mod Loads
+pub mod Steps
+pub mod BusyTimes
+pub mod Placed
+pub mod Fitting
+pub mod KeptTables
+pub mod KeptStarts
+pub mod Ready
+pub mod Schedules
+pub mod Samples
+mod Rows

@@ -1,0 +1,86 @@
+-- The latest end of the tests that precede a test.
+use Rattle.std.proofs.Common.{◌≡◌, ℕ, zero, suc, ◌<◌, ◌≤◌, ◌⊎◌, inl, inr, Option, None, Some, List, [], ◌∷◌, length, map, arith, Bool, true, refl, sym, ap, ◌∙◌, subst}
+use Rattle.std.specs.Prelude.{slice_get, slice_index_or, nat_eq, ◌&&◌, unwrap_or}
+use Rattle.std.specs.List.{All, Contains, filter}
+use Rattle.std.specs.Global.{Vec}
+use Rattle.std.proofs.lemmas.Bool.{cases_Bool, eqb-true, eq-eqb, and_parts, and_from}
+use Rattle.std.proofs.lemmas.List.Elements.{All-contains}
+use Rattle.smallvec.specs.SmallVec.{SmallVec}
+use Rattle.plan_model.specs.Plans.{greatest}
+use Rattle.plan_model.proofs.Lists.{contains_at, at_contains, any_from, any_at, from_filter}
+use Rattle.plan_model.proofs.Greatest.{le-greatest_at, greatest-least}
+use Rattle.resource_table.specs.declared.Placement.{Placement}
+use Rattle.resource_table.specs.declared.busy.Busy.{Busy}
+use Rattle.resource_table.specs.declared.power.Draw.{Draw}
+use Rattle.resource_table.specs.Jobs.{JobValue, Precedes}
+use Rattle.resource_table.specs.Schedules.{end_of, last_end, precedes, ready_at, ComesAfter}
+use Rattle.resource_table.specs.Resources.{end_in}
+use Rattle.resource_table.specs.Kept.{IsKept}
+use Rattle.resource_table.proofs.Places.{all_at}
+use Rattle.resource_table.proofs.Placed.{sound_tests, end_at, end_from}
+
+pair_is : (p : ℕ × ℕ) (a b : ℕ) → p.0 ≡ a → p.1 ≡ b → p ≡ (a, b)
+pair_is p a b first second = ap (λ (x : ℕ). (let q : ℕ × ℕ = (x, p.1) in q)) first ∙ ap (λ (y : ℕ). (let q : ℕ × ℕ = (a, y) in q)) second
+
+-- a test of precedences and the fact that there is one
+pub precedes_from : (job : JobValue) (a b : ℕ) → Precedes job a b → precedes job a b ≡ true
+precedes_from job a b there =
+    let at = contains_at job.before (a, b) there in
+    any_from (λ (p : ℕ × ℕ). nat_eq p.0 a && nat_eq p.1 b) job.before at.0 (a, b) at.1 (and_from (nat_eq a a) (nat_eq b b) (eq-eqb a a refl) (eq-eqb b b refl))
+
+pub precedes_to : (job : JobValue) (a b : ℕ) → precedes job a b ≡ true → Precedes job a b
+precedes_to job a b holds =
+    let r = any_at (λ (p : ℕ × ℕ). nat_eq p.0 a && nat_eq p.1 b) job.before holds in
+    let parts = and_parts (nat_eq r.1.0 a) (nat_eq r.1.1 b) r.3 in
+    let first : r.1.0 ≡ a = eqb-true r.1.0 a parts.0 in
+    let second : r.1.1 ≡ b = eqb-true r.1.1 b parts.1 in
+    let same : r.1 ≡ (a, b) = pair_is r.1 a b first second in
+    at_contains job.before r.0 (a, b) (r.2 ∙ ap Some same)
+
+le-greatest_kept : {X : Type 0} (f : X → ℕ) (p : X → Bool) (xs : List X) (i : ℕ) (x : X) → slice_get xs i ≡ Some x → p x ≡ true → f x ≤ greatest (map f (filter p xs))
+le-greatest_kept f p [] i x at passes = absurd cc
+le-greatest_kept f p (y ∷ xs) zero x at passes =
+    let same : x ≡ y = cc in
+    let here : p y ≡ true = rw same at passes in
+    rw here (let e : f x ≡ f y = ap f same in omega arith)
+le-greatest_kept f p (y ∷ xs) (suc i) x at passes =
+    let ih = le-greatest_kept f p xs i x at passes in
+    elim (cases_Bool (p y)) [ inl yes' ↦ rw yes' (omega arith) | inr no' ↦ rw no' ih ]
+
+-- at most the end of the last test
+pub ready-le-last : (job : JobValue) (placed : List Placement) (test : ℕ) → ready_at job placed test ≤ last_end job placed
+ready-le-last job placed test = greatest-least (end_of job) (last_end job placed) (filter (λ (p : Placement). precedes job p.test test) placed)
+    (λ i p at. let r = from_filter (λ (p : Placement). precedes job p.test test) placed i p at in le-greatest_at (end_of job) placed r.0 p r.1)
+
+-- what comes after all of them comes after the latest
+pub ready-least : (job : JobValue) (placed : List Placement) (test start : ℕ) → ComesAfter job placed test start → ready_at job placed test ≤ start
+ready-least job placed test start after = greatest-least (end_of job) start (filter (λ (p : Placement). precedes job p.test test) placed)
+    (λ i p at. let r = from_filter (λ (p : Placement). precedes job p.test test) placed i p at in after r.0 p r.1 (precedes_to job p.test test r.2))
+
+module _ (job : JobValue) (trail : SmallVec Placement) (ends : Vec (Option ℕ)) (busy : Vec Busy) (draws : Vec Draw) (kept : IsKept job trail ends busy draws) (test result : ℕ) where
+  pub kept_after : All (λ (p : ℕ × ℕ). p.1 ≡ test → unwrap_or (slice_index_or ends.items p.0 None) 0 ≤ result) job.before → ComesAfter job trail.items test result
+  kept_after latest n p at before =
+      let place = contains_at job.before (p.test, test) before in
+      let here : unwrap_or (slice_index_or ends.items p.test None) 0 ≤ result = all_at (λ (p : ℕ × ℕ). p.1 ≡ test → unwrap_or (slice_index_or ends.items p.0 None) 0 ≤ result) job.before place.0 (p.test, test) latest place.1 refl in
+      let inside : p.test < length job.tests = (kept.sound.placed n p at).in_job in
+      let end : slice_index_or ends.items p.test None ≡ Some (end_of job p) = kept.ends_are p.test inside ∙ end_at job job.tests trail.items n p (sound_tests (record { job = job; placed = trail.items }) kept.sound) at in
+      subst (λ (o : Option ℕ). unwrap_or o 0 ≤ result) end here
+
+  pub kept_most : (result ≡ 0) ⊎ ((p : ℕ × ℕ) × Contains job.before p × (p.1 ≡ test) × (result ≡ unwrap_or (slice_index_or ends.items p.0 None) 0)) → result ≤ ready_at job trail.items test
+  kept_most (inl none) = omega arith
+  kept_most (inr found) =
+      let inside : found.0.0 < length job.tests = (All-contains (λ (p : ℕ × ℕ). (p.0 < length job.tests) × (p.1 < length job.tests)) job.before found.0 kept.sound.job.in_range found.1).0 in
+      let end : slice_index_or ends.items found.0.0 None ≡ end_in job trail.items found.0.0 = kept.ends_are found.0.0 inside in
+      let is : result ≡ unwrap_or (end_in job trail.items found.0.0) 0 = found.3 ∙ ap (λ (o : Option ℕ). unwrap_or o 0) end in
+      go (end_in job trail.items found.0.0) refl is
+    where
+      go : (o : Option ℕ) → end_in job trail.items found.0.0 ≡ o → result ≡ unwrap_or (end_in job trail.items found.0.0) 0 → result ≤ ready_at job trail.items test
+      go None e is = let none : result ≡ 0 = is ∙ ap (λ (o : Option ℕ). unwrap_or o 0) e in omega arith
+      go (Some end) e is =
+          let r = end_from job trail.items found.0.0 end e in
+          let pair : found.0 ≡ (r.1.test, test) = pair_is found.0 r.1.test test (sym r.3) found.2 in
+          let before : precedes job r.1.test test ≡ true = precedes_from job r.1.test test (subst (Contains job.before) pair found.1) in
+          let most = le-greatest_kept (end_of job) (λ (p : Placement). precedes job p.test test) trail.items r.0 r.1 r.2 before in
+          let this : result ≡ end = is ∙ ap (λ (o : Option ℕ). unwrap_or o 0) e in
+          let last = r.4 in
+          omega arith

@@ -1,0 +1,13 @@
+use Rattle.std.proofs.Common.{ℕ, ◌-◌, ◌≤◌}
+use Rattle.resource_table.specs.Schedules.{Fits, ComesAfter}
+use Rattle.resource_table.proofs.table.TableOf.earliest.Given as goal
+
+abbrev pub invariant-starts : goal.invariant-starts
+invariant-starts g l = record {
+  after : ComesAfter l.self.job l.self.placed l.test l.start;
+  most : l.start ≤ l.last;
+  least : (other : ℕ) → Fits l.self.job l.self.placed l.test other → l.start ≤ other;
+}
+
+abbrev pub decreases-starts : goal.decreases-starts
+decreases-starts g l = l.last - l.start

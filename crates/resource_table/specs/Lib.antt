@@ -1,0 +1,5 @@
+pub mod Jobs
+pub mod Schedules
+pub mod Resources
+pub mod Kept
+pub mod Lent

@@ -1,0 +1,53 @@
+-- What a table keeps of its placed tests, as it would be built from the list of them.
+use Rattle.std.specs.Prelude.{◌≡◌, ℕ, ◌+◌, ◌<◌, ◌≤◌, ◌⊎◌, true, ◌&&◌, min, nat_eq, nat_lt, nat_le, Option, None, Some, List, [], ◌∷◌, if◌then◌else◌}
+use Rattle.std.specs.List.{sum_by}
+use Rattle.resource_table.specs.declared.Placement.{Placement}
+use Rattle.resource_table.specs.declared.busy.Needs.{Needs}
+use Rattle.resource_table.specs.declared.busy.Busy.{Busy}
+use Rattle.resource_table.specs.declared.power.Draw.{Draw}
+use Rattle.resource_table.specs.Jobs.{JobValue, test_at, cycles_of}
+use Rattle.resource_table.specs.Schedules.{needs_of, collide, end_of}
+
+-- ---- busy times
+
+abbrev pub busy_of : JobValue → Placement → Busy
+busy_of job p = record { needs = needs_of (test_at job p.test); from = p.start; to = end_of job p }
+
+-- a test of so many cycles from a start doesn't meet this busy time, where the two collide
+abbrev pub IsApart : Needs → (length start : ℕ) → Busy → Type 0
+IsApart needs length start b = collide b.needs needs ≡ true → (b.to ≤ start) ⊎ (start + length ≤ b.from)
+
+-- ---- power
+
+-- where a step ends, so many cycles after the start: where the next one begins, and with the test at the latest
+abbrev pub step_end : (length : ℕ) → (next : List (ℕ × ℕ)) → ℕ
+step_end length [] = length
+step_end length (s ∷ next) = min s.0 length
+
+-- the draws of a test that starts there
+abbrev pub draws_from : (start length : ℕ) → List (ℕ × ℕ) → List Draw
+draws_from start length [] = []
+draws_from start length (s ∷ next) = (record { from = start + s.0; to = start + step_end length next; power = s.1 }) ∷ draws_from start length next
+
+abbrev pub draws_of : JobValue → Placement → List Draw
+draws_of job p = draws_from p.start (cycles_of job p.test) (test_at job p.test).steps
+
+-- what a draw takes at a cycle
+abbrev pub taken_by : ℕ → Draw → ℕ
+taken_by c d = if nat_le d.from c && nat_lt c d.to then d.power else 0
+
+abbrev pub load_of : List Draw → ℕ → ℕ
+load_of draws c = sum_by (taken_by c) draws
+
+-- beside a load, each step of a test from a start stays within a limit at each of its cycles
+abbrev pub StepsFit : (load : ℕ → ℕ) (most start length : ℕ) → List (ℕ × ℕ) → Type 0
+StepsFit load most start length [] = Unit {0}
+StepsFit load most start length (s ∷ next) =
+    ((c : ℕ) → start + s.0 ≤ c → c < start + step_end length next → load c + s.1 ≤ most) × StepsFit load most start length next
+
+-- ---- ends
+
+-- where a test ends, if it is placed
+abbrev pub end_in : JobValue → List Placement → ℕ → Option ℕ
+end_in job [] test = None
+end_in job (p ∷ placed) test = if nat_eq p.test test then Some (end_of job p) else end_in job placed test

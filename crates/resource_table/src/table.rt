@@ -1,0 +1,312 @@
+// The table of placed tests.
+ghost use Rattle.std.specs.Prelude.{◌≡◌, ℕ, ◌+◌, ◌-◌, ◌^◌, ◌<◌, ◌≤◌, ◌++◌, ◌∷◌, [], List, length, map, take, Some, slice_get, replicate, None, IfOk, ◌⊎◌, ℕ, slice_index_or, unwrap_or};
+ghost use Rattle.std.specs.List.{All, Contains, sum_by};
+ghost use Rattle.resource_table.specs.declared.JobTest.{JobTest};
+ghost use Rattle.resource_table.specs.declared.Placement.{Placement};
+ghost use Rattle.resource_table.specs.Jobs.{TestValue, job_value, cycles_of, Precedes, IsSoundJob};
+ghost use Rattle.resource_table.specs.Schedules.{TableValue, at_start, end_of, last_end as last_end_of, ready_at, is_placed as is_placed_in, MeetsNone, StaysWithin, ComesAfter, Fits, IsEarliest, MayPlace, IsSoundTable};
+
+use crate::busy::{Busy, after_busy, last_end, needs_of};
+use crate::copies::copy_job;
+use crate::power::{Draw, after_power, push_draws};
+use crate::{Job, JobTest, Placement};
+use outside::NoMemory;
+use smallvec::SmallVec;
+use std::alloc::Global;
+use std::marker::Model;
+
+/// The placed tests of a job, with the resources that they take. It keeps a copy of what it needs of the job; `J` is what
+/// leads to the job, see [`Table`].
+#[derive(Drop)]
+pub struct TableOf<J> {
+    /// What leads to the job.
+    job: J,
+    /// A copy of the job.
+    own: Job,
+    /// The placed tests, in the order of placing.
+    trail: SmallVec<Placement, 16>,
+    /// For each test of the job its end, where it is placed.
+    ends: Vec<Option<u64>>,
+    /// The busy times, one for each placed test.
+    busy: Vec<Busy>,
+    /// The draws of the placed tests, step by step.
+    draws: Vec<Draw>,
+}
+
+/// A table of placed tests of a job.
+pub type Table<'a> = TableOf<&'a Job>;
+
+impl<J> Model for TableOf<J> {
+    ghost use Rattle.resource_table.specs.Jobs.{job_value};
+    ghost use Rattle.resource_table.specs.Schedules.{TableValue};
+
+    ghost Value = { TableValue };
+
+    ghost use Rattle.resource_table.specs.Kept.{IsKept};
+
+    ghost view = { λ t. record { job = job_value t.own; placed = t.trail.items } };
+
+    ghost invariant = { λ t. IsKept (job_value t.own) t.trail t.ends t.busy t.draws };
+}
+
+/// The end of the first test of a precedence, where that is placed and the second test is this one; else `latest`, and
+/// `latest` too where that is more.
+fn later_end(edge: (usize, usize), ends: &[Option<u64>], test: usize, latest: u64) -> u64
+    requires in_range { edge.0 < length ends.now }
+    ensures from { latest ≤ result }
+    ensures end { edge.1 ≡ test → unwrap_or (slice_index_or ends.now edge.0 None) 0 ≤ result }
+    ensures is { (result ≡ latest) ⊎ ((edge.1 ≡ test) × (result ≡ unwrap_or (slice_index_or ends.now edge.0 None) 0)) }
+{
+    if edge.1 == test {
+        latest.max(ends[edge.0].unwrap_or(0))
+    } else {
+        latest
+    }
+}
+
+/// The latest end of the placed tests that precede a test, 0 where there is none.
+fn latest_before(before: &[(usize, usize)], ends: &[Option<u64>], test: usize) -> u64
+    requires in_range { All (λ (p : ℕ × ℕ). p.0 < length ends.now) before.now }
+    ensures latest { All (λ (p : ℕ × ℕ). p.1 ≡ test → unwrap_or (slice_index_or ends.now p.0 None) 0 ≤ result) before.now }
+    ensures is { (result ≡ 0) ⊎ ((p : ℕ × ℕ) × Contains before.now p × (p.1 ≡ test) × (result ≡ unwrap_or (slice_index_or ends.now p.0 None) 0)) }
+{
+    let mut latest: u64 = 0;
+    for edge in before {
+        latest = later_end(*edge, ends, test, latest);
+    }
+    latest
+}
+
+/// The steps of the tests together.
+fn count_steps(tests: &[JobTest]) -> usize
+    requires { sum_by (λ (t : JobTest). length t.power.items) tests.now < 2 ^ 64 }
+    ensures { result ≡ sum_by (λ (t : JobTest). length t.power.items) tests.now }
+{
+    let mut steps = 0;
+    for test in tests {
+        steps += test.power.len();
+    }
+    steps
+}
+
+/// An entry for each test: none is placed.
+fn no_ends(alloc: Global, tests: usize) -> Result<Vec<Option<u64>>, NoMemory>
+    ensures { IfOk result (λ ends. ends.items ≡ replicate tests None) }
+{
+    vec![in alloc; None; tests].map_err(|_| NoMemory)
+}
+
+/// A trail with room for so many placements.
+fn new_trail(alloc: Global, tests: usize) -> Result<SmallVec<Placement, 16>, NoMemory>
+    ensures items { IfOk result (λ trail. trail.items ≡ []) }
+    ensures room { IfOk result (λ trail. tests ≤ trail.capacity) }
+{
+    let mut trail = SmallVec::new(alloc);
+    trail.reserve(tests).map_err(|_| NoMemory)?;
+    Ok(trail)
+}
+
+impl<'a> TableOf<&'a Job> {
+    /// An empty table of a sound job. All memory that it ever takes is taken here; `NoMemory` where there is none.
+    pub fn new(alloc: Global, job: &'a Job) -> Result<Table<'a>, NoMemory>
+        requires { IsSoundJob (job_value job.now) }
+        ensures empty { IfOk result (λ t. t ≡ record { job = job_value job.now; placed = [] }) }
+        ensures sound { IfOk result IsSoundTable }
+    {
+        let own = copy_job(alloc, job)?;
+        let tests = own.tests.len();
+        let steps = count_steps(&own.tests);
+        Ok(TableOf {
+            job,
+            trail: new_trail(alloc, tests)?,
+            ends: no_ends(alloc, tests)?,
+            busy: Vec::with_capacity(alloc, tests).map_err(|_| NoMemory)?,
+            draws: Vec::with_capacity(alloc, steps).map_err(|_| NoMemory)?,
+            own,
+        })
+    }
+}
+
+impl<J> TableOf<J> {
+    /// Every table is sound. The call does nothing: a caller learns this by it.
+    pub(crate) fn tables_are_sound(&self)
+        ensures { IsSoundTable self.now }
+    {
+        let _ = &self.job;
+    }
+
+    /// Whether a test is placed.
+    pub fn is_placed(&self, test: usize) -> bool
+        requires in_job { test < length self.now.job.tests }
+        ensures placed { result ≡ is_placed_in self.now.placed test }
+        ensures sound { IsSoundTable self.now }
+    {
+        self.ends[test].is_some()
+    }
+
+    /// The latest end of the placed tests that precede a test, 0 where there is none.
+    fn ready(&self, test: usize) -> u64
+        requires in_job { test < length self.now.job.tests }
+        ensures ready { result ≡ ready_at self.now.job self.now.placed test }
+        ensures after { ComesAfter self.now.job self.now.placed test result }
+        ensures most { result ≤ last_end_of self.now.job self.now.placed }
+    {
+        latest_before(&self.own.before, &self.ends, test)
+    }
+
+    /// The latest end of the placed tests that precede a test, or 0, and the test's length: the test doesn't end before,
+    /// wherever it is placed.
+    pub fn ready_end(&self, test: usize) -> u64
+        requires in_job { test < length self.now.job.tests }
+        ensures end { result ≡ ready_at self.now.job self.now.placed test + cycles_of self.now.job test }
+        ensures sound { IsSoundTable self.now }
+    {
+        self.ready(test) + self.own.tests[test].length
+    }
+
+    /// A start from `start` on before which a test meets a placed one that excludes it; `start` where it meets none.
+    fn after_times(&self, test: usize, start: u64, last: u64) -> u64
+        requires in_job { test < length self.now.job.tests }
+        requires start { start ≤ last }
+        requires last { last ≡ last_end_of self.now.job self.now.placed }
+        ensures from { start ≤ result }
+        ensures most { result ≤ last }
+        ensures apart { result ≡ start → MeetsNone self.now.job self.now.placed test start }
+        ensures least { (other : ℕ) → start ≤ other → MeetsNone self.now.job self.now.placed test other → result ≤ other }
+    {
+        let wanted = &self.own.tests[test];
+        after_busy(&self.busy, needs_of(wanted), wanted.length, start, last)
+    }
+
+    /// A start from `start` on before which a test passes the limit on power; `start` where it stays within.
+    fn after_draws(&self, test: usize, start: u64, last: u64) -> u64
+        requires in_job { test < length self.now.job.tests }
+        requires start { start ≤ last }
+        requires last { last ≡ last_end_of self.now.job self.now.placed }
+        ensures from { start ≤ result }
+        ensures most { result ≤ last }
+        ensures within { result ≡ start → StaysWithin self.now.job self.now.placed test start }
+        ensures least { (other : ℕ) → start ≤ other → StaysWithin self.now.job self.now.placed test other → result ≤ other }
+    {
+        let Some(limit) = self.own.power else {
+            return start;
+        };
+        let wanted = &self.own.tests[test];
+        after_power(
+            &self.draws,
+            limit,
+            &wanted.power,
+            wanted.length,
+            start,
+            last,
+        )
+    }
+
+    /// A start from `start` on before which a test doesn't fit; `start` where it fits.
+    fn next_start(&self, test: usize, start: u64, last: u64) -> u64
+        requires in_job { test < length self.now.job.tests }
+        requires start { start ≤ last }
+        requires last { last ≡ last_end_of self.now.job self.now.placed }
+        requires after { ComesAfter self.now.job self.now.placed test start }
+        ensures from { start ≤ result }
+        ensures most { result ≤ last }
+        ensures fits { result ≡ start → Fits self.now.job self.now.placed test start }
+        ensures least { (other : ℕ) → start ≤ other → Fits self.now.job self.now.placed test other → result ≤ other }
+    {
+        let next = self.after_times(test, start, last);
+        if next > start {
+            return next;
+        }
+        self.after_draws(test, start, last)
+    }
+
+    /// The end of the test that ends last, 0 where none is placed.
+    fn last(&self) -> u64
+        ensures last { result ≡ last_end_of self.now.job self.now.placed }
+        ensures sound { IsSoundTable self.now }
+    {
+        last_end(&self.busy)
+    }
+
+    /// The least start at which a test fits beside the placed tests: at no cycle it meets a test of its bus, of its
+    /// module, of that one's direct parent or of a direct child, the power stays within the limit, and the placed tests
+    /// that precede it have ended. It is the end of the last placed test at the latest.
+    pub fn earliest(&self, test: usize) -> u64
+        requires in_job { test < length self.now.job.tests }
+        ensures earliest { IsEarliest self.now.job self.now.placed test result }
+        ensures at_last { result ≤ last_end_of self.now.job self.now.placed }
+        ensures sound { IsSoundTable self.now }
+    {
+        let last = self.last();
+        let mut start = self.ready(test);
+        'starts: loop {
+            let next = self.next_start(test, start, last);
+            if next == start {
+                return start;
+            }
+            start = next;
+        }
+    }
+
+    /// Where a test ends if it starts at the least start at which it fits beside the placed tests.
+    pub fn end_now(&self, test: usize) -> u64
+        requires in_job { test < length self.now.job.tests }
+        ensures end { (start : ℕ) × IsEarliest self.now.job self.now.placed test start × (result ≡ start + cycles_of self.now.job test) }
+        ensures sound { IsSoundTable self.now }
+    {
+        self.earliest(test) + self.own.tests[test].length
+    }
+
+    /// Appends a placement, and answers how many there were.
+    pub(crate) fn push(&mut self, test: usize, start: u64) -> usize
+        requires { MayPlace self.old.job self.old.placed test start }
+        ensures before { result ≡ length self.old.placed }
+        ensures table { self.new ≡ record self.old { placed = self.old.placed ++ at_start test start ∷ [] } }
+        ensures sound { IsSoundTable self.new }
+    {
+        let before = self.trail.len();
+        let wanted = &self.own.tests[test];
+        push_draws(&mut self.draws, &wanted.power, start, wanted.length);
+        let to = start + wanted.length;
+        self.busy.push_reserved(Busy {
+            needs: needs_of(wanted),
+            from: start,
+            to,
+        });
+        self.ends[test] = Some(to);
+        self.trail.push_reserved(Placement { test, start });
+        before
+    }
+
+    /// Takes the last placement back.
+    fn pop(&mut self)
+        requires { 1 ≤ length self.old.placed }
+        ensures { self.new ≡ record self.old { placed = take (length self.old.placed - 1) self.old.placed } }
+    {
+        if let Some(last) = self.trail.pop() {
+            let steps = self.own.tests[last.test].power.len();
+            self.draws.truncate(self.draws.len() - steps);
+            self.busy.truncate(self.trail.len());
+            self.ends[last.test] = None;
+        }
+    }
+
+    /// How many tests are placed.
+    fn count(&self) -> usize
+        ensures count { result ≡ length self.now.placed }
+        ensures sound { IsSoundTable self.now }
+    {
+        self.trail.len()
+    }
+
+    /// Takes back all but the first `count` placements.
+    pub(crate) fn pop_to(&mut self, count: usize)
+        requires { count ≤ length self.old.placed }
+        ensures table { self.new ≡ record self.old { placed = take count self.old.placed } }
+        ensures sound { IsSoundTable self.new }
+    {
+        while self.count() > count {
+            self.pop();
+        }
+    }
+}
