@@ -1,12 +1,9 @@
+pub mod AllFiles
 pub mod Completeness
-pub mod Firsts
-pub mod Forms
-pub mod Headlines
-pub mod LimitsLemmas
-pub mod LineFacts
-pub mod NarrowRules
-pub mod ModuleCertificates
-pub mod SelfTestModules
-pub mod SelfTestStarts
-pub mod PlanLemmas
 pub mod FileStages
+pub mod Headlines
+pub mod LineFacts
+pub mod Refusals
+mod Rows
+pub mod Settled
+pub mod WidthLines

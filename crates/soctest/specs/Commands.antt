@@ -1,20 +1,42 @@
 -- The commands, by the words of the command line.
-use Rattle.std.specs.Prelude.{ℕ, List, [], ◌∷◌, Option, None, Some, codes, nat_eq, if◌then◌else◌}
+use Rattle.std.specs.Prelude.{ℕ, ◌≤◌, List, [], ◌∷◌, Option, None, Some, codes, nat_eq, nat_le, if◌then◌else◌}
 use Rattle.std.specs.Cmp.Lexicographic.{pointwise}
+use Rattle.outside.specs.Decimal.{number_of}
+use Rattle.plan_model.specs.declared.TheConstants.{WIRES_MOST}
 use Rattle.soctest.specs.declared.Command.{Command}
 use Rattle.soctest.specs.declared.Command.TheVariants as command
 
 -- a command with the names of its files
 pub data CommandValue : Type 0 where
   Print : (soc : List ℕ) → CommandValue
+  Widths : (soc : List ℕ) → (wires : ℕ) → CommandValue
   Check : (soc limits plan : List ℕ) → CommandValue
+  Chart : (soc limits plan : List ℕ) → CommandValue
 
 abbrev pub command_value : Command → CommandValue
 command_value (command.Print soc) = Print soc.now
+command_value (command.Widths soc wires) = Widths soc.now wires
 command_value (command.Check soc limits plan) = Check soc.now limits.now plan.now
+command_value (command.Chart soc limits plan) = Chart soc.now limits.now plan.now
 
--- `print SOC` and `check SOC LIMITS PLAN`; no other words are a command
+-- the number of wires of a command is from 1 to the most
+abbrev pub HasWires : Command → Type 0
+HasWires (command.Print soc) = Unit {0}
+HasWires (command.Widths soc wires) = (1 ≤ wires) × (wires ≤ WIRES_MOST)
+HasWires (command.Check soc limits plan) = Unit {0}
+HasWires (command.Chart soc limits plan) = Unit {0}
+
+-- `widths` with a number of wires, where it is from 1 to the most
+abbrev pub widths_of : (soc : List ℕ) → Option ℕ → Option CommandValue
+widths_of soc None = None
+widths_of soc (Some wires) = if nat_le 1 wires then Some (Widths soc wires) else None
+
+-- `print SOC`, `widths SOC WIRES`, `check SOC LIMITS PLAN` and `chart SOC LIMITS PLAN`; no other words are a command
 abbrev pub command_of : List (List ℕ) → Option CommandValue
 command_of (word ∷ soc ∷ []) = if pointwise nat_eq word (codes "print") then Some (Print soc) else None
-command_of (word ∷ soc ∷ limits ∷ plan ∷ []) = if pointwise nat_eq word (codes "check") then Some (Check soc limits plan) else None
+command_of (word ∷ soc ∷ wires ∷ []) = if pointwise nat_eq word (codes "widths") then widths_of soc (number_of wires WIRES_MOST) else None
+command_of (word ∷ soc ∷ limits ∷ plan ∷ []) =
+    if pointwise nat_eq word (codes "check") then Some (Check soc limits plan)
+    else if pointwise nat_eq word (codes "chart") then Some (Chart soc limits plan)
+    else None
 command_of _ = None

@@ -6,22 +6,30 @@ use Rattle.outside.specs.declared.NoMemory.{NoMemory as MemoryFault}
 use Rattle.outside.specs.Held.{Files, Rose, IsMissing}
 use Rattle.soc_model.specs.declared.Soc.{Soc as SocModel}
 use Rattle.soc_model.specs.Chips.{SocValue, soc_value}
-use Rattle.soc_model.specs.SoundChips.{IsSoundChip}
+use Rattle.plan_model.specs.declared.Limits.{Limits as LimitsModel}
+use Rattle.plan_model.specs.declared.Plan.{Plan as PlanModel}
 use Rattle.plan_model.specs.Plans.{LimitsValue, PlanValue}
+use Rattle.plan_model.specs.Faults.{FaultValue, IsFault, IsFaultless}
+use Rattle.plan_model.specs.Views.{limits_value, plan_value}
 use Rattle.soc_reader.specs.declared.SocFault.{SocFault}
-use Rattle.soc_reader.specs.declared.SocFault.TheVariants as refused
+use Rattle.soc_reader.specs.declared.SocFault.TheVariants as soc_fault
 use Rattle.soc_reader.specs.ChipForm.{SaysChip}
-use Rattle.soctest.specs.Narrow.{IsNarrowChip}
+use Rattle.limits_text.specs.declared.LimFault.{LimFault}
+use Rattle.limits_text.specs.declared.LimFault.TheVariants as limits_fault
+use Rattle.plan_text.specs.declared.PlanTextFault.{PlanTextFault}
+use Rattle.plan_text.specs.declared.PlanTextFault.TheVariants as plan_fault
 use Rattle.soctest.specs.declared.FileKind.{FileKind}
 use Rattle.soctest.specs.declared.FileKind.TheVariants.{Soc, Limits, Plan}
 use Rattle.soctest.specs.declared.Status.{Status}
 use Rattle.soctest.specs.declared.Status.TheVariants.{Done, Refused, BadWords, ReadFault, WriteFault, NoMemory}
 use Rattle.soctest.specs.declared.Verdict.{Verdict}
 use Rattle.soctest.specs.declared.Verdict.TheVariants.{Answered, CannotRead, NoMemory as OutOfMemory}
-use Rattle.soctest.specs.Commands.{CommandValue, Print, Check}
-use Rattle.soctest.specs.LimitsForm.{SaysLimits}
-use Rattle.soctest.specs.Texts.{is_line, bad_words_line, chip_line, chip_limit_line}
-use Rattle.soctest.specs.Answers.{Checked, PlanStage, LimitsStage, ChipStage, Printed, SocStage, IsRead}
+use Rattle.soctest.specs.declared.loading.Accepted.{Accepted}
+use Rattle.soctest.specs.Commands.{CommandValue}
+use Rattle.soctest.specs.Texts.{is_line, bad_words_line, chip_line, chip_limit_line, limits_line, unknown_test_line, cycle_line, test_power_line, plan_line, fault_line}
+use Rattle.soctest.specs.Readings.{IsRead, SaysLimits, SaysAccepted}
+use Rattle.soctest.specs.Procedures.{Procedure, Read, Answer, nothing, with_chip, with_limits, with_accepted, with_all, procedure_of}
+use Rattle.soctest.specs.Answers.{Answers}
 
 -- a status of a command that is decided before anything is written, and its text: one line, but for an answer
 abbrev pub Suits : Status → List ℕ → Type 0
@@ -36,23 +44,18 @@ Suits status text = IsTrue (is_line text)
 abbrev pub MayFail : Option Files → ℕ → ℕ → List ℕ → Type 0
 MayFail held before after name = Rose before after ⊎ IsMissing held name
 
--- the name holds a chip that the check takes
-abbrev pub IsReadChip : Files → List ℕ → Type 0
-IsReadChip files soc = (chip : SocValue) × IsRead Soc SaysChip (get files soc) chip × IsNarrowChip chip
-
--- The file can't be read, and the files before it are read and accepted.
-abbrev pub IsUnread : CommandValue → Option Files → ℕ → ℕ → FileKind → Type 0
-IsUnread (Print soc) held before after Soc = MayFail held before after soc
-IsUnread (Print soc) held before after Limits = ⊥
-IsUnread (Print soc) held before after Plan = ⊥
-IsUnread (Check soc limits plan) held before after Soc = MayFail held before after soc
-IsUnread (Check soc limits plan) held before after Limits = MayFail held before after limits × IfSome held (λ files. IsReadChip files soc)
-IsUnread (Check soc limits plan) held before after Plan =
-    MayFail held before after plan × IfSome held (λ files. IsReadChip files soc × ((value : LimitsValue) × IsRead Limits SaysLimits (get files limits) value))
+-- The file can't be read, and the files before it are read and taken.
+abbrev pub IsUnread : Procedure → Option Files → ℕ → ℕ → FileKind → Type 0
+IsUnread (Answer May) held before after missed = ⊥
+IsUnread (Read {V} file Says Refuses name next) held before after missed =
+    ((missed ≡ file) × MayFail held before after name)
+    ⊎ ((value : V) × IfSome held (λ files. IsRead file Says (get files name) value) × IsUnread (next value) held before after missed)
 
 abbrev pub IsUnreadOf : Option CommandValue → Option Files → ℕ → ℕ → FileKind → Type 0
-IsUnreadOf None held before after file = ⊥
-IsUnreadOf (Some command) held before after file = IsUnread command held before after file
+IsUnreadOf None held before after missed = ⊥
+IsUnreadOf (Some command) held before after missed = IsUnread (procedure_of command) held before after missed
+
+-- ---- verdicts
 
 -- a verdict gives a text that is allowed, names a file that is unread, or wants memory
 abbrev pub Decided : (Status → List ℕ → Type 0) → (FileKind → Type 0) → Verdict → Type 0
@@ -60,42 +63,9 @@ Decided May Unread (Answered status text) = Suits status text.items × May statu
 Decided May Unread (CannotRead file) = Unread file
 Decided May Unread OutOfMemory = Unit {0}
 
--- ---- stage by stage; where the shelf tells nothing, any text is allowed
-
-abbrev pub DecidesPlan : SocValue → LimitsValue → (plan : List ℕ) → Option Files → ℕ → ℕ → Verdict → Type 0
-DecidesPlan soc limits plan held before after verdict =
-    Decided (λ status text. IfSome held (λ files. PlanStage soc limits (get files plan) status text)) (λ file. (file ≡ Plan) × MayFail held before after plan) verdict
-
--- the limits or the plan is unread
-abbrev pub IsUnreadBehind : (limits plan : List ℕ) → Option Files → ℕ → ℕ → FileKind → Type 0
-IsUnreadBehind limits plan held before after Soc = ⊥
-IsUnreadBehind limits plan held before after Limits = MayFail held before after limits
-IsUnreadBehind limits plan held before after Plan = MayFail held before after plan × IfSome held (λ files. (value : LimitsValue) × IsRead Limits SaysLimits (get files limits) value)
-
-abbrev pub DecidesLimits : SocValue → (limits plan : List ℕ) → Option Files → ℕ → ℕ → Verdict → Type 0
-DecidesLimits soc limits plan held before after verdict =
-    Decided (λ status text. IfSome held (λ files. LimitsStage soc files limits plan status text)) (IsUnreadBehind limits plan held before after) verdict
-
-abbrev pub DecidesChip : SocValue → (limits plan : List ℕ) → Option Files → ℕ → ℕ → Verdict → Type 0
-DecidesChip soc limits plan held before after verdict =
-    Decided (λ status text. IfSome held (λ files. ChipStage files limits plan soc status text)) (λ file. IsNarrowChip soc × IsUnreadBehind limits plan held before after file) verdict
-
-abbrev pub DecidesSoc : (soc limits plan : List ℕ) → Option Files → ℕ → ℕ → Verdict → Type 0
-DecidesSoc soc limits plan held before after verdict =
-    Decided (λ status text. IfSome held (λ files. SocStage files (ChipStage files limits plan) soc status text)) (IsUnread (Check soc limits plan) held before after) verdict
-
-abbrev pub DecidesPrint : (soc : List ℕ) → Option Files → ℕ → ℕ → Verdict → Type 0
-DecidesPrint soc held before after verdict = Decided (λ status text. IfSome held (λ files. SocStage files Printed soc status text)) (IsUnread (Print soc) held before after) verdict
-
--- a chip's file that isn't read, whatever is to be done with the chip
-abbrev pub NoChip : (soc : List ℕ) → Option Files → ℕ → ℕ → Verdict → Type 0
-NoChip soc held before after verdict =
-    Decided (λ status text. IfSome held (λ files. SocStage files (λ chip s t. ⊥) soc status text)) (λ file. (file ≡ Soc) × MayFail held before after soc) verdict
-
--- a chip that was read from what the shelf tells, or a verdict without one
-abbrev pub LoadsChip : (soc : List ℕ) → Option Files → ℕ → ℕ → Result SocModel Verdict → Type 0
-LoadsChip soc held before after (Ok chip) = IsSoundChip (soc_value chip) × IfSome held (λ files. IsRead Soc SaysChip (get files soc) (soc_value chip))
-LoadsChip soc held before after (Err verdict) = NoChip soc held before after verdict
+-- How a procedure ends. Where the shelf tells nothing, any text is allowed.
+abbrev pub Follows : Procedure → Option Files → ℕ → ℕ → Verdict → Type 0
+Follows steps held before after verdict = Decided (λ status text. IfSome held (λ files. Answers steps files status text)) (IsUnread steps held before after) verdict
 
 -- a verdict has this status and text, or wants memory
 abbrev pub Gives : Status → List ℕ → Verdict → Type 0
@@ -108,24 +78,67 @@ abbrev pub GivesText : Status → Result (Vec ℕ) MemoryFault → Verdict → T
 GivesText status (Ok text) verdict = Gives status text.items verdict
 GivesText status (Err fault) verdict = verdict ≡ OutOfMemory
 
--- a verdict is this line, or wants memory
-abbrev pub GivesOrWants : Status → List ℕ → Verdict → Type 0
-GivesOrWants status line (Answered given bytes) = (given ≡ status) × (bytes.items ≡ line) × IsTrue (is_line bytes.items)
-GivesOrWants status line (CannotRead file) = ⊥
-GivesOrWants status line OutOfMemory = Unit {0}
-
--- the verdict on a chip's text that isn't read
-abbrev pub GivesRefusal : SocFault → Verdict → Type 0
-GivesRefusal (refused.Text line) verdict = GivesOrWants Refused (chip_line line) verdict
-GivesRefusal (refused.Limit which value) verdict = GivesOrWants Refused (chip_limit_line (record { which = which; value = value })) verdict
-GivesRefusal refused.NoMemory verdict = verdict ≡ OutOfMemory
-
--- the verdict of a check
-abbrev pub DecidesCheck : SocValue → LimitsValue → PlanValue → Verdict → Type 0
-DecidesCheck soc limits plan verdict = Decided (Checked soc limits plan) (λ file. ⊥) verdict
-
 -- how a command ends; words that are no command have their line
 abbrev pub Decides : Option CommandValue → Option Files → ℕ → ℕ → Verdict → Type 0
 Decides None held before after verdict = Gives BadWords bad_words_line verdict
-Decides (Some (Print soc)) held before after verdict = DecidesPrint soc held before after verdict
-Decides (Some (Check soc limits plan)) held before after verdict = DecidesSoc soc limits plan held before after verdict
+Decides (Some command) held before after verdict = Follows (procedure_of command) held before after verdict
+
+-- ---- files that are loaded
+
+-- a chip that was read from what the shelf tells, or a verdict without one
+abbrev pub LoadsChip : (soc : List ℕ) → Option Files → ℕ → ℕ → Result SocModel Verdict → Type 0
+LoadsChip soc held before after (Ok chip) = IfSome held (λ files. IsRead Soc SaysChip (get files soc) (soc_value chip))
+LoadsChip soc held before after (Err verdict) = Follows (with_chip soc (λ chip. nothing)) held before after verdict
+
+-- and so limits for a chip
+abbrev pub LoadsLimits : SocValue → (limits : List ℕ) → Option Files → ℕ → ℕ → Result LimitsModel Verdict → Type 0
+LoadsLimits chip limits held before after (Ok bounds) = IfSome held (λ files. IsRead Limits (SaysLimits chip) (get files limits) (limits_value bounds))
+LoadsLimits chip limits held before after (Err verdict) = Follows (with_limits chip limits (λ bounds. nothing)) held before after verdict
+
+-- and so a plan that is accepted for a chip under limits
+abbrev pub LoadsAccepted : SocValue → LimitsValue → (plan : List ℕ) → Option Files → ℕ → ℕ → Result PlanModel Verdict → Type 0
+LoadsAccepted chip bounds plan held before after (Ok value) = IfSome held (λ files. IsRead Plan (SaysAccepted chip bounds) (get files plan) (plan_value value))
+LoadsAccepted chip bounds plan held before after (Err verdict) = Follows (with_accepted chip bounds plan (λ value. nothing)) held before after verdict
+
+-- a chip, limits for it and a plan that is accepted, all read from these files
+pub record AreRead (files : Files) (soc limits plan : List ℕ) (all : Accepted) : Type 0 where
+  pub chip : IsRead Soc SaysChip (get files soc) (soc_value all.soc)
+  pub bounds : IsRead Limits (SaysLimits (soc_value all.soc)) (get files limits) (limits_value all.limits)
+  pub value : IsRead Plan (SaysAccepted (soc_value all.soc) (limits_value all.limits)) (get files plan) (plan_value all.plan)
+
+-- all three, or a verdict without them
+abbrev pub LoadsAll : (soc limits plan : List ℕ) → Option Files → ℕ → ℕ → Result Accepted Verdict → Type 0
+LoadsAll soc limits plan held before after (Ok all) = IfSome held (λ files. AreRead files soc limits plan all)
+LoadsAll soc limits plan held before after (Err verdict) = Follows (with_all soc limits plan (λ chip bounds value. nothing)) held before after verdict
+
+-- ---- texts that aren't taken
+
+-- a verdict is this line, or wants memory
+abbrev pub Refuses : List ℕ → Verdict → Type 0
+Refuses line (Answered given bytes) = (given ≡ Refused) × (bytes.items ≡ line) × IsTrue (is_line bytes.items)
+Refuses line (CannotRead file) = ⊥
+Refuses line OutOfMemory = Unit {0}
+
+-- the verdict on a chip's text
+abbrev pub RefusesSoc : SocFault → Verdict → Type 0
+RefusesSoc (soc_fault.Text line) verdict = Refuses (chip_line line) verdict
+RefusesSoc (soc_fault.Limit which value) verdict = Refuses (chip_limit_line (record { which = which; value = value })) verdict
+RefusesSoc soc_fault.NoMemory verdict = verdict ≡ OutOfMemory
+
+-- on a text of limits
+abbrev pub RefusesBounds : LimFault → Verdict → Type 0
+RefusesBounds (limits_fault.Text line) verdict = Refuses (limits_line line) verdict
+RefusesBounds (limits_fault.UnknownTest line) verdict = Refuses (unknown_test_line line) verdict
+RefusesBounds (limits_fault.Cycle tests) verdict = Refuses (cycle_line tests.items) verdict
+RefusesBounds (limits_fault.TestPower test power) verdict = Refuses (test_power_line test power) verdict
+RefusesBounds limits_fault.NoMemory verdict = verdict ≡ OutOfMemory
+
+-- and on a text of a plan
+abbrev pub RefusesValue : PlanTextFault → Verdict → Type 0
+RefusesValue (plan_fault.Text line) verdict = Refuses (plan_line line) verdict
+RefusesValue plan_fault.NoMemory verdict = verdict ≡ OutOfMemory
+
+-- the plan where it is accepted, or the answer to its fault
+abbrev pub AnswersCheck : SocValue → LimitsValue → PlanValue → Result PlanModel Verdict → Type 0
+AnswersCheck chip bounds value (Ok plan) = (plan_value plan ≡ value) × IsFaultless chip bounds value
+AnswersCheck chip bounds value (Err verdict) = ((fault : FaultValue) × IsFault chip bounds value fault × Refuses (fault_line fault) verdict) ⊎ (verdict ≡ OutOfMemory)

@@ -13,10 +13,10 @@ use Rattle.soctest.specs.declared.FileKind.TheVariants.{Soc, Limits, Plan}
 use Rattle.soctest.specs.declared.Status.{Status}
 use Rattle.soctest.specs.declared.Status.TheVariants.{Done, Refused, BadWords, ReadFault, TooLong, WriteFault, NoMemory}
 use Rattle.soctest.specs.Commands.{CommandValue, Check}
-use Rattle.soctest.specs.LimitsForm.{SaysLimits}
-use Rattle.soctest.specs.PlanForm.{SaysPlan}
+use Rattle.plan_text.specs.Answers.{SaysPlan}
 use Rattle.soctest.specs.Texts.{is_line, unread_line, accepted_line}
-use Rattle.soctest.specs.Answers.{IsAnswer, IsRead}
+use Rattle.soctest.specs.Readings.{IsRead, SaysLimits}
+use Rattle.soctest.specs.Answers.{IsAnswer}
 use Rattle.soctest.specs.Decides.{IsUnreadOf}
 
 abbrev pub status_number : Status → ℕ
@@ -69,7 +69,7 @@ pub record IsTrustworthy (files : Files) (soc limits plan : List ℕ) (old new :
   pub bounds : LimitsValue
   pub value : PlanValue
   pub chip_read : IsRead Soc SaysChip (get files soc) chip
-  pub limits_read : IsRead Limits SaysLimits (get files limits) bounds
+  pub limits_read : IsRead Limits (SaysLimits chip) (get files limits) bounds
   pub plan_read : IsRead Plan SaysPlan (get files plan) value
   pub right : (content : Content) → IsRight chip bounds value content
   pub bound : IsBound chip bounds value.bound.cycles

@@ -2,13 +2,7 @@ pub mod Answers
 pub mod Commands
 pub mod Decides
 pub mod Ends
-pub mod FaultValues
-pub mod FormAnswers
-pub mod FourWords
-pub mod LimitsForm
-pub mod Narrow
-pub mod SelfTests
-pub mod PlanForm
-pub mod PlanParts
-pub mod Stages
+pub mod Procedures
+pub mod Readings
 pub mod Texts
+pub mod WidthsText

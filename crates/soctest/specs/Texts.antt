@@ -1,6 +1,6 @@
 -- The lines that are written.
 use Rattle.std.specs.Prelude.{ℕ, ◌++◌, List, [], ◌∷◌, Bool, false, not, ◌&&◌, nat_eq, codes, decimal, if◌then◌else◌}
-use Rattle.std.specs.List.{list_all}
+use Rattle.std.specs.List.{list_all, flat_map}
 use Rattle.soc_model.specs.declared.TestId.{TestId}
 use Rattle.soc_model.specs.declared.SocLimit.{SocLimit}
 use Rattle.soc_model.specs.declared.Which.{Which}
@@ -32,10 +32,6 @@ unread_line file = codes "cannot read " ++ file_name file ++ codes "\n"
 abbrev pub too_long_line : FileKind → List ℕ
 too_long_line file = codes "too long " ++ file_name file ++ codes "\n"
 
--- a file of a form that isn't read yet
-abbrev pub unbuilt_line : FileKind → List ℕ
-unbuilt_line file = codes "refused unbuilt " ++ file_name file ++ codes "\n"
-
 -- a chip's text that is refused at a line, and a chip that is too large
 abbrev pub chip_line : ℕ → List ℕ
 chip_line line = codes "refused soc line " ++ decimal line ++ codes "\n"
@@ -61,10 +57,39 @@ two_numbers a b = decimal a ++ codes " " ++ decimal b
 abbrev pub accepted_line : PlanValue → List ℕ
 accepted_line plan = codes "accepted " ++ two_numbers plan.cycles plan.bound.cycles ++ codes "\n"
 
--- ---- the faults of a plan
-
+-- a test, as its module's number and its own
 abbrev pub test_text : TestId → List ℕ
 test_text id = decimal id.module ++ codes "." ++ decimal id.test
+
+-- ---- limits that are refused
+
+-- at a line of their text; at the line of an item that names a test which the chip hasn't
+abbrev pub limits_line : ℕ → List ℕ
+limits_line line = codes "refused limits line " ++ decimal line ++ codes "\n"
+
+abbrev pub unknown_test_line : ℕ → List ℕ
+unknown_test_line line = codes "refused limits unknown test line " ++ decimal line ++ codes "\n"
+
+abbrev pub spaced_test : TestId → List ℕ
+spaced_test id = codes " " ++ test_text id
+
+-- tests, each behind a space
+abbrev pub tests_text : List TestId → List ℕ
+tests_text ids = flat_map spaced_test ids
+
+-- a cycle of precedences
+abbrev pub cycle_line : List TestId → List ℕ
+cycle_line tests = codes "refused limits cycle" ++ tests_text tests ++ codes "\n"
+
+-- a test with a power that passes the limit
+abbrev pub test_power_line : TestId → ℕ → List ℕ
+test_power_line id power = codes "refused limits power " ++ test_text id ++ codes " " ++ decimal power ++ codes "\n"
+
+-- ---- plans that are refused
+
+-- at a line of their text
+abbrev pub plan_line : ℕ → List ℕ
+plan_line line = codes "refused plan line " ++ decimal line ++ codes "\n"
 
 abbrev pub wrapper_text : ℕ → Bool → List ℕ
 wrapper_text m scan = decimal m ++ (if scan then codes " scan" else codes " terminals")

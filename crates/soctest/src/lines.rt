@@ -1,11 +1,14 @@
 // The lines that are written.
-ghost use Rattle.std.specs.Prelude.{◌≡◌, ◌++◌, ◌&&◌, OnOk, IfOk, decimal, IsTrue};
+ghost use Rattle.std.specs.Prelude.{◌≡◌, ◌++◌, ◌&&◌, OnOk, IfOk, decimal, codes, IsTrue};
 ghost use Rattle.plan_model.specs.Views.{plan_value};
-ghost use Rattle.soctest.specs.FaultValues.{fault_value, certificate_fault};
-ghost use Rattle.soctest.specs.Texts.{is_line, no_feed, unread_line as unread_text, too_long_line as too_long_text, unbuilt_line as unbuilt_text, chip_line as chip_line_text, chip_limit_line as chip_limit_text, limit_name, accepted_line as accepted_text, test_text, wrapper_text, pair_text, clash_text, two_numbers, certificate_text, fault_keyword, carried_text, fault_line as fault_line_text};
+ghost use Rattle.bound_certificate.specs.Checks.{certificate_fault};
+ghost use Rattle.plan_checker.specs.FaultValues.{fault_value};
+ghost use Rattle.soctest.specs.Texts.{is_line, no_feed, unread_line as unread_text, too_long_line as too_long_text, chip_line as chip_line_text, chip_limit_line as chip_limit_text, limits_line as limits_line_text, unknown_test_line as unknown_test_text, tests_text, cycle_line as cycle_line_text, test_power_line as test_power_text, plan_line as plan_line_text, limit_name, accepted_line as accepted_text, test_text, wrapper_text, pair_text, clash_text, two_numbers, certificate_text, fault_keyword, carried_text, fault_line as fault_line_text};
 
-use crate::{BoundFault, FileKind, PlanFault};
+use crate::FileKind;
+use bound_certificate::BoundFault;
 use outside::{NoMemory, push_number};
+use plan_checker::PlanFault;
 use plan_model::Plan;
 use soc_model::{SocLimit, TestId, Which};
 use std::alloc::Global;
@@ -34,18 +37,6 @@ pub fn too_long_line(file: FileKind) -> &'static [u8]
     }
 }
 
-/// `refused unbuilt FILE`, of a file whose form isn't read yet.
-pub fn unbuilt_line(file: FileKind) -> &'static [u8]
-    ensures text { result.now ≡ unbuilt_text file }
-    ensures line { IsTrue (is_line result.now) }
-{
-    match file {
-        FileKind::Soc => b"refused unbuilt SOC\n",
-        FileKind::Limits => b"refused unbuilt LIMITS\n",
-        FileKind::Plan => b"refused unbuilt PLAN\n",
-    }
-}
-
 /// The name of a limit on the size of a chip, with a space behind it.
 fn limit_word(which: Which) -> &'static [u8]
     ensures text { result.now ≡ limit_name which }
@@ -60,7 +51,7 @@ fn limit_word(which: Which) -> &'static [u8]
     }
 }
 
-fn push(to: &mut Vec<u8>, text: &[u8]) -> Result<(), NoMemory>
+pub(crate) fn push(to: &mut Vec<u8>, text: &[u8]) -> Result<(), NoMemory>
     ensures text { OnOk result (to.new.items ≡ to.old.items ++ text.now) }
     ensures plain { OnOk result (no_feed to.new.items ≡ (no_feed to.old.items && no_feed text.now)) }
 {
@@ -70,7 +61,7 @@ fn push(to: &mut Vec<u8>, text: &[u8]) -> Result<(), NoMemory>
     }
 }
 
-fn push_decimal(to: &mut Vec<u8>, n: u128) -> Result<(), NoMemory>
+pub(crate) fn push_decimal(to: &mut Vec<u8>, n: u128) -> Result<(), NoMemory>
     ensures text { OnOk result (to.new.items ≡ to.old.items ++ decimal n) }
     ensures plain { OnOk result (IsTrue (no_feed to.old.items) → IsTrue (no_feed to.new.items)) }
 {
@@ -187,16 +178,25 @@ fn push_carried(to: &mut Vec<u8>, fault: &PlanFault) -> Result<(), NoMemory>
     }
 }
 
+/// A line of words and a number.
+fn numbered(alloc: Global, words: &[u8], number: u64) -> Result<Vec<u8>, NoMemory>
+    requires { IsTrue (no_feed words.now) }
+    ensures text { IfOk result (λ text. text.items ≡ words.now ++ decimal number ++ codes "\n") }
+    ensures line { IfOk result (λ text. IsTrue (is_line text.items)) }
+{
+    let mut text = Vec::new(alloc);
+    push(&mut text, words)?;
+    push_decimal(&mut text, u128::from(number))?;
+    push(&mut text, b"\n")?;
+    Ok(text)
+}
+
 /// `refused soc line` and the line.
 pub fn chip_line(alloc: Global, line: u64) -> Result<Vec<u8>, NoMemory>
     ensures text { IfOk result (λ text. text.items ≡ chip_line_text line) }
     ensures line { IfOk result (λ text. IsTrue (is_line text.items)) }
 {
-    let mut text = Vec::new(alloc);
-    push(&mut text, b"refused soc line ")?;
-    push_decimal(&mut text, u128::from(line))?;
-    push(&mut text, b"\n")?;
-    Ok(text)
+    numbered(alloc, b"refused soc line ", line)
 }
 
 /// `refused soc limit`, the name of the limit and the number that passes it.
@@ -210,6 +210,68 @@ pub fn chip_limit_line(alloc: Global, limit: &SocLimit) -> Result<Vec<u8>, NoMem
     push_decimal(&mut text, limit.value)?;
     push(&mut text, b"\n")?;
     Ok(text)
+}
+
+/// `refused limits line` and the line.
+pub fn limits_line(alloc: Global, line: u64) -> Result<Vec<u8>, NoMemory>
+    ensures text { IfOk result (λ text. text.items ≡ limits_line_text line) }
+    ensures line { IfOk result (λ text. IsTrue (is_line text.items)) }
+{
+    numbered(alloc, b"refused limits line ", line)
+}
+
+/// `refused limits unknown test line` and the line.
+pub fn unknown_test_line(alloc: Global, line: u64) -> Result<Vec<u8>, NoMemory>
+    ensures text { IfOk result (λ text. text.items ≡ unknown_test_text line) }
+    ensures line { IfOk result (λ text. IsTrue (is_line text.items)) }
+{
+    numbered(alloc, b"refused limits unknown test line ", line)
+}
+
+/// Appends tests, each behind a space.
+fn push_tests(to: &mut Vec<u8>, tests: &[TestId]) -> Result<(), NoMemory>
+    ensures text { OnOk result (to.new.items ≡ to.old.items ++ tests_text tests.now) }
+    ensures plain { OnOk result (IsTrue (no_feed to.old.items) → IsTrue (no_feed to.new.items)) }
+{
+    for test in tests {
+        push(to, b" ")?;
+        push_test(to, test)?;
+    }
+    Ok(())
+}
+
+/// `refused limits cycle` and the tests of the cycle.
+pub fn cycle_line(alloc: Global, tests: &[TestId]) -> Result<Vec<u8>, NoMemory>
+    ensures text { IfOk result (λ text. text.items ≡ cycle_line_text tests.now) }
+    ensures line { IfOk result (λ text. IsTrue (is_line text.items)) }
+{
+    let mut text = Vec::new(alloc);
+    push(&mut text, b"refused limits cycle")?;
+    push_tests(&mut text, tests)?;
+    push(&mut text, b"\n")?;
+    Ok(text)
+}
+
+/// `refused limits power`, a test and its power that passes the limit.
+pub fn test_power_line(alloc: Global, test: &TestId, power: u64) -> Result<Vec<u8>, NoMemory>
+    ensures text { IfOk result (λ text. text.items ≡ test_power_text test.now power) }
+    ensures line { IfOk result (λ text. IsTrue (is_line text.items)) }
+{
+    let mut text = Vec::new(alloc);
+    push(&mut text, b"refused limits power ")?;
+    push_test(&mut text, test)?;
+    push(&mut text, b" ")?;
+    push_decimal(&mut text, u128::from(power))?;
+    push(&mut text, b"\n")?;
+    Ok(text)
+}
+
+/// `refused plan line` and the line.
+pub fn plan_line(alloc: Global, line: u64) -> Result<Vec<u8>, NoMemory>
+    ensures text { IfOk result (λ text. text.items ≡ plan_line_text line) }
+    ensures line { IfOk result (λ text. IsTrue (is_line text.items)) }
+{
+    numbered(alloc, b"refused plan line ", line)
 }
 
 /// `refused plan` and the fault.

@@ -6,6 +6,9 @@ use std::test::Fail;
 
 const SOC: &str = "Module 1 Test 1 TamUse 0 Patterns 5\nModule 2 Test 1 TamUse 0 Patterns 7\n";
 
+const WIRED: &str = "Module 1 Inputs 2 Outputs 3 ScanChains 2 : 4 2 Test 1 Patterns 2\n\
+                     Module 2 Inputs 2 Outputs 3 ScanChains 2 : 4 2 Test 1 Patterns 2\n";
+
 const LIMITS: &str = "Limits 1 Wires 2\n";
 
 const PLAN: &str = "Plan 1 Cycles 7 Start 1 1 0 Start 2 1 0 Bound 7 Module 2\n";
@@ -47,113 +50,114 @@ fn spaces(alloc: Global, len: usize) -> Result<Vec<u8>, AllocError> {
     vec![in alloc; b' '; len]
 }
 
-#[derive(Clone, Copy)]
-struct Row<'a> {
-    soc: &'a str,
-    limits: &'a str,
-    plan: &'a str,
-    status: Status,
-    text: &'a str,
-}
+/// Plans of the chip with self tests, each with the line that its check writes.
+const SELF_TEST_PLANS: &str = "\
+Plan 1 Cycles 7 Start 1 1 0 Start 2 1 0 Bound 7 Module 2 -> accepted 7 7
+Plan 1 Cycles 8 Start 1 1 0 Start 2 1 0 Bound 7 Module 2 -> refused plan F12 7
+Plan 1 Cycles 7 Start 1 1 0 Start 2 1 0 Bound 8 Module 2 -> refused plan F13 less 8 7
+Plan 1 Cycles 7 Start 1 1 0 Start 2 1 0 Bound 7 Module 3 -> refused plan F13 list 0
+Plan 1 Cycles 7 Start 1 1 0 Start 2 1 0 Bound 1 Power -> refused plan F13 less 1 0
+Plan 1 Cycles 7 Start 1 1 0 Bound 7 Module 2 -> refused plan F6 2.1
+Plan 1 Cycles 7 Start 1 1 0 Start 2 1 0 Start 9 1 0 Bound 7 Module 2 -> refused plan F6 9.1
+Plan 1 Cycles 7 Start 1 1 0 Start 1 1 0 Start 2 1 0 Bound 7 Module 2 -> refused plan F6 1.1
+plan 01 cycles 012 start 1,1:2 start 2 1 5 bound 0 module 1 # late -> accepted 12 0
+Plan 1 Cycles 7 Start 1 1 0 Start 2 1 0 -> refused plan line 1
+";
 
-const fn case<'a>(plan: &'a str, status: Status, text: &'a str) -> Row<'a> {
-    Row {
-        soc: SOC,
-        limits: LIMITS,
-        plan,
-        status,
-        text,
-    }
+/// The same of the chip with tests over two wires.
+const WIRED_PLANS: &str = "\
+Plan 1 Cycles 28 Bus 1 : 1 Bus 1 : 2 Wrapper 1 scan Chain 2 3 : 0 1 Wrapper 2 scan Chain 2 3 : 0 1 Start 1 1 0 Start 2 1 0 Bound 28 Area -> accepted 28 28
+Plan 1 Cycles 28 Bus 1 : 1 Bus 1 : 2 Wrapper 1 scan Chain 2 3 : 0 1 Wrapper 2 scan Chain 2 3 : 0 1 Start 1 1 0 Start 2 1 0 Bound 16 Module 2 -> accepted 28 16
+Plan 1 Cycles 28 Bus 1 : 1 Bus 2 : 2 Wrapper 1 scan Chain 2 3 : 0 1 Wrapper 2 scan Chain 2 3 : 0 1 Start 1 1 0 Start 2 1 0 Bound 28 Area -> refused plan F1 1
+Plan 1 Cycles 28 Bus 1 : 1 Bus 1 : 9 Wrapper 1 scan Chain 2 3 : 0 1 Wrapper 2 scan Chain 2 3 : 0 1 Start 1 1 0 Start 2 1 0 Bound 28 Area -> refused plan F2 9
+Plan 1 Cycles 28 Bus 1 : 1 Bus 1 : 1 Wrapper 1 scan Chain 2 3 : 0 1 Wrapper 2 scan Chain 2 3 : 0 1 Start 1 1 0 Start 2 1 0 Bound 28 Area -> refused plan F3 1
+Plan 1 Cycles 28 Bus 1 : 1 Bus 1 Wrapper 1 scan Chain 2 3 : 0 1 Wrapper 2 scan Chain 2 3 : 0 1 Start 1 1 0 Start 2 1 0 Bound 28 Area -> refused plan F3 2
+Plan 1 Cycles 28 Bus 1 : 1 Bus 1 : 2 Wrapper 1 scan Chain 2 3 : 0 1 Start 1 1 0 Start 2 1 0 Bound 28 Area -> refused plan F4 2 scan
+Plan 1 Cycles 28 Bus 1 : 1 Bus 1 : 2 Wrapper 1 scan Chain 2 3 : 0 1 Chain 0 0 Wrapper 2 scan Chain 2 3 : 0 1 Start 1 1 0 Start 2 1 0 Bound 28 Area -> refused plan F4 1 scan
+Plan 1 Cycles 28 Bus 1 : 1 Bus 1 : 2 Wrapper 1 scan Chain 2 3 : 0 1 Wrapper 2 scan Chain 2 3 : 0 1 Wrapper 1 terminals Chain 2 3 Start 1 1 0 Start 2 1 0 Bound 28 Area -> refused plan F4 1 terminals
+Plan 1 Cycles 28 Bus 1 : 1 Bus 1 : 2 Wrapper 1 scan Chain 2 3 : 0 7 Wrapper 2 scan Chain 2 3 : 0 1 Start 1 1 0 Start 2 1 0 Bound 28 Area -> refused plan F5 1 scan
+Plan 1 Cycles 28 Bus 1 : 1 2 Wrapper 1 scan Chain 2 3 : 0 1 Wrapper 2 scan Chain 2 3 : 0 1 Start 1 1 0 Start 2 1 0 Bound 28 Area -> refused plan F7 1.1 2.1 0
+Plan 1 Cycles 28 Bus 1 : 1 Bus 1 : 2 Wrapper 1 scan Chain 2 3 : 0 1 Wrapper 2 scan Chain 2 3 : 0 1 Start 1 1 0 Start 2 1 0 Bound 28 Pair 1 -> refused plan F13 list 0
+";
+
+/// Checks under other limits and of other chips: the chip, the limits, the plan and the line.
+const OTHER_CHECKS: &str = "\
+Module 1 Test 1 TamUse 0 Patterns 5 Power 3 Module 2 Test 1 TamUse 0 Patterns 5 Power 4 -> Limits 1 Wires 1 Power 7 -> Plan 1 Cycles 9 Start 1 1 0 Start 2 1 4 Bound 5 Module 1 -> accepted 9 5
+Module 1 Test 1 TamUse 0 Patterns 5 Power 3 Module 2 Test 1 TamUse 0 Patterns 5 Power 4 -> Limits 1 Wires 1 Power 6 -> Plan 1 Cycles 9 Start 1 1 0 Start 2 1 4 Bound 5 Module 1 -> refused plan F11 4 7
+Module 1 Test 1 TamUse 0 Patterns 5 Power 3 Module 2 Test 1 TamUse 0 Patterns 5 Power 4 -> Limits 1 Wires 1 Before 1 1 2 1 -> Plan 1 Cycles 10 Start 1 1 0 Start 2 1 5 Bound 10 Chain 1 1 2 1 -> accepted 10 10
+Module 1 Test 1 TamUse 0 Patterns 5 Power 3 Module 2 Test 1 TamUse 0 Patterns 5 Power 4 -> Limits 1 Wires 1 Before 1 1 2 1 -> Plan 1 Cycles 9 Start 1 1 0 Start 2 1 4 Bound 0 Area -> refused plan F10 1.1 2.1
+Module 1 Test 1 TamUse 0 Patterns 5 Power 3 Module 2 Test 1 TamUse 0 Patterns 5 Power 4 -> Limits 2 Wires 2 Power 6 Profile 1 1 0 3 4 2 -> Plan 1 Cycles 8 Start 1 1 0 Start 2 1 3 Bound 6 Power -> refused plan F11 3 7
+Module 1 Test 1 TamUse 0 Patterns 5 Test 2 TamUse 0 Patterns 5 -> Limits 1 Wires 1 -> Plan 1 Cycles 9 Start 1 1 0 Start 1 2 4 Bound 0 Area -> refused plan F8 1.1 1.2 4
+Module 1 Test 1 TamUse 0 Patterns 5 Module 2 Level 2 Test 1 TamUse 0 Patterns 5 -> Limits 1 Wires 1 -> Plan 1 Cycles 9 Start 1 1 0 Start 2 1 4 Bound 0 Area -> refused plan F9 1.1 2.1 4
+Module 1 Test 1 Patterns 1 Power 7 -> Limits 1 Wires 2 Power 6 ->  -> refused limits power 1.1 7
+Module 1 Test 1 TamUse 0 Patterns 5 Power 3 Module 2 Test 1 TamUse 0 Patterns 5 Power 4 -> Limits 1 Wires 2 Before 1 1 2 1 Before 2 1 1 1 ->  -> refused limits cycle 1.1 2.1
+Module 1 Test 1 TamUse 0 Patterns 5 Power 3 Module 2 Test 1 TamUse 0 Patterns 5 Power 4 -> Limits 1 Wires 0 ->  -> refused limits line 1
+Module 1 Test 1 TamUse 0 Patterns 5 Power 3 Module 2 Test 1 TamUse 0 Patterns 5 Power 4 -> Limits 1 Wires 2 Before 1 1 9 1 ->  -> refused limits unknown test line 1
+";
+
+/// The parts of a row of a table.
+fn two_parts(row: &str) -> (&str, &str) {
+    row.split_once(" -> ").unwrap_or((row, ""))
 }
 
 #[test]
 fn checks_plans(rt: HostRuntime) -> Result<(), Fail> {
     let alloc = rt.alloc();
-    let rows = [
-        case(PLAN, Status::Done, "accepted 7 7\n"),
-        case(
-            "Plan 1 Cycles 8 Start 1 1 0 Start 2 1 0 Bound 7 Module 2",
-            Status::Refused,
-            "refused plan F12 7\n",
-        ),
-        case(
-            "Plan 1 Cycles 7 Start 1 1 0 Start 2 1 0 Bound 8 Module 2",
-            Status::Refused,
-            "refused plan F13 less 8 7\n",
-        ),
-        case(
-            "Plan 1 Cycles 7 Start 1 1 0 Start 2 1 0 Bound 7 Module 3",
-            Status::Refused,
-            "refused plan F13 list 0\n",
-        ),
-        case(
-            "Plan 1 Cycles 7 Start 1 1 0 Bound 7 Module 2",
-            Status::Refused,
-            "refused plan F6 2.1\n",
-        ),
-        case(
-            "Plan 1 Cycles 7 Start 1 1 0 Start 2 1 0 Start 9 1 0 Bound 7 Module 2",
-            Status::Refused,
-            "refused plan F6 9.1\n",
-        ),
-        case(
-            "Plan 1 Cycles 7 Start 1 1 0 Start 1 1 0 Start 2 1 0 Bound 7 Module 2",
-            Status::Refused,
-            "refused plan F6 1.1\n",
-        ),
-        case(
-            "plan 01 cycles 012 start 1,1:2 start 2 1 5 bound 0 module 1 # late",
-            Status::Done,
-            "accepted 12 0\n",
-        ),
-    ];
     let mut text = Vec::new(alloc);
-    for row in &rows {
-        let mut shelf = shelf_of(alloc, row.soc, row.limits, row.plan)?;
-        let status = answer(alloc, "check a.soc a.lim a.plan", &mut shelf, &mut text)?;
-        assert_eq!(rt; text.as_slice(), row.text.as_bytes(), "{}", row.plan);
-        assert_eq!(rt; status, row.status, "{}", row.plan);
+    for (soc, table) in [(SOC, SELF_TEST_PLANS), (WIRED, WIRED_PLANS)] {
+        for row in table.lines() {
+            let (plan, line) = two_parts(row);
+            let mut shelf = shelf_of(alloc, soc, LIMITS, plan)?;
+            let status = answer(alloc, "check a.soc a.lim a.plan", &mut shelf, &mut text)?;
+            assert_eq!(rt; text.pop(), Some(b'\n'));
+            assert_eq!(rt; text.as_slice(), line.as_bytes(), "{plan}");
+            assert_eq!(rt;
+                status == Status::Done,
+                line.starts_with("accepted"),
+                "{plan}"
+            );
+        }
     }
     Ok(())
 }
 
 #[test]
-fn refuses_other_forms(rt: HostRuntime) -> Result<(), Fail> {
+fn checks_under_limits(rt: HostRuntime) -> Result<(), Fail> {
     let alloc = rt.alloc();
-    let unbuilt_soc = "refused unbuilt SOC\n";
-    let unbuilt_limits = "refused unbuilt LIMITS\n";
-    let unbuilt_plan = "refused unbuilt PLAN\n";
-    let rows = [
-        (
-            "Module 1 Test 1 TamUse 1 Patterns 5",
-            "Limits",
-            "",
-            unbuilt_soc,
-        ),
-        (
-            "Module 1 Test 1 TamUse 0 Patterns 5 Test 2 TamUse 0 Patterns 5",
-            "",
-            "",
-            unbuilt_soc,
-        ),
-        (
-            "Module 1 Test 1 TamUse 0 Patterns 5 Module 2 Level 2 Test 1 TamUse 0 Patterns 5",
-            LIMITS,
-            PLAN,
-            unbuilt_soc,
-        ),
-        (SOC, "Limits 1 Wires 0", PLAN, unbuilt_limits),
-        (SOC, "Limits 1 Wires 257", PLAN, unbuilt_limits),
-        (SOC, "Limits 1 Wires 2 Power 5", PLAN, unbuilt_limits),
-        (SOC, LIMITS, "", unbuilt_plan),
-        (SOC, LIMITS, "Plan 1 Cycles 7 Start 1 1 0", unbuilt_plan),
-        (SOC, LIMITS, "Plan 1 Cycles 7 Bound 7 Area", unbuilt_plan),
-    ];
     let mut text = Vec::new(alloc);
-    for (soc, limits, plan, line) in rows {
+    for row in OTHER_CHECKS.lines() {
+        let (soc, rest) = two_parts(row);
+        let (limits, rest) = two_parts(rest);
+        let (plan, line) = two_parts(rest);
         let mut shelf = shelf_of(alloc, soc, limits, plan)?;
         let status = answer(alloc, "check a.soc a.lim a.plan", &mut shelf, &mut text)?;
-        assert_eq!(rt; text.as_slice(), line.as_bytes(), "{soc} {limits} {plan}");
+        assert_eq!(rt; text.pop(), Some(b'\n'));
+        assert_eq!(rt; text.as_slice(), line.as_bytes(), "{row}");
+        assert_eq!(rt;
+            status == Status::Done,
+            line.starts_with("accepted"),
+            "{row}"
+        );
+    }
+    Ok(())
+}
+
+#[test]
+fn counts_lines(rt: HostRuntime) -> Result<(), Fail> {
+    let alloc = rt.alloc();
+    let mut text = Vec::new(alloc);
+    for (limits, plan, line) in [
+        (
+            "Limits 1 Wires 2\nBefore 1 1 9 1",
+            PLAN,
+            "refused limits unknown test line 2\n",
+        ),
+        ("Limits 1\nWires 257", PLAN, "refused limits line 2\n"),
+        (LIMITS, "Plan 1\nCycles 7\n", "refused plan line 3\n"),
+    ] {
+        let mut shelf = shelf_of(alloc, SOC, limits, plan)?;
+        let status = answer(alloc, "check a.soc a.lim a.plan", &mut shelf, &mut text)?;
+        assert_eq!(rt; text.as_slice(), line.as_bytes());
         assert_eq!(rt; status, Status::Refused);
     }
     Ok(())
@@ -175,7 +179,7 @@ fn refuses_chips(rt: HostRuntime) -> Result<(), Fail> {
     let mut text = Vec::new(alloc);
     for (soc, line) in rows {
         let mut shelf = shelf_of(alloc, soc, LIMITS, PLAN)?;
-        for words in ["print a.soc", "check a.soc a.lim a.plan"] {
+        for words in ["print a.soc", "widths a.soc 1", "check a.soc a.lim a.plan"] {
             let status = answer(alloc, words, &mut shelf, &mut text)?;
             assert_eq!(rt; text.as_slice(), line.as_bytes(), "{words} {soc}");
             assert_eq!(rt; status, Status::Refused);
@@ -217,6 +221,58 @@ fn prints_chips(rt: HostRuntime) -> Result<(), Fail> {
 }
 
 #[test]
+fn prints_widths(rt: HostRuntime) -> Result<(), Fail> {
+    let alloc = rt.alloc();
+    let rows = [
+        (
+            WIRED,
+            "widths a.soc 2",
+            "module 1 width 1 time 28\nmodule 1 width 2 time 16\n\
+             module 2 width 1 time 28\nmodule 2 width 2 time 16\n",
+        ),
+        (
+            "Module 1 Inputs 2 Outputs 3 ScanChains 2 : 4 2 Test 1 Patterns 2 Test 2 ScanUse 0 Patterns 1",
+            "widths a.soc 004",
+            "module 1 width 1 time 34\nmodule 1 width 2 time 20\n\
+             module 1 width 3 time 17\nmodule 1 width 4 time 17\n",
+        ),
+        (
+            "Module 1 Inputs 999999999 Test 1 Patterns 1000000000",
+            "widths a.soc 1",
+            "module 1 width 1 time 1000000000000000000\n",
+        ),
+        (SOC, "widths a.soc 256", ""),
+    ];
+    let mut text = Vec::new(alloc);
+    for (soc, words, lines) in rows {
+        let mut shelf = shelf_of(alloc, soc, LIMITS, PLAN)?;
+        let status = answer(alloc, words, &mut shelf, &mut text)?;
+        assert_eq!(rt; text.as_slice(), lines.as_bytes(), "{soc}");
+        assert_eq!(rt; status, Status::Done, "{soc}");
+    }
+    Ok(())
+}
+
+#[test]
+fn draws_charts(rt: HostRuntime) -> Result<(), Fail> {
+    let alloc = rt.alloc();
+    let mut text = Vec::new(alloc);
+    let mut shelf = shelf_of(
+        alloc,
+        SOC,
+        "Limits 1 Wires 1 Before 1 1 2 1",
+        "Plan 1 Cycles 12 Start 1 1 0 Start 2 1 5 Bound 12 Chain 1 1 2 1",
+    )?;
+    let status = answer(alloc, "chart a.soc a.lim a.plan", &mut shelf, &mut text)?;
+    let chart = "cycles 12\n\
+                 1.1 bus - start 0 end 5 |####################............................|\n\
+                 2.1 bus - start 5 end 12 |....................############################|\n";
+    assert_eq!(rt; text.as_slice(), chart.as_bytes());
+    assert_eq!(rt; status, Status::Done);
+    Ok(())
+}
+
+#[test]
 fn refuses_words_and_files(rt: HostRuntime) -> Result<(), Fail> {
     let alloc = rt.alloc();
     let mut text = Vec::new(alloc);
@@ -228,6 +284,10 @@ fn refuses_words_and_files(rt: HostRuntime) -> Result<(), Fail> {
         "print",
         "print a.soc a.lim",
         "PRINT a.soc",
+        "widths a.soc",
+        "widths a.soc 0",
+        "widths a.soc 257",
+        "widths a.soc +1",
         "Check a.soc a.lim a.plan",
     ] {
         let mut shelf = shelf_of(alloc, SOC, LIMITS, PLAN)?;
@@ -237,6 +297,7 @@ fn refuses_words_and_files(rt: HostRuntime) -> Result<(), Fail> {
     }
     for (words, line) in [
         ("print b.soc", "cannot read SOC\n"),
+        ("widths b.soc 1", "cannot read SOC\n"),
         ("check b.soc a.lim a.plan", "cannot read SOC\n"),
         ("check a.soc b.lim a.plan", "cannot read LIMITS\n"),
         ("check a.soc a.lim b.plan", "cannot read PLAN\n"),
@@ -278,8 +339,37 @@ fn meets_faults(rt: HostRuntime) -> Result<(), Fail> {
         assert_eq!(rt; status, Status::ReadFault);
         assert_eq!(rt; text.as_slice(), line.as_bytes());
     }
+    Ok(())
+}
+
+#[test]
+fn meets_a_failing_output(rt: HostRuntime) -> Result<(), Fail> {
+    let alloc = rt.alloc();
+    let line = b"accepted 7 7\n".as_slice();
     let words = words_of(alloc, "check a.soc a.lim a.plan")?;
+    // An output of one byte in each call that fails at one of its calls; the line takes 13 of them.
+    for call in 0..14 {
+        let mut shelf = shelf_of(alloc, SOC, LIMITS, PLAN)?;
+        let mut out = MemSink::new(alloc, 100, 1)?;
+        out.fail_at(call)?;
+        let status = soctest(alloc, words.as_slice(), &mut shelf, &mut out);
+        let written = out.bytes();
+        assert!(rt; line.starts_with(written), "{call}");
+        assert_eq!(rt; written.len() as u64, call.min(13), "{call}");
+        let whole = call == 13;
+        assert_eq!(rt; status == Status::Done, whole, "{call}");
+        assert_eq!(rt; status == Status::WriteFault, !whole, "{call}");
+    }
     let mut shelf = shelf_of(alloc, SOC, LIMITS, PLAN)?;
+    let mut out = MemSink::new(alloc, 5, 100)?;
+    assert_eq!(rt;
+        soctest(alloc, words.as_slice(), &mut shelf, &mut out),
+        Status::WriteFault
+    );
+    assert_eq!(rt; out.bytes(), b"accep".as_slice());
+    // The first load and the first output fail together.
+    let mut shelf = shelf_of(alloc, SOC, LIMITS, PLAN)?;
+    shelf.fail_at(0)?;
     let mut out = MemSink::new(alloc, 100, 100)?;
     out.fail_at(0)?;
     assert_eq!(rt;
@@ -287,12 +377,6 @@ fn meets_faults(rt: HostRuntime) -> Result<(), Fail> {
         Status::WriteFault
     );
     assert_eq!(rt; out.bytes(), b"".as_slice());
-    let mut out = MemSink::new(alloc, 5, 100)?;
-    assert_eq!(rt;
-        soctest(alloc, words.as_slice(), &mut shelf, &mut out),
-        Status::WriteFault
-    );
-    assert_eq!(rt; out.bytes(), b"accep".as_slice());
     Ok(())
 }
 

@@ -7,8 +7,10 @@ ghost use Rattle.soctest.specs.Ends.{MayAnswer, Ends, OneLine, EndsByWords, Comp
 use crate::deciding::decide;
 use crate::lines::unread_line;
 use crate::{Status, Verdict};
+use limits_text::texts_have_one_answer;
 use outside::{Shelf, Sink, WriteFault, put_all};
 use plan_model::{certificates_are_bounds, faults_are_exact, good_plans_run_right};
+use plan_text::{plans_are_not_refused, refused_once, say_one_plan};
 use std::alloc::Global;
 
 /// Runs the command of these words over the files of a shelf, and writes its answer.
@@ -39,6 +41,10 @@ pub fn soctest<H: Shelf, K: Sink>(
     good_plans_run_right();
     certificates_are_bounds();
     faults_are_exact();
+    texts_have_one_answer();
+    say_one_plan();
+    plans_are_not_refused();
+    refused_once();
     match decide(alloc, words, shelf) {
         Verdict::Answered { status, text } => match put_all(out, text.as_slice()) {
             Ok(()) => status,

@@ -1,16 +1,39 @@
 // The words of the command line.
-ghost use Rattle.std.specs.Prelude.{◌≡◌, map, string_bytes, option_map};
-ghost use Rattle.soctest.specs.Commands.{command_of, command_value};
+ghost use Rattle.std.specs.Prelude.{◌≡◌, map, string_bytes, option_map, IfSome};
+ghost use Rattle.outside.specs.Decimal.{number_of};
+ghost use Rattle.plan_model.specs.declared.TheConstants.{WIRES_MOST};
+ghost use Rattle.soctest.specs.Commands.{command_of, command_value, widths_of, HasWires};
 
 use crate::Command;
+use outside::number;
+use plan_model::WIRES_MOST;
+
+/// `widths` with a word for the wires, where that is a number from 1 to 256.
+fn widths<'a>(soc: &'a str, wires: &str) -> Option<Command<'a>>
+    ensures value { option_map command_value result ≡ widths_of soc.now (number_of wires.now WIRES_MOST) }
+    ensures wires { IfSome result HasWires }
+{
+    let wires = number(wires.as_bytes(), WIRES_MOST)?;
+    if wires < 1 {
+        return None;
+    }
+    Some(Command::Widths { soc, wires })
+}
 
 /// The command that the words are, where they are one.
 pub fn command(words: &[String]) -> Option<Command<'_>>
-    ensures { option_map command_value result ≡ command_of (map string_bytes words.now) }
+    ensures value { option_map command_value result ≡ command_of (map string_bytes words.now) }
+    ensures wires { IfSome result HasWires }
 {
     match words {
         [word, soc] if word.as_str() == "print" => Some(Command::Print { soc: soc.as_str() }),
+        [word, soc, wires] if word.as_str() == "widths" => widths(soc.as_str(), wires.as_str()),
         [word, soc, limits, plan] if word.as_str() == "check" => Some(Command::Check {
+            soc: soc.as_str(),
+            limits: limits.as_str(),
+            plan: plan.as_str(),
+        }),
+        [word, soc, limits, plan] if word.as_str() == "chart" => Some(Command::Chart {
             soc: soc.as_str(),
             limits: limits.as_str(),
             plan: plan.as_str(),

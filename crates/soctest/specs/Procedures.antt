@@ -1,0 +1,52 @@
+-- What a command does: it takes its files one after another, and then answers.
+use Rattle.std.specs.Prelude.{◌≡◌, ℕ, List}
+use Rattle.soc_model.specs.Chips.{SocValue}
+use Rattle.plan_model.specs.Plans.{LimitsValue, PlanValue}
+use Rattle.soc_reader.specs.ChipForm.{SaysChip}
+use Rattle.soc_printer.specs.SocText.{soc_text}
+use Rattle.soctest.specs.declared.FileKind.{FileKind}
+use Rattle.soctest.specs.declared.FileKind.TheVariants.{Soc, Limits, Plan}
+use Rattle.soctest.specs.declared.Status.{Status}
+use Rattle.soctest.specs.declared.Status.TheVariants.{Done}
+use Rattle.chart.specs.ChartText.{chart_text}
+use Rattle.soctest.specs.Commands.{CommandValue, Print, Widths, Check, Chart}
+use Rattle.soctest.specs.Texts.{accepted_line}
+use Rattle.soctest.specs.WidthsText.{widths_text}
+use Rattle.soctest.specs.Readings.{RefusesChip, SaysLimits, RefusesLimits, SaysAccepted, RefusesPlan}
+
+-- A file of a name is read, where its bytes say a value (`Says bytes value`); what is done next is fixed by that value.
+-- Where they say none, a line says why (`Refuses bytes line`). At the end stands which statuses and texts are an answer.
+pub data Procedure : Type 1 where
+  Read : {V : Type 0} → FileKind → (Says : List ℕ → V → Type 0) → (Refuses : List ℕ → List ℕ → Type 0) → (name : List ℕ) → (V → Procedure) → Procedure
+  Answer : (Status → List ℕ → Type 0) → Procedure
+
+-- there is no answer
+abbrev pub nothing : Procedure
+nothing = Answer (λ status text. ⊥)
+
+-- the answer is this text
+abbrev pub done_with : List ℕ → Procedure
+done_with answer = Answer (λ status text. (status ≡ Done) × (text ≡ answer))
+
+-- ---- what commands have in common
+
+abbrev pub with_chip : (soc : List ℕ) → (SocValue → Procedure) → Procedure
+with_chip soc next = Read Soc SaysChip RefusesChip soc next
+
+abbrev pub with_limits : SocValue → (limits : List ℕ) → (LimitsValue → Procedure) → Procedure
+with_limits chip limits next = Read Limits (SaysLimits chip) (RefusesLimits chip) limits next
+
+abbrev pub with_accepted : SocValue → LimitsValue → (plan : List ℕ) → (PlanValue → Procedure) → Procedure
+with_accepted chip bounds plan next = Read Plan (SaysAccepted chip bounds) (RefusesPlan chip bounds) plan next
+
+-- a chip, limits for it and a plan that is accepted
+abbrev pub with_all : (soc limits plan : List ℕ) → (SocValue → LimitsValue → PlanValue → Procedure) → Procedure
+with_all soc limits plan next = with_chip soc (λ chip. with_limits chip limits (λ bounds. with_accepted chip bounds plan (next chip bounds)))
+
+-- ---- the commands
+
+abbrev pub procedure_of : CommandValue → Procedure
+procedure_of (Print soc) = with_chip soc (λ chip. done_with (soc_text chip))
+procedure_of (Widths soc wires) = with_chip soc (λ chip. done_with (widths_text chip wires))
+procedure_of (Check soc limits plan) = with_all soc limits plan (λ chip bounds value. done_with (accepted_line value))
+procedure_of (Chart soc limits plan) = with_all soc limits plan (λ chip bounds value. done_with (chart_text chip value))
