@@ -1,0 +1,21 @@
+pub mod Lists
+pub mod BusRules
+pub mod WrapperRules
+pub mod PartRules
+pub mod UsedModes
+pub mod BusWidths
+pub mod SettledBuses
+pub mod PlanNumbers
+pub mod Finding
+pub mod LiveJobs
+pub mod Wrapped
+pub mod Befores
+pub mod Marking
+pub mod JobPrecedences
+pub mod SoundJobs
+pub mod Placing
+pub mod Planned
+pub mod Scheduled
+pub mod WholePlans
+mod TestLimits
+mod Rows

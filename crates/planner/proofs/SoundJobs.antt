@@ -1,0 +1,163 @@
+-- The job of a sound chip under sound limits is sound.
+use Rattle.std.proofs.Common.{◌≡◌, inl, inr, ℕ, zero, suc, ◌+◌, ◌*◌, ◌≤◌, ◌^◌, max, min, true, false, Some, None, Option, List, [], ◌∷◌, length, get_or, map, refl, sym, ◌∙◌, ap, subst, arith}
+use Rattle.std.specs.Prelude.{slice_get, IfSome, nat_le, slice_index_or}
+use Rattle.std.specs.List.{All, sum, sum_by}
+use Rattle.std.proofs.lemmas.Bool.{cases_Bool, le-leb}
+use Rattle.std.proofs.lemmas.List.{length-replicate}
+use Rattle.std.proofs.lemmas.List.Sums.{sum_by-cons}
+use Rattle.std.proofs.lemmas.List.Elements.{All-nil, All-cons, All-contains}
+use Rattle.std.proofs.lemmas.Option.{slice_get-get_or}
+use Rattle.soc_model.specs.declared.Test.{Test}
+use Rattle.soc_model.specs.declared.TestId.{TestId}
+use Rattle.soc_model.specs.declared.TheConstants.{POWER_MOST, NUMBER_WORD_MOST}
+use Rattle.soc_model.specs.Chips.{ModuleValue, SocValue, LiveTest, is_live, live_tests, id_of, same_test}
+use Rattle.soc_model.specs.Sizes.{test_work, all_tests}
+use Rattle.soc_model.specs.SoundChips.{IsSoundChip}
+use Rattle.soc_model.proofs.Limits.{work-le, powers-le}
+use Rattle.plan_model.specs.declared.Wrapper.{Wrapper}
+use Rattle.plan_model.specs.declared.TheConstants.{STEPS_MOST}
+use Rattle.plan_model.specs.Cells.{Cell, IsProper, in_length, out_length, chain_cells}
+use Rattle.plan_model.specs.Operations.{SelfTest, ops_of}
+use Rattle.plan_model.specs.Plans.{BusValue, WrapperValue, PlanValue, ProfileValue, LimitsValue, greatest, chains_of, operations_of, planned_test, step_power, power_of_id, of_first}
+use Rattle.plan_model.specs.Rules.{Each, HasWrapper, HasProperCells, used_pairs, live_ids}
+use Rattle.plan_model.specs.SoundLimits.{Grow, IsSoundProfile, IsSoundLimits}
+use Rattle.plan_model.specs.Views.{wrapper_value, chain_value}
+use Rattle.plan_model.proofs.ChainLengths.{lengths_within, time_within}
+use Rattle.plan_model.proofs.GoodPlansRunRight.{planned_some}
+use Rattle.plan_model.proofs.Lists.{from_map, from_filter, in_flat_map, at_contains}
+use Rattle.plan_model.proofs.OperationCounts.{ops_length}
+use Rattle.plan_model.proofs.PlannedTests.{IsLive, live_at, Wrapped, wrapped_by}
+use Rattle.resource_table.specs.Jobs.{TestValue, IsSoundTest, IsSoundJob}
+use Rattle.resource_table.proofs.Steps.{step_late}
+use Rattle.bound_certificate.proofs.LiveNodes.{live_patterns}
+use Rattle.planner.specs.Jobs.{settled_parts, steps_of, test_of, job_of}
+use Rattle.planner.proofs.JobPrecedences.{no_id, places_in_range, acyclic_job}
+
+-- ---- cycles
+
+some_cycle : (plan : PlanValue) (l : LiveTest) → 1 ≤ l.test.patterns → 1 ≤ length (operations_of l.core l.test (chains_of plan l.core l.test))
+unfolding planned_test
+some_cycle plan l live = planned_some plan l.place l.core l.test live
+
+tam_short : (m : ModuleValue) (t : Test) (w : Wrapper) → 1 ≤ t.patterns → t.tam ≡ true → w.scan ≡ t.scan → IsProper m w.scan (map chain_value w.chains.items) → length (operations_of m t (chain_cells m t.scan (map chain_value w.chains.items))) ≤ test_work m t
+tam_short m t w live tam mode proper =
+    let proper' = rw mode at proper in
+    let fits = lengths_within m t.scan w.chains.items proper' in
+    let si : ℕ = greatest (map in_length (chain_cells m t.scan (map chain_value w.chains.items))) in
+    let so : ℕ = greatest (map out_length (chain_cells m t.scan (map chain_value w.chains.items))) in
+    let size : ℕ = 1 + (m.inputs + m.bidirs) + (m.outputs + m.bidirs) + 2 * sum m.chains in
+    let long : length (ops_of m.setup si so t.patterns) ≡ m.setup + (1 + max si so) * t.patterns + min si so = ops_length m.setup si so t.patterns live in
+    let short : m.setup + (1 + max si so) * t.patterns + min si so ≤ t.patterns * size + m.setup = time_within m.setup si so t.patterns size (t.patterns * size + m.setup) live (omega (arith, fits.0, fits.1)) (omega arith) in
+    rw tam (omega (arith, long, short))
+
+self_short : (m : ModuleValue) (t : Test) (chains : List (List Cell)) → t.tam ≡ false → length (operations_of m t chains) ≤ test_work m t
+self_short m t chains self = rw self (omega (arith, length-replicate t.patterns SelfTest))
+
+-- no live test takes more cycles than its part of the work
+short_test : (soc : SocValue) (buses : List BusValue) (ws : List Wrapper) → Each (HasWrapper (settled_parts buses (map wrapper_value ws))) (used_pairs soc) → Each (HasProperCells soc) (map wrapper_value ws) → (i : ℕ) (l : LiveTest) → slice_get (live_tests soc) i ≡ Some l
+    → length (operations_of l.core l.test (chains_of (settled_parts buses (map wrapper_value ws)) l.core l.test)) ≤ test_work l.core l.test
+short_test soc buses ws have proper i l at = elim (cases_Bool l.test.tam) [
+  | inl tam ↦
+      let o : IsLive soc.modules 0 l = live_at soc.modules 0 i l at in
+      let w : Wrapped (settled_parts buses (map wrapper_value ws)) l.core l.test = wrapped_by soc (settled_parts buses (map wrapper_value ws)) have o.up o.n l.core l.test o.module_at o.test_at tam in
+      let from = from_map wrapper_value ws w.n w.w w.at in
+      let cells : IsProper l.core (w.w).scan (w.w).chains = proper w.n w.w w.at o.up l.core o.module_at (sym w.module_is) in
+      let short = tam_short l.core l.test from.0 (live_patterns l soc i at) tam (ap (λ (v : WrapperValue). v.scan) from.2 ∙ w.scan_is) (subst (λ (v : WrapperValue). IsProper l.core v.scan v.chains) (sym from.2) cells) in
+      let chains = w.chains_are ∙ ap (λ (v : WrapperValue). chain_cells l.core l.test.scan v.chains) (sym from.2) in
+      subst (λ (v : List (List Cell)). length (operations_of l.core l.test v) ≤ test_work l.core l.test) (sym chains) short
+  | inr self ↦ self_short l.core l.test (chains_of (settled_parts buses (map wrapper_value ws)) l.core l.test) self
+]
+
+sum_short : (f : LiveTest → TestValue) (g : LiveTest → ℕ) (ls : List LiveTest) → ((i : ℕ) (l : LiveTest) → slice_get ls i ≡ Some l → (f l).cycles ≤ g l) → sum_by (λ (t : TestValue). t.cycles) (map f ls) ≤ sum_by g ls
+sum_short f g [] h = omega arith
+sum_short f g (l ∷ ls) h = omega (arith, sum_by-cons (λ (t : TestValue). t.cycles) (f l) (map f ls), sum_by-cons g l ls, h 0 l refl, sum_short f g ls (λ i x at. h (suc i) x at))
+
+-- ---- power
+
+-- at a step's own cycle the test draws the power of that step
+step_own : (from now : ℕ) (steps : List (ℕ × ℕ)) (k : ℕ) (s : ℕ × ℕ) → Grow from steps → slice_get steps k ≡ Some s → (from ≤ s.0) × (step_power s.0 now steps ≡ s.1)
+step_own from now [] k s grow at = absurd cc
+step_own from now (x ∷ steps) zero s grow at =
+    let same : x ≡ s = cc in
+    subst (λ (v : ℕ × ℕ). (from ≤ v.0) × (step_power v.0 now (x ∷ steps) ≡ v.1)) same
+    (grow.0, (let begun : nat_le x.0 x.0 ≡ true = le-leb x.0 x.0 (omega arith) in rw begun (step_late (x.0 + 1) x.0 x.1 steps grow.1 (omega arith))))
+step_own from now (x ∷ steps) (suc k) s grow at =
+    let r = step_own (x.0 + 1) x.1 steps k s grow.1 at in
+    let begun : nat_le x.0 s.0 ≡ true = le-leb x.0 s.0 (omega (arith, r.0)) in
+    (omega (arith, r.0, grow.0), rw begun r.1)
+
+abbrev Small : ℕ × ℕ → Type 0
+Small s = (s.0 ≤ NUMBER_WORD_MOST) × (s.1 ≤ POWER_MOST)
+
+-- what a test's steps keep, whether it has a profile or not
+record AreSteps (steps : List (ℕ × ℕ)) (power : ℕ → ℕ) : Type 0 where
+  some_step : 1 ≤ length steps
+  few_steps : length steps ≤ STEPS_MOST
+  begins : (power : ℕ) × (slice_get steps 0 ≡ Some (0, power))
+  grows : Grow 0 steps
+  small : All Small steps
+  drawn : (r : ℕ) → power r ≡ step_power r 0 steps
+
+own_steps : (own : ℕ) → own ≤ POWER_MOST → AreSteps ((0, own) ∷ []) (λ r. own)
+own_steps own small = record {
+  some_step = omega arith;
+  few_steps = omega arith;
+  begins = (own, refl);
+  grows = (omega arith, tt);
+  small = All-cons Small (0, own) [] (omega arith, small) (All-nil Small);
+  drawn = λ r. let begun : nat_le 0 r ≡ true = le-leb 0 r (omega arith) in rw begun refl;
+}
+
+steps_in : (soc : SocValue) (ps : List ProfileValue) → All (IsSoundProfile soc) ps → (id : TestId) (own : ℕ) → own ≤ POWER_MOST
+    → AreSteps (of_first (λ (p : ProfileValue). same_test p.test id) (λ p. p.steps) ((0, own) ∷ []) ps) (λ r. of_first (λ (p : ProfileValue). same_test p.test id) (λ p. step_power r 0 p.steps) own ps)
+steps_in soc [] sound id own small = own_steps own small
+steps_in soc (p ∷ ps) sound id own small = elim (cases_Bool (same_test p.test id)) [
+  | inl yes' ↦ rw yes' (let s : IsSoundProfile soc p = sound 0 p (omega arith) in record { some_step = s.some_step; few_steps = s.few_steps; begins = s.begins; grows = s.grows; small = s.small; drawn = λ r. refl })
+  | inr no' ↦ rw no' (steps_in soc ps (λ k d less. sound (suc k) d (omega (arith, less))) id own small)
+]
+
+within_steps : (steps : List (ℕ × ℕ)) (power : ℕ → ℕ) (limit : Option ℕ) → AreSteps steps power → ((r : ℕ) → IfSome limit (λ most. power r ≤ most)) → IfSome limit (λ most. All (λ (s : ℕ × ℕ). s.1 ≤ most) steps)
+within_steps steps power None are h = tt
+within_steps steps power (Some most) are h = λ k d less.
+    let s : ℕ × ℕ = get_or steps k d in
+    let own = step_own 0 0 steps k s are.grows (slice_get-get_or steps k d less) in
+    let here = h s.0 in
+    let drawn = are.drawn s.0 in
+    omega (arith, own.1, here, drawn)
+
+-- ---- the power of a live test
+
+live_power : (soc : SocValue) → IsSoundChip soc → (i : ℕ) (l : LiveTest) → slice_get (live_tests soc) i ≡ Some l → l.test.power ≤ POWER_MOST
+live_power soc sound i l at =
+    let o : IsLive soc.modules 0 l = live_at soc.modules 0 i l at in
+    let t = from_filter is_live l.core.tests o.n l.test o.test_at in
+    let r = in_flat_map (λ (m : ModuleValue). m.tests) soc.modules o.up t.0 l.core l.test o.module_at t.1 in
+    let all : All (λ (t : Test). t.power ≤ 10 ^ 9) (all_tests soc) = powers-le soc sound.size in
+    All-contains (λ (t : Test). t.power ≤ 10 ^ 9) (all_tests soc) l.test all (at_contains (all_tests soc) r.0 l.test r.1)
+
+pub job_sound : (soc : SocValue) (limits : LimitsValue) (buses : List BusValue) (ws : List Wrapper) → IsSoundChip soc → IsSoundLimits soc limits → Each (HasWrapper (settled_parts buses (map wrapper_value ws))) (used_pairs soc) → Each (HasProperCells soc) (map wrapper_value ws)
+    → IsSoundJob (job_of soc limits (settled_parts buses (map wrapper_value ws)))
+job_sound soc limits buses ws sound limited have proper =
+    let plan : PlanValue = settled_parts buses (map wrapper_value ws) in
+    record {
+      tests = λ k d less.
+          let t : TestValue = get_or (map (test_of soc limits plan) (live_tests soc)) k d in
+          let from = from_map (test_of soc limits plan) (live_tests soc) k t (slice_get-get_or (map (test_of soc limits plan) (live_tests soc)) k d less) in
+          subst (λ (v : TestValue). IsSoundTest limits.power v) from.2 (sound_test k from.0 from.1);
+      short = let part = sum_short (test_of soc limits plan) (λ (l : LiveTest). test_work l.core l.test) (live_tests soc) (λ i l at. short_test soc buses ws have proper i l at) in omega (arith, part, work-le soc sound.size);
+      in_range = places_in_range soc limits plan;
+      acyclic = ((λ (i : ℕ). limited.acyclic.0 (slice_index_or (live_ids soc) i no_id)), λ i j before. acyclic_job soc limits plan limited.acyclic.0 limited.acyclic.1 i j before);
+    }
+  where
+    sound_test : (k : ℕ) (l : LiveTest) → slice_get (live_tests soc) k ≡ Some l → IsSoundTest limits.power (test_of soc limits (settled_parts buses (map wrapper_value ws)) l)
+    sound_test k l at =
+        let are : AreSteps (steps_of limits (id_of l) l.test.power) (λ r. power_of_id limits (id_of l) l.test.power r) = steps_in soc limits.profiles limited.profiles (id_of l) l.test.power (live_power soc sound k l at) in
+        record {
+          lasts = some_cycle (settled_parts buses (map wrapper_value ws)) l (live_patterns l soc k at);
+          some_step = are.some_step;
+          few_steps = are.few_steps;
+          begins = are.begins;
+          grows = are.grows;
+          small = are.small;
+          within = within_steps (steps_of limits (id_of l) l.test.power) (λ r. power_of_id limits (id_of l) l.test.power r) limits.power are (limited.within k l at);
+        }

@@ -1,0 +1,54 @@
+-- The live tests of a chip as a job, with the buses and wrappers of a plan.
+use Rattle.std.specs.Prelude.{ℕ, Option, None, Some, List, [], ◌∷◌, map, length, position, if◌then◌else◌}
+use Rattle.std.specs.List.{flat_map}
+use Rattle.soc_model.specs.declared.Test.{Test}
+use Rattle.soc_model.specs.declared.TestId.{TestId}
+use Rattle.soc_model.specs.Chips.{ModuleValue, SocValue, LiveTest, live_tests, id_of, same_test, parent_place}
+use Rattle.plan_model.specs.Plans.{BusValue, WrapperValue, OfArea, PlanValue, ProfileValue, LimitsValue, of_first, bus_place, chains_of, operations_of}
+use Rattle.plan_model.specs.Rules.{live_ids}
+use Rattle.resource_table.specs.Jobs.{TestValue, JobValue}
+
+-- a plan of which only the buses and the wrappers are settled
+abbrev pub settled_parts : List BusValue → List WrapperValue → PlanValue
+settled_parts buses wrappers = record { buses = buses; wrappers = wrappers; starts = []; cycles = 0; bound = record { cycles = 0; why = OfArea } }
+
+-- a test's power in steps: those of its profile, or its own power at every cycle
+abbrev pub steps_of : LimitsValue → TestId → ℕ → List (ℕ × ℕ)
+steps_of limits id own = of_first (λ (p : ProfileValue). same_test p.test id) (λ p. p.steps) ((0, own) ∷ []) limits.profiles
+
+-- the bus that a test goes over, by its place; a self test has none
+abbrev pub bus_of : PlanValue → ModuleValue → Test → Option ℕ
+bus_of plan m t = if t.tam then Some (bus_place m.number 0 plan.buses) else None
+
+-- a live test as one of the job: its module, that one's parent and its bus go by their places
+abbrev pub test_of : SocValue → LimitsValue → PlanValue → LiveTest → TestValue
+test_of soc limits plan l = record {
+  id = id_of l;
+  place = l.place;
+  parent = parent_place soc.modules l.place;
+  bus = bus_of plan l.core l.test;
+  cycles = length (operations_of l.core l.test (chains_of plan l.core l.test));
+  steps = steps_of limits (id_of l) l.test.power;
+}
+
+-- the same of a test of a module
+abbrev pub test_in : SocValue → LimitsValue → PlanValue → ℕ → ModuleValue → Test → TestValue
+test_in soc limits plan place m t = test_of soc limits plan (record { place = place; core = m; test = t })
+
+-- a pair of places, where there are both
+abbrev pub both_places : Option ℕ → Option ℕ → List (ℕ × ℕ)
+both_places (Some a) (Some b) = (a, b) ∷ []
+both_places (Some a) None = []
+both_places None b = []
+
+-- a precedence by the places of its tests, where both are among these
+abbrev pub places_of : List TestId → TestId × TestId → List (ℕ × ℕ)
+places_of ids p = both_places (position (same_test p.0) ids) (position (same_test p.1) ids)
+
+-- the job of the live tests, in the order of the chip, with the precedences of live tests
+abbrev pub job_of : SocValue → LimitsValue → PlanValue → JobValue
+job_of soc limits plan = record {
+  tests = map (test_of soc limits plan) (live_tests soc);
+  before = flat_map (places_of (live_ids soc)) limits.before;
+  power = limits.power;
+}

@@ -1,0 +1,271 @@
+// The job of a plan: the live tests of a chip, with the cycles that they take in the plan's wrappers. Tests, modules and
+// buses go by their places.
+ghost use Rattle.std.specs.Prelude.{◌≡◌, ℕ, ◌<◌, ◌++◌, ◌∷◌, [], true, length, map, position, slice_get, Some, IfOk, OnOk};
+ghost use Rattle.std.specs.List.{filter, flat_map};
+ghost use Rattle.soc_model.specs.declared.TestId.{TestId};
+ghost use Rattle.soc_model.specs.Chips.{soc_value, module_value, is_live, same_test, live_tests};
+ghost use Rattle.soc_model.specs.SoundChips.{IsSoundChip};
+ghost use Rattle.plan_model.specs.declared.Wrapper.{Wrapper};
+ghost use Rattle.plan_model.specs.declared.Profile.{Profile};
+ghost use Rattle.plan_model.specs.Plans.{wraps, bus_place, operations_of, chains_of};
+ghost use Rattle.plan_model.specs.Rules.{Keeps, Wrappers, Proper, live_ids};
+ghost use Rattle.plan_model.specs.Views.{wrapper_value, bus_value, profile_value, limits_value};
+ghost use Rattle.resource_table.specs.declared.JobTest.{JobTest};
+ghost use Rattle.resource_table.specs.Jobs.{test_value, job_value};
+ghost use Rattle.bound_certificate.specs.Nodes.{AllDiffer};
+ghost use Rattle.planner.specs.Jobs.{settled_parts, steps_of as the_steps, bus_of as the_bus, test_of as the_test, test_in, places_of as the_places, both_places, job_of as the_job};
+
+use crate::lookups::{lists, module_at};
+use indexmap::IndexSet;
+use outside::NoMemory;
+use plan_model::{Bus, Limits, Profile, Wrapper, tam_duration};
+use resource_table::{Job, JobTest};
+use soc_model::{Module, Soc, Test, TestId, live, parent};
+use std::alloc::Global;
+
+/// What the job of a plan is made from.
+#[derive(Clone, Copy, Drop)]
+pub(crate) struct Parts<'a> {
+    pub(crate) soc: &'a Soc,
+    pub(crate) limits: &'a Limits,
+    pub(crate) buses: &'a [Bus],
+    pub(crate) wrappers: &'a [Wrapper],
+}
+
+/// The place of the first bus that lists a module, the number of buses where none does.
+fn bus_place_of(buses: &[Bus], module: u64) -> usize
+    ensures { result ≡ bus_place «module» 0 (map bus_value buses.now) }
+{
+    let mut place = 0;
+    for bus in buses {
+        if lists(bus, module) {
+            return place;
+        }
+        place += 1;
+    }
+    place
+}
+
+/// Whether a wrapper is of a module in a mode.
+fn wraps_mode(wrapper: &Wrapper, module: u64, scan: bool) -> bool
+    ensures { result ≡ wraps «module» scan (wrapper_value wrapper.now) }
+{
+    wrapper.module == module && wrapper.scan == scan
+}
+
+/// The place of the wrapper of a module in a mode.
+fn wrapper_of(wrappers: &[Wrapper], module: u64, scan: bool) -> Option<usize>
+    ensures { result ≡ position (λ (w : Wrapper). wraps «module» scan (wrapper_value w)) wrappers.now }
+{
+    wrappers
+        .iter()
+        .position(|wrapper| wraps_mode(wrapper, module, scan))
+}
+
+/// The modules of a chip.
+fn module_count(soc: &Soc) -> usize
+    ensures { result ≡ length (soc_value soc.now).modules }
+{
+    soc.modules.len()
+}
+
+/// The place of the profile of a test.
+fn profile_of(profiles: &[Profile], id: TestId) -> Option<usize>
+    ensures { result ≡ position (λ (p : Profile). same_test p.test id) profiles.now }
+{
+    profiles.iter().position(|profile| profile.test == id)
+}
+
+/// A copy of steps.
+fn copy_steps(alloc: Global, steps: &[(u64, u64)]) -> Result<Vec<(u64, u64)>, NoMemory>
+    ensures { IfOk result (λ copy. copy.items ≡ steps.now) }
+{
+    Vec::from_slice(alloc, steps).map_err(|_| NoMemory)
+}
+
+/// The one step of a test without a profile.
+fn one_step(alloc: Global, power: u64) -> Result<Vec<(u64, u64)>, NoMemory>
+    ensures { IfOk result (λ steps. steps.items ≡ (0, power) ∷ []) }
+{
+    vec![in alloc; (0, power)].map_err(|_| NoMemory)
+}
+
+/// The power of a test in steps: those of its profile, or its own power at every cycle.
+fn steps_of(
+    alloc: Global,
+    limits: &Limits,
+    id: TestId,
+    own: u64,
+) -> Result<Vec<(u64, u64)>, NoMemory>
+    ensures { IfOk result (λ steps. steps.items ≡ the_steps (limits_value limits.now) id own) }
+{
+    match profile_of(&limits.profiles, id) {
+        Some(place) => copy_steps(alloc, &limits.profiles[place].steps),
+        None => one_step(alloc, own),
+    }
+}
+
+/// The cycles of a live test.
+fn cycles_of(parts: &Parts<'_>, module: &Module, test: &Test) -> u64
+    requires sound { IsSoundChip (soc_value parts.now.soc.now) }
+    requires wrapped { Keeps (soc_value parts.now.soc.now) (limits_value parts.now.limits.now) (settled_parts (map bus_value parts.now.buses.now) (map wrapper_value parts.now.wrappers.now)) Wrappers }
+    requires proper { Keeps (soc_value parts.now.soc.now) (limits_value parts.now.limits.now) (settled_parts (map bus_value parts.now.buses.now) (map wrapper_value parts.now.wrappers.now)) Proper }
+    requires module_there { (p : ℕ) × (slice_get (soc_value parts.now.soc.now).modules p ≡ Some (module_value «module».now)) }
+    requires test_there { (k : ℕ) × (slice_get «module».now.tests.items k ≡ Some test.now) }
+    requires is_live { is_live test.now ≡ true }
+    ensures { result ≡ length (operations_of (module_value «module».now) test.now (chains_of (settled_parts (map bus_value parts.now.buses.now) (map wrapper_value parts.now.wrappers.now)) (module_value «module».now) test.now)) }
+{
+    if !test.tam {
+        return test.patterns;
+    }
+    match wrapper_of(parts.wrappers, module.number, test.scan) {
+        Some(place) => tam_duration(module, &parts.wrappers[place], test),
+        None => unreachable!(),
+    }
+}
+
+/// The bus of a test; a self test has none.
+fn bus_of(buses: &[Bus], module: &Module, test: &Test) -> Option<usize>
+    ensures { result ≡ the_bus (settled_parts (map bus_value buses.now) []) (module_value «module».now) test.now }
+{
+    if test.tam {
+        Some(bus_place_of(buses, module.number))
+    } else {
+        None
+    }
+}
+
+/// A live test of the module at a place.
+fn test_of(
+    alloc: Global,
+    parts: &Parts<'_>,
+    place: usize,
+    module: &Module,
+    test: &Test,
+) -> Result<JobTest, NoMemory>
+    requires sound { IsSoundChip (soc_value parts.now.soc.now) }
+    requires wrapped { Keeps (soc_value parts.now.soc.now) (limits_value parts.now.limits.now) (settled_parts (map bus_value parts.now.buses.now) (map wrapper_value parts.now.wrappers.now)) Wrappers }
+    requires proper { Keeps (soc_value parts.now.soc.now) (limits_value parts.now.limits.now) (settled_parts (map bus_value parts.now.buses.now) (map wrapper_value parts.now.wrappers.now)) Proper }
+    requires module_there { slice_get (soc_value parts.now.soc.now).modules place ≡ Some (module_value «module».now) }
+    requires test_there { (k : ℕ) × (slice_get «module».now.tests.items k ≡ Some test.now) }
+    requires is_live { is_live test.now ≡ true }
+    ensures { IfOk result (λ t. test_value t ≡ test_in (soc_value parts.now.soc.now) (limits_value parts.now.limits.now) (settled_parts (map bus_value parts.now.buses.now) (map wrapper_value parts.now.wrappers.now)) place (module_value «module».now) test.now) }
+{
+    let id = TestId {
+        module: module.number,
+        test: test.number,
+    };
+    let power = steps_of(alloc, parts.limits, id, test.power)?;
+    Ok(JobTest {
+        id,
+        place,
+        parent: parent(parts.soc, place),
+        bus: bus_of(parts.buses, module, test),
+        length: cycles_of(parts, module, test),
+        power,
+    })
+}
+
+/// Adds the live tests of the module at a place.
+fn push_live(
+    alloc: Global,
+    tests: &mut Vec<JobTest>,
+    parts: &Parts<'_>,
+    place: usize,
+    module: &Module,
+) -> Result<(), NoMemory>
+    requires sound { IsSoundChip (soc_value parts.now.soc.now) }
+    requires wrapped { Keeps (soc_value parts.now.soc.now) (limits_value parts.now.limits.now) (settled_parts (map bus_value parts.now.buses.now) (map wrapper_value parts.now.wrappers.now)) Wrappers }
+    requires proper { Keeps (soc_value parts.now.soc.now) (limits_value parts.now.limits.now) (settled_parts (map bus_value parts.now.buses.now) (map wrapper_value parts.now.wrappers.now)) Proper }
+    requires module_there { slice_get (soc_value parts.now.soc.now).modules place ≡ Some (module_value «module».now) }
+    ensures { OnOk result (map test_value tests.new.items ≡ map test_value tests.old.items ++ map (test_in (soc_value parts.now.soc.now) (limits_value parts.now.limits.now) (settled_parts (map bus_value parts.now.buses.now) (map wrapper_value parts.now.wrappers.now)) place (module_value «module».now)) (filter is_live «module».now.tests.items)) }
+{
+    for test in &module.tests {
+        if live(test) {
+            let entry = test_of(alloc, parts, place, module, test)?;
+            tests.push(entry).map_err(|_| NoMemory)?;
+        }
+    }
+    Ok(())
+}
+
+/// The live tests, in the order of the chip.
+fn tests_of(alloc: Global, parts: &Parts<'_>) -> Result<Vec<JobTest>, NoMemory>
+    requires sound { IsSoundChip (soc_value parts.now.soc.now) }
+    requires wrapped { Keeps (soc_value parts.now.soc.now) (limits_value parts.now.limits.now) (settled_parts (map bus_value parts.now.buses.now) (map wrapper_value parts.now.wrappers.now)) Wrappers }
+    requires proper { Keeps (soc_value parts.now.soc.now) (limits_value parts.now.limits.now) (settled_parts (map bus_value parts.now.buses.now) (map wrapper_value parts.now.wrappers.now)) Proper }
+    ensures { IfOk result (λ tests. map test_value tests.items ≡ map (the_test (soc_value parts.now.soc.now) (limits_value parts.now.limits.now) (settled_parts (map bus_value parts.now.buses.now) (map wrapper_value parts.now.wrappers.now))) (live_tests (soc_value parts.now.soc.now))) }
+{
+    let mut tests = Vec::new(alloc);
+    for place in 0..module_count(parts.soc) {
+        push_live(alloc, &mut tests, parts, place, module_at(parts.soc, place))?;
+    }
+    Ok(tests)
+}
+
+/// The tests by their numbers.
+fn ids_of(alloc: Global, tests: &[JobTest]) -> Result<IndexSet<TestId>, NoMemory>
+    requires differ { AllDiffer (map (λ (t : JobTest). t.id) tests.now) }
+    ensures { IfOk result (λ ids. ids.keys ≡ map (λ (t : JobTest). t.id) tests.now) }
+{
+    let mut ids = IndexSet::new(alloc);
+    for test in tests {
+        if ids.insert(test.id).is_err() {
+            return Err(NoMemory);
+        }
+    }
+    Ok(ids)
+}
+
+/// Adds a pair of places, where there are both.
+fn push_both(
+    pairs: &mut Vec<(usize, usize)>,
+    first: Option<usize>,
+    second: Option<usize>,
+) -> Result<(), NoMemory>
+    ensures { OnOk result (pairs.new.items ≡ pairs.old.items ++ both_places first second) }
+{
+    let Some(earlier) = first else {
+        return Ok(());
+    };
+    let Some(later) = second else {
+        return Ok(());
+    };
+    pairs.push((earlier, later)).map_err(|_| NoMemory)
+}
+
+/// The precedences whose tests both have places.
+fn places_of(
+    alloc: Global,
+    ids: &IndexSet<TestId>,
+    before: &[(TestId, TestId)],
+) -> Result<Vec<(usize, usize)>, NoMemory>
+    ensures { IfOk result (λ pairs. pairs.items ≡ flat_map (the_places ids.now.keys) before.now) }
+{
+    let mut pairs = Vec::new(alloc);
+    for (first, second) in before {
+        push_both(
+            &mut pairs,
+            ids.get_index_of(first),
+            ids.get_index_of(second),
+        )?;
+    }
+    Ok(pairs)
+}
+
+/// The job of the live tests, in the order of the chip. `NoMemory` where there is none.
+pub(crate) fn job_of(alloc: Global, parts: &Parts<'_>) -> Result<Job, NoMemory>
+    requires sound { IsSoundChip (soc_value parts.now.soc.now) }
+    requires wrapped { Keeps (soc_value parts.now.soc.now) (limits_value parts.now.limits.now) (settled_parts (map bus_value parts.now.buses.now) (map wrapper_value parts.now.wrappers.now)) Wrappers }
+    requires proper { Keeps (soc_value parts.now.soc.now) (limits_value parts.now.limits.now) (settled_parts (map bus_value parts.now.buses.now) (map wrapper_value parts.now.wrappers.now)) Proper }
+    ensures { IfOk result (λ job. job_value job ≡ the_job (soc_value parts.now.soc.now) (limits_value parts.now.limits.now) (settled_parts (map bus_value parts.now.buses.now) (map wrapper_value parts.now.wrappers.now))) }
+{
+    let tests = tests_of(alloc, parts)?;
+    let ids = ids_of(alloc, &tests)?;
+    let before = places_of(alloc, &ids, &parts.limits.before)?;
+    Ok(Job {
+        tests,
+        before,
+        power: parts.limits.power,
+    })
+}

@@ -1,0 +1,26 @@
+// Plans the tests of a chip: settled buses, the wrappers of the width table at their widths, a list schedule of the tests,
+// and a lower bound (after TR-ARCHITECT, Goel and Marinissen 2002, for fixed buses in place of TestRails).
+#![tactic(auto)]
+
+ghost use Rattle.std.specs.Prelude.{◌≡◌, ◌++◌, ◌∷◌, [], OnOk};
+
+mod buses;
+mod job;
+mod lookups;
+mod order;
+mod planning;
+mod schedule;
+mod wrappers;
+
+use outside::NoMemory;
+pub use planning::plan;
+
+/// Puts an item at the end of a list.
+fn push<T: Drop>(to: &mut Vec<T>, item: T) -> Result<(), NoMemory>
+    ensures { OnOk result (to.new.items ≡ to.old.items ++ item ∷ []) }
+{
+    to.push(item).map_err(|_| NoMemory)
+}
+
+#[cfg(test)]
+mod tests;

@@ -1,0 +1,53 @@
+// A plan of a chip's tests, from the width table to the bound.
+ghost use Rattle.std.specs.Prelude.{◌≡◌, ℕ, ◌≤◌, List, IfOk, map};
+ghost use Rattle.soc_model.specs.Chips.{soc_value};
+ghost use Rattle.soc_model.specs.SoundChips.{IsSoundChip};
+ghost use Rattle.plan_model.specs.Plans.{BusValue};
+ghost use Rattle.plan_model.specs.Rules.{IsBound};
+ghost use Rattle.plan_model.specs.Right.{IsRight};
+ghost use Rattle.plan_model.specs.Runs.{Content};
+ghost use Rattle.plan_model.specs.Certificates.{IsElementary};
+ghost use Rattle.plan_model.specs.SoundLimits.{IsSoundLimits};
+ghost use Rattle.plan_model.specs.Views.{plan_value, limits_value};
+ghost use Rattle.planner.specs.Buses.{table_of, AreSettledBuses};
+ghost use Rattle.planner.specs.Plans.{IsPlanned};
+
+use crate::buses::settled_buses;
+use crate::schedule::schedule_of;
+use crate::wrappers::table_wrappers;
+use bound_certificate::best_bound;
+use outside::NoMemory;
+use plan_model::{Limits, Plan, good_plans_run_right};
+use soc_model::Soc;
+use std::alloc::Global;
+use width_table::WidthTable;
+
+/// Plans the tests of a sound chip under sound limits. `NoMemory` where memory runs out, and for no other reason.
+///
+/// The buses are those of the start solution, settled by bottom-up, top-down and reshuffle steps (after TR-ARCHITECT, Goel
+/// and Marinissen 2002). Each module has for each mode that is used the wrapper that takes the fewest cycles on its bus.
+/// The tests are placed in the first order, each at the least cycle where it fits, and the bound is the best of the
+/// certificates that are tried. The plan is good, so that it runs right, bit by bit, for every content.
+pub fn plan(alloc: Global, soc: &Soc, limits: &Limits) -> Result<Plan, NoMemory>
+    requires sound { IsSoundChip (soc_value soc.now) }
+    requires limits { IsSoundLimits (soc_value soc.now) (limits_value limits.now) }
+    ensures planned { IfOk result (λ plan. IsPlanned (soc_value soc.now) (limits_value limits.now) (plan_value plan)) }
+    ensures right { IfOk result (λ plan. (content : Content) → IsRight (soc_value soc.now) (limits_value limits.now) (plan_value plan) content) }
+    ensures bound { IfOk result (λ plan. IsBound (soc_value soc.now) (limits_value limits.now) plan.bound.cycles) }
+    ensures elementary { IfOk result (λ plan. (n : ℕ) → IsElementary (soc_value soc.now) (limits_value limits.now) n → n ≤ plan.bound.cycles) }
+    ensures only_buses { IfOk result (λ plan. (buses : List BusValue) → AreSettledBuses (table_of (soc_value soc.now) (limits_value limits.now)) buses → buses ≡ (plan_value plan).buses) }
+{
+    good_plans_run_right();
+    let table = WidthTable::new(alloc, soc, limits.wires)?;
+    let buses = settled_buses(alloc, soc, &table)?;
+    let wrappers = table_wrappers(alloc, soc, &table, &buses)?;
+    let schedule = schedule_of(alloc, soc, limits, &buses, &wrappers)?;
+    let bound = best_bound(alloc, soc, limits, schedule.cycles)?;
+    Ok(Plan {
+        buses,
+        wrappers,
+        starts: schedule.starts,
+        cycles: schedule.cycles,
+        bound,
+    })
+}

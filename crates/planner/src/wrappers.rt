@@ -1,0 +1,99 @@
+// The wrappers of a plan: those of the width table at the widths of its buses.
+ghost use Rattle.std.specs.Prelude.{◌≡◌, ◌++◌, ◌<◌, ℕ, Bool, List, length, Some, slice_get, true, IfOk, OnOk, map};
+ghost use Rattle.soc_model.specs.Chips.{ModuleValue, soc_value, module_value};
+ghost use Rattle.plan_model.specs.Rules.{uses_mode, used_pairs, mode_pair};
+ghost use Rattle.plan_model.specs.Views.{bus_value, wrapper_value};
+ghost use Rattle.planner.specs.Wrapping.{bus_width, HaveWidths, IsUsedMode, AreUsedModes, AreTableWrappers};
+
+use crate::lookups::{lists, module_at};
+use crate::push;
+use outside::NoMemory;
+use plan_model::{Bus, Wrapper};
+use soc_model::{Module, Soc, live};
+use std::alloc::Global;
+use width_table::WidthTable;
+
+/// A mode of a module that a live test over the wires is in.
+#[derive(Clone, Copy, Drop)]
+struct UsedMode {
+    /// The place of the module in the chip.
+    place: usize,
+    /// Mode `scan`, or else mode `terminals`.
+    scan: bool,
+    /// The wires of the module's bus.
+    width: u64,
+}
+
+/// The wires of the first bus that lists a module, 0 where none does.
+fn width_of(buses: &[Bus], number: u64) -> u64
+    ensures { result ≡ bus_width (map bus_value buses.now) number }
+{
+    for bus in buses {
+        if lists(bus, number) {
+            return bus.width;
+        }
+    }
+    0
+}
+
+/// Whether a live test over the wires of the module is in the mode.
+fn uses_mode(module: &Module, scan: bool) -> bool
+    ensures { result ≡ uses_mode scan (module_value «module».now) }
+{
+    module
+        .tests
+        .iter()
+        .any(|test| live(test) && test.tam && test.scan == scan)
+}
+
+/// Adds a mode of a module, where it is used.
+fn push_mode(
+    soc: &Soc,
+    buses: &[Bus],
+    place: usize,
+    scan: bool,
+    to: &mut Vec<UsedMode>,
+) -> Result<(), NoMemory>
+    requires place { place < length (soc_value soc.now).modules }
+    ensures { OnOk result ((core : ModuleValue) (pairs : List (ℕ × Bool)) → slice_get (soc_value soc.now).modules place ≡ Some core → AreUsedModes (soc_value soc.now) (map bus_value buses.now) pairs to.old.items → AreUsedModes (soc_value soc.now) (map bus_value buses.now) (pairs ++ mode_pair scan core) to.new.items) }
+{
+    let module = module_at(soc, place);
+    if !uses_mode(module, scan) {
+        return Ok(());
+    }
+    let width = width_of(buses, module.number);
+    push(to, UsedMode { place, scan, width })
+}
+
+/// The modes that are used, of all modules in their order, scan before terminals.
+fn used_modes(alloc: Global, soc: &Soc, buses: &[Bus]) -> Result<Vec<UsedMode>, NoMemory>
+    ensures { IfOk result (λ modes. AreUsedModes (soc_value soc.now) (map bus_value buses.now) (used_pairs (soc_value soc.now)) modes.items) }
+{
+    let mut modes = Vec::new(alloc);
+    for place in 0..soc.modules.len() {
+        push_mode(soc, buses, place, true, &mut modes)?;
+        push_mode(soc, buses, place, false, &mut modes)?;
+    }
+    Ok(modes)
+}
+
+/// The wrappers of a plan: for each module and mode that is used, in the order of the chip and scan before terminals, that
+/// of the width table at the width of the module's bus.
+pub fn table_wrappers(
+    alloc: Global,
+    soc: &Soc,
+    table: &WidthTable,
+    buses: &[Bus],
+) -> Result<Vec<Wrapper>, NoMemory>
+    requires chip { table.now.soc ≡ soc_value soc.now }
+    requires widths { HaveWidths table.now (map bus_value buses.now) }
+    ensures { IfOk result (λ wrappers. AreTableWrappers (soc_value soc.now) (map bus_value buses.now) (map wrapper_value wrappers.items)) }
+{
+    let modes = used_modes(alloc, soc, buses)?;
+    let mut wrappers = Vec::new(alloc);
+    for mode in &modes {
+        let wrapper = table.wrapper(alloc, mode.place, mode.scan, mode.width)?;
+        push(&mut wrappers, wrapper)?;
+    }
+    Ok(wrappers)
+}
