@@ -1,5 +1,5 @@
 -- The files give at most one answer. So a call that ends otherwise had a fault, or no memory.
-use Rattle.std.proofs.Common.{◌≡◌, ℕ, inl, inr, List, Option, None, Some, refl, sym, ◌∙◌, ap, subst}
+use Rattle.std.proofs.Common.{◌≡◌, ℕ, ◌⊎◌, inl, inr, Bool, true, false, List, Option, None, Some, IfSome, refl, sym, ◌∙◌, ap, subst}
 use Rattle.outside.specs.Held.{Files, Rose, Appended}
 use Rattle.outside.specs.Words.{words_of}
 use Rattle.soc_model.specs.Chips.{SocValue}
@@ -15,17 +15,17 @@ use Rattle.plan_text.specs.Answers.{SaysPlan, last_line}
 use Rattle.soctest.specs.declared.FileKind.{FileKind}
 use Rattle.soctest.specs.declared.Status.{Status}
 use Rattle.soctest.specs.declared.Status.TheVariants.{Done, Refused, BadWords, ReadFault, TooLong, WriteFault, NoMemory}
-use Rattle.soctest.specs.Commands.{CommandValue, Print, Widths, Check, Chart}
+use Rattle.soctest.specs.Commands.{CommandValue, Print, Widths, MakePlan, Check, Chart}
 use Rattle.soctest.specs.Texts.{chip_line, chip_limit_line, plan_line, fault_line, accepted_line}
 use Rattle.soc_printer.specs.SocText.{soc_text}
 use Rattle.soctest.specs.WidthsText.{widths_text}
 use Rattle.soctest.specs.Readings.{RefusesChip, SaysLimits, refusal_of, RefusesLimits, SaysAccepted, RefusesPlan}
 use Rattle.chart.specs.ChartText.{chart_text}
-use Rattle.soctest.specs.Procedures.{procedure_of, with_all, done_with}
+use Rattle.soctest.specs.Procedures.{Procedure, procedure_of, with_both, with_accepted, with_all, done_with, done_with_plan}
 use Rattle.soctest.specs.Answers.{IsAnswer}
-use Rattle.soctest.specs.Decides.{IsUnreadOf}
-use Rattle.soctest.specs.Ends.{MayAnswer, Ends, EndsAsWanted, Complete}
-use Rattle.soctest.proofs.Settled.{AreOne, SaysOne, RefusesOne, IsSettled, one_answer, no_answer, done_once}
+use Rattle.soctest.specs.Decides.{IsUnread, IsUnreadOf}
+use Rattle.soctest.specs.Ends.{MayAnswer, Ends, fixes_text, EndsAsWanted, Complete, AreTaken, Finishes}
+use Rattle.soctest.proofs.Settled.{AreOne, SaysOne, RefusesOne, IsSettled, one_answer, no_answer, only_done, none_unread, done_once, plan_once}
 
 -- the laws that completeness rests on
 pub record Laws : Type 0 where
@@ -91,40 +91,42 @@ plan_refused_one laws soc limits = record { one = lines; none = no_plan } where
 
 -- ---- commands
 
--- a text that a chip, limits and an accepted plan fix
-settled_all : Laws → (soc limits plan : List ℕ) (text : SocValue → LimitsValue → PlanValue → List ℕ) → IsSettled (with_all soc limits plan (λ chip bounds value. done_with (text chip bounds value)))
-settled_all laws soc limits plan text = (
+-- what comes after a chip and limits
+settled_both : Laws → (fixed : Bool) (soc limits : List ℕ) (next : SocValue → LimitsValue → Procedure) → ((chip : SocValue) (bounds : LimitsValue) → IsSettled fixed (next chip bounds)) → IsSettled fixed (with_both soc limits next)
+settled_both laws fixed soc limits next last = (
   one_chip,
   chip_refused_one,
-  λ chip. (
-    limits_one laws.reading chip,
-    limits_refused_one laws.reading chip,
-    λ bounds.
-        (plan_one laws.one_plan chip bounds, plan_refused_one laws chip bounds, λ value. done_once (text chip bounds value)),
-  ),
+  λ chip. (limits_one laws.reading chip, limits_refused_one laws.reading chip, λ bounds. last chip bounds),
 )
 
-settled : Laws → (command : CommandValue) → IsSettled (procedure_of command)
-settled laws (Print soc) = (one_chip, chip_refused_one, λ chip. done_once (soc_text chip))
-settled laws (Widths soc wires) = (one_chip, chip_refused_one, λ chip. done_once (widths_text chip wires))
+-- a text that a chip, limits and an accepted plan fix
+settled_all : Laws → (soc limits plan : List ℕ) (text : SocValue → LimitsValue → PlanValue → List ℕ) → IsSettled true (with_all soc limits plan (λ chip bounds value. done_with (text chip bounds value)))
+settled_all laws soc limits plan text =
+    settled_both laws true soc limits (λ chip bounds. with_accepted chip bounds plan (λ value. done_with (text chip bounds value)))
+    (λ chip bounds. (plan_one laws.one_plan chip bounds, plan_refused_one laws chip bounds, λ value. done_once true (text chip bounds value)))
+
+settled : Laws → (command : CommandValue) → IsSettled (fixes_text (Some command)) (procedure_of command)
+settled laws (Print soc) = (one_chip, chip_refused_one, λ chip. done_once true (soc_text chip))
+settled laws (Widths soc wires) = (one_chip, chip_refused_one, λ chip. done_once true (widths_text chip wires))
+settled laws (MakePlan soc limits) = settled_both laws false soc limits done_with_plan plan_once
 settled laws (Check soc limits plan) = settled_all laws soc limits plan (λ chip bounds value. accepted_line value)
 settled laws (Chart soc limits plan) = settled_all laws soc limits plan (λ chip bounds value. chart_text chip value)
 
-one : Laws → (command : Option CommandValue) (files : Files) (s : Status) (t : List ℕ) (s' : Status) (t' : List ℕ) → IsAnswer command files s t → IsAnswer command files s' t' → AreOne s t s' t'
-one laws None files s t s' t' a b = (a.0 ∙ sym b.0, a.1 ∙ sym b.1)
-one laws (Some command) files s t s' t' a b = one_answer (procedure_of command) (settled laws command) files s t s' t' a b
+one : Laws → (command : Option CommandValue) (files : Files) (s : Status) (t : List ℕ) (s' : Status) (t' : List ℕ) → IsAnswer command files s t → IsAnswer command files s' t' → AreOne (fixes_text command) s t s' t'
+one laws None files s t s' t' a b = (a.0 ∙ sym b.0, λ fixed. a.1 ∙ sym b.1)
+one laws (Some command) files s t s' t' a b = one_answer (fixes_text (Some command)) (procedure_of command) (settled laws command) files s t s' t' a b
 
 -- ---- completeness
 
 -- a text that was appended for a status is the one that is wanted
-told : Laws → (command : Option CommandValue) (files : Files) (status wanted : Status) (given text : List ℕ) (old new : Option (List ℕ)) → IsAnswer command files status given → IsAnswer command files wanted text → Appended old given new → EndsAsWanted wanted text old status new
+told : Laws → (command : Option CommandValue) (files : Files) (status wanted : Status) (given text : List ℕ) (old new : Option (List ℕ)) → IsAnswer command files status given → IsAnswer command files wanted text → Appended old given new → EndsAsWanted (fixes_text command) wanted text old status new
 told laws command files status wanted given text old new is answer put =
-    let same : AreOne status given wanted text = one laws command files status given wanted text is answer in
-    inl (same.0, subst (λ t. Appended old t new) same.1 put)
+    let same : AreOne (fixes_text command) status given wanted text = one laws command files status given wanted text is answer in
+    inl (same.0, λ fixed. subst (λ t. Appended old t new) (same.1 fixed) put)
 
 unread : Laws → (command : Option CommandValue) (files : Files) (missed : FileKind) (before after : ℕ) (s : Status) (t : List ℕ) → ¬ Rose before after → IsUnreadOf command (Some files) before after missed → IsAnswer command files s t → ⊥
 unread laws None files missed before after s t fine un answer = un
-unread laws (Some command) files missed before after s t fine un answer = no_answer (procedure_of command) (settled laws command) files missed before after s t fine un answer
+unread laws (Some command) files missed before after s t fine un answer = no_answer (fixes_text (Some command)) (procedure_of command) (settled laws command) files missed before after s t fine un answer
 
 pub complete : Laws → (command : Option CommandValue) (held : Option Files) (sb sa kb ka : ℕ) (old new : Option (List ℕ)) (end : Status) → Ends (MayAnswer command held sb sa) kb ka old end new → Complete command held (Rose sb sa) (Rose kb ka) old end new
 complete laws command held sb sa kb ka old new NoMemory ends files wanted text is fine_shelf fine_sink answer = inr refl
@@ -134,3 +136,24 @@ complete laws command held sb sa kb ka old new Done ends files wanted text is fi
 complete laws command held sb sa kb ka old new Refused ends files wanted text is fine_shelf fine_sink answer = told laws command files Refused wanted ends.0 text old new (rw is at ends.1) answer ends.2
 complete laws command held sb sa kb ka old new BadWords ends files wanted text is fine_shelf fine_sink answer = told laws command files BadWords wanted ends.0 text old new (rw is at ends.1) answer ends.2
 complete laws command held sb sa kb ka old new TooLong ends files wanted text is fine_shelf fine_sink answer = told laws command files TooLong wanted ends.0 text old new (rw is at ends.1) answer ends.2
+
+-- ---- where every file is taken
+
+finishes_one : Laws → (command : CommandValue) (held : Option Files) (sb sa kb ka : ℕ) (old new : Option (List ℕ)) (end : Status) → Ends (MayAnswer (Some command) held sb sa) kb ka old end new →
+    (files : Files) → held ≡ Some files → ¬ Rose sb sa → ¬ Rose kb ka → AreTaken (procedure_of command) files → (end ≡ Done) ⊎ (end ≡ NoMemory)
+finishes_one laws command held sb sa kb ka old new end ends files is fine_shelf fine_sink taken = go end ends where
+  answered : (status : Status) (text : List ℕ) → IfSome held (λ files. IsAnswer (Some command) files status text) → (status ≡ Done) ⊎ (status ≡ NoMemory)
+  answered status text answer = inl (only_done (fixes_text (Some command)) (procedure_of command) (settled laws command) files status text taken (rw is at answer))
+
+  go : (end : Status) → Ends (MayAnswer (Some command) held sb sa) kb ka old end new → (end ≡ Done) ⊎ (end ≡ NoMemory)
+  go NoMemory ends = inr refl
+  go Done ends = inl refl
+  go WriteFault ends = absurd (fine_sink ends.0)
+  go ReadFault ends = absurd (none_unread (fixes_text (Some command)) (procedure_of command) (settled laws command) files ends.1.0 sb sa fine_shelf taken (subst (λ h. IsUnread (procedure_of command) h sb sa ends.1.0) is ends.1.2))
+  go Refused ends = answered Refused ends.0 ends.1
+  go BadWords ends = answered BadWords ends.0 ends.1
+  go TooLong ends = answered TooLong ends.0 ends.1
+
+pub finishes : Laws → (command : Option CommandValue) (held : Option Files) (sb sa kb ka : ℕ) (old new : Option (List ℕ)) (end : Status) → Ends (MayAnswer command held sb sa) kb ka old end new → Finishes command held (Rose sb sa) (Rose kb ka) end
+finishes laws None held sb sa kb ka old new end ends = tt
+finishes laws (Some command) held sb sa kb ka old new end ends = finishes_one laws command held sb sa kb ka old new end ends

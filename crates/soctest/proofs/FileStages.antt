@@ -70,6 +70,14 @@ pub done_of : (answer : List ℕ) (made : Result (Vec ℕ) MemoryFault) (held : 
 done_of answer (Ok text) held before after verdict is d = done answer held before after verdict (rw is at d)
 done_of answer (Err fault) held before after verdict is d = rw d tt
 
+-- an answer of any text that is allowed with Done, or want of memory for it
+pub may_be_done : (May : Status → List ℕ → Type 0) (made : Result (Vec ℕ) MemoryFault) (held : Option Files) (before after : ℕ) (verdict : Verdict) → IfOk made (λ text. May Done text.items) → GivesText Done made verdict → Follows (Answer May) held before after verdict
+may_be_done May (Err fault) held before after verdict may d = rw d tt
+may_be_done May (Ok text) held before after (CannotRead missed) may d = absurd d
+may_be_done May (Ok text) held before after OutOfMemory may d = tt
+may_be_done May (Ok text) None before after (Answered status bytes) may d = (rw d.0 tt, tt)
+may_be_done May (Ok text) (Some files) before after (Answered status bytes) may d = (rw d.0 tt, rw (d.0, d.1) may)
+
 -- ---- a file that isn't read
 
 -- a text that is refused, whatever is to be done with its value

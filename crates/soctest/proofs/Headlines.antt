@@ -16,12 +16,14 @@ use Rattle.soctest.specs.declared.FileKind.{FileKind}
 use Rattle.soctest.specs.declared.FileKind.TheVariants.{Soc, Limits, Plan}
 use Rattle.soctest.specs.declared.Status.{Status}
 use Rattle.soctest.specs.declared.Status.TheVariants.{Done, Refused, TooLong}
-use Rattle.soctest.specs.Commands.{CommandValue, Check}
+use Rattle.planner.specs.Plans.{IsPlanned}
+use Rattle.plan_text.specs.PlanLines.{plan_text}
+use Rattle.soctest.specs.Commands.{CommandValue, MakePlan, Check}
 use Rattle.soctest.specs.Texts.{too_long_line, accepted_line}
 use Rattle.soctest.specs.Readings.{most_of, IsRead, RefusesChip, SaysLimits, RefusesLimits, SaysAccepted, RefusesPlan}
-use Rattle.soctest.specs.Procedures.{with_limits, with_accepted, done_with}
+use Rattle.soctest.specs.Procedures.{Procedure, with_limits, with_accepted, with_both, done_with, done_with_plan}
 use Rattle.soctest.specs.Answers.{Stage, Answers, IsAnswer}
-use Rattle.soctest.specs.Ends.{MayAnswer, Ends, IsTrustworthy, Headline}
+use Rattle.soctest.specs.Ends.{MayAnswer, Ends, IsTrustworthy, IsTrustworthyPlan, Headline, PlanHeadline}
 
 -- a stage that ends with Done has read its file
 stage_done : {V : Type 0} (file : FileKind) (Says : List ℕ → V → Type 0) (Refuses : List ℕ → List ℕ → Type 0) (Next : V → Status → List ℕ → Type 0) (held : Option (List ℕ)) (text : List ℕ) → Stage file Says Refuses Next held Done text → (v : V) × IsRead file Says held v × Next v Done text
@@ -41,12 +43,19 @@ pub record Laws : Type 0 where
 read_as_well : {V : Type 0} (file : FileKind) (A B : List ℕ → V → Type 0) (held : Option (List ℕ)) (value : V) → ((bytes : List ℕ) → A bytes value → B bytes value) → IsRead file A held value → IsRead file B held value
 read_as_well file A B held value follows read = record { bytes = read.bytes; held_is = read.held_is; within = read.within; says = follows read.bytes read.says }
 
+-- what is answered after a chip and limits was answered for those that were read
+after_both : (files : Files) (soc limits text : List ℕ) (next : SocValue → LimitsValue → Procedure) → Answers (with_both soc limits next) files Done text →
+    (chip : SocValue) × (bounds : LimitsValue) × IsRead Soc SaysChip (get files soc) chip × IsRead Limits (SaysLimits chip) (get files limits) bounds × Answers (next chip bounds) files Done text
+after_both files soc limits text next answer =
+    let a = stage_done Soc SaysChip RefusesChip (λ chip. Answers (with_limits chip limits (next chip)) files) (get files soc) text answer in
+    let b = stage_done Limits (SaysLimits a.0) (RefusesLimits a.0) (λ bounds. Answers (next a.0 bounds) files) (get files limits) text a.2 in
+    (a.0, b.0, a.1, b.1, b.2)
+
 trusted : Laws → (files : Files) (soc limits plan : List ℕ) (text : List ℕ) (old new : Option (List ℕ)) → IsAnswer (Some (Check soc limits plan)) files Done text → Appended old text new → IsTrustworthy files soc limits plan old new
 trusted laws files soc limits plan text old new answer put =
-    let a = stage_done Soc SaysChip RefusesChip (λ chip. Answers (with_limits chip limits (λ bounds. with_accepted chip bounds plan (λ value. done_with (accepted_line value)))) files) (get files soc) text answer in
-    let b = stage_done Limits (SaysLimits a.0) (RefusesLimits a.0) (λ bounds. Answers (with_accepted a.0 bounds plan (λ value. done_with (accepted_line value))) files) (get files limits) text a.2 in
-    let c = stage_done Plan (SaysAccepted a.0 b.0) (RefusesPlan a.0 b.0) (λ value. Answers (done_with (accepted_line value)) files) (get files plan) text b.2 in
-    go a.0 b.0 c.0 a.1 b.1 c.1 c.2.1
+    let b = after_both files soc limits text (λ chip bounds. with_accepted chip bounds plan (λ value. done_with (accepted_line value))) answer in
+    let c = stage_done Plan (SaysAccepted b.0 b.1) (RefusesPlan b.0 b.1) (λ value. Answers (done_with (accepted_line value)) files) (get files plan) text b.4 in
+    go b.0 b.1 c.0 b.2 b.3 c.1 c.2.1
   where
     go : (chip : SocValue) (bounds : LimitsValue) (value : PlanValue) → IsRead Soc SaysChip (get files soc) chip → IsRead Limits (SaysLimits chip) (get files limits) bounds → IsRead Plan (SaysAccepted chip bounds) (get files plan) value → text ≡ accepted_line value → IsTrustworthy files soc limits plan old new
     go chip bounds value a b c is = record {
@@ -60,6 +69,29 @@ trusted laws files soc limits plan text old new answer put =
       bound = laws.bound chip bounds value.bound b.says.sound.some_wire c.says.1.1;
       written = subst (λ t. Appended old t new) is put;
     }
+
+trusted_plan : Laws → (files : Files) (soc limits : List ℕ) (text : List ℕ) (old new : Option (List ℕ)) → IsAnswer (Some (MakePlan soc limits)) files Done text → Appended old text new → IsTrustworthyPlan files soc limits old new
+trusted_plan laws files soc limits text old new answer put =
+    let b = after_both files soc limits text done_with_plan answer in
+    go b.0 b.1 b.4.1.0 b.2 b.3 b.4.1.1 b.4.1.2
+  where
+    go : (chip : SocValue) (bounds : LimitsValue) (value : PlanValue) → IsRead Soc SaysChip (get files soc) chip → IsRead Limits (SaysLimits chip) (get files limits) bounds → IsPlanned chip bounds value → text ≡ plan_text value → IsTrustworthyPlan files soc limits old new
+    go chip bounds value a b planned is = record {
+      chip = chip;
+      bounds = bounds;
+      value = value;
+      chip_read = a;
+      limits_read = b;
+      right = λ content. laws.right chip bounds value content planned.good;
+      bound = laws.bound chip bounds value.bound b.says.sound.some_wire planned.accepted;
+      written = subst (λ t. Appended old t new) is put;
+    }
+
+pub plan_headline : Laws → (command : Option CommandValue) (held : Option Files) (sb sa kb ka : ℕ) (old new : Option (List ℕ)) (end : Status) → Ends (MayAnswer command held sb sa) kb ka old end new → PlanHeadline command held old end new
+plan_headline laws command held sb sa kb ka old new end ends files soc limits is names done =
+    let ends' = rw done at ends in
+    let answer = rw (is, names) at ends'.1 in
+    trusted_plan laws files soc limits ends'.0 old new answer ends'.2
 
 pub headline : Laws → (command : Option CommandValue) (held : Option Files) (sb sa kb ka : ℕ) (old new : Option (List ℕ)) (end : Status) → Ends (MayAnswer command held sb sa) kb ka old end new → Headline command held old end new
 headline laws command held sb sa kb ka old new end ends files soc limits plan is names done =

@@ -10,12 +10,14 @@ use Rattle.soctest.specs.declared.Command.TheVariants as command
 pub data CommandValue : Type 0 where
   Print : (soc : List ℕ) → CommandValue
   Widths : (soc : List ℕ) → (wires : ℕ) → CommandValue
+  MakePlan : (soc limits : List ℕ) → CommandValue
   Check : (soc limits plan : List ℕ) → CommandValue
   Chart : (soc limits plan : List ℕ) → CommandValue
 
 abbrev pub command_value : Command → CommandValue
 command_value (command.Print soc) = Print soc.now
 command_value (command.Widths soc wires) = Widths soc.now wires
+command_value (command.Plan soc limits) = MakePlan soc.now limits.now
 command_value (command.Check soc limits plan) = Check soc.now limits.now plan.now
 command_value (command.Chart soc limits plan) = Chart soc.now limits.now plan.now
 
@@ -23,6 +25,7 @@ command_value (command.Chart soc limits plan) = Chart soc.now limits.now plan.no
 abbrev pub HasWires : Command → Type 0
 HasWires (command.Print soc) = Unit {0}
 HasWires (command.Widths soc wires) = (1 ≤ wires) × (wires ≤ WIRES_MOST)
+HasWires (command.Plan soc limits) = Unit {0}
 HasWires (command.Check soc limits plan) = Unit {0}
 HasWires (command.Chart soc limits plan) = Unit {0}
 
@@ -31,10 +34,13 @@ abbrev pub widths_of : (soc : List ℕ) → Option ℕ → Option CommandValue
 widths_of soc None = None
 widths_of soc (Some wires) = if nat_le 1 wires then Some (Widths soc wires) else None
 
--- `print SOC`, `widths SOC WIRES`, `check SOC LIMITS PLAN` and `chart SOC LIMITS PLAN`; no other words are a command
+-- `print SOC`, `widths SOC WIRES`, `plan SOC LIMITS`, `check SOC LIMITS PLAN` and `chart SOC LIMITS PLAN`; no other words are a command
 abbrev pub command_of : List (List ℕ) → Option CommandValue
 command_of (word ∷ soc ∷ []) = if pointwise nat_eq word (codes "print") then Some (Print soc) else None
-command_of (word ∷ soc ∷ wires ∷ []) = if pointwise nat_eq word (codes "widths") then widths_of soc (number_of wires WIRES_MOST) else None
+command_of (word ∷ soc ∷ last ∷ []) =
+    if pointwise nat_eq word (codes "widths") then widths_of soc (number_of last WIRES_MOST)
+    else if pointwise nat_eq word (codes "plan") then Some (MakePlan soc last)
+    else None
 command_of (word ∷ soc ∷ limits ∷ plan ∷ []) =
     if pointwise nat_eq word (codes "check") then Some (Check soc limits plan)
     else if pointwise nat_eq word (codes "chart") then Some (Chart soc limits plan)

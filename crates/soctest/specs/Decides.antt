@@ -24,11 +24,12 @@ use Rattle.soctest.specs.declared.Status.{Status}
 use Rattle.soctest.specs.declared.Status.TheVariants.{Done, Refused, BadWords, ReadFault, WriteFault, NoMemory}
 use Rattle.soctest.specs.declared.Verdict.{Verdict}
 use Rattle.soctest.specs.declared.Verdict.TheVariants.{Answered, CannotRead, NoMemory as OutOfMemory}
+use Rattle.soctest.specs.declared.loading.Both.{Both}
 use Rattle.soctest.specs.declared.loading.Accepted.{Accepted}
 use Rattle.soctest.specs.Commands.{CommandValue}
 use Rattle.soctest.specs.Texts.{is_line, bad_words_line, chip_line, chip_limit_line, limits_line, unknown_test_line, cycle_line, test_power_line, plan_line, fault_line}
 use Rattle.soctest.specs.Readings.{IsRead, SaysLimits, SaysAccepted}
-use Rattle.soctest.specs.Procedures.{Procedure, Read, Answer, nothing, with_chip, with_limits, with_accepted, with_all, procedure_of}
+use Rattle.soctest.specs.Procedures.{Procedure, Read, Answer, nothing, with_chip, with_limits, with_accepted, with_both, with_all, procedure_of}
 use Rattle.soctest.specs.Answers.{Answers}
 
 -- a status of a command that is decided before anything is written, and its text: one line, but for an answer
@@ -99,6 +100,16 @@ LoadsLimits chip limits held before after (Err verdict) = Follows (with_limits c
 abbrev pub LoadsAccepted : SocValue → LimitsValue → (plan : List ℕ) → Option Files → ℕ → ℕ → Result PlanModel Verdict → Type 0
 LoadsAccepted chip bounds plan held before after (Ok value) = IfSome held (λ files. IsRead Plan (SaysAccepted chip bounds) (get files plan) (plan_value value))
 LoadsAccepted chip bounds plan held before after (Err verdict) = Follows (with_accepted chip bounds plan (λ value. nothing)) held before after verdict
+
+-- a chip and limits for it, both read from these files
+pub record BothRead (files : Files) (soc limits : List ℕ) (both : Both) : Type 0 where
+  pub chip : IsRead Soc SaysChip (get files soc) (soc_value both.soc)
+  pub bounds : IsRead Limits (SaysLimits (soc_value both.soc)) (get files limits) (limits_value both.limits)
+
+-- both, or a verdict without them
+abbrev pub LoadsBoth : (soc limits : List ℕ) → Option Files → ℕ → ℕ → Result Both Verdict → Type 0
+LoadsBoth soc limits held before after (Ok both) = IfSome held (λ files. BothRead files soc limits both)
+LoadsBoth soc limits held before after (Err verdict) = Follows (with_both soc limits (λ chip bounds. nothing)) held before after verdict
 
 -- a chip, limits for it and a plan that is accepted, all read from these files
 pub record AreRead (files : Files) (soc limits plan : List ℕ) (all : Accepted) : Type 0 where

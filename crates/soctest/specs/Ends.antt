@@ -1,5 +1,5 @@
 -- How a call ends, and what is then written.
-use Rattle.std.specs.Prelude.{◌≡◌, ◌≢◌, ℕ, ◌⊎◌, List, Option, None, Some, IfSome, IsTrue}
+use Rattle.std.specs.Prelude.{◌≡◌, ◌≢◌, ℕ, ◌⊎◌, Bool, true, false, List, Option, None, Some, IfSome, IsTrue}
 use Rattle.std.specs.FinMap.{get}
 use Rattle.outside.specs.Held.{Files, Rose, Appended, AppendedFront}
 use Rattle.soc_model.specs.Chips.{SocValue}
@@ -12,8 +12,10 @@ use Rattle.soctest.specs.declared.FileKind.{FileKind}
 use Rattle.soctest.specs.declared.FileKind.TheVariants.{Soc, Limits, Plan}
 use Rattle.soctest.specs.declared.Status.{Status}
 use Rattle.soctest.specs.declared.Status.TheVariants.{Done, Refused, BadWords, ReadFault, TooLong, WriteFault, NoMemory}
-use Rattle.soctest.specs.Commands.{CommandValue, Check}
+use Rattle.soctest.specs.Commands.{CommandValue, Print, Widths, MakePlan, Check, Chart}
 use Rattle.plan_text.specs.Answers.{SaysPlan}
+use Rattle.plan_text.specs.PlanLines.{plan_text}
+use Rattle.soctest.specs.Procedures.{Procedure, Read, Answer, procedure_of}
 use Rattle.soctest.specs.Texts.{is_line, unread_line, accepted_line}
 use Rattle.soctest.specs.Readings.{IsRead, SaysLimits}
 use Rattle.soctest.specs.Answers.{IsAnswer}
@@ -54,13 +56,34 @@ abbrev pub EndsByWords : Option CommandValue → Type 0 → Status → Type 0
 EndsByWords None sink_failed end = (end ≡ BadWords) ⊎ (end ≡ NoMemory) ⊎ ((end ≡ WriteFault) × sink_failed)
 EndsByWords (Some command) sink_failed end = end ≢ BadWords
 
--- Where neither count of faults rose and the files give an answer, the call ends with it, or for want of memory.
-abbrev pub EndsAsWanted : Status → List ℕ → Option (List ℕ) → Status → Option (List ℕ) → Type 0
-EndsAsWanted wanted text old end new = ((end ≡ wanted) × Appended old text new) ⊎ (end ≡ NoMemory)
+-- the files fix the text of an answer; that of `plan` may be any plan's that the planner may make
+abbrev pub fixes_text : Option CommandValue → Bool
+fixes_text None = true
+fixes_text (Some (Print soc)) = true
+fixes_text (Some (Widths soc wires)) = true
+fixes_text (Some (MakePlan soc limits)) = false
+fixes_text (Some (Check soc limits plan)) = true
+fixes_text (Some (Chart soc limits plan)) = true
+
+-- Where neither count of faults rose and the files give an answer, the call ends with its status, or for want of memory;
+-- where the text is fixed, that is written.
+abbrev pub EndsAsWanted : Bool → Status → List ℕ → Option (List ℕ) → Status → Option (List ℕ) → Type 0
+EndsAsWanted fixed wanted text old end new = ((end ≡ wanted) × (IsTrue fixed → Appended old text new)) ⊎ (end ≡ NoMemory)
 
 abbrev pub Complete : Option CommandValue → Option Files → Type 0 → Type 0 → Option (List ℕ) → Status → Option (List ℕ) → Type 0
 Complete command held shelf_failed sink_failed old end new =
-    (files : Files) (wanted : Status) (text : List ℕ) → held ≡ Some files → ¬ shelf_failed → ¬ sink_failed → IsAnswer command files wanted text → EndsAsWanted wanted text old end new
+    (files : Files) (wanted : Status) (text : List ℕ) → held ≡ Some files → ¬ shelf_failed → ¬ sink_failed → IsAnswer command files wanted text → EndsAsWanted (fixes_text command) wanted text old end new
+
+-- every file of a procedure is held within its limit and says a value
+abbrev pub AreTaken : Procedure → Files → Type 0
+AreTaken (Answer May) files = Unit {0}
+AreTaken (Read {V} file Says Refuses name next) files = (value : V) × IsRead file Says (get files name) value × AreTaken (next value) files
+
+-- Where neither count of faults rose and every file of the command is taken, the call ends with Done, or for want of memory.
+abbrev pub Finishes : Option CommandValue → Option Files → Type 0 → Type 0 → Status → Type 0
+Finishes None held shelf_failed sink_failed end = Unit {0}
+Finishes (Some command) held shelf_failed sink_failed end =
+    (files : Files) → held ≡ Some files → ¬ shelf_failed → ¬ sink_failed → AreTaken (procedure_of command) files → (end ≡ Done) ⊎ (end ≡ NoMemory)
 
 -- What an accepted plan is: it was read from the held files, it runs right for every content and ends in exactly the
 -- cycles that were written, and no good plan of the chip under the limits ends before the bound that was written.
@@ -75,7 +98,25 @@ pub record IsTrustworthy (files : Files) (soc limits plan : List ℕ) (old new :
   pub bound : IsBound chip bounds value.bound.cycles
   pub written : Appended old (accepted_line value) new
 
--- The headline, where the shelf tells what it holds.
+-- What a printed plan is: it was made for a chip and limits that were read from the held files, it runs right for every
+-- content and ends in exactly the cycles that it states, and no good plan of the chip under the limits ends before its
+-- bound. Its text was written.
+pub record IsTrustworthyPlan (files : Files) (soc limits : List ℕ) (old new : Option (List ℕ)) : Type 0 where
+  pub chip : SocValue
+  pub bounds : LimitsValue
+  pub value : PlanValue
+  pub chip_read : IsRead Soc SaysChip (get files soc) chip
+  pub limits_read : IsRead Limits (SaysLimits chip) (get files limits) bounds
+  pub right : (content : Content) → IsRight chip bounds value content
+  pub bound : IsBound chip bounds value.bound.cycles
+  pub written : Appended old (plan_text value) new
+
+-- The headline for plans that are printed, where the shelf tells what it holds.
+abbrev pub PlanHeadline : Option CommandValue → Option Files → Option (List ℕ) → Status → Option (List ℕ) → Type 0
+PlanHeadline command held old end new =
+    (files : Files) (soc limits : List ℕ) → held ≡ Some files → command ≡ Some (MakePlan soc limits) → end ≡ Done → IsTrustworthyPlan files soc limits old new
+
+-- The headline for plans that are accepted.
 abbrev pub Headline : Option CommandValue → Option Files → Option (List ℕ) → Status → Option (List ℕ) → Type 0
 Headline command held old end new =
     (files : Files) (soc limits plan : List ℕ) → held ≡ Some files → command ≡ Some (Check soc limits plan) → end ≡ Done → IsTrustworthy files soc limits plan old new

@@ -9,7 +9,9 @@ use Rattle.soctest.specs.declared.FileKind.TheVariants.{Soc, Limits, Plan}
 use Rattle.soctest.specs.declared.Status.{Status}
 use Rattle.soctest.specs.declared.Status.TheVariants.{Done}
 use Rattle.chart.specs.ChartText.{chart_text}
-use Rattle.soctest.specs.Commands.{CommandValue, Print, Widths, Check, Chart}
+use Rattle.planner.specs.Plans.{IsPlanned}
+use Rattle.plan_text.specs.PlanLines.{plan_text}
+use Rattle.soctest.specs.Commands.{CommandValue, Print, Widths, MakePlan, Check, Chart}
 use Rattle.soctest.specs.Texts.{accepted_line}
 use Rattle.soctest.specs.WidthsText.{widths_text}
 use Rattle.soctest.specs.Readings.{RefusesChip, SaysLimits, RefusesLimits, SaysAccepted, RefusesPlan}
@@ -28,6 +30,10 @@ nothing = Answer (λ status text. ⊥)
 abbrev pub done_with : List ℕ → Procedure
 done_with answer = Answer (λ status text. (status ≡ Done) × (text ≡ answer))
 
+-- the answer is the text of any plan that the planner may make for a chip under limits
+abbrev pub done_with_plan : SocValue → LimitsValue → Procedure
+done_with_plan chip bounds = Answer (λ status text. (status ≡ Done) × ((value : PlanValue) × IsPlanned chip bounds value × (text ≡ plan_text value)))
+
 -- ---- what commands have in common
 
 abbrev pub with_chip : (soc : List ℕ) → (SocValue → Procedure) → Procedure
@@ -39,14 +45,19 @@ with_limits chip limits next = Read Limits (SaysLimits chip) (RefusesLimits chip
 abbrev pub with_accepted : SocValue → LimitsValue → (plan : List ℕ) → (PlanValue → Procedure) → Procedure
 with_accepted chip bounds plan next = Read Plan (SaysAccepted chip bounds) (RefusesPlan chip bounds) plan next
 
+-- a chip and limits for it
+abbrev pub with_both : (soc limits : List ℕ) → (SocValue → LimitsValue → Procedure) → Procedure
+with_both soc limits next = with_chip soc (λ chip. with_limits chip limits (next chip))
+
 -- a chip, limits for it and a plan that is accepted
 abbrev pub with_all : (soc limits plan : List ℕ) → (SocValue → LimitsValue → PlanValue → Procedure) → Procedure
-with_all soc limits plan next = with_chip soc (λ chip. with_limits chip limits (λ bounds. with_accepted chip bounds plan (next chip bounds)))
+with_all soc limits plan next = with_both soc limits (λ chip bounds. with_accepted chip bounds plan (next chip bounds))
 
 -- ---- the commands
 
 abbrev pub procedure_of : CommandValue → Procedure
 procedure_of (Print soc) = with_chip soc (λ chip. done_with (soc_text chip))
 procedure_of (Widths soc wires) = with_chip soc (λ chip. done_with (widths_text chip wires))
+procedure_of (MakePlan soc limits) = with_both soc limits done_with_plan
 procedure_of (Check soc limits plan) = with_all soc limits plan (λ chip bounds value. done_with (accepted_line value))
 procedure_of (Chart soc limits plan) = with_all soc limits plan (λ chip bounds value. done_with (chart_text chip value))

@@ -1,18 +1,28 @@
 // Decides how a command ends before anything is written.
-ghost use Rattle.std.specs.Prelude.{◌≡◌, ◌≤◌, None, map, string_bytes};
+ghost use Rattle.std.specs.Prelude.{◌≡◌, ◌≤◌, None, IfOk, map, string_bytes};
+ghost use Rattle.soc_model.specs.Chips.{soc_value};
+ghost use Rattle.soc_model.specs.SoundChips.{IsSoundChip};
+ghost use Rattle.plan_model.specs.Plans.{PlanValue};
+ghost use Rattle.plan_model.specs.SoundLimits.{IsSoundLimits};
+ghost use Rattle.plan_model.specs.Views.{limits_value};
+ghost use Rattle.plan_text.specs.PlanLines.{plan_text};
+ghost use Rattle.planner.specs.Plans.{IsPlanned};
 ghost use Rattle.plan_model.specs.declared.TheConstants.{WIRES_MOST};
-ghost use Rattle.soctest.specs.Commands.{Print, Widths, Check, Chart, command_of};
+ghost use Rattle.soctest.specs.Commands.{Print, Widths, MakePlan, Check, Chart, command_of};
 ghost use Rattle.soctest.specs.Procedures.{procedure_of};
 ghost use Rattle.soctest.specs.Decides.{Follows, Decides};
 
 use crate::lines::accepted_line;
-use crate::loading::{answered, answered_with, load_all, load_chip};
+use crate::loading::{answered, answered_with, load_all, load_both, load_chip};
 use crate::widths::widths_text;
 use crate::words::command;
 use crate::{Command, Status, Verdict};
 use chart::print_chart;
-use outside::Shelf;
-use plan_model::good_without_limits;
+use outside::{NoMemory, Shelf};
+use plan_model::{Limits, good_without_limits};
+use plan_text::print_plan;
+use planner::plan;
+use soc_model::Soc;
 use soc_printer::print_soc;
 use std::alloc::Global;
 
@@ -38,6 +48,28 @@ fn decide_widths<H: Shelf>(alloc: Global, soc: &str, wires: u64, shelf: &mut H) 
 {
     match load_chip(alloc, soc, shelf) {
         Ok(chip) => answered_with(Status::Done, widths_text(alloc, &chip, wires)),
+        Err(verdict) => verdict,
+    }
+}
+
+/// The text of the planner's plan. `NoMemory` where memory runs out, and for no other reason.
+fn text_of_plan(alloc: Global, soc: &Soc, limits: &Limits) -> Result<Vec<u8>, NoMemory>
+    requires chip { IsSoundChip (soc_value soc.now) }
+    requires limits { IsSoundLimits (soc_value soc.now) (limits_value limits.now) }
+    ensures { IfOk result (λ text. (value : PlanValue) × IsPlanned (soc_value soc.now) (limits_value limits.now) value × (text.items ≡ plan_text value)) }
+{
+    let plan = plan(alloc, soc, limits)?;
+    print_plan(alloc, &plan)
+}
+
+/// `plan SOC LIMITS`: the planner's plan.
+fn decide_plan<H: Shelf>(alloc: Global, soc: &str, limits: &str, shelf: &mut H) -> Verdict
+    ensures held_stays { H.held shelf.new ≡ H.held shelf.old }
+    ensures faults_never_fall { H.faults shelf.old ≤ H.faults shelf.new }
+    ensures follows { Follows (procedure_of (MakePlan soc.now limits.now)) (H.held shelf.old) (H.faults shelf.old) (H.faults shelf.new) result }
+{
+    match load_both(alloc, soc, limits, shelf) {
+        Ok(both) => answered_with(Status::Done, text_of_plan(alloc, &both.soc, &both.limits)),
         Err(verdict) => verdict,
     }
 }
@@ -91,6 +123,7 @@ pub fn decide<H: Shelf>(alloc: Global, words: &[String], shelf: &mut H) -> Verdi
     match command(words) {
         Some(Command::Print { soc }) => decide_print(alloc, soc, shelf),
         Some(Command::Widths { soc, wires }) => decide_widths(alloc, soc, wires, shelf),
+        Some(Command::Plan { soc, limits }) => decide_plan(alloc, soc, limits, shelf),
         Some(Command::Check { soc, limits, plan }) => {
             decide_check(alloc, soc, limits, plan, shelf)
         }

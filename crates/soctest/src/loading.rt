@@ -7,7 +7,7 @@ ghost use Rattle.plan_model.specs.Views.{limits_value, plan_value};
 ghost use Rattle.plan_model.specs.SoundLimits.{IsSoundLimits};
 ghost use Rattle.plan_text.specs.Grammar.{AreSmallStarts};
 ghost use Rattle.soctest.specs.declared.Status.TheVariants.{Refused};
-ghost use Rattle.soctest.specs.Decides.{Gives, GivesText, LoadsChip, LoadsLimits, LoadsAccepted, LoadsAll, RefusesSoc, RefusesBounds, RefusesValue, AnswersCheck};
+ghost use Rattle.soctest.specs.Decides.{Gives, GivesText, LoadsChip, LoadsLimits, LoadsAccepted, LoadsBoth, LoadsAll, RefusesSoc, RefusesBounds, RefusesValue, AnswersCheck};
 
 use crate::lines::{
     chip_limit_line, chip_line, cycle_line, fault_line, limits_line, plan_line, test_power_line,
@@ -22,6 +22,13 @@ use plan_text::{PlanTextFault, read_plan};
 use soc_model::{Soc, SocLimit};
 use soc_reader::{SocFault, read_soc};
 use std::alloc::Global;
+
+/// A chip and limits for it.
+#[derive(Drop)]
+pub(crate) struct Both {
+    pub(crate) soc: Soc,
+    pub(crate) limits: Limits,
+}
 
 /// A chip, limits for it, and a plan that is accepted for both.
 #[derive(Drop)]
@@ -187,6 +194,24 @@ pub(crate) fn load_accepted_plan<H: Shelf>(
     }
 }
 
+/// Loads a chip and limits for it, else how the command ends.
+pub(crate) fn load_both<H: Shelf>(
+    alloc: Global,
+    soc: &str,
+    limits: &str,
+    shelf: &mut H,
+) -> Result<Both, Verdict>
+    ensures held_stays { H.held shelf.new ≡ H.held shelf.old }
+    ensures faults_never_fall { H.faults shelf.old ≤ H.faults shelf.new }
+    ensures chip { IfOk result (λ both. IsSoundChip (soc_value both.soc)) }
+    ensures limits { IfOk result (λ both. IsSoundLimits (soc_value both.soc) (limits_value both.limits)) }
+    ensures loads { LoadsBoth soc.now limits.now (H.held shelf.old) (H.faults shelf.old) (H.faults shelf.new) result }
+{
+    let soc = load_chip(alloc, soc, shelf)?;
+    let limits = load_limits(alloc, &soc, limits, shelf)?;
+    Ok(Both { soc, limits })
+}
+
 /// Loads a chip, limits for it and a plan that is accepted, else how the command ends.
 pub(crate) fn load_all<H: Shelf>(
     alloc: Global,
@@ -201,8 +226,11 @@ pub(crate) fn load_all<H: Shelf>(
     ensures accepted { IfOk result (λ all. IsFaultless (soc_value all.soc) (limits_value all.limits) (plan_value all.plan)) }
     ensures loads { LoadsAll soc.now limits.now plan.now (H.held shelf.old) (H.faults shelf.old) (H.faults shelf.new) result }
 {
-    let soc = load_chip(alloc, soc, shelf)?;
-    let limits = load_limits(alloc, &soc, limits, shelf)?;
-    let plan = load_accepted_plan(alloc, &soc, &limits, plan, shelf)?;
-    Ok(Accepted { soc, limits, plan })
+    let both = load_both(alloc, soc, limits, shelf)?;
+    let plan = load_accepted_plan(alloc, &both.soc, &both.limits, plan, shelf)?;
+    Ok(Accepted {
+        soc: both.soc,
+        limits: both.limits,
+        plan,
+    })
 }

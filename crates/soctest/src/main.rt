@@ -61,6 +61,11 @@ pub enum Command<'a> {
         soc: &'a str,
         wires: u64,
     },
+    /// A plan for a chip under limits.
+    Plan {
+        soc: &'a str,
+        limits: &'a str,
+    },
     /// Whether a plan is good, and its certificate accepted.
     Check {
         soc: &'a str,

@@ -253,6 +253,47 @@ fn prints_widths(rt: HostRuntime) -> Result<(), Fail> {
     Ok(())
 }
 
+/// Chips, limits and the planner's plans for them, and what a check of these plans answers.
+const PLANNED: &str = "\
+ -> Limits 1 Wires 2 -> Plan 1/Cycles 0/Bound 0 Area/ -> accepted 0 0
+Module 1 Inputs 2 Outputs 3 ScanChains 2 : 4 2 Test 1 Patterns 2 Module 2 Inputs 2 Outputs 3 ScanChains 2 : 4 2 Test 1 Patterns 2 -> Limits 1 Wires 2 -> Plan 1/Cycles 28/Bus 1 : 1/Bus 1 : 2/Wrapper 1 scan/Chain 2 3 : 0 1/Wrapper 2 scan/Chain 2 3 : 0 1/Start 1 1 0/Start 2 1 0/Bound 28 Area/ -> accepted 28 28
+Module 1 Inputs 60 Outputs 60 Test 1 Patterns 10 Module 2 Inputs 60 Outputs 60 Test 1 Patterns 10 -> Limits 1 Wires 3 -> Plan 1/Cycles 460/Bus 3 : 2 1/Wrapper 1 scan/Chain 20 20/Chain 20 20/Chain 20 20/Wrapper 2 scan/Chain 20 20/Chain 20 20/Chain 20 20/Start 1 1 0/Start 2 1 230/Bound 460 Forced 1 2/ -> accepted 460 460
+Module 1 Test 1 TamUse 0 Patterns 5 Power 3 Module 2 Test 1 TamUse 0 Patterns 5 Power 4 -> Limits 2 Wires 2 Power 6 Profile 1 1 0 3 4 2 -> Plan 1/Cycles 9/Start 1 1 0/Start 2 1 4/Bound 6 Power/ -> accepted 9 6
+Module 1 Test 1 TamUse 0 Patterns 5 Module 2 Test 1 TamUse 0 Patterns 7 -> Limits 1 Wires 1 Before 1 1 2 1 -> Plan 1/Cycles 12/Start 1 1 0/Start 2 1 5/Bound 12 Chain 1 1 2 1/ -> accepted 12 12
+";
+
+/// A text whose lines are parted by `/`.
+fn put_lines(text: &str, to: &mut Vec<u8>) -> Result<(), AllocError> {
+    to.clear();
+    for byte in text.bytes() {
+        to.push(if byte == b'/' { b'\n' } else { byte })?;
+    }
+    Ok(())
+}
+
+#[test]
+fn plans_chips(rt: HostRuntime) -> Result<(), Fail> {
+    let alloc = rt.alloc();
+    let mut text = Vec::new(alloc);
+    let mut lines = Vec::new(alloc);
+    for row in PLANNED.lines() {
+        let (soc, rest) = two_parts(row);
+        let (limits, rest) = two_parts(rest);
+        let (plan, line) = two_parts(rest);
+        let mut shelf = shelf_of(alloc, soc, limits, "")?;
+        let status = answer(alloc, "plan a.soc a.lim", &mut shelf, &mut text)?;
+        put_lines(plan, &mut lines)?;
+        assert_eq!(rt; text.as_slice(), lines.as_slice(), "{row}");
+        assert_eq!(rt; status, Status::Done, "{row}");
+        shelf.hold("a.plan", &lines)?;
+        let status = answer(alloc, "check a.soc a.lim a.plan", &mut shelf, &mut text)?;
+        assert_eq!(rt; text.pop(), Some(b'\n'));
+        assert_eq!(rt; text.as_slice(), line.as_bytes(), "{row}");
+        assert_eq!(rt; status, Status::Done, "{row}");
+    }
+    Ok(())
+}
+
 #[test]
 fn draws_charts(rt: HostRuntime) -> Result<(), Fail> {
     let alloc = rt.alloc();
@@ -288,6 +329,8 @@ fn refuses_words_and_files(rt: HostRuntime) -> Result<(), Fail> {
         "widths a.soc 0",
         "widths a.soc 257",
         "widths a.soc +1",
+        "plan a.soc",
+        "plan a.soc a.lim a.plan",
         "Check a.soc a.lim a.plan",
     ] {
         let mut shelf = shelf_of(alloc, SOC, LIMITS, PLAN)?;
@@ -298,6 +341,7 @@ fn refuses_words_and_files(rt: HostRuntime) -> Result<(), Fail> {
     for (words, line) in [
         ("print b.soc", "cannot read SOC\n"),
         ("widths b.soc 1", "cannot read SOC\n"),
+        ("plan a.soc b.lim", "cannot read LIMITS\n"),
         ("check b.soc a.lim a.plan", "cannot read SOC\n"),
         ("check a.soc b.lim a.plan", "cannot read LIMITS\n"),
         ("check a.soc a.lim b.plan", "cannot read PLAN\n"),

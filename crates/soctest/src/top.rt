@@ -2,7 +2,7 @@
 ghost use Rattle.std.specs.Prelude.{◌≡◌, ◌≤◌, None, map, string_bytes};
 ghost use Rattle.outside.specs.Held.{Rose};
 ghost use Rattle.soctest.specs.Commands.{command_of};
-ghost use Rattle.soctest.specs.Ends.{MayAnswer, Ends, OneLine, EndsByWords, Complete, Headline};
+ghost use Rattle.soctest.specs.Ends.{MayAnswer, Ends, OneLine, EndsByWords, Complete, Finishes, Headline, PlanHeadline};
 
 use crate::deciding::decide;
 use crate::lines::unread_line;
@@ -35,7 +35,10 @@ pub fn soctest<H: Shelf, K: Sink>(
     // Where the files give an answer and nothing fails, it comes, but for want of memory.
     ensures complete { Complete (command_of (map string_bytes words.now)) (H.held shelf.old) (Rose (H.faults shelf.old) (H.faults shelf.new)) (Rose (K.faults out.old) (K.faults out.new)) (K.written out.old) result (K.written out.new) }
 
-    // The headline: what is accepted runs right, and its bound is one.
+    ensures finishes { Finishes (command_of (map string_bytes words.now)) (H.held shelf.old) (Rose (H.faults shelf.old) (H.faults shelf.new)) (Rose (K.faults out.old) (K.faults out.new)) result }
+
+    // The headline: what is printed or accepted runs right, and its bound is one.
+    ensures plans { PlanHeadline (command_of (map string_bytes words.now)) (H.held shelf.old) (K.written out.old) result (K.written out.new) }
     ensures headline { Headline (command_of (map string_bytes words.now)) (H.held shelf.old) (K.written out.old) result (K.written out.new) }
 {
     good_plans_run_right();

@@ -28,6 +28,10 @@ pub fn command(words: &[String]) -> Option<Command<'_>>
     match words {
         [word, soc] if word.as_str() == "print" => Some(Command::Print { soc: soc.as_str() }),
         [word, soc, wires] if word.as_str() == "widths" => widths(soc.as_str(), wires.as_str()),
+        [word, soc, limits] if word.as_str() == "plan" => Some(Command::Plan {
+            soc: soc.as_str(),
+            limits: limits.as_str(),
+        }),
         [word, soc, limits, plan] if word.as_str() == "check" => Some(Command::Check {
             soc: soc.as_str(),
             limits: limits.as_str(),
