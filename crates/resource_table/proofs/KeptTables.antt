@@ -1,20 +1,24 @@
 -- What a table keeps, as tests are placed and taken back.
-use Rattle.std.proofs.Common.{◌≡◌, ℕ, ◌+◌, ◌-◌, ◌<◌, ◌≤◌, inl, inr, Option, None, Some, List, [], ◌∷◌, ◌++◌, length, get_or, set, take, map, arith, refl, sym, ap, ◌∙◌, subst, length-append, append_assoc, append-nil}
-use Rattle.std.specs.Prelude.{is_some, vec_capacity}
+use Rattle.std.proofs.Common.{◌≡◌, ℕ, zero, suc, ◌*◌, ◌^◌, replicate, ◌+◌, ◌-◌, ◌<◌, ◌≤◌, inl, inr, Option, None, Some, List, [], ◌∷◌, ◌++◌, length, get_or, set, take, map, arith, refl, sym, ap, ◌∙◌, subst, length-append, append_assoc, append-nil}
+use Rattle.std.specs.Prelude.{is_some, vec_capacity, IfSome}
 use Rattle.std.specs.List.{sum_by, flat_map}
 use Rattle.std.specs.Global.{Vec}
 use Rattle.std.proofs.lemmas.Bool.{cases_eq}
-use Rattle.std.proofs.lemmas.List.{take_at, length-set, get_or-set_same, get_or-set_other, map-append, length-map}
+use Rattle.std.proofs.lemmas.List.{take_at, length-set, get_or-set_same, get_or-set_other, map-append, length-map, length-replicate}
 use Rattle.std.proofs.lemmas.List.Sums.{sum_by-cons, sum_by_push}
 use Rattle.smallvec.specs.SmallVec.{SmallVec}
 use Rattle.plan_model.specs.Rules.{Each}
 use Rattle.resource_table.specs.declared.Placement.{Placement}
 use Rattle.resource_table.specs.declared.busy.Busy.{Busy}
 use Rattle.resource_table.specs.declared.power.Draw.{Draw}
-use Rattle.resource_table.specs.Jobs.{TestValue, JobValue, test_at, no_test, cycles_of}
+use Rattle.resource_table.specs.Jobs.{TestValue, JobValue, IsSoundJob, test_value, test_at, no_test, cycles_of}
 use Rattle.resource_table.specs.Schedules.{at_start, end_of, is_placed, MayPlace, IsSoundTable}
-use Rattle.resource_table.specs.Resources.{busy_of, draws_from, draws_of, end_in}
-use Rattle.resource_table.specs.Kept.{IsKept}
+use Rattle.resource_table.specs.Resources.{load_of, busy_of, draws_from, draws_of, end_in}
+use Rattle.resource_table.specs.declared.JobTest.{JobTest}
+use Rattle.resource_table.specs.declared.profile.Point.{Point}
+use Rattle.resource_table.specs.Profiles.{ArePoints}
+use Rattle.resource_table.specs.Kept.{IsKept, IsProfiled}
+use Rattle.std.proofs.lemmas.List.Elements.{All-nil}
 use Rattle.resource_table.proofs.Places.{same_item}
 use Rattle.resource_table.proofs.Placed.{each_push, each_front, each_last, sound_tests, sum_of_placed, few_placed, end_is_some, end_none, end_new, end_other}
 
@@ -29,7 +33,7 @@ kept_is_placed job trail ends busy draws kept test r lt is =
 
 -- ---- room
 
-length-draws_from : (start length' : ℕ) (steps : List (ℕ × ℕ)) → length (draws_from start length' steps) ≡ length steps
+pub length-draws_from : (start length' : ℕ) (steps : List (ℕ × ℕ)) → length (draws_from start length' steps) ≡ length steps
 length-draws_from start length' [] = refl
 length-draws_from start length' (s ∷ next) = omega (arith, length-draws_from start length' next)
 
@@ -65,6 +69,58 @@ draws_have_room job placed test start sound may =
     go (p ∷ placed) =
         let here = length-draws_from p.start (cycles_of job p.test) (test_at job p.test).steps in
         omega (arith, length-append (draws_of job p) (flat_map (draws_of job) placed), sum_by-cons (λ (p : Placement). length (get_or job.tests p.test no_test).steps) p placed, go placed, here)
+
+-- also for their points
+pub points_have_room : (job : JobValue) (placed : List Placement) (test start length' capacity : ℕ) (old new : List Draw) (steps : List (ℕ × ℕ)) → IsSoundTable (record { job = job; placed = placed }) → MayPlace job placed test start →
+    old ≡ flat_map (draws_of job) placed → new ≡ old ++ draws_from start length' steps → length steps ≡ length (test_at job test).steps → 2 * sum_by (λ (t : TestValue). length t.steps) job.tests ≤ capacity → 2 * length new ≤ capacity
+points_have_room job placed test start length' capacity old new steps sound may old_is new_is same room =
+    let fits = draws_have_room job placed test start sound may in
+    let before = ap length old_is in
+    let after : length new ≡ length old + length (draws_from start length' steps) = ap length new_is ∙ length-append old (draws_from start length' steps) in
+    omega (arith, fits, before, after, same, room, length-draws_from start length' steps)
+
+-- ---- nothing placed
+
+get_or-none : (n i : ℕ) → get_or (replicate n (let o : Option ℕ = None in o)) i None ≡ None
+get_or-none zero i = refl
+get_or-none (suc n) zero = refl
+get_or-none (suc n) (suc i) = get_or-none n i
+
+pub kept_new : (job : JobValue) (trail : SmallVec Placement) (ends : Vec (Option ℕ)) (busy : Vec Busy) (draws : Vec Draw) (tests steps : ℕ) → IsSoundJob job → tests ≡ length job.tests → steps ≡ sum_by (λ (t : TestValue). length t.steps) job.tests →
+    trail.items ≡ [] → tests ≤ trail.capacity → ends.items ≡ replicate tests None → busy.items ≡ [] → tests ≤ vec_capacity busy → draws.items ≡ [] → steps ≤ vec_capacity draws → IsKept job trail ends busy draws
+kept_new job trail ends busy draws tests steps sound tests_is steps_is trail_is trail_room ends_is busy_is busy_room draws_is draws_room = record {
+  sound = record { job = sound; placed = subst (Each (λ earlier p. MayPlace job earlier p.test p.start)) (sym trail_is) (λ n p at. absurd cc) };
+  ends_long = ap length ends_is ∙ length-replicate tests None ∙ tests_is;
+  ends_are = (λ test lt. ap (λ (v : List (Option ℕ)). get_or v test None) ends_is ∙ get_or-none tests test ∙ ap (λ (v : List Placement). end_in job v test) (sym trail_is));
+  busy_are = busy_is ∙ ap (map (busy_of job)) (sym trail_is);
+  draws_are = draws_is ∙ ap (flat_map (draws_of job)) (sym trail_is);
+  trail_room = omega arith;
+  busy_room = omega arith;
+  draws_room = omega arith;
+}
+
+pub profiled_new : (job : JobValue) (draws : Vec Draw) (points : Vec Point) (steps : ℕ) → steps ≡ sum_by (λ (t : TestValue). length t.steps) job.tests → draws.items ≡ [] → points.items ≡ [] → 2 * steps ≤ vec_capacity points → IsProfiled job draws points
+profiled_new job draws points steps steps_is draws_is points_is room = record {
+  are = under job.power (subst (λ (v : List Draw). ArePoints v [] points.items) (sym draws_is) (subst (ArePoints [] []) (sym points_is) none));
+  room = omega (arith, steps_is, room);
+}
+  where
+    under : {P : Type 0} (o : Option ℕ) → P → IfSome o (λ _. P)
+    under None p = tt
+    under (Some limit) p = p
+
+    none : ArePoints [] [] []
+    none = record {
+      ordered = (λ i j d le lt. absurd (omega (arith, lt)));
+      loads = All-nil (λ (p : Point). p.load ≡ load_of [] p.cycle);
+      marks = (λ c. refl);
+      count = refl;
+      small = All-nil (λ (d : Draw). d.power < 2 ^ 64);
+    }
+
+pub steps_same : (tests : List JobTest) → sum_by (λ (t : JobTest). length t.power.items) tests ≡ sum_by (λ (t : TestValue). length t.steps) (map test_value tests)
+steps_same [] = refl
+steps_same (t ∷ tests) = omega (arith, sum_by-cons (λ (t : JobTest). length t.power.items) t tests, sum_by-cons (λ (t : TestValue). length t.steps) (test_value t) (map test_value tests), steps_same tests)
 
 -- ---- one more, one less
 

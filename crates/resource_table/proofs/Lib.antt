@@ -6,6 +6,9 @@ pub mod Placed
 pub mod Fitting
 pub mod KeptTables
 pub mod KeptStarts
+pub mod Profiles
+pub mod Crowds
+pub mod Befores
 pub mod Ready
 pub mod Schedules
 pub mod Samples

@@ -1,7 +1,8 @@
 -- What holds of all items of a list, by place.
-use Rattle.std.proofs.Common.{◌≡◌, ℕ, ◌<◌, ◌≤◌, Some, List, length, get_or, take, subst, sym}
+use Rattle.std.proofs.Common.{◌≡◌, inl, inr, ℕ, zero, suc, ◌<◌, ◌≤◌, Some, List, [], ◌∷◌, length, get_or, take, Bool, true, subst, sym}
 use Rattle.std.specs.Prelude.{slice_get, slice_index_or}
-use Rattle.std.specs.List.{All}
+use Rattle.std.specs.List.{All, filter}
+use Rattle.std.proofs.lemmas.Bool.{cases_Bool}
 use Rattle.std.proofs.lemmas.List.{take_all}
 use Rattle.std.proofs.lemmas.List.Elements.{All-same}
 use Rattle.std.proofs.lemmas.Option.{slice_get-get_or, slice_get_within, get_or_from_slice_get}
@@ -22,3 +23,15 @@ same_item xs i d e lt =
     let a : slice_get xs i ≡ Some (get_or xs i d) = slice_get-get_or xs i d lt in
     let b : slice_get xs i ≡ Some (get_or xs i e) = slice_get-get_or xs i e lt in
     cc
+
+-- an item that passes stands among those that pass
+pub in_filter : {X : Type 0} (p : X → Bool) (xs : List X) (k : ℕ) (x : X) → slice_get xs k ≡ Some x → p x ≡ true → (n : ℕ) × (slice_get (filter p xs) n ≡ Some x)
+in_filter p [] k x at passes = absurd cc
+in_filter p (y ∷ xs) zero x at passes =
+    let same : y ≡ x = cc in
+    let here : p y ≡ true = rw same passes in
+    (0, rw here at)
+in_filter p (y ∷ xs) (suc k) x at passes = elim (cases_Bool (p y)) [
+  | inl yes' ↦ let r = in_filter p xs k x at passes in (suc r.0, rw yes' r.1)
+  | inr no' ↦ let r = in_filter p xs k x at passes in (r.0, rw no' r.1)
+]

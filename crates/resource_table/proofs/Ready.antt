@@ -16,7 +16,10 @@ use Rattle.resource_table.specs.Jobs.{JobValue, Precedes}
 use Rattle.resource_table.specs.Schedules.{end_of, last_end, precedes, ready_at, ComesAfter}
 use Rattle.resource_table.specs.Resources.{end_in}
 use Rattle.resource_table.specs.Kept.{IsKept}
-use Rattle.resource_table.proofs.Places.{all_at}
+use Rattle.resource_table.specs.declared.earlier.Before.{Before}
+use Rattle.resource_table.specs.Befores.{tests_before, listed, AreListed}
+use Rattle.resource_table.proofs.Places.{all_from}
+use Rattle.resource_table.proofs.Befores.{before_from, before_has}
 use Rattle.resource_table.proofs.Placed.{sound_tests, end_at, end_from}
 
 pair_is : (p : ℕ × ℕ) (a b : ℕ) → p.0 ≡ a → p.1 ≡ b → p ≡ (a, b)
@@ -58,29 +61,54 @@ ready-least job placed test start after = greatest-least (end_of job) start (fil
     (λ i p at. let r = from_filter (λ (p : Placement). precedes job p.test test) placed i p at in after r.0 p r.1 (precedes_to job p.test test r.2))
 
 module _ (job : JobValue) (trail : SmallVec Placement) (ends : Vec (Option ℕ)) (busy : Vec Busy) (draws : Vec Draw) (kept : IsKept job trail ends busy draws) (test result : ℕ) where
-  pub kept_after : All (λ (p : ℕ × ℕ). p.1 ≡ test → unwrap_or (slice_index_or ends.items p.0 None) 0 ≤ result) job.before → ComesAfter job trail.items test result
+  -- the tests before a test are some of the job
+  pub before_known : All (λ earlier. earlier < length ends.items) (tests_before test job.before)
+  before_known =
+      let long = kept.ends_long in
+      All-from-contains (tests_before test job.before) (λ earlier there.
+      let inside = (All-contains (λ (p : ℕ × ℕ). (p.0 < length job.tests) × (p.1 < length job.tests)) job.before (earlier, test) kept.sound.job.in_range (before_from job.before earlier test there)).0 in
+      omega (arith, inside, long))
+    where
+      All-from-contains : (xs : List ℕ) → ((x : ℕ) → Contains xs x → x < length ends.items) → All (λ x. x < length ends.items) xs
+      All-from-contains xs h = all_from (λ x. x < length ends.items) xs (λ i x at. h x (at_contains xs i x at))
+
+  pub kept_after : All (λ earlier. unwrap_or (slice_index_or ends.items earlier None) 0 ≤ result) (tests_before test job.before) → ComesAfter job trail.items test result
   kept_after latest n p at before =
-      let place = contains_at job.before (p.test, test) before in
-      let here : unwrap_or (slice_index_or ends.items p.test None) 0 ≤ result = all_at (λ (p : ℕ × ℕ). p.1 ≡ test → unwrap_or (slice_index_or ends.items p.0 None) 0 ≤ result) job.before place.0 (p.test, test) latest place.1 refl in
+      let here : unwrap_or (slice_index_or ends.items p.test None) 0 ≤ result = All-contains (λ earlier. unwrap_or (slice_index_or ends.items earlier None) 0 ≤ result) (tests_before test job.before) p.test latest (before_has job.before p.test test before) in
       let inside : p.test < length job.tests = (kept.sound.placed n p at).in_job in
       let end : slice_index_or ends.items p.test None ≡ Some (end_of job p) = kept.ends_are p.test inside ∙ end_at job job.tests trail.items n p (sound_tests (record { job = job; placed = trail.items }) kept.sound) at in
       subst (λ (o : Option ℕ). unwrap_or o 0 ≤ result) end here
 
-  pub kept_most : (result ≡ 0) ⊎ ((p : ℕ × ℕ) × Contains job.before p × (p.1 ≡ test) × (result ≡ unwrap_or (slice_index_or ends.items p.0 None) 0)) → result ≤ ready_at job trail.items test
+  pub kept_most : (result ≡ 0) ⊎ ((earlier : ℕ) × Contains (tests_before test job.before) earlier × (result ≡ unwrap_or (slice_index_or ends.items earlier None) 0)) → result ≤ ready_at job trail.items test
   kept_most (inl none) = omega arith
   kept_most (inr found) =
-      let inside : found.0.0 < length job.tests = (All-contains (λ (p : ℕ × ℕ). (p.0 < length job.tests) × (p.1 < length job.tests)) job.before found.0 kept.sound.job.in_range found.1).0 in
-      let end : slice_index_or ends.items found.0.0 None ≡ end_in job trail.items found.0.0 = kept.ends_are found.0.0 inside in
-      let is : result ≡ unwrap_or (end_in job trail.items found.0.0) 0 = found.3 ∙ ap (λ (o : Option ℕ). unwrap_or o 0) end in
-      go (end_in job trail.items found.0.0) refl is
+      let pair : Contains job.before (found.0, test) = before_from job.before found.0 test found.1 in
+      let inside : found.0 < length job.tests = (All-contains (λ (p : ℕ × ℕ). (p.0 < length job.tests) × (p.1 < length job.tests)) job.before (found.0, test) kept.sound.job.in_range pair).0 in
+      let end : slice_index_or ends.items found.0 None ≡ end_in job trail.items found.0 = kept.ends_are found.0 inside in
+      let is : result ≡ unwrap_or (end_in job trail.items found.0) 0 = found.2 ∙ ap (λ (o : Option ℕ). unwrap_or o 0) end in
+      go (end_in job trail.items found.0) refl is
     where
-      go : (o : Option ℕ) → end_in job trail.items found.0.0 ≡ o → result ≡ unwrap_or (end_in job trail.items found.0.0) 0 → result ≤ ready_at job trail.items test
+      go : (o : Option ℕ) → end_in job trail.items found.0 ≡ o → result ≡ unwrap_or (end_in job trail.items found.0) 0 → result ≤ ready_at job trail.items test
       go None e is = let none : result ≡ 0 = is ∙ ap (λ (o : Option ℕ). unwrap_or o 0) e in omega arith
       go (Some end) e is =
-          let r = end_from job trail.items found.0.0 end e in
-          let pair : found.0 ≡ (r.1.test, test) = pair_is found.0 r.1.test test (sym r.3) found.2 in
-          let before : precedes job r.1.test test ≡ true = precedes_from job r.1.test test (subst (Contains job.before) pair found.1) in
+          let r = end_from job trail.items found.0 end e in
+          let before : precedes job r.1.test test ≡ true = precedes_from job r.1.test test (subst (λ (x : ℕ). Contains job.before (x, test)) (sym r.3) (before_from job.before found.0 test found.1)) in
           let most = le-greatest_kept (end_of job) (λ (p : Placement). precedes job p.test test) trail.items r.0 r.1 r.2 before in
           let this : result ≡ end = is ∙ ap (λ (o : Option ℕ). unwrap_or o 0) e in
           let last = r.4 in
           omega arith
+
+  -- the same of the lists that were read
+  module _ (tests : List ℕ) (es : List (Option ℕ)) (tests_is : tests ≡ tests_before test job.before) (es_is : es ≡ ends.items) where
+    pub read_known : All (λ earlier. earlier < length es) tests
+    read_known = subst (λ (v : List (Option ℕ)). All (λ earlier. earlier < length v) tests) (sym es_is) (subst (λ (v : List ℕ). All (λ earlier. earlier < length ends.items) v) (sym tests_is) before_known)
+
+    pub read_after : All (λ earlier. unwrap_or (slice_index_or es earlier None) 0 ≤ result) tests → ComesAfter job trail.items test result
+    read_after latest = kept_after (subst (λ (v : List ℕ). All (λ earlier. unwrap_or (slice_index_or ends.items earlier None) 0 ≤ result) v) tests_is (subst (λ (v : List (Option ℕ)). All (λ earlier. unwrap_or (slice_index_or v earlier None) 0 ≤ result) tests) es_is latest))
+
+    pub read_most : (result ≡ 0) ⊎ ((earlier : ℕ) × Contains tests earlier × (result ≡ unwrap_or (slice_index_or es earlier None) 0)) → result ≤ ready_at job trail.items test
+    read_most is = kept_most (subst (λ (v : List ℕ). (result ≡ 0) ⊎ ((earlier : ℕ) × Contains v earlier × (result ≡ unwrap_or (slice_index_or ends.items earlier None) 0))) tests_is (subst (λ (v : List (Option ℕ)). (result ≡ 0) ⊎ ((earlier : ℕ) × Contains tests earlier × (result ≡ unwrap_or (slice_index_or v earlier None) 0))) es_is is))
+
+-- the list that is kept for a test
+pub kept_before : (job : JobValue) (lists lists' : List Before) (test : ℕ) (tests : List ℕ) → AreListed job (map listed lists) → lists' ≡ lists → test < length job.tests → tests ≡ slice_index_or (map listed lists') test [] → tests ≡ tests_before test job.before
+kept_before job lists lists' test tests all same inside is = is ∙ ap (λ (v : List Before). slice_index_or (map listed v) test []) same ∙ all.are test inside

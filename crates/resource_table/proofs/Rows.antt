@@ -1,6 +1,5 @@
 -- Worked rows: the definitions, computed.
-use Rattle.std.proofs.Common.{◌≡◌, ℕ, Bool, true, false, None, Some, List, [], ◌∷◌, map, refl}
-use Rattle.plan_model.specs.Plans.{step_power}
+use Rattle.std.proofs.Common.{◌≡◌, ℕ, true, false, None, Some, List, [], ◌∷◌, map, refl}
 use Rattle.resource_table.specs.declared.Placement.{Placement}
 use Rattle.resource_table.specs.Jobs.{TestValue}
 use Rattle.resource_table.specs.Schedules.{at_start, exclude, last_end, power_at, ready_at, is_placed}

@@ -1,13 +1,11 @@
 -- The power of a test, step by step.
 use Rattle.std.proofs.Common.{◌≡◌, ℕ, zero, suc, ◌+◌, ◌-◌, ◌<◌, ◌≤◌, inl, inr, List, [], ◌∷◌, length, drop, get_or, arith, max, refl, sym, ◌∙◌, add-one, drop-cons, subst}
-use Rattle.std.specs.List.{All}
 use Rattle.std.proofs.lemmas.Bool.{cases_lt, le-leb, lt-leb, lt-ltb}
 use Rattle.std.proofs.lemmas.List.Sums.{sum_by-cons}
 use Rattle.plan_model.specs.Plans.{step_power}
 use Rattle.plan_model.specs.SoundLimits.{Grow}
 use Rattle.resource_table.specs.declared.power.Draw.{Draw}
 use Rattle.resource_table.specs.Resources.{taken_by, load_of, step_end, draws_from, StepsFit}
-use Rattle.resource_table.proofs.Loads.{load_stays}
 
 -- before the first step nothing changes
 pub step_late : (from r now : ℕ) (steps : List (ℕ × ℕ)) → Grow from steps → r < from → step_power r now steps ≡ now
@@ -116,31 +114,38 @@ steps_fit-drop load most start length zero steps fit = fit
 steps_fit-drop load most start length (suc i) [] fit = tt
 steps_fit-drop load most start length (suc i) (s ∷ steps) fit = steps_fit-drop load most start length i steps fit.1
 
--- where a step is crowded at a cycle, no start fits before the first of the draws there has ended
-pub jump : (draws : List Draw) (limit start other length c e : ℕ) (s : ℕ × ℕ) (next : List (ℕ × ℕ)) → StepsFit (load_of draws) limit other length (s ∷ next) → start ≤ other → start + s.0 ≤ c →
-    c < start + step_end length next → limit - s.1 < load_of draws c → s.1 ≤ limit → c < e → All (λ (d : Draw). d.from ≤ c → c < d.to → e ≤ d.to) draws → e - s.0 ≤ other
-jump draws limit start other length c e s next fit later from to more small after ends = elim (cases_lt (other + s.0) e) [
+-- where a step is crowded from a cycle on, no start fits before that crowd has ended
+pub jump : (load : ℕ → ℕ) (limit start other length c e : ℕ) (s : ℕ × ℕ) (next : List (ℕ × ℕ)) → StepsFit load limit other length (s ∷ next) → start ≤ other → start + s.0 ≤ c →
+    c < start + step_end length next → s.1 ≤ limit → c < e → ((x : ℕ) → c ≤ x → x < e → limit - s.1 < load x) → e - s.0 ≤ other
+jump load limit start other length c e s next fit later from to small after crowd = elim (cases_lt (other + s.0) e) [
   | inr done ↦ omega arith
   | inl early ↦
       let x : ℕ = max c (other + s.0) in
-      let here : load_of draws x + s.1 ≤ limit = fit.0 x (omega arith) (omega arith) in
-      let less : load_of draws c ≤ load_of draws x = load_stays draws c x (omega arith) (λ k d lt a b. let h = ends k d lt a b in omega arith) in
+      let here : load x + s.1 ≤ limit = fit.0 x (omega arith) (omega arith) in
+      let more : limit - s.1 < load x = crowd x (omega arith) (omega arith) in
       absurd (omega arith)
 ]
 
 -- the same for the step at a place
-pub jump_at : (draws : List Draw) (limit start other length' c e at : ℕ) (steps : List (ℕ × ℕ)) → at < length steps → StepsFit (load_of draws) limit other length' steps → start ≤ other →
-    start + (get_or steps at (0, 0)).0 ≤ c → c < start + step_end length' (drop (at + 1) steps) → limit - (get_or steps at (0, 0)).1 < load_of draws c → (get_or steps at (0, 0)).1 ≤ limit → c < e →
-    All (λ (d : Draw). d.from ≤ c → c < d.to → e ≤ d.to) draws → e - (get_or steps at (0, 0)).0 ≤ other
-jump_at draws limit start other length' c e at steps lt fit later from to more small after ends =
+pub jump_at : (load : ℕ → ℕ) (limit start other length' c e at : ℕ) (steps : List (ℕ × ℕ)) → at < length steps → StepsFit load limit other length' steps → start ≤ other →
+    start + (get_or steps at (0, 0)).0 ≤ c → c < start + step_end length' (drop (at + 1) steps) → (get_or steps at (0, 0)).1 ≤ limit → c < e →
+    ((x : ℕ) → c ≤ x → x < e → limit - (get_or steps at (0, 0)).1 < load x) → e - (get_or steps at (0, 0)).0 ≤ other
+jump_at load limit start other length' c e at steps lt fit later from to small after crowd =
     let parts : drop at steps ≡ get_or steps at (0, 0) ∷ drop (at + 1) steps = rw (add-one, drop-cons steps at (0, 0)) refl in
-    let here : StepsFit (load_of draws) limit other length' (get_or steps at (0, 0) ∷ drop (at + 1) steps) = subst (StepsFit (load_of draws) limit other length') parts (steps_fit-drop (load_of draws) limit other length' at steps fit) in
-    jump draws limit start other length' c e (get_or steps at (0, 0)) (drop (at + 1) steps) here later from to more small after ends
+    let here : StepsFit load limit other length' (get_or steps at (0, 0) ∷ drop (at + 1) steps) = subst (StepsFit load limit other length') parts (steps_fit-drop load limit other length' at steps fit) in
+    jump load limit start other length' c e (get_or steps at (0, 0)) (drop (at + 1) steps) here later from to small after crowd
 
 -- one step more
-pub steps_fit_more : (draws : List Draw) (limit start length' at : ℕ) (steps : List (ℕ × ℕ)) → at < length steps →
-    ((c : ℕ) → start + (get_or steps at (0, 0)).0 ≤ c → c < start + step_end length' (drop (at + 1) steps) → load_of draws c + (get_or steps at (0, 0)).1 ≤ limit) →
-    StepsFit (load_of draws) limit start length' (drop (at + 1) steps) → StepsFit (load_of draws) limit start length' (drop at steps)
-steps_fit_more draws limit start length' at steps lt here rest =
+pub steps_fit_more : (load : ℕ → ℕ) (limit start length' at : ℕ) (steps : List (ℕ × ℕ)) → at < length steps →
+    ((c : ℕ) → start + (get_or steps at (0, 0)).0 ≤ c → c < start + step_end length' (drop (at + 1) steps) → load c + (get_or steps at (0, 0)).1 ≤ limit) →
+    StepsFit load limit start length' (drop (at + 1) steps) → StepsFit load limit start length' (drop at steps)
+steps_fit_more load limit start length' at steps lt here rest =
     let parts : drop at steps ≡ get_or steps at (0, 0) ∷ drop (at + 1) steps = rw (add-one, drop-cons steps at (0, 0)) refl in
-    subst (StepsFit (load_of draws) limit start length') (sym parts) (here, rest)
+    subst (StepsFit load limit start length') (sym parts) (here, rest)
+
+-- no step is left past the last
+pub steps_fit_end : (load : ℕ → ℕ) (limit start length' at : ℕ) (steps : List (ℕ × ℕ)) → length steps ≤ at → StepsFit load limit start length' (drop at steps)
+steps_fit_end load limit start length' zero [] le = tt
+steps_fit_end load limit start length' (suc at) [] le = tt
+steps_fit_end load limit start length' zero (s ∷ steps) le = absurd (omega arith)
+steps_fit_end load limit start length' (suc at) (s ∷ steps) le = steps_fit_end load limit start length' at steps (omega arith)

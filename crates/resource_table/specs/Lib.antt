@@ -1,5 +1,7 @@
 pub mod Jobs
 pub mod Schedules
 pub mod Resources
+pub mod Profiles
+pub mod Befores
 pub mod Kept
 pub mod Lent

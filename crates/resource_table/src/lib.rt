@@ -6,11 +6,14 @@
 
 mod busy;
 mod copies;
+mod earlier;
 mod frame;
 mod laws;
 mod power;
+mod profile;
 mod table;
 
+pub use earlier::{Before, all_before, earlier_than};
 pub use frame::{Frame, FrameOf};
 pub use laws::{list_schedules_are_short, sound_tables_keep_the_rules};
 use soc_model::TestId;

@@ -1,5 +1,5 @@
 // The table of placed tests.
-ghost use Rattle.std.specs.Prelude.{◌≡◌, ℕ, ◌+◌, ◌-◌, ◌^◌, ◌<◌, ◌≤◌, ◌++◌, ◌∷◌, [], List, length, map, take, Some, slice_get, replicate, None, IfOk, ◌⊎◌, ℕ, slice_index_or, unwrap_or};
+ghost use Rattle.std.specs.Prelude.{◌≡◌, ℕ, ◌+◌, ◌-◌, ◌^◌, ◌<◌, ◌≤◌, ◌++◌, ◌∷◌, [], List, length, map, take, Some, slice_get, replicate, None, IfOk, ◌⊎◌, ◌*◌, vec_capacity, slice_index_or, unwrap_or};
 ghost use Rattle.std.specs.List.{All, Contains, sum_by};
 ghost use Rattle.resource_table.specs.declared.JobTest.{JobTest};
 ghost use Rattle.resource_table.specs.declared.Placement.{Placement};
@@ -8,7 +8,9 @@ ghost use Rattle.resource_table.specs.Schedules.{TableValue, at_start, end_of, l
 
 use crate::busy::{Busy, after_busy, last_end, needs_of};
 use crate::copies::copy_job;
+use crate::earlier::{Before, all_before, earlier_than};
 use crate::power::{Draw, after_power, push_draws};
+use crate::profile::{Point, add_drawn, take_drawn};
 use crate::{Job, JobTest, Placement};
 use outside::NoMemory;
 use smallvec::SmallVec;
@@ -31,48 +33,49 @@ pub struct TableOf<J> {
     busy: Vec<Busy>,
     /// The draws of the placed tests, step by step.
     draws: Vec<Draw>,
+    /// Under a limit on power, the profile of the power that they take together.
+    points: Vec<Point>,
+    /// For each test of the job those that precede it.
+    before: Vec<Before>,
 }
 
 /// A table of placed tests of a job.
 pub type Table<'a> = TableOf<&'a Job>;
 
 impl<J> Model for TableOf<J> {
+    ghost use Rattle.std.specs.Prelude.{map};
     ghost use Rattle.resource_table.specs.Jobs.{job_value};
     ghost use Rattle.resource_table.specs.Schedules.{TableValue};
 
     ghost Value = { TableValue };
 
-    ghost use Rattle.resource_table.specs.Kept.{IsKept};
+    ghost use Rattle.resource_table.specs.Befores.{listed, AreListed};
+    ghost use Rattle.resource_table.specs.Kept.{IsKept, IsProfiled};
 
     ghost view = { λ t. record { job = job_value t.own; placed = t.trail.items } };
 
-    ghost invariant = { λ t. IsKept (job_value t.own) t.trail t.ends t.busy t.draws };
+    ghost invariant = { λ t. IsKept (job_value t.own) t.trail t.ends t.busy t.draws × AreListed (job_value t.own) (map listed t.before.items) × IsProfiled (job_value t.own) t.draws t.points };
 }
 
-/// The end of the first test of a precedence, where that is placed and the second test is this one; else `latest`, and
-/// `latest` too where that is more.
-fn later_end(edge: (usize, usize), ends: &[Option<u64>], test: usize, latest: u64) -> u64
-    requires in_range { edge.0 < length ends.now }
+/// The end of a test, where it is placed and ends after `latest`; else `latest`.
+fn later_end(earlier: usize, ends: &[Option<u64>], latest: u64) -> u64
+    requires in_range { earlier < length ends.now }
     ensures from { latest ≤ result }
-    ensures end { edge.1 ≡ test → unwrap_or (slice_index_or ends.now edge.0 None) 0 ≤ result }
-    ensures is { (result ≡ latest) ⊎ ((edge.1 ≡ test) × (result ≡ unwrap_or (slice_index_or ends.now edge.0 None) 0)) }
+    ensures end { unwrap_or (slice_index_or ends.now earlier None) 0 ≤ result }
+    ensures is { (result ≡ latest) ⊎ (result ≡ unwrap_or (slice_index_or ends.now earlier None) 0) }
 {
-    if edge.1 == test {
-        latest.max(ends[edge.0].unwrap_or(0))
-    } else {
-        latest
-    }
+    latest.max(ends[earlier].unwrap_or(0))
 }
 
-/// The latest end of the placed tests that precede a test, 0 where there is none.
-fn latest_before(before: &[(usize, usize)], ends: &[Option<u64>], test: usize) -> u64
-    requires in_range { All (λ (p : ℕ × ℕ). p.0 < length ends.now) before.now }
-    ensures latest { All (λ (p : ℕ × ℕ). p.1 ≡ test → unwrap_or (slice_index_or ends.now p.0 None) 0 ≤ result) before.now }
-    ensures is { (result ≡ 0) ⊎ ((p : ℕ × ℕ) × Contains before.now p × (p.1 ≡ test) × (result ≡ unwrap_or (slice_index_or ends.now p.0 None) 0)) }
+/// The latest end of those of some tests that are placed, 0 where there is none.
+fn latest_end(tests: &[usize], ends: &[Option<u64>]) -> u64
+    requires in_range { All (λ test. test < length ends.now) tests.now }
+    ensures latest { All (λ test. unwrap_or (slice_index_or ends.now test None) 0 ≤ result) tests.now }
+    ensures is { (result ≡ 0) ⊎ ((test : ℕ) × Contains tests.now test × (result ≡ unwrap_or (slice_index_or ends.now test None) 0)) }
 {
     let mut latest: u64 = 0;
-    for edge in before {
-        latest = later_end(*edge, ends, test, latest);
+    for test in tests {
+        latest = later_end(*test, ends, latest);
     }
     latest
 }
@@ -106,6 +109,33 @@ fn new_trail(alloc: Global, tests: usize) -> Result<SmallVec<Placement, 16>, NoM
     Ok(trail)
 }
 
+/// Busy times with room for so many.
+fn new_busy(alloc: Global, tests: usize) -> Result<Vec<Busy>, NoMemory>
+    ensures items { IfOk result (λ busy. busy.items ≡ []) }
+    ensures room { IfOk result (λ busy. tests ≤ vec_capacity busy) }
+{
+    Vec::with_capacity(alloc, tests).map_err(|_| NoMemory)
+}
+
+/// Draws with room for one of each step.
+fn new_draws(alloc: Global, steps: usize) -> Result<Vec<Draw>, NoMemory>
+    ensures items { IfOk result (λ draws. draws.items ≡ []) }
+    ensures room { IfOk result (λ draws. steps ≤ vec_capacity draws) }
+{
+    Vec::with_capacity(alloc, steps).map_err(|_| NoMemory)
+}
+
+/// Points with room for two of each step.
+fn new_points(alloc: Global, steps: usize) -> Result<Vec<Point>, NoMemory>
+    ensures items { IfOk result (λ points. points.items ≡ []) }
+    ensures room { IfOk result (λ points. 2 * steps ≤ vec_capacity points) }
+{
+    let Some(room) = steps.checked_mul(2) else {
+        return Err(NoMemory);
+    };
+    Vec::with_capacity(alloc, room).map_err(|_| NoMemory)
+}
+
 impl<'a> TableOf<&'a Job> {
     /// An empty table of a sound job. All memory that it ever takes is taken here; `NoMemory` where there is none.
     pub fn new(alloc: Global, job: &'a Job) -> Result<Table<'a>, NoMemory>
@@ -120,8 +150,10 @@ impl<'a> TableOf<&'a Job> {
             job,
             trail: new_trail(alloc, tests)?,
             ends: no_ends(alloc, tests)?,
-            busy: Vec::with_capacity(alloc, tests).map_err(|_| NoMemory)?,
-            draws: Vec::with_capacity(alloc, steps).map_err(|_| NoMemory)?,
+            busy: new_busy(alloc, tests)?,
+            draws: new_draws(alloc, steps)?,
+            points: new_points(alloc, steps)?,
+            before: all_before(alloc, tests, &own.before)?,
             own,
         })
     }
@@ -151,7 +183,7 @@ impl<J> TableOf<J> {
         ensures after { ComesAfter self.now.job self.now.placed test result }
         ensures most { result ≤ last_end_of self.now.job self.now.placed }
     {
-        latest_before(&self.own.before, &self.ends, test)
+        latest_end(earlier_than(&self.before, test), &self.ends)
     }
 
     /// The latest end of the placed tests that precede a test, or 0, and the test's length: the test doesn't end before,
@@ -193,7 +225,7 @@ impl<J> TableOf<J> {
         };
         let wanted = &self.own.tests[test];
         after_power(
-            &self.draws,
+            &self.points,
             limit,
             &wanted.power,
             wanted.length,
@@ -266,7 +298,9 @@ impl<J> TableOf<J> {
     {
         let before = self.trail.len();
         let wanted = &self.own.tests[test];
+        let earlier = self.draws.len();
         push_draws(&mut self.draws, &wanted.power, start, wanted.length);
+        add_drawn(self.own.power, &mut self.points, &self.draws, earlier);
         let to = start + wanted.length;
         self.busy.push_reserved(Busy {
             needs: needs_of(wanted),
@@ -285,7 +319,9 @@ impl<J> TableOf<J> {
     {
         if let Some(last) = self.trail.pop() {
             let steps = self.own.tests[last.test].power.len();
-            self.draws.truncate(self.draws.len() - steps);
+            let count = self.draws.len() - steps;
+            take_drawn(self.own.power, &mut self.points, &self.draws, count);
+            self.draws.truncate(count);
             self.busy.truncate(self.trail.len());
             self.ends[last.test] = None;
         }

@@ -126,3 +126,13 @@ fn laws_can_be_called(_rt: HostRuntime) {
     sound_tables_keep_the_rules();
     list_schedules_are_short();
 }
+
+#[test]
+fn predecessors_are_listed(rt: HostRuntime) -> Result<(), Fail> {
+    let before = all_before(rt.alloc(), 3, &[(0, 2), (1, 0), (1, 2)])?;
+    assert!(rt; before.len() == 3);
+    assert!(rt; earlier_than(&before, 0) == [1].as_slice());
+    assert!(rt; earlier_than(&before, 1).is_empty());
+    assert!(rt; earlier_than(&before, 2) == [0, 1].as_slice());
+    Ok(())
+}

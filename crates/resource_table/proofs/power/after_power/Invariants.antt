@@ -1,7 +1,8 @@
-use Rattle.std.proofs.Common.{drop}
-use Rattle.resource_table.specs.Resources.{load_of, StepsFit}
+use Rattle.std.proofs.Common.{ℕ, drop}
+use Rattle.resource_table.specs.Resources.{StepsFit}
+use Rattle.resource_table.specs.Profiles.{IsEndedProfile}
 use Rattle.resource_table.proofs.power.after_power.Given as goal
 
 -- the steps before fit
 abbrev pub invariant-loop-at : goal.invariant-loop-at
-invariant-loop-at l = StepsFit (load_of l.draws) l.limit l.start l.length (drop l.at l.steps) → StepsFit (load_of l.draws) l.limit l.start l.length l.steps
+invariant-loop-at l = (load : ℕ → ℕ) → IsEndedProfile load l.points l.last → StepsFit load l.limit l.start l.length (drop l.at l.steps) → StepsFit load l.limit l.start l.length l.steps

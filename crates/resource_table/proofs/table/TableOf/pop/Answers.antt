@@ -1,6 +1,9 @@
-use Rattle.std.proofs.Common.{◌≡◌, ◌∙◌, ◌-◌, ℕ, length, take, ap, arith, refl, None}
+use Rattle.std.proofs.Common.{◌≡◌, ◌∙◌, ◌-◌, ℕ, length, take, List, [], ap, sym, subst, arith, refl, None}
+use Rattle.std.specs.Prelude.{IfSome}
 use Rattle.std.specs.Vec.{with_item}
 use Rattle.std.proofs.lemmas.List.{length-map}
+use Rattle.resource_table.specs.declared.power.Draw.{Draw}
+use Rattle.resource_table.specs.Profiles.{ArePoints}
 use Rattle.resource_table.specs.Jobs.{TestValue, job_value, test_value, test_at}
 use Rattle.resource_table.proofs.KeptTables.{kept_pop, last_inside, last_steps}
 use Rattle.resource_table.proofs.KeptStarts.{wanted_is}
@@ -8,30 +11,37 @@ use Rattle.resource_table.proofs.table.TableOf.pop.Goals as goal
 
 pub index-requires : goal.index-requires
 index-requires g c =
-    let inside = last_inside (job_value c.self.inside.own) c.self.inside.trail c.self.inside.ends c.self.inside.busy c.self.inside.draws c.self.invariant c.pop.new.self.items c.in-Some.last c.in-Some.ensures.items in
+    let inside = last_inside (job_value c.self.inside.own) c.self.inside.trail c.self.inside.ends c.self.inside.busy c.self.inside.draws c.self.invariant.0 c.pop.new.self.items c.in-Some.last c.in-Some.ensures.items in
     omega (arith, inside, length-map c.self.inside.own.tests.items test_value, c.self.inside.own.tests.ok.0)
 
-pub overflow_sub-len : goal.overflow_sub-len
-overflow_sub-len g c =
-    let inside = last_inside (job_value c.self.inside.own) c.self.inside.trail c.self.inside.ends c.self.inside.busy c.self.inside.draws c.self.invariant c.pop.new.self.items c.in-Some.last c.in-Some.ensures.items in
+pub overflow_sub-count : goal.overflow_sub-count
+overflow_sub-count g c =
+    let inside = last_inside (job_value c.self.inside.own) c.self.inside.trail c.self.inside.ends c.self.inside.busy c.self.inside.draws c.self.invariant.0 c.pop.new.self.items c.in-Some.last c.in-Some.ensures.items in
     let wanted = wanted_is c.self.inside.own.tests.items c.in-Some.last.test c.index.result.now inside c.index.ensures in
-    let few = last_steps (job_value c.self.inside.own) c.self.inside.trail c.self.inside.ends c.self.inside.busy c.self.inside.draws c.self.invariant c.pop.new.self.items c.in-Some.last c.in-Some.ensures.items (test_value c.index.result.now) wanted in
+    let few = last_steps (job_value c.self.inside.own) c.self.inside.trail c.self.inside.ends c.self.inside.busy c.self.inside.draws c.self.invariant.0 c.pop.new.self.items c.in-Some.last c.in-Some.ensures.items (test_value c.index.result.now) wanted in
     omega (arith, few, c.len.ensures, c.len-steps.ensures, c.index.result.now.power.ok.0, c.self.inside.draws.ok.0)
 
 pub index_mut-requires : goal.index_mut-requires
 index_mut-requires g c =
-    let inside = last_inside (job_value c.self.inside.own) c.self.inside.trail c.self.inside.ends c.self.inside.busy c.self.inside.draws c.self.invariant c.pop.new.self.items c.in-Some.last c.in-Some.ensures.items in
-    let long = c.self.invariant.ends_long in
+    let inside = last_inside (job_value c.self.inside.own) c.self.inside.trail c.self.inside.ends c.self.inside.busy c.self.inside.draws c.self.invariant.0 c.pop.new.self.items c.in-Some.last c.in-Some.ensures.items in
+    let long = c.self.invariant.0.ends_long in
     omega (arith, inside, long, c.self.inside.ends.ok.0)
 
 pub invariant_of-self : goal.invariant_of-self
 invariant_of-self g c =
-    let inside = last_inside (job_value c.self.inside.own) c.self.inside.trail c.self.inside.ends c.self.inside.busy c.self.inside.draws c.self.invariant c.pop.new.self.items c.in-Some.last c.in-Some.ensures.items in
+    let inside = last_inside (job_value c.self.inside.own) c.self.inside.trail c.self.inside.ends c.self.inside.busy c.self.inside.draws c.self.invariant.0 c.pop.new.self.items c.in-Some.last c.in-Some.ensures.items in
     let wanted = wanted_is c.self.inside.own.tests.items c.in-Some.last.test c.index.result.now inside c.index.ensures in
     let all : c.len.result ≡ length c.self.inside.draws.items = c.len.ensures ∙ c.self.inside.draws.ok.0 in
     let steps : c.len-steps.result ≡ length (test_at (job_value c.self.inside.own) c.in-Some.last.test).steps = c.len-steps.ensures ∙ c.index.result.now.power.ok.0 ∙ ap (λ (t : TestValue). length t.steps) wanted in
-    let front : c.len.result - c.len-steps.result ≡ length c.self.inside.draws.items - length (test_at (job_value c.self.inside.own) c.in-Some.last.test).steps = omega arith in
-    kept_pop (job_value c.self.inside.own) c.self.inside.trail c.pop.new.self c.self.inside.ends (with_item c.self.inside.ends c.in-Some.last.test None) c.self.inside.busy c.truncate-in-Some.new.self c.self.inside.draws c.truncate.new.self c.in-Some.last c.self.invariant
-    c.in-Some.ensures.items c.in-Some.ensures.capacity refl
-    (c.truncate-in-Some.ensures.items ∙ ap (λ (n : ℕ). take n c.self.inside.busy.items) c.len-in-Some.ensures.value) c.truncate-in-Some.ensures.capacity
-    (c.truncate.ensures.items ∙ ap (λ (n : ℕ). take n c.self.inside.draws.items) front) c.truncate.ensures.capacity
+    let front : c.len.result - c.len-steps.result ≡ length c.self.inside.draws.items - length (test_at (job_value c.self.inside.own) c.in-Some.last.test).steps = omega arith in (
+      kept_pop (job_value c.self.inside.own) c.self.inside.trail c.pop.new.self c.self.inside.ends (with_item c.self.inside.ends c.in-Some.last.test None) c.self.inside.busy c.truncate-in-Some.new.self c.self.inside.draws c.truncate.new.self c.in-Some.last c.self.invariant.0
+          c.in-Some.ensures.items c.in-Some.ensures.capacity refl
+          (c.truncate-in-Some.ensures.items ∙ ap (λ (n : ℕ). take n c.self.inside.busy.items) c.len-in-Some.ensures.value) c.truncate-in-Some.ensures.capacity
+          (c.truncate.ensures.items ∙ ap (λ (n : ℕ). take n c.self.inside.draws.items) front) c.truncate.ensures.capacity,
+      c.self.invariant.1,
+      record {
+        are = subst (λ (v : List Draw). IfSome c.self.inside.own.power (λ _. ArePoints v [] c.take_drawn.new.points.items)) (sym c.truncate.ensures.items)
+            (subst (λ (v : List Draw). IfSome c.self.inside.own.power (λ _. ArePoints (take (c.len.result - c.len-steps.result) v) [] c.take_drawn.new.points.items)) c.deref.ensures.value c.take_drawn.ensures.points);
+        room = (let room = c.self.invariant.2.room in omega (arith, room, c.take_drawn.ensures.capacity));
+      },
+    )

@@ -1,0 +1,334 @@
+-- Profiles of the power that is drawn.
+use Rattle.std.proofs.Common.{◌≡◌, ◌⊎◌, ℕ, zero, suc, ◌+◌, ◌-◌, ◌*◌, ◌<◌, ◌≤◌, ◌^◌, inl, inr, Some, List, [], ◌∷◌, ◌++◌, length, get_or, set, take, drop, map, arith, true, refl, sym, ap, ◌∙◌, subst, length-append}
+use Rattle.std.specs.Prelude.{slice_get, nat_eq, if◌then◌else◌}
+use Rattle.std.specs.List.{All, sum_by, insert, remove}
+use Rattle.std.specs.List.Sorted.{IsNonDecreasingBy, IsPartitionPoint}
+use Rattle.std.proofs.lemmas.Bool.{cases_lt, cases_eq, eqb-true, eq-eqb}
+use Rattle.std.proofs.lemmas.List.{take_at, take_more, same_lists, length-map, length-set, get_or-map, get_or-set_same, get_or-set_other}
+use Rattle.std.proofs.lemmas.List.Edits.{length-insert, length-remove, get_or-remove_below, get_or-remove_above}
+use Rattle.std.proofs.lemmas.List.Elements.{All-append, All-cons, All-take, All-drop, All-map, All-push}
+use Rattle.std.proofs.lemmas.List.Sorted.{IsNonDecreasingBy-insert}
+use Rattle.std.proofs.lemmas.List.Sums.{sum_by-cons, sum_by_push, sum_by-insert, sum_by-remove, sum_by-le}
+use Rattle.std.proofs.lemmas.Option.{slice_get_within, get_or_from_slice_get}
+use Rattle.plan_model.proofs.Sums.{sum_by-le_at, item-le-sum_by, some_passes}
+use Rattle.resource_table.specs.declared.power.Draw.{Draw}
+use Rattle.resource_table.specs.declared.profile.Point.{Point}
+use Rattle.resource_table.specs.Resources.{taken_by, load_of}
+use Rattle.resource_table.specs.Profiles.{no_point, load_before, IsProfile, touches, stands_at, counted, ArePoints, raised_by}
+use Rattle.resource_table.proofs.Places.{all_at, same_item}
+
+-- ---- what a draw takes
+
+pub none_taken : (d : Draw) (c : ℕ) → (c < d.from) ⊎ (d.to ≤ c) → taken_by c d ≡ 0
+none_taken d c (inl early) = grind (arith, early)
+none_taken d c (inr late) = grind (arith, late)
+
+pub all_taken : (d : Draw) (c : ℕ) → d.from ≤ c → c < d.to → taken_by c d ≡ d.power
+all_taken d c from to = grind (arith, from, to)
+
+taken_same : (d : Draw) (a c : ℕ) → a ≤ c → (d.from ≤ a) ⊎ (c < d.from) → (d.to ≤ a) ⊎ (c < d.to) → taken_by c d ≡ taken_by a d
+taken_same d a c le (inl f) (inl t) = none_taken d c (inr (omega arith)) ∙ sym (none_taken d a (inr t))
+taken_same d a c le (inl f) (inr t) = all_taken d c (omega arith) t ∙ sym (all_taken d a f (omega arith))
+taken_same d a c le (inr f) t = none_taken d c (inl f) ∙ sym (none_taken d a (inl (omega arith)))
+
+pub taken-le : (d : Draw) (c : ℕ) → taken_by c d ≤ d.power
+taken-le d c = grind arith
+
+-- ---- points of draws
+
+-- where a draw begins or ends, there is a point
+point_of : (draws : List Draw) (more : List ℕ) (points : List Point) → ArePoints draws more points → (i : ℕ) (d : Draw) → slice_get draws i ≡ Some d → (c : ℕ) → 1 ≤ touches c d →
+    (j : ℕ) × (p : Point) × (slice_get points j ≡ Some p) × (p.cycle ≡ c)
+point_of draws more points are i d at c touch =
+    let one = item-le-sum_by (touches c) draws i d at in
+    let marks = are.marks c in
+    let r = some_passes (λ (p : Point). nat_eq p.cycle c) points (omega arith) in
+    (r.0, r.1, r.2, eqb-true r.1.cycle c r.3)
+
+from_touches : (d : Draw) → 1 ≤ touches d.from d
+from_touches d = let e = eq-eqb d.from d.from refl in rw e (omega arith)
+
+to_touches : (d : Draw) → 1 ≤ touches d.to d
+to_touches d = let e = eq-eqb d.to d.to refl in rw e (omega arith)
+
+none_at_all : (f : Draw → ℕ) (draws : List Draw) → ((i : ℕ) (d : Draw) → slice_get draws i ≡ Some d → f d ≡ 0) → sum_by f draws ≡ 0
+none_at_all f [] h = refl
+none_at_all f (d ∷ draws) h = omega (arith, sum_by-cons f d draws, h 0 d refl, none_at_all f draws (λ i e at. h (suc i) e at))
+
+-- the points of draws tell their load
+pub drawn_profile : (draws : List Draw) (more : List ℕ) (points : List Point) → ArePoints draws more points → IsProfile (load_of draws) points
+drawn_profile draws more points are = record {
+  ordered = are.ordered;
+  here = are.loads;
+  none_before = (λ c all. none_at_all (taken_by c) draws (λ i d at.
+      let r = point_of draws more points are i d at d.from (from_touches d) in
+      let late : c < r.1.cycle = all_at (λ (p : Point). c < p.cycle) points r.0 r.1 all r.2 in
+      none_taken d c (inl (let e = r.3 in omega arith))));
+  between = (λ a c le all.
+      let same : (i : ℕ) (d : Draw) → slice_get draws i ≡ Some d → taken_by c d ≡ taken_by a d = λ i d at.
+      (let r = point_of draws more points are i d at d.from (from_touches d) in
+      let s = point_of draws more points are i d at d.to (to_touches d) in
+      taken_same d a c le
+      (subst (λ (v : ℕ). (v ≤ a) ⊎ (c < v)) r.3 (all_at (λ (p : Point). (p.cycle ≤ a) ⊎ (c < p.cycle)) points r.0 r.1 all r.2))
+      (subst (λ (v : ℕ). (v ≤ a) ⊎ (c < v)) s.3 (all_at (λ (p : Point). (p.cycle ≤ a) ⊎ (c < p.cycle)) points s.0 s.1 all s.2))) in
+      let most : load_of draws c ≤ load_of draws a = sum_by-le_at (taken_by c) (taken_by a) draws (λ i d at. let e = same i d at in omega arith) in
+      let least : load_of draws a ≤ load_of draws c = sum_by-le_at (taken_by a) (taken_by c) draws (λ i d at. let e = same i d at in omega arith) in
+      omega arith);
+}
+
+-- ---- the load at a cycle
+
+-- the load from the last of the points up to a cycle on
+pub load_there : (load : ℕ → ℕ) (points : List Point) → IsProfile load points → (place c : ℕ) → place ≤ length points →
+    IsPartitionPoint (λ (p : Point). p.cycle ≤ c) (λ (p : Point). c < p.cycle) points place → load c ≡ load_before points place
+load_there load points is zero c le parts = is.none_before c (λ k d lt. parts.1 k d (omega arith) lt)
+load_there load points is (suc n) c le parts =
+    let lt : n < length points = omega (arith, le) in
+    let here : (get_or points n no_point).load ≡ load (get_or points n no_point).cycle = is.here n no_point lt in
+    let early : (get_or points n no_point).cycle ≤ c = parts.0 n no_point (omega arith) (omega arith) in
+    let stays : load c ≡ load (get_or points n no_point).cycle = is.between (get_or points n no_point).cycle c early (λ k d inside. elim (cases_lt n k) [
+      | inl late ↦ inr (parts.1 k d (omega arith) inside)
+      | inr before ↦ inl (subst (λ (v : Point). (get_or points k d).cycle ≤ v.cycle) (same_item points n d no_point lt) (is.ordered k n d before lt))
+    ]) in
+    stays ∙ sym here
+
+-- ---- a point more, a point less
+
+pub order_added : (points : List Point) (place load c : ℕ) → IsNonDecreasingBy (λ (p : Point). p.cycle) points → place ≤ length points →
+    IsPartitionPoint (λ (p : Point). p.cycle ≤ c) (λ (p : Point). c < p.cycle) points place → IsNonDecreasingBy (λ (p : Point). p.cycle) (insert points place (record { cycle = c; load = load }))
+order_added points place load c ordered le parts = IsNonDecreasingBy-insert (λ (p : Point). p.cycle) points place (record { cycle = c; load = load }) ordered le (λ k d lt. parts.0 k d (omega arith) lt) (λ k d from to. let h = parts.1 k d from to in omega arith)
+
+pub point_added : (draws : List Draw) (more : List ℕ) (points : List Point) (place c : ℕ) → ArePoints draws more points → place ≤ length points →
+    IsPartitionPoint (λ (p : Point). p.cycle ≤ c) (λ (p : Point). c < p.cycle) points place → ArePoints draws (c ∷ more) (insert points place (record { cycle = c; load = load_before points place }))
+point_added draws more points place c are le parts = record {
+  ordered = order_added points place (load_before points place) c are.ordered le parts;
+  loads = All-append P (take place points) (new ∷ drop place points) (All-take P place points are.loads) (All-cons P new (drop place points) (sym (load_there (load_of draws) points (drawn_profile draws more points are) place c le parts)) (All-drop P place points are.loads));
+  marks = (λ x. let old = are.marks x in omega (arith, old, sum_by-insert (stands_at x) points place new, sum_by-cons (λ y. if nat_eq y x then 1 else 0) c more));
+  count = (let old = are.count in omega (arith, old, length-insert points place new le));
+  small = are.small;
+}
+  where
+    P : Point → Type 0
+    P p = p.load ≡ load_of draws p.cycle
+
+    new : Point
+    new = record { cycle = c; load = load_before points place }
+
+-- a point at a cycle that has one is the last of those up to it
+self_counts : (c : ℕ) → (let n : ℕ = if nat_eq c c then 1 else 0 in n) ≡ 1
+self_counts c = rw (eq-eqb c c refl) refl
+
+pub point_there : (draws : List Draw) (more : List ℕ) (points : List Point) (place c : ℕ) → ArePoints draws (c ∷ more) points → place ≤ length points →
+    IsPartitionPoint (λ (p : Point). p.cycle ≤ c) (λ (p : Point). c < p.cycle) points place → (1 ≤ place) × ((get_or points (place - 1) no_point).cycle ≡ c)
+point_there draws more points place c are le parts =
+    let marks : sum_by (stands_at c) points ≡ sum_by (touches c) draws + counted c (c ∷ more) = are.marks c in
+    let split : counted c (c ∷ more) ≡ (if nat_eq c c then 1 else 0) + counted c more = sum_by-cons (λ y. if nat_eq y c then 1 else 0) c more in
+    let self = self_counts c in
+    let some : 1 ≤ sum_by (stands_at c) points = omega arith in
+    go (some_passes (λ (p : Point). nat_eq p.cycle c) points some)
+  where
+    go : (j : ℕ) × (p : Point) × (slice_get points j ≡ Some p) × (nat_eq p.cycle c ≡ true) → (1 ≤ place) × ((get_or points (place - 1) no_point).cycle ≡ c)
+    go r =
+        let lt : r.0 < length points = slice_get_within points r.0 r.1 r.2 in
+        let at : get_or points r.0 no_point ≡ r.1 = get_or_from_slice_get points r.0 r.1 no_point r.2 in
+        let is : (get_or points r.0 no_point).cycle ≡ c = ap (λ (p : Point). p.cycle) at ∙ eqb-true r.1.cycle c r.3 in
+        elim (cases_lt r.0 place) [
+          | inl before ↦
+              let below : (get_or points (place - 1) no_point).cycle ≤ c = parts.0 (place - 1) no_point (omega arith) (omega arith) in
+              let above : (get_or points r.0 no_point).cycle ≤ (get_or points (place - 1) no_point).cycle = are.ordered r.0 (place - 1) no_point (omega arith) (omega arith) in
+              (omega arith, omega arith)
+          | inr after ↦ absurd (let late : c < (get_or points r.0 no_point).cycle = parts.1 r.0 no_point after lt in omega arith)
+        ]
+
+pub order_removed : (points : List Point) (place : ℕ) → IsNonDecreasingBy (λ (p : Point). p.cycle) points → place < length points → IsNonDecreasingBy (λ (p : Point). p.cycle) (remove points place)
+order_removed points place ordered lt i j d le inside =
+    let shorter = length-remove points place lt in
+    elim (cases_lt i place) [
+      | inl i_below ↦ elim (cases_lt j place) [
+        | inl j_below ↦ rw (get_or-remove_below points place d i i_below lt, get_or-remove_below points place d j j_below lt) (ordered i j d le (omega arith))
+        | inr j_above ↦ rw (get_or-remove_below points place d i i_below lt, get_or-remove_above points place d j j_above lt) (ordered i (j + 1) d (omega arith) (omega arith))
+      ]
+      | inr i_above ↦ rw (get_or-remove_above points place d i i_above lt, get_or-remove_above points place d j (omega arith) lt) (ordered (i + 1) (j + 1) d (omega arith) (omega arith))
+    ]
+
+pub point_removed : (draws : List Draw) (more : List ℕ) (points : List Point) (place c : ℕ) → ArePoints draws (c ∷ more) points → place < length points → (get_or points place no_point).cycle ≡ c → ArePoints draws more (remove points place)
+point_removed draws more points place c are lt is = record {
+  ordered = order_removed points place are.ordered lt;
+  loads = All-append P (take place points) (drop (suc place) points) (All-take P place points are.loads) (All-drop P (suc place) points are.loads);
+  marks = (λ x.
+      let old = are.marks x in
+      let here : stands_at x (get_or points place no_point) ≡ (if nat_eq c x then 1 else 0) = ap (λ (v : ℕ). if nat_eq v x then 1 else 0) is in
+      omega (arith, old, here, sum_by-remove (stands_at x) points place no_point lt, sum_by-cons (λ y. if nat_eq y x then 1 else 0) c more));
+  count = (let old = are.count in omega (arith, old, length-remove points place lt));
+  small = are.small;
+}
+  where
+    P : Point → Type 0
+    P p = p.load ≡ load_of draws p.cycle
+
+-- the point that is found and taken away
+pub point_gone : (draws : List Draw) (more : List ℕ) (points : List Point) (place c : ℕ) → ArePoints draws (c ∷ more) points → place ≤ length points →
+    IsPartitionPoint (λ (p : Point). p.cycle ≤ c) (λ (p : Point). c < p.cycle) points place → ArePoints draws more (remove points (place - 1))
+point_gone draws more points place c are le parts =
+    let last = point_there draws more points place c are le parts in
+    point_removed draws more points (place - 1) c are (omega (arith, last.0, le)) last.1
+
+-- ---- a draw more, a draw less
+
+raised_none : (d : Draw) (p : Point) → taken_by p.cycle d ≡ 0 → raised_by d p ≡ p
+raised_none d p none = ap (λ (n : ℕ). (let q : Point = record { cycle = p.cycle; load = n } in q)) (let e : p.load + taken_by p.cycle d ≡ p.load = omega (arith, none) in e)
+
+-- the points up to a place have a draw more than those of another list, and those from there on are the same
+pub record AreRaised (d : Draw) (low high : List Point) (place : ℕ) : Type 0 where
+  pub long : length low ≡ length high
+  pub done : (k : ℕ) (e : Point) → k < place → k < length low → get_or high k e ≡ raised_by d (get_or low k e)
+  pub rest : (k : ℕ) (e : Point) → place ≤ k → get_or high k e ≡ get_or low k e
+
+pub raised_first : (d : Draw) (points : List Point) (place : ℕ) → IsPartitionPoint (λ (p : Point). p.cycle < d.from) (λ (p : Point). d.from ≤ p.cycle) points place → AreRaised d points points place
+raised_first d points place parts = record {
+  long = refl;
+  done = (λ k e lt inside. sym (raised_none d (get_or points k e) (none_taken d (get_or points k e).cycle (inl (parts.0 k e (omega arith) lt)))));
+  rest = (λ k e le. refl);
+}
+
+pub raised_all : (d : Draw) (low high : List Point) (place : ℕ) → AreRaised d low high place → ((k : ℕ) (e : Point) → place ≤ k → k < length low → d.to ≤ (get_or low k e).cycle) → high ≡ map (raised_by d) low
+raised_all d low high place are over = same_lists high (map (raised_by d) low) (sym are.long ∙ sym (length-map low (raised_by d))) each
+  where
+    each : (k : ℕ) (e : Point) → k < length high → get_or high k e ≡ get_or (map (raised_by d) low) k e
+    each k e lt =
+        let long = are.long in
+        let inside : k < length low = omega arith in
+        let there : get_or (map (raised_by d) low) k e ≡ raised_by d (get_or low k e) = get_or-map (raised_by d) low k e e inside in
+        elim (cases_lt k place) [
+          | inl before ↦ are.done k e before inside ∙ sym there
+          | inr after ↦ are.rest k e after ∙ sym (raised_none d (get_or low k e) (none_taken d (get_or low k e).cycle (inr (over k e after inside)))) ∙ sym there
+        ]
+
+-- one point more
+raised_here : (d : Draw) (p : Point) → d.from ≤ p.cycle → p.cycle < d.to → (let q : Point = record { cycle = p.cycle; load = p.load + d.power } in q) ≡ raised_by d p
+raised_here d p from to = ap (λ (n : ℕ). (let q : Point = record { cycle = p.cycle; load = p.load + n } in q)) (sym (all_taken d p.cycle from to))
+
+pub raised_more : (d : Draw) (low high : List Point) (place : ℕ) → AreRaised d low high place → place < length low → d.from ≤ (get_or low place no_point).cycle → (get_or low place no_point).cycle < d.to →
+    AreRaised d low (set high place (record { cycle = (get_or high place no_point).cycle; load = (get_or high place no_point).load + d.power })) (place + 1)
+raised_more d low high place are lt from to = record {
+  long = are.long ∙ sym (length-set high place new);
+  done = (λ k e before inside. elim (cases_eq k place) [
+    | inl same ↦
+        (let old : get_or high place no_point ≡ get_or low place no_point = are.rest place no_point (omega arith) in
+        let here : new ≡ raised_by d (get_or low place no_point) = ap (λ (p : Point). (let q : Point = record { cycle = p.cycle; load = p.load + d.power } in q)) old ∙ raised_here d (get_or low place no_point) from to in
+        subst (λ (v : ℕ). get_or (set high place new) v e ≡ raised_by d (get_or low v e)) (sym same)
+        (get_or-set_same high place new e (let long = are.long in omega arith) ∙ here ∙ ap (raised_by d) (same_item low place no_point e lt)))
+    | inr apart ↦ get_or-set_other high place k new e apart ∙ are.done k e (omega (arith, before, apart)) inside
+  ]);
+  rest = (λ k e after. get_or-set_other high place k new e (λ (same : k ≡ place). omega (arith, after, same)) ∙ are.rest k e (omega arith));
+}
+  where
+    new : Point
+    new = record { cycle = (get_or high place no_point).cycle; load = (get_or high place no_point).load + d.power }
+
+pub lowered_more : (d : Draw) (low high : List Point) (place : ℕ) → AreRaised d low high place → place < length low → d.from ≤ (get_or high place no_point).cycle → (get_or high place no_point).cycle < d.to →
+    taken_by (get_or high place no_point).cycle d ≤ (get_or high place no_point).load →
+    AreRaised d (set low place (record { cycle = (get_or low place no_point).cycle; load = (get_or low place no_point).load - d.power })) high (place + 1)
+lowered_more d low high place are lt from to covers = record {
+  long = length-set low place new ∙ are.long;
+  done = (λ k e before inside. elim (cases_eq k place) [
+    | inl same ↦
+        (let old : get_or high place no_point ≡ get_or low place no_point = are.rest place no_point (omega arith) in
+        subst (λ (v : ℕ). get_or high v e ≡ raised_by d (get_or (set low place new) v e)) (sym same)
+        (same_item high place e no_point (let long = are.long in omega arith) ∙ here (get_or low place no_point) (get_or high place no_point) old from to covers ∙ ap (raised_by d) (sym (get_or-set_same low place new e lt))))
+    | inr apart ↦ are.done k e (omega (arith, before, apart)) (omega (arith, inside, length-set low place new)) ∙ ap (raised_by d) (sym (get_or-set_other low place k new e apart))
+  ]);
+  rest = (λ k e after. are.rest k e (omega arith) ∙ sym (get_or-set_other low place k new e (λ (same : k ≡ place). omega (arith, after, same))));
+}
+  where
+    new : Point
+    new = record { cycle = (get_or low place no_point).cycle; load = (get_or low place no_point).load - d.power }
+
+    here : (l h : Point) → h ≡ l → d.from ≤ h.cycle → h.cycle < d.to → taken_by h.cycle d ≤ h.load → h ≡ raised_by d (let q : Point = record { cycle = l.cycle; load = l.load - d.power } in q)
+    here l h same f t c =
+        let taken = all_taken d h.cycle f t in
+        let load : h.load ≡ h.load - d.power + taken_by h.cycle d = omega (arith, taken, c) in
+        ap (λ (n : ℕ). (let q : Point = record { cycle = h.cycle; load = n } in q)) load ∙ ap (λ (p : Point). raised_by d (let q : Point = record { cycle = p.cycle; load = p.load - d.power } in q)) same
+
+-- where the points from a place on stand after a draw
+pub over_from : (points : List Point) (place to : ℕ) → IsNonDecreasingBy (λ (p : Point). p.cycle) points → (place < length points → to ≤ (get_or points place no_point).cycle) → (k : ℕ) (e : Point) → place ≤ k → k < length points → to ≤ (get_or points k e).cycle
+over_from points place to ordered over k e le lt =
+    let first : to ≤ (get_or points place no_point).cycle = over (omega arith) in
+    let later : (get_or points place no_point).cycle ≤ (get_or points k no_point).cycle = ordered place k no_point le lt in
+    subst (λ (v : Point). to ≤ v.cycle) (same_item points k no_point e lt) (omega arith)
+
+-- the same, where the point at the place was read
+pub over_read : (points now : List Point) (place to : ℕ) (r : Point) → IsNonDecreasingBy (λ (p : Point). p.cycle) points → ((k : ℕ) (e : Point) → place ≤ k → get_or now k e ≡ get_or points k e) → r ≡ get_or now place r → to ≤ r.cycle →
+    (k : ℕ) (e : Point) → place ≤ k → k < length points → to ≤ (get_or points k e).cycle
+over_read points now place to r ordered rest is late = over_from points place to ordered (λ lt.
+    let same : r ≡ get_or points place no_point = is ∙ rest place r (omega arith) ∙ same_item points place r no_point lt in
+    subst (λ (v : Point). to ≤ v.cycle) same late)
+
+pub over_low : (d : Draw) (low high : List Point) (place : ℕ) → AreRaised d low high place → ((k : ℕ) (e : Point) → place ≤ k → k < length high → d.to ≤ (get_or high k e).cycle) → (k : ℕ) (e : Point) → place ≤ k → k < length low → d.to ≤ (get_or low k e).cycle
+over_low d low high place are over k e le lt = subst (λ (v : Point). d.to ≤ v.cycle) (are.rest k e le) (over k e le (let long = are.long in omega arith))
+
+-- ---- whole draws
+
+stands_raised : (d : Draw) (points : List Point) (c : ℕ) → sum_by (stands_at c) (map (raised_by d) points) ≡ sum_by (stands_at c) points
+stands_raised d [] c = refl
+stands_raised d (p ∷ points) c = omega (arith, sum_by-cons (stands_at c) (raised_by d p) (map (raised_by d) points), sum_by-cons (stands_at c) p points, stands_raised d points c)
+
+ends_counted : (d : Draw) (c : ℕ) → counted c (d.to ∷ d.from ∷ []) ≡ touches c d
+ends_counted d c = omega (arith, sum_by-cons (λ (y : ℕ). if nat_eq y c then 1 else 0) d.to (d.from ∷ []), sum_by-cons (λ (y : ℕ). if nat_eq y c then 1 else 0) d.from [])
+
+pub draw_added : (draws : List Draw) (d : Draw) (low high : List Point) → ArePoints draws (d.to ∷ d.from ∷ []) low → d.power < 2 ^ 64 → high ≡ map (raised_by d) low → ArePoints (draws ++ d ∷ []) [] high
+draw_added draws d low high are power is = subst (ArePoints (draws ++ d ∷ []) []) (sym is) (record {
+  ordered = (λ i j e le lt.
+      let inside : j < length low = omega (arith, lt, length-map low (raised_by d)) in
+      let first : (get_or (map (raised_by d) low) i e).cycle ≡ (get_or low i e).cycle = ap (λ (p : Point). p.cycle) (get_or-map (raised_by d) low i e e (omega (arith, le, inside))) in
+      let second : (get_or (map (raised_by d) low) j e).cycle ≡ (get_or low j e).cycle = ap (λ (p : Point). p.cycle) (get_or-map (raised_by d) low j e e inside) in
+      let old : (get_or low i e).cycle ≤ (get_or low j e).cycle = are.ordered i j e le inside in
+      omega (arith, first, second, old));
+  loads = All-map (λ (p : Point). p.load ≡ load_of (draws ++ d ∷ []) p.cycle) (raised_by d) low (λ k e lt.
+      let old : (get_or low k e).load ≡ load_of draws (get_or low k e).cycle = are.loads k e lt in
+      omega (arith, old, sum_by_push (taken_by (get_or low k e).cycle) draws d));
+  marks = (λ c. let old = are.marks c in omega (arith, old, stands_raised d low c, ends_counted d c, sum_by_push (touches c) draws d));
+  count = (let old = are.count in omega (arith, old, length-map low (raised_by d), length-append draws (d ∷ [])));
+  small = All-push (λ (x : Draw). x.power < 2 ^ 64) draws d are.small power;
+})
+
+pub draw_taken : (draws : List Draw) (d : Draw) (low high : List Point) → ArePoints (draws ++ d ∷ []) [] high → high ≡ map (raised_by d) low → ArePoints draws (d.to ∷ d.from ∷ []) low
+draw_taken draws d low high are' is = go (subst (ArePoints (draws ++ d ∷ []) []) is are')
+  where
+    go : ArePoints (draws ++ d ∷ []) [] (map (raised_by d) low) → ArePoints draws (d.to ∷ d.from ∷ []) low
+    go are = record {
+      ordered = (λ i j e le lt.
+          let inside : j < length (map (raised_by d) low) = omega (arith, lt, length-map low (raised_by d)) in
+          let first : (get_or (map (raised_by d) low) i e).cycle ≡ (get_or low i e).cycle = ap (λ (p : Point). p.cycle) (get_or-map (raised_by d) low i e e (omega (arith, le, lt))) in
+          let second : (get_or (map (raised_by d) low) j e).cycle ≡ (get_or low j e).cycle = ap (λ (p : Point). p.cycle) (get_or-map (raised_by d) low j e e lt) in
+          let old : (get_or (map (raised_by d) low) i e).cycle ≤ (get_or (map (raised_by d) low) j e).cycle = are.ordered i j e le inside in
+          omega (arith, first, second, old));
+      loads = (λ k e lt.
+          let inside : k < length (map (raised_by d) low) = omega (arith, lt, length-map low (raised_by d)) in
+          let there : get_or (map (raised_by d) low) k e ≡ raised_by d (get_or low k e) = get_or-map (raised_by d) low k e e lt in
+          let old : (raised_by d (get_or low k e)).load ≡ load_of (draws ++ d ∷ []) (raised_by d (get_or low k e)).cycle = subst (λ (p : Point). p.load ≡ load_of (draws ++ d ∷ []) p.cycle) there (are.loads k e inside) in
+          let old' : (get_or low k e).load + taken_by (get_or low k e).cycle d ≡ load_of (draws ++ d ∷ []) (get_or low k e).cycle = old in
+          omega (arith, old', sum_by_push (taken_by (get_or low k e).cycle) draws d));
+      marks = (λ c. let old = are.marks c in omega (arith, old, stands_raised d low c, ends_counted d c, sum_by_push (touches c) draws d));
+      count = (let old = are.count in omega (arith, old, length-map low (raised_by d), length-append draws (d ∷ [])));
+      small = subst (All (λ (x : Draw). x.power < 2 ^ 64)) (take_at draws (d ∷ []) (length draws) refl) (All-take (λ (x : Draw). x.power < 2 ^ 64) (length draws) (draws ++ d ∷ []) are.small);
+    }
+
+-- the loads have room for one draw more
+pub loads_fit : (draws : List Draw) (more : List ℕ) (points : List Point) → ArePoints draws more points → length points < 2 ^ 63 → All (λ (p : Point). p.load < 2 ^ 127) points
+loads_fit draws more points are few = λ k e lt.
+    let is : (get_or points k e).load ≡ load_of draws (get_or points k e).cycle = are.loads k e lt in
+    let most : load_of draws (get_or points k e).cycle ≤ length draws * 2 ^ 64 = sum_by-le (taken_by (get_or points k e).cycle) (2 ^ 64) draws (λ i x inside. let power' = are.small i x inside in let le = taken-le (get_or draws i x) (get_or points k e).cycle in omega (arith, power', le)) in
+    let count = are.count in
+    omega (arith, is, most, count, few)
+
+-- and they cover the last draw
+pub loads_cover : (draws : List Draw) (d : Draw) (points : List Point) → ArePoints (draws ++ d ∷ []) [] points → All (λ (p : Point). taken_by p.cycle d ≤ p.load) points
+loads_cover draws d points are = λ k e lt. let is = are.loads k e lt in omega (arith, is, sum_by_push (taken_by (get_or points k e).cycle) draws d)
+
+-- with one of the draws that are listed
+pub next_added : (draws : List Draw) (at : ℕ) (d : Draw) (low high : List Point) → at < length draws → ArePoints (take at draws) ((get_or draws at d).to ∷ (get_or draws at d).from ∷ []) low → (get_or draws at d).power < 2 ^ 64 → high ≡ map (raised_by (get_or draws at d)) low → ArePoints (take (at + 1) draws) [] high
+next_added draws at d low high lt are power is = subst (λ (v : List Draw). ArePoints v [] high) (sym (take_more draws at d lt)) (draw_added (take at draws) (get_or draws at d) low high are power is)
+
+pub last_split : (draws : List Draw) (at : ℕ) (d : Draw) (points : List Point) → at < length draws → ArePoints (take (at + 1) draws) [] points → ArePoints (take at draws ++ get_or draws at d ∷ []) [] points
+last_split draws at d points lt are = subst (λ (v : List Draw). ArePoints v [] points) (take_more draws at d lt) are

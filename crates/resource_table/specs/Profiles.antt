@@ -1,0 +1,67 @@
+-- A profile of the power that is drawn: its load at some cycles, between which it stays the same.
+use Rattle.std.specs.Prelude.{◌≡◌, ℕ, zero, suc, ◌+◌, ◌*◌, ◌^◌, ◌<◌, ◌≤◌, ◌⊎◌, nat_eq, if◌then◌else◌, List, length, slice_index_or}
+use Rattle.std.specs.List.{All, AllWithin, sum_by}
+use Rattle.std.specs.List.Sorted.{IsNonDecreasingBy}
+use Rattle.resource_table.specs.declared.power.Draw.{Draw}
+use Rattle.resource_table.specs.declared.profile.Point.{Point}
+use Rattle.resource_table.specs.Resources.{taken_by, load_of}
+
+-- what stands past the end of a list of points
+abbrev pub no_point : Point
+no_point = record { cycle = 0; load = 0 }
+
+-- the load just before the point at a place
+abbrev pub load_before : List Point → ℕ → ℕ
+load_before points zero = 0
+load_before points (suc place) = (slice_index_or points place no_point).load
+
+-- the points tell a load: that of each, none before the first, and no change from one up to the next
+pub record IsProfile (load : ℕ → ℕ) (points : List Point) : Type 0 where
+  pub ordered : IsNonDecreasingBy (λ (p : Point). p.cycle) points
+  pub here : All (λ (p : Point). p.load ≡ load p.cycle) points
+  pub none_before : (c : ℕ) → All (λ (p : Point). c < p.cycle) points → load c ≡ 0
+  pub between : (a c : ℕ) → a ≤ c → All (λ (p : Point). (p.cycle ≤ a) ⊎ (c < p.cycle)) points → load c ≡ load a
+
+-- how often a draw begins or ends at a cycle
+abbrev pub touches : ℕ → Draw → ℕ
+touches c d = (if nat_eq d.from c then 1 else 0) + (if nat_eq d.to c then 1 else 0)
+
+-- whether a point stands at a cycle
+abbrev pub stands_at : ℕ → Point → ℕ
+stands_at c p = if nat_eq p.cycle c then 1 else 0
+
+-- how often a cycle stands in a list
+abbrev pub counted : ℕ → List ℕ → ℕ
+counted c cycles = sum_by (λ x. if nat_eq x c then 1 else 0) cycles
+
+-- a point for each begin and end of a draw, and for some cycles more
+pub record ArePoints (draws : List Draw) (more : List ℕ) (points : List Point) : Type 0 where
+  pub ordered : IsNonDecreasingBy (λ (p : Point). p.cycle) points
+  pub loads : All (λ (p : Point). p.load ≡ load_of draws p.cycle) points
+  pub marks : (c : ℕ) → sum_by (stands_at c) points ≡ sum_by (touches c) draws + counted c more
+  pub count : length points ≡ 2 * length draws + length more
+  pub small : All (λ (d : Draw). d.power < 2 ^ 64) draws
+
+-- a point, with a draw that begins to be taken
+abbrev pub raised_by : Draw → Point → Point
+raised_by d p = record { cycle = p.cycle; load = p.load + taken_by p.cycle d }
+
+-- a point in a step's window at which too little is left free, the last such point
+pub record IsCrowded (points : List Point) (free from to place : ℕ) : Type 0 where
+  pub inside : place < length points
+  pub window : from < to
+  pub begins : (slice_index_or points place no_point).cycle < to
+  pub crowded : free < (slice_index_or points place no_point).load
+  pub later : AllWithin (λ (p : Point). from < p.cycle) points (place + 1) (length points)
+
+-- the cycle from which on a crowd is over: that of the next point that leaves enough free, or else a last cycle
+pub record IsCrowdEnd (points : List Point) (free place last end : ℕ) : Type 0 where
+  pub next : ℕ
+  pub after : place < next
+  pub crowded : AllWithin (λ (p : Point). free < p.load) points (place + 1) next
+  pub found : ((next < length points) × ((slice_index_or points next no_point).load ≤ free) × (end ≡ (slice_index_or points next no_point).cycle)) ⊎ ((length points ≤ next) × (end ≡ last))
+
+-- a load that the points tell and that is over by a cycle
+pub record IsEndedProfile (load : ℕ → ℕ) (points : List Point) (last : ℕ) : Type 0 where
+  pub profile : IsProfile load points
+  pub over : (c : ℕ) → last ≤ c → load c ≡ 0
