@@ -9,11 +9,8 @@ pub mod PlanNumbers
 pub mod Finding
 pub mod LiveJobs
 pub mod Wrapped
-pub mod Befores
-pub mod Marking
 pub mod JobPrecedences
 pub mod SoundJobs
-pub mod Placing
 pub mod Planned
 pub mod Scheduled
 pub mod WholePlans

@@ -23,7 +23,7 @@ use Rattle.resource_table.proofs.Schedules.{sound_apart, sound_power, sound_orde
 use Rattle.resource_table.proofs.Placed.{sound_tests}
 use Rattle.bound_certificate.specs.Nodes.{AllDiffer}
 use Rattle.planner.specs.Jobs.{bus_of, test_of, job_of}
-use Rattle.planner.specs.Orders.{IsTopological}
+use Rattle.schedule_search.specs.Orders.{IsTopological}
 use Rattle.planner.specs.Schedules.{start_of, IsPlaced, KeepsTimes}
 use Rattle.planner.proofs.JobPrecedences.{to_job}
 

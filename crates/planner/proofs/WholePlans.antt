@@ -18,7 +18,7 @@ use Rattle.bound_certificate.specs.Best.{IsBestBound, HasPlanNumbers}
 use Rattle.planner.specs.Parts.{KeepsPartRules}
 use Rattle.planner.specs.Buses.{table_of, AreSettledBuses}
 use Rattle.planner.specs.Wrapping.{AreTableWrappers}
-use Rattle.planner.specs.Schedules.{KeepsTimes, IsFirstSchedule}
+use Rattle.planner.specs.Schedules.{KeepsTimes, IsFoundSchedule}
 use Rattle.planner.specs.Plans.{IsPlanned}
 use Rattle.planner.proofs.PartRules.{keep_part_rules}
 use Rattle.planner.proofs.PlanNumbers.{buses_in_range, wrappers_in_range, starts_in_range, reason_in_range}
@@ -75,13 +75,13 @@ rules_read soc limits buses buses2 wrappers wrappers2 made same same' =
 
 -- what is known of a schedule of these parts
 pub record IsScheduled (soc : SocValue) (limits : LimitsValue) (buses : List Bus) (wrappers : List Wrapper) (starts : List (TestId × ℕ)) (cycles : ℕ) : Type 0 where
-  pub first : (bound : BoundValue) → IsFirstSchedule soc limits (whole buses wrappers starts cycles bound)
+  pub first : (bound : BoundValue) → IsFoundSchedule soc limits (whole buses wrappers starts cycles bound)
   pub keeps : (bound : BoundValue) → KeepsTimes soc limits (whole buses wrappers starts cycles bound) cycles
   pub early : All (λ (s : TestId × ℕ). s.1 ≤ START_MOST) starts
   pub short : cycles ≤ 10 ^ 18
 
 pub scheduled : (soc : SocValue) (limits : LimitsValue) (buses buses2 : List Bus) (wrappers wrappers2 : List Wrapper) (starts : List (TestId × ℕ)) (cycles : ℕ) → buses2 ≡ buses → wrappers2 ≡ wrappers →
-    ((plan : PlanValue) → plan.buses ≡ map bus_value buses2 → plan.wrappers ≡ map wrapper_value wrappers2 → plan.starts ≡ starts → plan.cycles ≡ cycles → IsFirstSchedule soc limits plan) →
+    ((plan : PlanValue) → plan.buses ≡ map bus_value buses2 → plan.wrappers ≡ map wrapper_value wrappers2 → plan.starts ≡ starts → plan.cycles ≡ cycles → IsFoundSchedule soc limits plan) →
     ((plan : PlanValue) → plan.buses ≡ map bus_value buses2 → plan.wrappers ≡ map wrapper_value wrappers2 → plan.starts ≡ starts → KeepsTimes soc limits plan cycles) →
     All (λ (s : TestId × ℕ). s.1 ≤ 10 ^ 18) starts → cycles ≤ 10 ^ 18 → IsScheduled soc limits buses wrappers starts cycles
 scheduled soc limits buses buses2 wrappers wrappers2 starts cycles same same' first keeps early short = record {

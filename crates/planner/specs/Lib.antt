@@ -2,6 +2,5 @@ pub mod Parts
 pub mod Buses
 pub mod Wrapping
 pub mod Jobs
-pub mod Orders
 pub mod Schedules
 pub mod Plans

@@ -7,7 +7,6 @@ ghost use Rattle.std.specs.Prelude.{◌≡◌, ◌++◌, ◌∷◌, [], OnOk};
 mod buses;
 mod job;
 mod lookups;
-mod order;
 mod planning;
 mod schedule;
 mod wrappers;

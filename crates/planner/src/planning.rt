@@ -11,6 +11,7 @@ ghost use Rattle.plan_model.specs.SoundLimits.{IsSoundLimits};
 ghost use Rattle.plan_model.specs.Views.{plan_value, limits_value};
 ghost use Rattle.planner.specs.Buses.{table_of, AreSettledBuses};
 ghost use Rattle.planner.specs.Plans.{IsPlanned};
+ghost use Rattle.schedule_search.specs.Estimates.{IsEstimate};
 
 use crate::buses::settled_buses;
 use crate::schedule::schedule_of;
@@ -18,6 +19,8 @@ use crate::wrappers::table_wrappers;
 use bound_certificate::best_bound;
 use outside::NoMemory;
 use plan_model::{Limits, Plan, good_plans_run_right};
+use resource_table::Table;
+use schedule_search::Ahead;
 use soc_model::Soc;
 use std::alloc::Global;
 use width_table::WidthTable;
@@ -26,11 +29,20 @@ use width_table::WidthTable;
 ///
 /// The buses are those of the start solution, settled by bottom-up, top-down and reshuffle steps (after TR-ARCHITECT, Goel
 /// and Marinissen 2002). Each module has for each mode that is used the wrapper that takes the fewest cycles on its bus.
-/// The tests are placed in the first order, each at the least cycle where it fits, and the bound is the best of the
-/// certificates that are tried. The plan is good, so that it runs right, bit by bit, for every content.
-pub fn plan(alloc: Global, soc: &Soc, limits: &Limits) -> Result<Plan, NoMemory>
+/// The tests are placed in an order that is searched for within the budget of the limits, each at the least cycle where it
+/// fits; `ahead` estimates where tests end that aren't placed yet. The bound is the best of the certificates that are
+/// tried. The plan is good, so that it runs right, bit by bit, for every content.
+pub fn plan<F: Fn(&Table<'_>, usize) -> u64>(
+    alloc: Global,
+    soc: &Soc,
+    limits: &Limits,
+    ahead: Ahead<F>,
+) -> Result<Plan, NoMemory>
+where
+    F: Drop,
     requires sound { IsSoundChip (soc_value soc.now) }
     requires limits { IsSoundLimits (soc_value soc.now) (limits_value limits.now) }
+    requires estimate { IsEstimate (λ t test. F.pre ahead t test) (λ t test estimate. F.post ahead t test estimate) }
     ensures planned { IfOk result (λ plan. IsPlanned (soc_value soc.now) (limits_value limits.now) (plan_value plan)) }
     ensures right { IfOk result (λ plan. (content : Content) → IsRight (soc_value soc.now) (limits_value limits.now) (plan_value plan) content) }
     ensures bound { IfOk result (λ plan. IsBound (soc_value soc.now) (limits_value limits.now) plan.bound.cycles) }
@@ -41,7 +53,7 @@ pub fn plan(alloc: Global, soc: &Soc, limits: &Limits) -> Result<Plan, NoMemory>
     let table = WidthTable::new(alloc, soc, limits.wires)?;
     let buses = settled_buses(alloc, soc, &table)?;
     let wrappers = table_wrappers(alloc, soc, &table, &buses)?;
-    let schedule = schedule_of(alloc, soc, limits, &buses, &wrappers)?;
+    let schedule = schedule_of(alloc, soc, limits, &buses, &wrappers, ahead)?;
     let bound = best_bound(alloc, soc, limits, schedule.cycles)?;
     Ok(Plan {
         buses,

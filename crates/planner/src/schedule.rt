@@ -1,5 +1,5 @@
-// The schedule of a plan: the list schedule of the first order of its tests.
-ghost use Rattle.std.specs.Prelude.{◌≡◌, ℕ, ◌+◌, ◌^◌, ◌<◌, ◌≤◌, ◌++◌, ◌∷◌, [], true, false, Some, length, map, slice_get, IfOk};
+// The schedule of a plan: the list schedule of an order of its tests that the search finds.
+ghost use Rattle.std.specs.Prelude.{◌≡◌, ℕ, ◌^◌, ◌<◌, ◌≤◌, length, map, IfOk};
 ghost use Rattle.std.specs.List.{All};
 ghost use Rattle.soc_model.specs.declared.TestId.{TestId};
 ghost use Rattle.soc_model.specs.Chips.{soc_value};
@@ -8,17 +8,16 @@ ghost use Rattle.plan_model.specs.Plans.{PlanValue};
 ghost use Rattle.plan_model.specs.Rules.{Keeps, Wrappers, Proper};
 ghost use Rattle.plan_model.specs.SoundLimits.{IsSoundLimits};
 ghost use Rattle.plan_model.specs.Views.{wrapper_value, bus_value, limits_value};
-ghost use Rattle.resource_table.specs.Jobs.{test_value, cycles_of, Precedes};
-ghost use Rattle.resource_table.specs.Schedules.{at_start, is_placed, IsEarliest, IsSoundTable, IsListSchedule};
+ghost use Rattle.resource_table.specs.Jobs.{job_value};
+ghost use Rattle.schedule_search.specs.Estimates.{IsEstimate};
 ghost use Rattle.planner.specs.Jobs.{settled_parts};
-ghost use Rattle.planner.specs.Orders.{IsTopological};
-ghost use Rattle.planner.specs.Schedules.{IsFirstSchedule, IsPlaced, KeepsTimes};
+ghost use Rattle.planner.specs.Schedules.{IsFoundSchedule, AreStartsOf, IsFoundList, KeepsTimes};
 
 use crate::job::{Parts, job_of};
-use crate::order::first_order;
 use outside::NoMemory;
 use plan_model::{Bus, Limits, Wrapper};
-use resource_table::{JobTest, Table, TableOf, list_schedules_are_short};
+use resource_table::{Job, Table};
+use schedule_search::{Ahead, Search};
 use soc_model::{Soc, TestId};
 use std::alloc::Global;
 
@@ -31,72 +30,63 @@ pub(crate) struct Schedule {
     pub(crate) cycles: u64,
 }
 
-/// A test by its place.
-fn entry_at(tests: &[JobTest], test: usize) -> &JobTest
-    requires { test < length tests.now }
-    ensures { slice_get tests.now test ≡ Some result.now }
-{
-    &tests[test]
-}
-
-/// Places one test more at the least start at which it fits, and answers that start.
-fn place_next<J>(table: &mut TableOf<J>, test: usize) -> u64
-    requires in_job { test < length table.old.job.tests }
-    requires new { is_placed table.old.placed test ≡ false }
-    requires ready { (earlier : ℕ) → Precedes table.old.job earlier test → is_placed table.old.placed earlier ≡ true }
-    requires list { IsListSchedule table.old.job table.old.placed }
-    ensures earliest { IsEarliest table.old.job table.old.placed test result }
-    ensures ends { result + cycles_of table.old.job test ≤ 10 ^ 18 }
-    ensures table { table.new ≡ record table.old { placed = table.old.placed ++ at_start test result ∷ [] } }
-    ensures sound { IsSoundTable table.new }
-{
-    list_schedules_are_short();
-    let start = table.earliest(test);
-    table.place(test, start).keep();
-    start
-}
-
-/// Places tests in an order, each at the least start at which it fits.
-fn place_all<J>(
+/// The starts of the tests of an order, each with its test.
+fn starts_of(
     alloc: Global,
-    table: &mut TableOf<J>,
-    tests: &[JobTest],
+    job: &Job,
     order: &[usize],
-) -> Result<Schedule, NoMemory>
-    requires empty { table.old.placed ≡ [] }
-    requires sound { IsSoundTable table.old }
-    requires tests_are { table.old.job.tests ≡ map test_value tests.now }
-    requires topological { IsTopological table.old.job order.now }
-    ensures schedule { IfOk result (λ s. IsPlaced table.new order.now s.starts.items s.cycles) }
-    ensures job { table.new.job ≡ table.old.job }
+    starts: &[u64],
+) -> Result<Vec<(TestId, u64)>, NoMemory>
+    requires long { length starts.now ≡ length order.now }
+    requires inside { All (λ test. test < length (job_value job.now).tests) order.now }
+    ensures { IfOk result (λ listed. AreStartsOf (job_value job.now) order.now starts.now listed.items) }
 {
-    let mut starts = Vec::new(alloc);
-    let mut cycles: u64 = 0;
-    for test in order {
-        let start = place_next(table, *test);
-        let placed = entry_at(tests, *test);
-        if starts.push((placed.id, start)).is_err() {
+    let mut listed = Vec::new(alloc);
+    for place in 0..order.len() {
+        let id = job.tests[order[place]].id;
+        if listed.push((id, starts[place])).is_err() {
             return Err(NoMemory);
         }
-        cycles = cycles.max(start + placed.length);
     }
-    Ok(Schedule { starts, cycles })
+    Ok(listed)
 }
 
-/// The list schedule of the first order of the live tests, over settled buses and wrappers. `NoMemory` where there is
-/// none.
-pub(crate) fn schedule_of(
+/// The list schedule of the order that a search finds.
+fn found_schedule<F: Fn(&Table<'_>, usize) -> u64>(
+    alloc: Global,
+    job: &Job,
+    search: &mut Search<'_, F>,
+) -> Result<Schedule, NoMemory>
+    requires job { search.old.job ≡ job_value job.now }
+    requires estimate { IsEstimate (λ t test. F.pre search.old.ahead t test) (λ t test estimate. F.post search.old.ahead t test estimate) }
+    ensures { IfOk result (λ s. IsFoundList (job_value job.now) search.old.budget s.starts.items s.cycles) }
+{
+    let found = search.run();
+    let starts = starts_of(alloc, job, found.order, found.starts)?;
+    Ok(Schedule {
+        starts,
+        cycles: found.cycles,
+    })
+}
+
+/// The list schedule of the order of the live tests that the search finds, over settled buses and wrappers. `NoMemory`
+/// where there is none.
+pub(crate) fn schedule_of<F: Fn(&Table<'_>, usize) -> u64>(
     alloc: Global,
     soc: &Soc,
     limits: &Limits,
     buses: &[Bus],
     wrappers: &[Wrapper],
+    ahead: Ahead<F>,
 ) -> Result<Schedule, NoMemory>
+where
+    F: Drop,
     requires sound { IsSoundChip (soc_value soc.now) }
     requires limits { IsSoundLimits (soc_value soc.now) (limits_value limits.now) }
     requires wrapped { Keeps (soc_value soc.now) (limits_value limits.now) (settled_parts (map bus_value buses.now) (map wrapper_value wrappers.now)) Wrappers }
     requires proper { Keeps (soc_value soc.now) (limits_value limits.now) (settled_parts (map bus_value buses.now) (map wrapper_value wrappers.now)) Proper }
-    ensures first { IfOk result (λ s. (plan : PlanValue) → plan.buses ≡ map bus_value buses.now → plan.wrappers ≡ map wrapper_value wrappers.now → plan.starts ≡ s.starts.items → plan.cycles ≡ s.cycles → IsFirstSchedule (soc_value soc.now) (limits_value limits.now) plan) }
+    requires estimate { IsEstimate (λ t test. F.pre ahead t test) (λ t test estimate. F.post ahead t test estimate) }
+    ensures found { IfOk result (λ s. (plan : PlanValue) → plan.buses ≡ map bus_value buses.now → plan.wrappers ≡ map wrapper_value wrappers.now → plan.starts ≡ s.starts.items → plan.cycles ≡ s.cycles → IsFoundSchedule (soc_value soc.now) (limits_value limits.now) plan) }
     ensures keeps { IfOk result (λ s. (plan : PlanValue) → plan.buses ≡ map bus_value buses.now → plan.wrappers ≡ map wrapper_value wrappers.now → plan.starts ≡ s.starts.items → KeepsTimes (soc_value soc.now) (limits_value limits.now) plan s.cycles) }
     ensures early { IfOk result (λ s. All (λ (start : TestId × ℕ). start.1 ≤ 10 ^ 18) s.starts.items) }
     ensures short { IfOk result (λ s. s.cycles ≤ 10 ^ 18) }
@@ -108,7 +98,6 @@ pub(crate) fn schedule_of(
         wrappers,
     };
     let job = job_of(alloc, &parts)?;
-    let order = first_order(alloc, &job)?;
-    let mut table = Table::new(alloc, &job)?;
-    place_all(alloc, &mut table, &job.tests, &order)
+    let mut search = Search::new(alloc, &job, limits.budget, ahead)?;
+    found_schedule(alloc, &job, &mut search)
 }

@@ -4,9 +4,12 @@ ghost use Rattle.soc_model.specs.Sizes.{HasSmall, IsWithinSize};
 ghost use Rattle.soc_model.specs.SoundChips.{IsSoundChip};
 ghost use Rattle.plan_model.specs.SoundLimits.{IsSoundLimits};
 ghost use Rattle.plan_model.specs.Views.{limits_value};
+ghost use Rattle.schedule_search.specs.Estimates.{CanAsk, IsAtLeastReady, IsAtMostNow};
 
 use super::*;
 use plan_model::{Limits, Plan, Why};
+use resource_table::Table;
+use schedule_search::Ahead;
 use soc_model::{Module, Soc, Test, TestId, check_size};
 use std::alloc::Global;
 use std::process::Abort;
@@ -94,12 +97,27 @@ fn is_forced(plan: &Plan, want: &[u64]) -> bool {
     }
 }
 
+/// A plan by the estimate that each test ends as if it is placed now.
+fn plan_by_ends(alloc: Global, soc: &Soc, limits: &Limits) -> Result<Plan, NoMemory>
+    requires sound { IsSoundChip (soc_value soc.now) }
+    requires limits { IsSoundLimits (soc_value soc.now) (limits_value limits.now) }
+{
+    let ahead = Ahead::new(
+        |t: &Table<'_>, test: usize| -> u64
+            requires { CanAsk t.now test }
+            ensures least { IsAtLeastReady t.now test result }
+            ensures most { IsAtMostNow t.now test result }
+        { t.end_now(test) },
+    );
+    plan(alloc, soc, limits, ahead)
+}
+
 #[test]
 fn modules_that_share_a_bus(rt: HostRuntime) -> Result<(), Fail> {
     let alloc = rt.alloc();
     let soc = wide_pair(&rt, alloc)?;
     let limits = wires_alone(alloc, 3);
-    let plan = plan(alloc, &soc, &limits)?;
+    let plan = plan_by_ends(alloc, &soc, &limits)?;
     assert_eq!(rt; plan.cycles, 460);
     assert_eq!(rt; plan.bound.cycles, 460);
     assert!(rt; is_forced(&plan, &[1, 2]));

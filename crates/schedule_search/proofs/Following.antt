@@ -1,0 +1,70 @@
+-- Whether a test may follow a prefix, and whether it is ready.
+use Rattle.std.proofs.Common.{◌≡◌, ℕ, ◌+◌, ◌<◌, Bool, true, false, not, true≢false, Some, List, [], ◌∷◌, length, get_or, take, map, refl, sym, ◌∙◌, ap, subst}
+use Rattle.std.specs.Prelude.{nat_eq, ◌||◌, ◌&&◌}
+use Rattle.std.specs.List.{All, Contains, list_all}
+use Rattle.std.proofs.lemmas.Bool.{eqb-true, eq-eqb, and_parts, and_from}
+use Rattle.std.proofs.lemmas.List.{take_more}
+use Rattle.std.proofs.lemmas.List.Elements.{All-append, All-nil, All-cons, All-contains}
+use Rattle.std.proofs.lemmas.List.Sums.{AllPass-from_list_all, list_all-from_AllPass}
+use Rattle.plan_model.proofs.Lists.{contains_at, at_contains, any_from, any_at}
+use Rattle.resource_table.specs.declared.Placement.{Placement}
+use Rattle.resource_table.specs.Jobs.{JobValue}
+use Rattle.resource_table.specs.Schedules.{is_placed}
+use Rattle.schedule_search.specs.Orders.{IsReady}
+use Rattle.resource_table.specs.Befores.{tests_before}
+use Rattle.schedule_search.specs.Walks.{is_in, may_follow}
+use Rattle.resource_table.proofs.Befores.{before_from, before_has}
+use Rattle.schedule_search.proofs.Predecessors.{at_place}
+
+pub all_more : {X : Type 0} (P : X → Type 0) (xs : List X) (k : ℕ) (d : X) → All P (take k xs) → k < length xs → P (get_or xs k d) → All P (take (k + 1) xs)
+all_more {X} P xs k d all within here = subst (All P) (sym (take_more xs k d within)) (All-append P (take k xs) (get_or xs k d ∷ []) all (All-cons P (get_or xs k d) [] here (All-nil P)))
+
+-- ---- which tests are placed
+
+pub in_placed : (placed : List Placement) (test : ℕ) → is_in (map (λ (p : Placement). p.test) placed) test ≡ is_placed placed test
+in_placed [] test = refl
+in_placed (p ∷ placed) test = ap (λ b. nat_eq p.test test || b) (in_placed placed test)
+
+all_same : (p q : ℕ → Bool) (tests : List ℕ) → ((t : ℕ) → p t ≡ q t) → list_all p tests ≡ list_all q tests
+all_same p q [] same = refl
+all_same p q (t ∷ tests) same = ap (λ b. b && list_all p tests) (same t) ∙ ap (λ b. q t && b) (all_same p q tests same)
+
+pub follow_is : (job : JobValue) (placed : List Placement) (test : ℕ) (earlier : List ℕ) → earlier ≡ tests_before test job.before → (not (is_placed placed test) && list_all (is_placed placed) earlier) ≡ may_follow job (map (λ (p : Placement). p.test) placed) test
+follow_is job placed test earlier is =
+    ap (λ b. not b && list_all (is_placed placed) earlier) (sym (in_placed placed test))
+    ∙ ap (λ b. not (is_in (map (λ (p : Placement). p.test) placed) test) && b)
+    (all_same (is_placed placed) (is_in (map (λ (p : Placement). p.test) placed)) earlier (λ t. sym (in_placed placed t)) ∙ ap (list_all (is_in (map (λ (p : Placement). p.test) placed))) is)
+
+-- ---- ready tests
+
+pub in_from : (tests : List ℕ) (test : ℕ) → Contains tests test → is_in tests test ≡ true
+in_from tests test there = let at = contains_at tests test there in any_from (λ (other : ℕ). nat_eq other test) tests at.0 test at.1 (eq-eqb test test refl)
+
+pub in_to : (tests : List ℕ) (test : ℕ) → is_in tests test ≡ true → Contains tests test
+in_to tests test is =
+    let a = any_at (λ (other : ℕ). nat_eq other test) tests is in
+    at_contains tests a.0 test (a.2 ∙ ap Some (eqb-true a.1 test a.3))
+
+not_true : (b : Bool) → not b ≡ true → b ≡ false
+not_true true e = absurd cc
+not_true false e = refl
+
+true_not : (b : Bool) → (b ≡ true → ⊥) → not b ≡ true
+true_not true h = absurd (h refl)
+true_not false h = refl
+
+pub ready_from : (job : JobValue) (prefix : List ℕ) (test : ℕ) → test < length job.tests → may_follow job prefix test ≡ true → IsReady job prefix test
+ready_from job prefix test within is =
+    let parts = and_parts (not (is_in prefix test)) (list_all (is_in prefix) (tests_before test job.before)) is in
+    let all = AllPass-from_list_all (is_in prefix) (tests_before test job.before) parts.1 in
+    record {
+      in_job = within;
+      new = λ there. true≢false (sym (in_from prefix test there) ∙ not_true (is_in prefix test) parts.0);
+      after = λ earlier before. in_to prefix earlier (All-contains (λ t. is_in prefix t ≡ true) (tests_before test job.before) earlier all (before_has job.before earlier test before));
+    }
+
+pub ready_to : (job : JobValue) (prefix : List ℕ) (test : ℕ) → IsReady job prefix test → may_follow job prefix test ≡ true
+ready_to job prefix test ready = and_from (not (is_in prefix test)) (list_all (is_in prefix) (tests_before test job.before))
+    (true_not (is_in prefix test) (λ is. ready.new (in_to prefix test is)))
+    (list_all-from_AllPass (is_in prefix) (tests_before test job.before) (λ k d less.
+    in_from prefix (get_or (tests_before test job.before) k d) (ready.after (get_or (tests_before test job.before) k d) (before_from job.before (get_or (tests_before test job.before) k d) test (at_place (tests_before test job.before) k d less)))))

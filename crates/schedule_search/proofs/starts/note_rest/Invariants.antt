@@ -1,0 +1,10 @@
+use Rattle.std.proofs.Common.{◌≡◌, take, vec_capacity}
+use Rattle.schedule_search.specs.Noted.{HasNoted}
+use Rattle.schedule_search.proofs.starts.note_rest.Given as goal
+
+abbrev pub invariant-loop-place : goal.invariant-loop-place
+invariant-loop-place g l = record {
+  noted : HasNoted l.table (take l.place l.order) l.starts.items;
+  job : l.table.job ≡ l.initial.table.job;
+  room : vec_capacity l.starts ≡ vec_capacity l.initial.starts;
+}

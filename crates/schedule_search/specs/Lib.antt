@@ -1,0 +1,14 @@
+pub mod Orders
+pub mod Marks
+pub mod OrderCycles
+pub mod Walks
+pub mod Found
+pub mod Late
+pub mod Progress
+pub mod Estimates
+pub mod SearchValues
+pub mod Searches
+pub mod Noted
+pub mod Begun
+pub mod Kept
+pub mod Exchanges

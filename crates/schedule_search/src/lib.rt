@@ -1,0 +1,23 @@
+// Orders of the tests of a job, and a search for one whose list schedule ends early: a walk in depth over the orders, within
+// a budget, and exchanges of neighbours. Tests go by their places in the job.
+#![tactic(auto)]
+
+mod ahead;
+mod exchanges;
+mod order;
+mod order_laws;
+mod placing;
+mod search;
+mod starts;
+mod tries;
+mod walk;
+
+pub use ahead::Ahead;
+pub use order::first_order;
+pub use order_laws::{both_ends_are_estimates, orders_take_cycles, walks_have_all_orders};
+pub use search::{Found, Search};
+
+#[cfg(test)]
+mod exchange_tests;
+#[cfg(test)]
+mod search_tests;
