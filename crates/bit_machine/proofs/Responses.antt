@@ -56,7 +56,7 @@ response_order m scan =
 
 -- ---- their places are the numbers from 0 on
 
-joined_range : (a m n b : ℕ) → a + m ≡ b → range_with_len a m ++ range_with_len b n ≡ range_with_len a (m + n)
+pub joined_range : (a m n b : ℕ) → a + m ≡ b → range_with_len a m ++ range_with_len b n ≡ range_with_len a (m + n)
 joined_range a zero n b same =
     let start : b ≡ a = omega arith in
     let none : 0 + n ≡ n = omega arith in
@@ -65,7 +65,7 @@ joined_range a (suc m) n b same =
     let next : suc m + n ≡ suc (m + n) = omega arith in
     rw next (ap (λ v. a ∷ v) (joined_range (a + 1) m n b (omega arith)))
 
-added_range : (s i n j : ℕ) → s + i ≡ j → map (λ k. s + k) (range_with_len i n) ≡ range_with_len j n
+pub added_range : (s i n j : ℕ) → s + i ≡ j → map (λ k. s + k) (range_with_len i n) ≡ range_with_len j n
 added_range s i zero j same = refl
 added_range s i (suc n) j same = rw (same, added_range s (i + 1) n (j + 1) (omega arith)) refl
 
@@ -76,7 +76,7 @@ out_places : (lengths : List ℕ) (n : ℕ) → map (response_place lengths) (ou
 out_places lengths n = range_map (response_place lengths) (λ k. Out k) 0 n ∙ added_range (sum lengths) 0 n (sum lengths) (omega arith)
 
 -- the scan chains behind the first ones
-later_places : (front rest : List ℕ) → map (response_place (front ++ rest)) (flat_map (flops (front ++ rest)) (range_with_len (length front) (length rest))) ≡ range_with_len (sum front) (sum rest)
+pub later_places : (front rest : List ℕ) → map (response_place (front ++ rest)) (flat_map (flops (front ++ rest)) (range_with_len (length front) (length rest))) ≡ range_with_len (sum front) (sum rest)
 later_places front [] = refl
 later_places front (x ∷ rest) =
     let whole : List ℕ = front ++ (x ∷ rest) in
@@ -94,7 +94,7 @@ places m scan =
     ∙ map-append (response_place (scan_lengths m scan)) (flat_map (flops (scan_lengths m scan)) (range_with_len 0 (length (scan_lengths m scan)))) (out_cells 0 (m.outputs + m.bidirs))
     ∙ rw (later_places [] (scan_lengths m scan), out_places (scan_lengths m scan) (m.outputs + m.bidirs)) (joined_range 0 (sum (scan_lengths m scan)) (m.outputs + m.bidirs) (sum (scan_lengths m scan)) (omega arith))
 
-number_in_range : (n k x : ℕ) → slice_get (range_with_len 0 n) k ≡ Some x → x ≡ k
+pub number_in_range : (n k x : ℕ) → slice_get (range_with_len 0 n) k ≡ Some x → x ≡ k
 number_in_range n k x at =
     let within : k < length (range_with_len 0 n) = slice_get_within (range_with_len 0 n) k x at in
     let long : length (range_with_len 0 n) ≡ n = length-range_with_len 0 n in

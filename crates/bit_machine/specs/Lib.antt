@@ -1,2 +1,10 @@
 pub mod Sessions
 pub mod Layouts
+pub mod Chips
+pub mod Paths
+pub mod Lanes
+pub mod Machines
+pub mod WholeChips
+pub mod Building
+pub mod Placed
+pub mod EmptyChips

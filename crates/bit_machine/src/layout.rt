@@ -21,9 +21,9 @@ pub struct Layout {
     /// The lengths of the scan chains of the mode, in cells.
     pub lengths: Vec<u64>,
     /// For each scan chain, the bits of a response before those of its cells.
-    starts: Vec<usize>,
+    pub starts: Vec<usize>,
     /// The bits of a response before those of the output cells.
-    flops: usize,
+    pub flops: usize,
     /// The chains of the wrapper.
     pub chains: Vec<ChainPlan>,
 }
@@ -85,7 +85,7 @@ fn length_of(lengths: &[u64], chain: &ChainPlan) -> usize
 }
 
 /// So many bits 0.
-fn zero_chain(alloc: Global, cells: usize) -> Result<Vec<bool>, NoMemory>
+pub fn zero_chain(alloc: Global, cells: usize) -> Result<Vec<bool>, NoMemory>
     ensures { IfOk result (λ bits. bits.items ≡ replicate cells false) }
 {
     vec![in alloc; false; cells].map_err(|_| NoMemory)

@@ -5,11 +5,23 @@
 #![tactic(auto)]
 
 mod bits;
+mod building;
+mod chip;
+mod lane;
 mod laws;
 mod layout;
+mod machine;
+mod made;
+mod moments;
+mod path;
+mod placing;
+mod ring;
 mod session;
 
-pub use laws::{responses_are_numbered, responses_have_lengths};
+pub use chip::{Chip, Report};
+pub use laws::{
+    held_stimuli_stand, responses_are_numbered, responses_have_lengths, stimuli_are_numbered,
+};
 pub use session::Session;
 
 #[cfg(test)]

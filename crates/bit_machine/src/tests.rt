@@ -2,12 +2,13 @@ ghost use Rattle.std.specs.Prelude.{◌≡◌, ℕ, ◌+◌, ◌*◌, ◌^◌, �
 ghost use Rattle.soc_model.specs.Chips.{module_value};
 ghost use Rattle.plan_model.specs.Cells.{out_length};
 ghost use Rattle.plan_model.specs.Listing.{module_size};
-ghost use Rattle.plan_model.specs.Views.{chain_value};
+ghost use Rattle.plan_model.specs.Views.{chain_value, plan_value};
+ghost use Rattle.bit_machine.specs.EmptyChips.{no_plan};
 ghost use Rattle.bit_machine.specs.Sessions.{at_rest};
 
 use super::*;
-use plan_model::{ChainPlan, Wrapper, is_proper};
-use soc_model::Module;
+use plan_model::{Bound, ChainPlan, Plan, Why, Wrapper, is_proper};
+use soc_model::{Module, Soc};
 use std::alloc::Global;
 use std::process::Abort;
 use std::test::Fail;
@@ -250,4 +251,38 @@ fn responses_go_by_the_place_of_a_scan_chain(rt: HostRuntime) -> Result<(), Fail
 fn laws_can_be_called(_rt: HostRuntime) {
     responses_are_numbered();
     responses_have_lengths();
+    stimuli_are_numbered();
+    held_stimuli_stand();
+}
+
+/// A plan without tests.
+fn empty_plan(alloc: Global) -> Plan
+    ensures { plan_value result ≡ no_plan }
+{
+    Plan {
+        buses: Vec::new(alloc),
+        wrappers: Vec::new(alloc),
+        starts: Vec::new(alloc),
+        cycles: 0,
+        bound: Bound {
+            cycles: 0,
+            why: Why::Area,
+        },
+    }
+}
+
+#[test]
+fn a_chip_without_tests(rt: HostRuntime) -> Result<(), Fail> {
+    let alloc = rt.alloc();
+    let soc = Soc::new(alloc);
+    let plan = empty_plan(alloc);
+    let chip = Chip::new(alloc, &soc, &plan, 7)?;
+    chip.want(&mut []);
+    chip.compared(&mut []);
+    let report = chip.report();
+    assert_eq!(rt;
+        (report.cycle, report.captures, report.right_loads),
+        (0, 0, 0)
+    );
+    Ok(())
 }

@@ -1,0 +1,256 @@
+-- Which test each wire belongs to, test by test and cycle by cycle.
+use Rattle.std.proofs.Common.{◌≡◌, ◌≢◌, ℕ, zero, suc, ◌+◌, ◌≤◌, ◌<◌, ◌⊎◌, true, false, Option, Some, None, List, [], ◌∷◌, length, set, leb, ltb, refl, ap, sym, subst, ◌∙◌, arith, inl, inr}
+use Rattle.std.specs.Prelude.{slice_get, nat_le, nat_lt, ◌&&◌}
+use Rattle.std.specs.Global.{Vec}
+use Rattle.std.specs.Vec.{with_items}
+use Rattle.std.proofs.lemmas.List.{with_items_is}
+use Rattle.std.proofs.lemmas.Option.{slice_get_within, same_Some}
+use Rattle.std.proofs.lemmas.Bool.{cases_lt, cases_Bool, cases_eq, lt-ltb, le-ltb, le-leb, lt-leb, and_parts, leb-true, ltb-true}
+use Rattle.plan_model.specs.Plans.{PlannedTest, uses, is_active, end_of}
+use Rattle.plan_model.specs.Runs.{Content}
+use Rattle.plan_model.specs.Right.{IsAt}
+use Rattle.bit_machine.specs.Lanes.{lane_on, IsWired, IsLane}
+use Rattle.bit_machine.specs.Machines.{FitLanes, AreLanes, AreOnWires, AreUsers, AreUsersBelow, AreUnchanged, IsUnchanged, IsLaneUnchanged, IsMachine}
+use Rattle.bit_machine.specs.declared.lane.Lane.{Lane}
+use Rattle.bit_machine.specs.declared.machine.Machine.{Machine}
+
+-- ---- an entry that is written
+
+pub set_here : {X : Type 0} (xs : List X) (i : ℕ) (y : X) → i < length xs → slice_get (set xs i y) i ≡ Some y
+set_here [] i y h = absurd (omega arith)
+set_here (x ∷ xs) zero y h = refl
+set_here (x ∷ xs) (suc i) y h = set_here xs i y (omega arith)
+
+pub set_elsewhere : {X : Type 0} (xs : List X) (i j : ℕ) (y : X) → j ≢ i → slice_get (set xs i y) j ≡ slice_get xs j
+set_elsewhere [] i j y h = refl
+set_elsewhere (x ∷ xs) zero zero y h = absurd (h refl)
+set_elsewhere (x ∷ xs) zero (suc j) y h = refl
+set_elsewhere (x ∷ xs) (suc i) zero y h = refl
+set_elsewhere (x ∷ xs) (suc i) (suc j) y h = set_elsewhere xs i j y (λ e. h (ap suc e))
+
+-- ---- a range of entries
+
+pub record Given (old new : List (Option ℕ)) (place first w : ℕ) : Type 0 where
+  pub given : (v : ℕ) → first ≤ v → v < w → slice_get new v ≡ Some (Some place)
+  pub others : (v : ℕ) → (v < first) ⊎ (w ≤ v) → slice_get new v ≡ slice_get old v
+
+pub given_none : (old : List (Option ℕ)) (place first : ℕ) → Given old old place first first
+given_none old place first = record { given = λ v a b. absurd (omega arith); others = λ v h. refl }
+
+pub given_more : (old new : List (Option ℕ)) (place first w : ℕ) → first ≤ w → w < length new → Given old new place first w → Given old (set new w (Some place)) place first (w + 1)
+given_more old new place first w low h g = record {
+  given = λ v a b. here v a b (cases_eq v w);
+  others = λ v e. set_elsewhere new w v (Some place) (apart v e) ∙ g.others v (before v e);
+}
+  where
+    here : (v : ℕ) → first ≤ v → v < w + 1 → (v ≡ w) ⊎ (v ≢ w) → slice_get (set new w (Some place)) v ≡ Some (Some place)
+    here v a b (inl same) = rw same (set_here new w (Some place) h)
+    here v a b (inr other) = set_elsewhere new w v (Some place) other ∙ g.given v a (omega (arith, other))
+
+    apart : (v : ℕ) → (v < first) ⊎ (w + 1 ≤ v) → v ≢ w
+    apart v (inl less) e = omega arith
+    apart v (inr past) e = omega arith
+
+    before : (v : ℕ) → (v < first) ⊎ (w + 1 ≤ v) → (v < first) ⊎ (w ≤ v)
+    before v (inl less) = inl less
+    before v (inr past) = inr (omega arith)
+
+-- ---- entries that are cleared
+
+abbrev pub IsClear : List (Option ℕ) → ℕ → Type 0
+IsClear users n = (w i : ℕ) → w < n → slice_get users w ≡ Some (Some i) → ⊥
+
+pub clear_more : (users : List (Option ℕ)) (n : ℕ) → n < length users → IsClear users n → IsClear (set users n None) (n + 1)
+clear_more users n h before w i less at = go (cases_eq w n) where
+  none_some : {X : Type 0} {x : X} → None ≡ Some x → ⊥
+  none_some e = cc
+
+  go : (w ≡ n) ⊎ (w ≢ n) → ⊥
+  go (inl same) = none_some (same_Some _ _ (sym (set_here users n None h) ∙ subst (λ w. slice_get (set users n None) w ≡ Some (Some i)) same at))
+  go (inr other) = before w i (omega (arith, other)) (sym (set_elsewhere users n w None other) ∙ at)
+
+-- ---- the next change
+
+pub sooner_still : (c change change' : ℕ) (l : Lane) → change' ≤ change → IsLaneUnchanged c change l → IsLaneUnchanged c change' l
+sooner_still c change change' l less u = (go u.0, go u.1) where
+  go : {n : ℕ} → (n ≤ c) ⊎ (change ≤ n) → (n ≤ c) ⊎ (change' ≤ n)
+  go (inl past) = inl past
+  go (inr later) = inr (omega arith)
+
+-- ---- test by test
+
+pub nobody_below : (tests : List PlannedTest) (c : ℕ) (users : List (Option ℕ)) → ((w i : ℕ) → slice_get users w ≡ Some (Some i) → ⊥) → AreUsersBelow tests c 0 users
+nobody_below tests c users none = record { user = λ w i at. absurd (none w i at); every = λ w i t h. absurd (omega arith) }
+
+-- a lane is on exactly where its test is active over the wires
+on_is : (content : Content) (t : PlannedTest) (l : Lane) (c : ℕ) → IsLane content t l → lane_on l c ≡ (t.tam && is_active c t)
+on_is content t l c is = rw (is.tam, is.start, is.ends) refl
+
+uses_from : (content : Content) (t : PlannedTest) (l : Lane) (c w : ℕ) → IsLane content t l → lane_on l c ≡ true → l.first_wire ≤ w → w < l.first_wire + l.width → uses c w t ≡ true
+uses_from content t l c w is on low high =
+    let e : (t.tam && is_active c t) ≡ true = sym (on_is content t l c is) ∙ on in
+    let p = and_parts t.tam (is_active c t) e in
+    let wired : IsWired content t l = is.wired p.0 in
+    let first : l.first_wire ≡ t.first_wire = wired.first_wire in
+    let width : l.width ≡ t.width = wired.width in
+    rw (p.0, p.1, le-leb t.first_wire w (omega arith), lt-ltb w (t.first_wire + t.width) (omega arith)) refl
+
+record Within (l : Lane) (c w : ℕ) : Type 0 where
+  pub on : lane_on l c ≡ true
+  pub low : l.first_wire ≤ w
+  pub high : w < l.first_wire + l.width
+
+from_uses : (content : Content) (t : PlannedTest) (l : Lane) (c w : ℕ) → IsLane content t l → uses c w t ≡ true → Within l c w
+from_uses content t l c w is used =
+    let a = and_parts t.tam (is_active c t && (leb t.first_wire w && ltb w (t.first_wire + t.width))) used in
+    let b = and_parts (is_active c t) (leb t.first_wire w && ltb w (t.first_wire + t.width)) a.1 in
+    let d = and_parts (leb t.first_wire w) (ltb w (t.first_wire + t.width)) b.1 in
+    let low : t.first_wire ≤ w = leb-true t.first_wire w d.0 in
+    let high : w < t.first_wire + t.width = ltb-true w (t.first_wire + t.width) d.1 in
+    let wired : IsWired content t l = is.wired a.0 in
+    let first : l.first_wire ≡ t.first_wire = wired.first_wire in
+    let width : l.width ≡ t.width = wired.width in
+    record { on = on_is content t l c is ∙ rw (a.0, b.0) refl; low = omega arith; high = omega arith }
+
+pub record GivenLane (old new : List (Option ℕ)) (l : Lane) (p c : ℕ) : Type 0 where
+  pub given : lane_on l c ≡ true → (w : ℕ) → l.first_wire ≤ w → w < l.first_wire + l.width → slice_get new w ≡ Some (Some p)
+  pub others : lane_on l c ≡ true → (w : ℕ) → (w < l.first_wire) ⊎ (l.first_wire + l.width ≤ w) → slice_get new w ≡ slice_get old w
+  pub off : lane_on l c ≡ false → new ≡ old
+
+pub users_more : (content : Content) (tests : List PlannedTest) (n : ℕ) (on : AreOnWires tests n) (c p : ℕ) (l : Lane) (t : PlannedTest) (old new : List (Option ℕ)) → IsAt tests p t → IsLane content t l → length new ≡ length old →
+    GivenLane old new l p c → AreUsersBelow tests c p old → AreUsersBelow tests c (p + 1) new
+users_more content tests n on c p l t old new at is long g below = record {
+  user = λ w i there. user w i there (cases_Bool (lane_on l c)) (cases_lt w l.first_wire) (cases_lt w (l.first_wire + l.width));
+  every = λ w i u less h at' used. every w i u less h at' used (cases_eq i p);
+}
+  where
+    keep : (w i : ℕ) → slice_get new w ≡ slice_get old w → slice_get new w ≡ Some (Some i) → (t : PlannedTest) × IsAt tests i t × (uses c w t ≡ true)
+    keep w i same there = below.user w i (sym same ∙ there)
+
+    user : (w i : ℕ) → slice_get new w ≡ Some (Some i) → (lane_on l c ≡ true) ⊎ (lane_on l c ≡ false) → (w < l.first_wire) ⊎ (l.first_wire ≤ w) → (w < l.first_wire + l.width) ⊎ (l.first_wire + l.width ≤ w) →
+        (t : PlannedTest) × IsAt tests i t × (uses c w t ≡ true)
+    user w i there (inr off) _ _ = keep w i (ap (λ v. slice_get v w) (g.off off)) there
+    user w i there (inl yes') (inl less) _ = keep w i (g.others yes' w (inl less)) there
+    user w i there (inl yes') (inr low) (inr past) = keep w i (g.others yes' w (inr past)) there
+    user w i there (inl yes') (inr low) (inl high) =
+        let place : p ≡ i = same_Some _ _ (same_Some _ _ (sym (g.given yes' w low high) ∙ there)) in
+        (t, subst (λ i. IsAt tests i t) place at, uses_from content t l c w is yes' low high)
+
+    every : (w i : ℕ) (u : PlannedTest) → i < p + 1 → w < length new → IsAt tests i u → uses c w u ≡ true → (i ≡ p) ⊎ (i ≢ p) → slice_get new w ≡ Some (Some i)
+    every w i u less h at' used (inl same) =
+        let t_is : t ≡ u = same_Some _ _ (sym at ∙ subst (λ i. IsAt tests i u) same at') in
+        let x = from_uses content t l c w is (subst (λ u. uses c w u ≡ true) (sym t_is) used) in
+        rw same (g.given x.on w x.low x.high)
+    every w i u less h at' used (inr other) = earlier (cases_Bool (lane_on l c)) (cases_lt w l.first_wire) (cases_lt w (l.first_wire + l.width)) where
+      old_has : slice_get old w ≡ Some (Some i)
+      old_has = below.every w i u (omega (arith, other)) (omega arith) at' used
+
+      earlier : (lane_on l c ≡ true) ⊎ (lane_on l c ≡ false) → (w < l.first_wire) ⊎ (l.first_wire ≤ w) → (w < l.first_wire + l.width) ⊎ (l.first_wire + l.width ≤ w) → slice_get new w ≡ Some (Some i)
+      earlier (inr off) _ _ = ap (λ v. slice_get v w) (g.off off) ∙ old_has
+      earlier (inl yes') (inl low) _ = g.others yes' w (inl low) ∙ old_has
+      earlier (inl yes') (inr low) (inr past) = g.others yes' w (inr past) ∙ old_has
+      earlier (inl yes') (inr low) (inl high) = absurd (other (on.alone c w p i t u at at' (uses_from content t l c w is yes' low high) used))
+
+pub all_users : (tests : List PlannedTest) (c p : ℕ) (users : List (Option ℕ)) → length tests ≤ p → AreUsersBelow tests c p users → AreUsers tests c users
+all_users tests c p users all below = record {
+  user = below.user;
+  every = λ w i t h at used. below.every w i t (let within : i < length tests = slice_get_within tests i t at in omega arith) h at used;
+}
+
+-- ---- cycle by cycle
+
+same_le : (c n change : ℕ) → c + 1 < change → (n ≤ c) ⊎ (change ≤ n) → nat_le n (c + 1) ≡ nat_le n c
+same_le c n change h (inl past) = le-leb n (c + 1) (omega arith) ∙ sym (le-leb n c past)
+same_le c n change h (inr later) = lt-leb n (c + 1) (omega arith) ∙ sym (lt-leb n c (omega arith))
+
+same_lt : (c n change : ℕ) → c + 1 < change → (n ≤ c) ⊎ (change ≤ n) → nat_lt (c + 1) n ≡ nat_lt c n
+same_lt c n change h (inl past) = le-ltb (c + 1) n (omega arith) ∙ sym (le-ltb c n past)
+same_lt c n change h (inr later) = lt-ltb (c + 1) n (omega arith) ∙ sym (lt-ltb c n (omega arith))
+
+same_uses : (c w change : ℕ) (t : PlannedTest) → c + 1 < change → IsUnchanged c change t.start × IsUnchanged c change (end_of t) → uses (c + 1) w t ≡ uses c w t
+same_uses c w change t h u = rw (same_le c t.start change h u.0, same_lt c (end_of t) change h u.1) refl
+
+pub next_machine : (content : Content) (tests : List PlannedTest) (m : Machine) (n : ℕ) → n ≡ m.cycle + 1 → n < m.change → IsMachine content tests m → IsMachine content tests (record { lanes = m.lanes; users = m.users; cycle = n; change = m.change })
+next_machine content tests m n is_next h is = rw is_next (record {
+  lanes = is.lanes;
+  wires = is.wires;
+  users = record {
+    user = λ w i there. let u = is.users.user w i there in (u.0, u.1, same_uses m.cycle w m.change u.0 (omega arith) (is.change i u.0 u.1) ∙ u.2);
+    every = λ w i t less at used. is.users.every w i t less at (sym (same_uses m.cycle w m.change t (omega arith) (is.change i t at)) ∙ used);
+  };
+  change = λ i t at. let u = is.change i t at in (later u.0, later u.1);
+})
+  where
+    later : {x : ℕ} → (x ≤ m.cycle) ⊎ (m.change ≤ x) → (x ≤ m.cycle + 1) ⊎ (m.change ≤ x)
+    later (inl past) = inl (omega arith)
+    later (inr after) = inr after
+
+-- what the lanes say of the change, the tests do
+some_lane : (ls : List Lane) (i : ℕ) → i < length ls → (l : Lane) × (slice_get ls i ≡ Some l)
+some_lane [] i h = absurd (omega arith)
+some_lane (l ∷ ls) zero h = (l, refl)
+some_lane (l ∷ ls) (suc i) h = some_lane ls i (omega arith)
+
+pub tests_unchanged : (content : Content) (tests : List PlannedTest) (lanes : List Lane) (c change : ℕ) → AreLanes content tests lanes → ((i : ℕ) (l : Lane) → slice_get lanes i ≡ Some l → IsLaneUnchanged c change l) → AreUnchanged tests c change
+tests_unchanged content tests lanes c change are each i t at =
+    let long : length lanes ≡ length tests = are.long in
+    let within : i < length tests = slice_get_within tests i t at in
+    let l = some_lane lanes i (omega arith) in
+    let u = each i l.0 l.1 in
+    let is : IsLane content t l.0 = are.lane i t l.0 at l.1 in
+    (subst (IsUnchanged c change) is.start u.0, subst (IsUnchanged c change) is.ends u.1)
+
+-- the lanes of a machine have their wires
+pub lanes_fit : (content : Content) (tests : List PlannedTest) (lanes : List Lane) (n : ℕ) → AreLanes content tests lanes → AreOnWires tests n → FitLanes lanes n
+lanes_fit content tests lanes n are on i l at tam =
+    let long : length lanes ≡ length tests = are.long in
+    let within : i < length lanes = slice_get_within lanes i l at in
+    let t = some_test tests i (omega arith) in
+    let is : IsLane content t.0 l = are.lane i t.0 l t.1 at in
+    let tam' : (t.0).tam ≡ true = sym is.tam ∙ tam in
+    let wired : IsWired content t.0 l = is.wired tam' in
+    let first : l.first_wire ≡ (t.0).first_wire = wired.first_wire in
+    let width : l.width ≡ (t.0).width = wired.width in
+    let fits : (t.0).first_wire + (t.0).width ≤ n = on.within i t.0 t.1 tam' in
+    omega arith
+  where
+    some_test : (ts : List PlannedTest) (i : ℕ) → i < length ts → (t : PlannedTest) × IsAt ts i t
+    some_test [] i h = absurd (omega arith)
+    some_test (t ∷ ts) zero h = (t, refl)
+    some_test (t ∷ ts) (suc i) h = some_test ts i (omega arith)
+
+pub sooner_more : (lanes : List Lane) (c n change change' : ℕ) (l : Lane) → slice_get lanes n ≡ Some l → change' ≤ change → IsLaneUnchanged c change' l →
+    ((i : ℕ) (x : Lane) → i < n → slice_get lanes i ≡ Some x → IsLaneUnchanged c change x) → (i : ℕ) (x : Lane) → i < n + 1 → slice_get lanes i ≡ Some x → IsLaneUnchanged c change' x
+sooner_more lanes c n change change' l at less here before i x below there = go (cases_eq i n) where
+  go : (i ≡ n) ⊎ (i ≢ n) → IsLaneUnchanged c change' x
+  go (inl same) = subst (IsLaneUnchanged c change') (same_Some _ _ (sym at ∙ subst (λ i. slice_get lanes i ≡ Some x) same there)) here
+  go (inr other) = sooner_still c change change' x less (before i x (omega (arith, other)) there)
+
+pub assign_more : (content : Content) (tests : List PlannedTest) (n : ℕ) (lanes : List Lane) (are : AreLanes content tests lanes) (on : AreOnWires tests n) (c p : ℕ) (l : Lane) (old new : List (Option ℕ)) → slice_get lanes p ≡ Some l → length new ≡ length old →
+    GivenLane old new l p c → AreUsersBelow tests c p old → AreUsersBelow tests c (p + 1) new
+assign_more content tests n lanes are on c p l old new there long g below =
+    let within : p < length lanes = slice_get_within lanes p l there in
+    let many : length lanes ≡ length tests = are.long in
+    let t = some_test tests p (omega arith) in
+    users_more content tests n on c p l t.0 old new t.1 (are.lane p t.0 l t.1 there) long g below
+  where
+    some_test : (ts : List PlannedTest) (i : ℕ) → i < length ts → (t : PlannedTest) × IsAt ts i t
+    some_test [] i h = absurd (omega arith)
+    some_test (t ∷ ts) zero h = (t, refl)
+    some_test (t ∷ ts) (suc i) h = some_test ts i (omega arith)
+
+-- a machine that stands at a cycle
+pub stood : (content : Content) (tests : List PlannedTest) (lanes : Vec Lane) (users : Vec (Option ℕ)) (seen seen' : List Lane) (given new : List (Option ℕ)) (c change : ℕ) → seen ≡ lanes.items → seen' ≡ lanes.items → given ≡ users.items → length new ≡ length given →
+    ((i : ℕ) (l : Lane) → slice_get seen i ≡ Some l → IsLaneUnchanged c change l) → (AreLanes content tests seen' → AreOnWires tests (length given) → AreUsers tests c new) →
+    AreLanes content tests lanes.items → AreOnWires tests (length users.items) → IsMachine content tests (record { lanes = lanes; users = with_items users new; cycle = c; change = change })
+stood content tests lanes users seen seen' given new c change e e' f long each assigned are on =
+    let same : length given ≡ length users.items = ap length f in
+    let items : (with_items users new).items ≡ new = with_items_is users new (omega (arith, users.ok.0)) in
+    let on' : AreOnWires tests (length given) = subst (AreOnWires tests) (sym same) on in
+    let n : length (with_items users new).items ≡ length users.items = ap length items ∙ long ∙ same in
+    record {
+      lanes = are;
+      wires = subst (AreOnWires tests) (sym n) on;
+      users = subst (AreUsers tests c) (sym items) (assigned (subst (AreLanes content tests) (sym e') are) on');
+      change = tests_unchanged content tests lanes.items c change are (subst (λ (ls : List Lane). (i : ℕ) (l : Lane) → slice_get ls i ≡ Some l → IsLaneUnchanged c change l) e each);
+    }

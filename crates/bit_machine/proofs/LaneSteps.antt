@@ -1,0 +1,173 @@
+-- One live test, chain by chain.
+use Rattle.std.proofs.Common.{◌≡◌, ℕ, zero, suc, ◌+◌, ◌-◌, ◌≤◌, ◌<◌, ◌⊎◌, Bool, true, false, Option, Some, List, [], ◌∷◌, length, get_or, set, refl, ap, sym, ◌∙◌, arith, inl, inr}
+use Rattle.std.specs.Prelude.{slice_get, ◌&&◌, option_map}
+use Rattle.std.specs.List.{zip, list_all}
+use Rattle.std.specs.Vec.{with_item}
+use Rattle.std.proofs.lemmas.List.{length-map, map-set, length-set, get_or-map}
+use Rattle.std.proofs.lemmas.Option.{slice_get-get_or, get_or_from_slice_get, slice_get_within}
+use Rattle.std.proofs.lemmas.Bool.{cases_lt}
+use Rattle.plan_model.specs.Cells.{Cell}
+use Rattle.plan_model.specs.Plans.{PlannedTest}
+use Rattle.plan_model.specs.Runs.{Content, chain_at, next_bits}
+use Rattle.bit_machine.specs.Chips.{chain_holds, holds}
+use Rattle.bit_machine.specs.Paths.{path_bits, path_stimulus, path_response, answer_by, turn_value, moment_operation, moment_behind, IsPath, IsMoment}
+use Rattle.bit_machine.specs.Lanes.{lane_bits, IsSound, IsWired, IsLane, IsAnswer}
+use Rattle.bit_machine.specs.declared.path.Path.{Path}
+use Rattle.bit_machine.specs.declared.lane.Lane.{Lane}
+use Rattle.bit_machine.specs.declared.moments.Moment.{Moment}
+use Rattle.bit_machine.specs.declared.moments.Turn.{Turn}
+
+-- ---- an item of a list
+
+pub slice_at : {X : Type 0} (xs : List X) (i : ℕ) (x : X) → i < length xs → x ≡ get_or xs i x → slice_get xs i ≡ Some x
+slice_at xs i x h e = slice_get-get_or xs i x h ∙ ap Some (sym e)
+
+pub from_set : {X : Type 0} (xs : List X) (i j : ℕ) (y z : X) → slice_get (set xs i y) j ≡ Some z → ((j ≡ i) × (z ≡ y)) ⊎ (slice_get xs j ≡ Some z)
+from_set [] i j y z e = absurd cc
+from_set (x ∷ xs) zero zero y z e = let same : y ≡ z = cc in inl (refl, sym same)
+from_set (x ∷ xs) zero (suc j) y z e = inr e
+from_set (x ∷ xs) (suc i) zero y z e = inr e
+from_set (x ∷ xs) (suc i) (suc j) y z e = elim (from_set xs i j y z e) [
+  | inl a ↦ inl (ap suc a.0, a.1)
+  | inr a ↦ inr a
+]
+
+-- ---- a path in its lane
+
+pub sound_path : (inputs : ℕ) (lengths : List ℕ) (cells : List Cell) (p : Path) → IsPath inputs lengths cells p → IsSound p
+sound_path inputs lengths cells p is = record {
+  ring = is.ring;
+  loads = let a = is.loads_long in let b = is.long in let d = is.chain.in_fit in omega arith;
+  answers = let a = is.answers_long in let b = is.long in let d = is.chain.out_fit in omega arith;
+}
+
+pub bits_of_path : (lane : Lane) (j : ℕ) (p : Path) → slice_get lane.paths.items j ≡ Some p → get_or (lane_bits lane) j [] ≡ path_bits p
+bits_of_path lane j p at =
+    get_or-map path_bits lane.paths.items j p [] (slice_get_within lane.paths.items j p at) ∙ ap path_bits (get_or_from_slice_get lane.paths.items j p p at)
+
+-- ---- what is read
+
+pub answer_is : (content : Content) (t : PlannedTest) (lane : Lane) (cycle j : ℕ) (p : Path) (m : Moment) (b : Option Turn) (r : Option Bool) → t.tam ≡ true → IsLane content t lane → slice_get lane.paths.items j ≡ Some p →
+    IsMoment lane.phases (cycle - lane.start) m → option_map turn_value b ≡ moment_behind m →
+    ((inputs : ℕ) (lengths : List ℕ) (cells : List Cell) → IsPath inputs lengths cells p → r ≡ answer_by (path_response lane.base lengths) cells (option_map turn_value b)) → IsAnswer content t lane cycle j r
+answer_is content t lane cycle j p m b r tam is at here behind bits =
+    let w : IsWired content t lane = is.wired tam in
+    record {
+      moment = m;
+      is = here;
+      bit = bits w.inputs w.lengths (chain_at t j) (w.path j p at) ∙ rw (behind, w.response) refl;
+    }
+
+-- ---- what is held
+
+pub all_zip : {X Y : Type 0} (P : X × Y → Bool) (xs : List X) (ys : List Y) (d : X) (e : Y) → length ys ≡ length xs → ((j : ℕ) → j < length xs → P (get_or xs j d, get_or ys j e) ≡ true) → list_all P (zip xs ys) ≡ true
+all_zip P [] ys d e long each = refl
+all_zip P (x ∷ xs) [] d e long each = absurd (omega arith)
+all_zip P (x ∷ xs) (y ∷ ys) d e long each = rw (each 0 (omega arith), all_zip P xs ys d e (omega arith) (λ j h. each (suc j) (omega arith))) refl
+
+and_false : (b : Bool) → (b && false) ≡ false
+and_false true = refl
+and_false false = refl
+
+pub one_zip : {X Y : Type 0} (P : X × Y → Bool) (xs : List X) (ys : List Y) (d : X) (e : Y) (j : ℕ) → length ys ≡ length xs → j < length xs → P (get_or xs j d, get_or ys j e) ≡ false → list_all P (zip xs ys) ≡ false
+one_zip P [] ys d e j long h fails = absurd (omega arith)
+one_zip P (x ∷ xs) [] d e j long h fails = absurd (omega arith)
+one_zip P (x ∷ xs) (y ∷ ys) d e zero long h fails = rw fails refl
+one_zip P (x ∷ xs) (y ∷ ys) d e (suc j) long h fails = rw (one_zip P xs ys d e j (omega arith) (omega arith) fails) (and_false (P (x, y)))
+
+-- a chain of the lane holds a pattern
+pub PathHolds : Content → PlannedTest → Lane → ℕ → ℕ → Bool → Type 0
+PathHolds content t lane k j b = chain_holds (content.stimulus t.id k) (chain_at t j) (get_or (lane_bits lane) j []) ≡ b
+
+pub path_holds_in : (content : Content) (t : PlannedTest) (lane : Lane) (k j : ℕ) (p : Path) (b : Bool) → t.tam ≡ true → IsLane content t lane → slice_get lane.paths.items j ≡ Some p →
+    ((inputs : ℕ) (lengths : List ℕ) (cells : List Cell) → IsPath inputs lengths cells p → b ≡ chain_holds (path_stimulus lane.base inputs lengths k) cells (path_bits p)) → PathHolds content t lane k j b
+unfolding PathHolds
+path_holds_in content t lane k j p b tam is at bits =
+    let w : IsWired content t lane = is.wired tam in
+    rw (bits_of_path lane j p at, w.stimulus) (sym (bits w.inputs w.lengths (chain_at t j) (w.path j p at)))
+
+lane_long : (content : Content) (t : PlannedTest) (lane : Lane) → t.tam ≡ true → IsLane content t lane → length (lane_bits lane) ≡ length t.chains
+lane_long content t lane tam is = length-map lane.paths.items path_bits ∙ (is.wired tam).chains
+
+pub all_hold : (content : Content) (t : PlannedTest) (lane : Lane) (k n : ℕ) → t.tam ≡ true → IsLane content t lane → length lane.paths.items ≤ n → ((j : ℕ) → j < n → PathHolds content t lane k j true) → true ≡ holds (content.stimulus t.id k) t.chains (lane_bits lane)
+unfolding PathHolds
+all_hold content t lane k n tam is all each =
+    let chains : length lane.paths.items ≡ length t.chains = (is.wired tam).chains in
+    sym (all_zip (λ (p : List Cell × List Bool). chain_holds (content.stimulus t.id k) p.0 p.1) t.chains (lane_bits lane) [] [] (lane_long content t lane tam is) (λ j h. each j (omega arith)))
+
+pub one_differs : (content : Content) (t : PlannedTest) (lane : Lane) (k j : ℕ) → t.tam ≡ true → IsLane content t lane → j < length lane.paths.items → PathHolds content t lane k j false → false ≡ holds (content.stimulus t.id k) t.chains (lane_bits lane)
+unfolding PathHolds
+one_differs content t lane k j tam is h fails =
+    let chains : length lane.paths.items ≡ length t.chains = (is.wired tam).chains in
+    sym (one_zip (λ (p : List Cell × List Bool). chain_holds (content.stimulus t.id k) p.0 p.1) t.chains (lane_bits lane) [] [] j (lane_long content t lane tam is) (omega arith) fails)
+
+-- ---- a chain that was stepped
+
+-- the lane with this path in the place of one
+abbrev pub with_path : Lane → ℕ → Path → Lane
+with_path lane j q = record {
+  tam = lane.tam;
+  base = lane.base;
+  start = lane.start;
+  end = lane.end;
+  phases = lane.phases;
+  first_wire = lane.first_wire;
+  width = lane.width;
+  paths = with_item lane.paths j q;
+}
+
+-- what a step does to a path, whatever its cells are
+abbrev pub Steps : Lane → Moment → Bool → Path → Path → Type 0
+Steps lane m drive p q = (inputs : ℕ) (lengths : List ℕ) (cells : List Cell) → IsPath inputs lengths cells p → IsPath inputs lengths cells q
+
+wired_path : (content : Content) (t : PlannedTest) (lane : Lane) (j : ℕ) (p q : Path) → IsWired content t lane → slice_get lane.paths.items j ≡ Some p → ((inputs : ℕ) (lengths : List ℕ) (cells : List Cell) → IsPath inputs lengths cells p → IsPath inputs lengths cells q) → IsWired content t (with_path lane j q)
+wired_path content t lane j p q w at steps = record {
+  operations = w.operations;
+  out_fits = w.out_fits;
+  first_wire = w.first_wire;
+  width = w.width;
+  chains = length-set lane.paths.items j q ∙ w.chains;
+  inputs = w.inputs;
+  lengths = w.lengths;
+  stimulus = w.stimulus;
+  response = w.response;
+  path = λ i r at'. elim (from_set lane.paths.items j i q r at') [
+    | inl here ↦ rw (here.0, here.1) (steps w.inputs w.lengths (chain_at t j) (w.path j p at))
+    | inr other ↦ w.path i r other
+  ];
+}
+
+pub lane_stepped : (content : Content) (t : PlannedTest) (lane : Lane) (j : ℕ) (p q : Path) → t.tam ≡ true → IsLane content t lane → slice_get lane.paths.items j ≡ Some p →
+    ((inputs : ℕ) (lengths : List ℕ) (cells : List Cell) → IsPath inputs lengths cells p → IsPath inputs lengths cells q) → IsLane content t (with_path lane j q)
+lane_stepped content t lane j p q tam is at steps =
+    let w : IsWired content t lane = is.wired tam in
+    record {
+      ready = record {
+        base = is.ready.base;
+        phases = is.ready.phases;
+        paths = λ i r at'. elim (from_set lane.paths.items j i q r at') [
+          | inl here ↦ rw here.1 (sound_path w.inputs w.lengths (chain_at t j) q (steps w.inputs w.lengths (chain_at t j) (w.path j p at)))
+          | inr other ↦ is.ready.paths i r other
+        ];
+      };
+      tam = is.tam;
+      start = is.start;
+      ends = is.ends;
+      wired = λ tam. wired_path content t lane j p q w at steps;
+      alone = λ none. let e : true ≡ false = sym tam ∙ none in absurd cc;
+    }
+
+pub lane_bits_stepped : (content : Content) (t : PlannedTest) (lane : Lane) (cycle j : ℕ) (p q : Path) (m : Moment) (drive : Bool) → t.tam ≡ true → IsLane content t lane → slice_get lane.paths.items j ≡ Some p → IsMoment lane.phases (cycle - lane.start) m →
+    ((inputs : ℕ) (lengths : List ℕ) (cells : List Cell) → IsPath inputs lengths cells p → path_bits q ≡ next_bits (path_response lane.base lengths) cells (Some (moment_operation m)) drive (path_bits p)) →
+    lane_bits (with_path lane j q) ≡ set (lane_bits lane) j (next_bits (content.response t.id) (chain_at t j) (slice_get t.operations (cycle - t.start)) drive (get_or (lane_bits lane) j []))
+lane_bits_stepped content t lane cycle j p q m drive tam is at here bits =
+    let w : IsWired content t lane = is.wired tam in
+    let op : slice_get t.operations (cycle - t.start) ≡ Some (moment_operation m) = rw (w.operations, ← is.start) here.operation in
+    map-set path_bits lane.paths.items j q
+    ∙ ap (set (lane_bits lane) j) (bits w.inputs w.lengths (chain_at t j) (w.path j p at) ∙ rw (op, w.response, bits_of_path lane j p at) refl)
+
+pub path_holds_next : (content : Content) (t : PlannedTest) (lane : Lane) (k n : ℕ) → ((j : ℕ) → j < n → PathHolds content t lane k j true) → PathHolds content t lane k n true → (j : ℕ) → j < n + 1 → PathHolds content t lane k j true
+path_holds_next content t lane k n before here j h = elim (cases_lt j n) [
+  | inl less ↦ before j less
+  | inr past ↦ let same : n ≡ j = omega arith in rw (← same) here
+]

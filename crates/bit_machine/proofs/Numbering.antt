@@ -1,0 +1,229 @@
+-- The numbers of the cells of a chain, in a stimulus and in a response.
+use Rattle.std.proofs.Common.{◌≡◌, ℕ, zero, suc, ◌+◌, ◌-◌, ◌≤◌, ◌<◌, Bool, true, false, Some, List, [], ◌∷◌, ◌++◌, length, get_or, map, take, replicate, refl, ap, sym, ◌∙◌, arith, inl, inr, cond, append_assoc}
+use Rattle.std.specs.Prelude.{slice_get, slice_index}
+use Rattle.std.specs.List.{All, sum, count_by, flat_map, range_with_len}
+use Rattle.std.proofs.lemmas.List.{length-append, length-map, get_or-map, get_or_append_left, get_or-append_right, take_more, append-nil, length-replicate}
+use Rattle.std.proofs.lemmas.List.FromFn.{length-range_with_len}
+use Rattle.std.proofs.lemmas.Grind.{flat_map-append}
+use Rattle.std.proofs.lemmas.List.Sums.{sum_by_more_le, sum_by-append}
+use Rattle.std.proofs.lemmas.List.Elements.{All-get_or, All-append, All-map, All-nil}
+use Rattle.plan_model.specs.Cells.{Cell, In, Flop, Out, is_loaded, is_read, in_length, out_length, in_cells, out_cells, flops}
+use Rattle.plan_model.proofs.CellOrder.{count_none, count_all}
+use Rattle.bit_machine.specs.Sessions.{response_place}
+use Rattle.bit_machine.specs.Chips.{stimulus_place}
+use Rattle.bit_machine.specs.Layouts.{IsStarts}
+use Rattle.std.proofs.lemmas.Option.{same_Some}
+use Rattle.plan_model.proofs.Lists.{from_append}
+use Rattle.bit_machine.specs.Building.{flop_numbers, IsNewPath, AreNewPaths}
+use Rattle.bit_machine.specs.Paths.{IsChain, IsRing, path_bits}
+use Rattle.bit_machine.specs.declared.path.Path.{Path}
+use Rattle.bit_machine.proofs.PathBits.{any_default}
+
+-- ---- pushed numbers
+
+pub range_more : (a n : ℕ) → range_with_len a (n + 1) ≡ range_with_len a n ++ (a + n) ∷ []
+range_more a zero = let e : a + 0 ≡ a = omega arith in rw e refl
+range_more a (suc n) =
+    let e : suc n + 1 ≡ suc (n + 1) = omega arith in
+    let f : (a + 1) + n ≡ a + suc n = omega arith in
+    rw e (ap (λ v. a ∷ v) (range_more (a + 1) n ∙ rw f refl))
+
+pub numbers_more : (old now new : List ℕ) (from n x : ℕ) → now ≡ old ++ range_with_len from n → new ≡ now ++ x ∷ [] → x ≡ from + n → new ≡ old ++ range_with_len from (n + 1)
+numbers_more old now new from n x before pushed is = pushed ∙ rw (before, is, append_assoc, range_more from n) refl
+
+pub scans_more : (old now new : List ℕ) (f : ℕ → List ℕ) (scans : List ℕ) (k c : ℕ) → k < length scans → c ≡ get_or scans k 0 → now ≡ old ++ flat_map f (take k scans) → new ≡ now ++ f c → new ≡ old ++ flat_map f (take (k + 1) scans)
+scans_more old now new f scans k c h at before pushed =
+    let more : flat_map f (take (k + 1) scans) ≡ flat_map f (take k scans) ++ f c = ap (flat_map f) (take_more scans k 0 h) ∙ flat_map-append f (take k scans) (get_or scans k 0 ∷ []) ∙ ap (λ v. flat_map f (take k scans) ++ v) (append-nil (f (get_or scans k 0)) ∙ ap f (sym at)) in
+    pushed ∙ rw (before, append_assoc) (ap (λ v. old ++ v) (sym more))
+
+pub start_fits : (lengths starts : List ℕ) (c x : ℕ) → IsStarts lengths starts → c < length lengths → x ≡ get_or starts c x → (x ≡ sum (take c lengths)) × (x + slice_index lengths c ≤ sum lengths)
+start_fits lengths starts c x is h at =
+    let long : length starts ≡ length lengths = is.long in
+    let start : x ≡ sum (take c lengths) = at ∙ any_default starts c x 0 (omega arith) ∙ is.start c h in
+    let all : sum (take c lengths) + get_or lengths c 0 ≤ sum lengths = sum_by_more_le (λ x. x) lengths c 0 h in
+    (start, omega arith)
+
+-- ---- what the cells of a chain are
+
+pub ins_loaded : (i n : ℕ) → All (λ x. is_loaded x ≡ true) (in_cells i n)
+ins_loaded i n = All-map (λ x. is_loaded x ≡ true) (λ k. In k) (range_with_len i n) (λ k d h. refl)
+
+ins_unread : (i n : ℕ) → All (λ x. is_read x ≡ false) (in_cells i n)
+ins_unread i n = All-map (λ x. is_read x ≡ false) (λ k. In k) (range_with_len i n) (λ k d h. refl)
+
+pub outs_unloaded : (o n : ℕ) → All (λ x. is_loaded x ≡ false) (out_cells o n)
+outs_unloaded o n = All-map (λ x. is_loaded x ≡ false) (λ k. Out k) (range_with_len o n) (λ k d h. refl)
+
+outs_read : (o n : ℕ) → All (λ x. is_read x ≡ true) (out_cells o n)
+outs_read o n = All-map (λ x. is_read x ≡ true) (λ k. Out k) (range_with_len o n) (λ k d h. refl)
+
+pub flops_loaded : (lengths scans : List ℕ) → All (λ x. is_loaded x ≡ true) (flat_map (flops lengths) scans)
+flops_loaded lengths [] = All-nil (λ x. is_loaded x ≡ true)
+flops_loaded lengths (c ∷ cs) = All-append (λ x. is_loaded x ≡ true) (flops lengths c) (flat_map (flops lengths) cs) (All-map (λ x. is_loaded x ≡ true) (λ i. Flop c i) (range_with_len 0 (slice_index lengths c)) (λ k d h. refl)) (flops_loaded lengths cs)
+
+flops_read : (lengths scans : List ℕ) → All (λ x. is_read x ≡ true) (flat_map (flops lengths) scans)
+flops_read lengths [] = All-nil (λ x. is_read x ≡ true)
+flops_read lengths (c ∷ cs) = All-append (λ x. is_read x ≡ true) (flops lengths c) (flat_map (flops lengths) cs) (All-map (λ x. is_read x ≡ true) (λ i. Flop c i) (range_with_len 0 (slice_index lengths c)) (λ k d h. refl)) (flops_read lengths cs)
+
+-- ---- a chain in three parts
+
+-- input cells, flops and output cells
+record Parts (a b c : List Cell) : Type 0 where
+  pub ins_in : All (λ x. is_loaded x ≡ true) a
+  pub ins_out : All (λ x. is_read x ≡ false) a
+  pub mid_in : All (λ x. is_loaded x ≡ true) b
+  pub mid_out : All (λ x. is_read x ≡ true) b
+  pub outs_in : All (λ x. is_loaded x ≡ false) c
+  pub outs_out : All (λ x. is_read x ≡ true) c
+
+count_split : (p : Cell → Bool) (a b : List Cell) → count_by p (a ++ b) ≡ count_by p a + count_by p b
+count_split p a b = sum_by-append (λ x. cond (p x) 1 0) a b
+
+in_is : (a b c : List Cell) → Parts a b c → in_length (a ++ b ++ c) ≡ length a + length b
+in_is a b c is = count_split is_loaded (a ++ b) c ∙ omega (arith, count_split is_loaded a b, count_all is_loaded a is.ins_in, count_all is_loaded b is.mid_in, count_none is_loaded c is.outs_in)
+
+out_is : (a b c : List Cell) → Parts a b c → out_length (a ++ b ++ c) ≡ length b + length c
+out_is a b c is = count_split is_read (a ++ b) c ∙ omega (arith, count_split is_read a b, count_none is_read a is.ins_out, count_all is_read b is.mid_out, count_all is_read c is.outs_out)
+
+long_is : (a b c : List Cell) → length (a ++ b ++ c) ≡ length a + length b + length c
+long_is a b c = length-append (a ++ b) c ∙ omega (arith, length-append a b)
+
+front_at : (a b c : List Cell) (r : ℕ) → r < length a + length b → get_or (a ++ b ++ c) r (In 0) ≡ get_or (a ++ b) r (In 0)
+front_at a b c r h = get_or_append_left (a ++ b) c (In 0) r (omega (arith, length-append a b))
+
+back_at : (a b c : List Cell) (r q : ℕ) → r ≡ length a + q → get_or (a ++ b ++ c) r (In 0) ≡ get_or (b ++ c) q (In 0)
+back_at a b c r q e =
+    let number : r - length a ≡ q = omega arith in
+    ap (λ v. get_or v r (In 0)) (append_assoc a b c) ∙ get_or-append_right a (b ++ c) (length a) r (In 0) refl (omega arith) ∙ rw number refl
+
+chain_parts : (a b c : List Cell) → Parts a b c → IsChain (a ++ b ++ c)
+chain_parts a b c is = record {
+  in_fit = omega (arith, i, n);
+  out_fit = omega (arith, o, n);
+  loaded = λ r h. rw (front_at a b c r (omega (arith, i, h))) (All-get_or (λ x. is_loaded x ≡ true) (a ++ b) r (In 0) (omega (arith, i, h, length-append a b)) (All-append (λ x. is_loaded x ≡ true) a b is.ins_in is.mid_in));
+  unloaded = λ r h h'. rw (get_or-append_right (a ++ b) c (length a + length b) r (In 0) (length-append a b) (omega (arith, i, h))) (All-get_or (λ x. is_loaded x ≡ false) c (r - (length a + length b)) (In 0) (omega (arith, i, n, h, h')) is.outs_in);
+  unread = λ r h.
+      rw (front_at a b c r (omega (arith, o, n, h)), get_or_append_left a b (In 0) r (omega (arith, o, n, h))) (All-get_or (λ x. is_read x ≡ false) a r (In 0) (omega (arith, o, n, h)) is.ins_out);
+  read = λ r h h'.
+      rw (back_at a b c r (r - length a) (omega (arith, o, n, h))) (All-get_or (λ x. is_read x ≡ true) (b ++ c) (r - length a) (In 0) (omega (arith, o, n, h, h', length-append b c)) (All-append (λ x. is_read x ≡ true) b c is.mid_out is.outs_out));
+}
+  where
+    i : in_length (a ++ b ++ c) ≡ length a + length b
+    i = in_is a b c is
+
+    o : out_length (a ++ b ++ c) ≡ length b + length c
+    o = out_is a b c is
+
+    n : length (a ++ b ++ c) ≡ length a + length b + length c
+    n = long_is a b c
+
+-- ---- the numbers of the cells
+
+shifted_range : (a b n : ℕ) → map (λ k. a + k) (range_with_len b n) ≡ range_with_len (a + b) n
+shifted_range a b zero = refl
+shifted_range a b (suc n) = let e : a + b + 1 ≡ a + (b + 1) = omega arith in rw e (ap (λ v. (a + b) ∷ v) (shifted_range a (b + 1) n))
+
+map_map : {X Y Z : Type 0} (f : Y → Z) (g : X → Y) (xs : List X) → map f (map g xs) ≡ map (λ x. f (g x)) xs
+map_map f g [] = refl
+map_map f g (x ∷ xs) = ap (λ v. f (g x) ∷ v) (map_map f g xs)
+
+map_itself : (xs : List ℕ) → map (λ k. k) xs ≡ xs
+map_itself [] = refl
+map_itself (x ∷ xs) = ap (λ v. x ∷ v) (map_itself xs)
+
+pub map_append : {X Y : Type 0} (f : X → Y) (xs ys : List X) → map f (xs ++ ys) ≡ map f xs ++ map f ys
+map_append f [] ys = refl
+map_append f (x ∷ xs) ys = ap (λ v. f x ∷ v) (map_append f xs ys)
+
+pub ins_numbers : (inputs : ℕ) (lengths : List ℕ) (i n : ℕ) → map (stimulus_place inputs lengths) (in_cells i n) ≡ range_with_len i n
+ins_numbers inputs lengths i n = map_map (stimulus_place inputs lengths) (λ k. In k) (range_with_len i n) ∙ map_itself (range_with_len i n)
+
+outs_numbers : (lengths : List ℕ) (o n : ℕ) → map (response_place lengths) (out_cells o n) ≡ range_with_len (sum lengths + o) n
+outs_numbers lengths o n = map_map (response_place lengths) (λ k. Out k) (range_with_len o n) ∙ shifted_range (sum lengths) o n
+
+pub flop_loads : (inputs : ℕ) (lengths scans : List ℕ) → map (stimulus_place inputs lengths) (flat_map (flops lengths) scans) ≡ flat_map (flop_numbers inputs lengths) scans
+flop_loads inputs lengths [] = refl
+flop_loads inputs lengths (c ∷ cs) =
+    map_append (stimulus_place inputs lengths) (flops lengths c) (flat_map (flops lengths) cs)
+    ∙ rw (here, flop_loads inputs lengths cs) refl
+  where
+    same : (n k : ℕ) → map (λ i. inputs + (sum (take c lengths) + i)) (range_with_len k n) ≡ range_with_len (inputs + sum (take c lengths) + k) n
+    same zero k = refl
+    same (suc n) k =
+        let e : inputs + (sum (take c lengths) + k) ≡ inputs + sum (take c lengths) + k = omega arith in
+        let f : inputs + sum (take c lengths) + (k + 1) ≡ inputs + sum (take c lengths) + k + 1 = omega arith in
+        rw (e, same n (k + 1), f) refl
+
+    none : inputs + sum (take c lengths) + 0 ≡ inputs + sum (take c lengths)
+    none = omega arith
+
+    here : map (stimulus_place inputs lengths) (flops lengths c) ≡ flop_numbers inputs lengths c
+    here = map_map (stimulus_place inputs lengths) (λ i. Flop c i) (range_with_len 0 (slice_index lengths c)) ∙ same (slice_index lengths c) 0 ∙ rw none refl
+
+pub flop_answers : (lengths scans : List ℕ) → map (response_place lengths) (flat_map (flops lengths) scans) ≡ flat_map (flop_numbers 0 lengths) scans
+flop_answers lengths [] = refl
+flop_answers lengths (c ∷ cs) =
+    map_append (response_place lengths) (flops lengths c) (flat_map (flops lengths) cs) ∙ rw (here, flop_answers lengths cs) refl
+  where
+    start : sum (take c lengths) + 0 ≡ 0 + sum (take c lengths)
+    start = omega arith
+
+    here : map (response_place lengths) (flops lengths c) ≡ flop_numbers 0 lengths c
+    here = map_map (response_place lengths) (λ i. Flop c i) (range_with_len 0 (slice_index lengths c)) ∙ shifted_range (sum (take c lengths)) 0 (slice_index lengths c) ∙ rw start refl
+
+zeros : (xs : List Cell) → map (λ x. false) xs ≡ replicate (length xs) false
+zeros [] = refl
+zeros (x ∷ xs) = ap (λ v. false ∷ v) (zeros xs)
+
+-- a chain of these parts
+path_parts : (inputs : ℕ) (lengths : List ℕ) (a b c : List Cell) (p : Path) → Parts a b c → p.loads.items ≡ map (stimulus_place inputs lengths) (a ++ b) → p.answers.items ≡ map (response_place lengths) (b ++ c) → IsRing p.ring →
+    path_bits p ≡ replicate (length p.loads.items + length c) false → IsNewPath inputs lengths (a ++ b ++ c) p
+path_parts inputs lengths a b c p parts loads answers ring bits = record {
+  is = record {
+    chain = chain_parts a b c parts;
+    ring = ring;
+    long = ap length bits ∙ length-replicate (length p.loads.items + length c) false ∙ omega (arith, n, l);
+    loads_long = l ∙ sym (in_is a b c parts);
+    load = λ r h.
+        let less : r < length a + length b = omega (arith, h, in_is a b c parts) in
+        rw (loads, get_or-map (stimulus_place inputs lengths) (a ++ b) r (In 0) 0 (omega (arith, less, length-append a b)), front_at a b c r less) refl;
+    answers_long = ap length answers ∙ length-map (b ++ c) (response_place lengths) ∙ length-append b c ∙ sym (out_is a b c parts);
+    answer = λ r q e h.
+        let place : r ≡ length a + q = omega (arith, e, n, out_is a b c parts) in
+        let less : q < length b + length c = omega (arith, place, h, n) in
+        rw (answers, get_or-map (response_place lengths) (b ++ c) q (In 0) 0 (omega (arith, less, length-append b c)), back_at a b c r q place) refl;
+  };
+  zero = bits ∙ (let total : length p.loads.items + length c ≡ length (a ++ b ++ c) = omega (arith, n, l) in rw total (sym (zeros (a ++ b ++ c))));
+}
+  where
+    n : length (a ++ b ++ c) ≡ length a + length b + length c
+    n = long_is a b c
+
+    l : length p.loads.items ≡ length a + length b
+    l = ap length loads ∙ length-map (a ++ b) (stimulus_place inputs lengths) ∙ length-append a b
+
+pub new_path : (inputs : ℕ) (lengths : List ℕ) (i o ins outs from : ℕ) (scans : List ℕ) (p : Path) → p.loads.items ≡ range_with_len i ins ++ flat_map (flop_numbers inputs lengths) scans → p.answers.items ≡ flat_map (flop_numbers 0 lengths) scans ++ range_with_len from outs →
+    from ≡ sum lengths + o → IsRing p.ring → path_bits p ≡ replicate (length p.loads.items + outs) false → IsNewPath inputs lengths (in_cells i ins ++ flat_map (flops lengths) scans ++ out_cells o outs) p
+new_path inputs lengths i o ins outs from scans p loads answers start ring bits =
+    path_parts inputs lengths (in_cells i ins) (flat_map (flops lengths) scans) (out_cells o outs) p
+    (record { ins_in = ins_loaded i ins; ins_out = ins_unread i ins; mid_in = flops_loaded lengths scans; mid_out = flops_read lengths scans; outs_in = outs_unloaded o outs; outs_out = outs_read o outs })
+    (loads ∙ sym (map_append (stimulus_place inputs lengths) (in_cells i ins) (flat_map (flops lengths) scans) ∙ rw (ins_numbers inputs lengths i ins, flop_loads inputs lengths scans) refl))
+    (answers ∙ sym (map_append (response_place lengths) (flat_map (flops lengths) scans) (out_cells o outs) ∙ rw (flop_answers lengths scans, outs_numbers lengths o outs, start) refl)) ring
+    (bits ∙ rw (length-map (range_with_len o outs) (λ k. Out k) ∙ length-range_with_len o outs) refl)
+
+-- one chain more
+pub paths_more : (inputs : ℕ) (lengths : List ℕ) (chains : List (List Cell)) (n : ℕ) (paths new : List Path) (p : Path) → AreNewPaths inputs lengths chains n paths → new ≡ paths ++ p ∷ [] → IsNewPath inputs lengths (get_or chains n []) p → AreNewPaths inputs lengths chains (n + 1) new
+paths_more inputs lengths chains n paths new p are pushed is = rw pushed (record {
+  long = length-append paths (p ∷ []) ∙ omega (arith, are.long);
+  each = λ j q at. elim (from_append paths (p ∷ []) j q at) [
+    | inl old ↦ are.each j q old
+    | inr last ↦ the_last j q last.0 last.1 last.2
+  ];
+})
+  where
+    the_last : (j : ℕ) (q : Path) (k : ℕ) → j ≡ length paths + k → slice_get (p ∷ []) k ≡ Some q → IsNewPath inputs lengths (get_or chains j []) q
+    the_last j q zero place at =
+        let here : n ≡ j = omega (arith, are.long, place) in
+        let same : p ≡ q = same_Some _ _ at in
+        rw (← here, ← same) is
+    the_last j q (suc k) place at = absurd cc

@@ -1,0 +1,123 @@
+-- What a chain holds, and what a capture leaves in it, cell by cell.
+use Rattle.std.proofs.Common.{◌≡◌, ℕ, zero, suc, ◌+◌, ◌-◌, ◌≤◌, ◌<◌, ◌⊎◌, Bool, true, false, true≢false, not, List, [], ◌∷◌, length, get_or, refl, ap, sym, ◌∙◌, arith, inl, inr}
+use Rattle.std.specs.Prelude.{◌||◌, ◌&&◌, slice_index}
+use Rattle.std.proofs.lemmas.List.{same_lists}
+use Rattle.std.proofs.lemmas.Bool.{cases_lt}
+use mathlib.Core.Bool.{beq}
+use Rattle.plan_model.specs.Cells.{Cell, In, is_loaded, is_read, in_length, out_length}
+use Rattle.plan_model.specs.Runs.{captured}
+use Rattle.plan_model.proofs.ChainShifts.{get_or-captured, length-captured}
+use Rattle.bit_machine.specs.Chips.{same_bit, chain_holds}
+use Rattle.bit_machine.specs.declared.path.Path.{Path}
+use Rattle.bit_machine.specs.Paths.{IsPath, IsRing, path_bits, path_stimulus, path_response, made_from}
+
+-- ---- what a chain holds
+
+same_bit_itself : (b : Bool) → same_bit b b ≡ true
+same_bit_itself true = refl
+same_bit_itself false = refl
+
+same_bit_differs : (a b : Bool) → (a ≡ b → ⊥) → same_bit a b ≡ false
+same_bit_differs true true e = absurd (e refl)
+same_bit_differs true false e = refl
+same_bit_differs false true e = refl
+same_bit_differs false false e = absurd (e refl)
+
+and_false : (b : Bool) → (b && false) ≡ false
+and_false true = refl
+and_false false = refl
+
+pub holds_true : (f : Cell → Bool) (cells : List Cell) (bits : List Bool) → length bits ≡ length cells → ((r : ℕ) → r < length cells → is_loaded (get_or cells r (In 0)) ≡ true → get_or bits r false ≡ f (get_or cells r (In 0))) → chain_holds f cells bits ≡ true
+holds_true f [] bits long each = refl
+holds_true f (x ∷ cells) [] long each = absurd (omega arith)
+holds_true f (x ∷ cells) (b ∷ bits) long each = rw (here (is_loaded x) refl) (holds_true f cells bits (omega arith) (λ r h loaded. each (suc r) (omega arith) loaded)) where
+  here : (l : Bool) → is_loaded x ≡ l → (not (is_loaded x) || same_bit b (f x)) ≡ true
+  here true e = let same : b ≡ f x = each 0 (omega arith) e in rw (e, same) (same_bit_itself (f x))
+  here false e = rw e refl
+
+holds_false : (f : Cell → Bool) (cells : List Cell) (bits : List Bool) (r : ℕ) → length bits ≡ length cells → r < length cells → is_loaded (get_or cells r (In 0)) ≡ true → (get_or bits r false ≡ f (get_or cells r (In 0)) → ⊥) → chain_holds f cells bits ≡ false
+holds_false f [] bits r long h loaded differs = absurd (omega arith)
+holds_false f (x ∷ cells) [] r long h loaded differs = absurd (omega arith)
+holds_false f (x ∷ cells) (b ∷ bits) zero long h loaded differs = rw (loaded, same_bit_differs b (f x) differs) refl
+holds_false f (x ∷ cells) (b ∷ bits) (suc r) long h loaded differs =
+    let later : chain_holds f cells bits ≡ false = holds_false f cells bits r (omega arith) (omega arith) loaded differs in
+    rw later (and_false (not (is_loaded x) || same_bit b (f x)))
+
+pub path_holds : (base k inputs : ℕ) (lengths : List ℕ) (cells : List Cell) (p : Path) → IsPath inputs lengths cells p →
+    ((r : ℕ) → r < length p.loads.items → get_or (path_bits p) r false ≡ made_from base k (slice_index p.loads.items r) 0) → true ≡ chain_holds (path_stimulus base inputs lengths k) cells (path_bits p)
+path_holds base k inputs lengths cells p is each = sym (holds_true (path_stimulus base inputs lengths k) cells (path_bits p) is.long (λ r h loaded. here r h loaded (cases_lt r (in_length cells)))) where
+  here : (r : ℕ) → r < length cells → is_loaded (get_or cells r (In 0)) ≡ true → (r < in_length cells) ⊎ (in_length cells ≤ r) → get_or (path_bits p) r false ≡ path_stimulus base inputs lengths k (get_or cells r (In 0))
+  here r h loaded (inl less) = let long : length p.loads.items ≡ in_length cells = is.loads_long in each r (omega arith) ∙ ap (λ n. made_from base k n 0) (is.load r less)
+  here r h loaded (inr past) = absurd (true≢false (sym loaded ∙ is.chain.unloaded r past h))
+
+pub path_differs : (base k inputs r : ℕ) (lengths : List ℕ) (cells : List Cell) (p : Path) → IsPath inputs lengths cells p → r < length p.loads.items →
+    (get_or (path_bits p) r false ≡ made_from base k (slice_index p.loads.items r) 0 → ⊥) → false ≡ chain_holds (path_stimulus base inputs lengths k) cells (path_bits p)
+path_differs base k inputs r lengths cells p is h differs =
+    let long : length p.loads.items ≡ in_length cells = is.loads_long in
+    let fit : in_length cells ≤ length cells = is.chain.in_fit in
+    let less : r < in_length cells = omega arith in
+    sym (holds_false (path_stimulus base inputs lengths k) cells (path_bits p) r is.long (omega arith) (is.chain.loaded r less) (λ same. differs (same ∙ sym (ap (λ n. made_from base k n 0) (is.load r less)))))
+
+-- ---- what a capture leaves
+
+captured_unread : (f : Cell → Bool) (cells : List Cell) (bits : List Bool) (j : ℕ) → j < length cells → j < length bits → is_read (get_or cells j (In 0)) ≡ false → get_or (captured f cells bits) j false ≡ get_or bits j false
+captured_unread f [] bits j h l r = absurd (omega arith)
+captured_unread f (x ∷ cells) [] j h l r = absurd (omega arith)
+captured_unread f (x ∷ cells) (b ∷ bits) zero h l r = rw r refl
+captured_unread f (x ∷ cells) (b ∷ bits) (suc j) h l r = captured_unread f cells bits j (omega arith) (omega arith) r
+
+pub any_default : {X : Type 0} (xs : List X) (k : ℕ) (a b : X) → k < length xs → get_or xs k a ≡ get_or xs k b
+any_default [] k a b h = absurd (omega arith)
+any_default (x ∷ xs) zero a b h = refl
+any_default (x ∷ xs) (suc k) a b h = any_default xs k a b (omega arith)
+
+-- what the loop of a capture has done, up to a number of answers
+pub record CaptureDone (base k from q : ℕ) (answers : List ℕ) (old new : List Bool) : Type 0 where
+  pub long : length new ≡ length old
+  pub done : (j : ℕ) → from ≤ j → j < from + q → get_or new j false ≡ made_from base k (slice_index answers (j - from)) 1
+  pub before : (j : ℕ) → j < from → get_or new j false ≡ get_or old j false
+
+pub path_captured : (base k inputs from q : ℕ) (lengths : List ℕ) (cells : List Cell) (p : Path) (new : List Bool) → IsPath inputs lengths cells p → from ≡ length (path_bits p) - length p.answers.items →
+    length p.answers.items ≤ q → CaptureDone base k from q p.answers.items (path_bits p) new → new ≡ captured (path_response base lengths k) cells (path_bits p)
+path_captured base k inputs from q lengths cells p new is at all d =
+    same_lists new (captured (path_response base lengths k) cells (path_bits p)) (d.long ∙ sym (length-captured (path_response base lengths k) cells (path_bits p)))
+    (λ j e h. any_default new j e false h ∙ here j h (cases_lt j from) ∙ any_default (captured (path_response base lengths k) cells (path_bits p)) j false e (within j h))
+  where
+    within : (j : ℕ) → j < length new → j < length (captured (path_response base lengths k) cells (path_bits p))
+    within j h = let l = d.long in let m = length-captured (path_response base lengths k) cells (path_bits p) in omega arith
+
+    here : (j : ℕ) → j < length new → (j < from) ⊎ (from ≤ j) → get_or new j false ≡ get_or (captured (path_response base lengths k) cells (path_bits p)) j false
+    here j h (inl less) =
+        let l : length new ≡ length (path_bits p) = d.long in
+        let m : length (path_bits p) ≡ length cells = is.long in
+        let n : length p.answers.items ≡ out_length cells = is.answers_long in
+        let fit : out_length cells ≤ length cells = is.chain.out_fit in
+        d.before j less ∙ sym (captured_unread (path_response base lengths k) cells (path_bits p) j (omega arith) (omega arith) (is.chain.unread j (omega arith)))
+    here j h (inr past) =
+        let l : length new ≡ length (path_bits p) = d.long in
+        let m : length (path_bits p) ≡ length cells = is.long in
+        let n : length p.answers.items ≡ out_length cells = is.answers_long in
+        let fit : out_length cells ≤ length cells = is.chain.out_fit in
+        d.done j past (omega arith) ∙ ap (λ n. made_from base k n 1) (is.answer j (j - from) (omega arith) (omega arith))
+        ∙ sym (get_or-captured (path_response base lengths k) cells (path_bits p) j (omega arith) (omega arith) (is.chain.read j (omega arith) (omega arith)))
+
+-- a path whose bits changed
+pub path_kept : (inputs : ℕ) (lengths : List ℕ) (cells : List Cell) (p q : Path) → IsPath inputs lengths cells p → IsRing q.ring → length (path_bits q) ≡ length (path_bits p) → q.loads ≡ p.loads → q.answers ≡ p.answers → IsPath inputs lengths cells q
+path_kept inputs lengths cells p q is ring long loads answers = record {
+  chain = is.chain;
+  ring = ring;
+  long = long ∙ is.long;
+  loads_long = rw loads is.loads_long;
+  load = λ r h. rw loads (is.load r h);
+  answers_long = rw answers is.answers_long;
+  answer = λ r q h h'. rw answers (is.answer r q h h');
+}
+
+pub length-path_captured : (base k inputs : ℕ) (lengths : List ℕ) (cells : List Cell) (p : Path) (new : List Bool) → new ≡ captured (path_response base lengths k) cells (path_bits p) → length new ≡ length (path_bits p)
+length-path_captured base k inputs lengths cells p new is = ap length is ∙ length-captured (path_response base lengths k) cells (path_bits p)
+
+pub unequal : (a b : Bool) → not (beq a b) ≡ true → a ≡ b → ⊥
+unequal true true e same = cc
+unequal true false e same = cc
+unequal false true e same = cc
+unequal false false e same = cc

@@ -1,0 +1,234 @@
+-- One cycle of the chains, wire by wire.
+use Rattle.std.proofs.Common.{◌≡◌, ◌≢◌, ℕ, zero, suc, ◌+◌, ◌-◌, ◌≤◌, ◌<◌, ◌⊎◌, Bool, true, false, true≢false, Some, None, List, [], ◌∷◌, length, get_or, map, set, refl, ap, sym, subst, ◌∙◌, arith, inl, inr, zero-add}
+use Rattle.std.specs.Prelude.{slice_get}
+use Rattle.std.specs.List.{range_with_len}
+use Rattle.std.specs.Vec.{with_item}
+use Rattle.std.proofs.lemmas.List.{get_or-map, get_or-set_same, get_or-set_other, map-set, length-map, length-set, same_lists}
+use Rattle.std.proofs.lemmas.List.FromFn.{get_or-map-range_with_len, length-range_with_len}
+use Rattle.std.proofs.lemmas.Option.{get_or_from_slice_get, slice_get_within, slice_get_past, same_Some}
+use Rattle.std.proofs.lemmas.Bool.{cases_lt, cases_Bool, cases_eq}
+use Rattle.plan_model.specs.Plans.{PlannedTest, uses}
+use Rattle.plan_model.specs.Runs.{Content, State, chain_at, bits_at, next_bits, operation_at, each_chain, step}
+use Rattle.plan_model.specs.Right.{IsAt}
+use Rattle.plan_model.proofs.ChainsInTheRun.{idle_before, at_operation, uses_wire}
+use Rattle.bit_machine.specs.Lanes.{lane_bits, IsLane}
+use Rattle.bit_machine.specs.Machines.{lanes_state, IsMachine, IsUser, IsWireStep, AreWireSteps}
+use Rattle.bit_machine.specs.declared.lane.Lane.{Lane}
+use Rattle.bit_machine.specs.declared.machine.Machine.{Machine}
+use Rattle.bit_machine.proofs.LaneSteps.{from_set}
+use Rattle.bit_machine.proofs.PathBits.{any_default}
+
+-- a test that does not use the wire of one of its chains does nothing
+idle : (t : PlannedTest) (c j : ℕ) → t.tam ≡ true → j < t.width → uses c (t.first_wire + j) t ≡ false → operation_at t c ≡ None
+idle t c j tam wide unused = go (cases_lt c t.start) where
+  later : t.start ≤ c → (c - t.start < length t.operations) ⊎ (length t.operations ≤ c - t.start) → operation_at t c ≡ None
+  later begun (inl going) = absurd (true≢false (sym (uses_wire t c j tam begun going wide) ∙ unused))
+  later begun (inr over) = at_operation t c begun ∙ slice_get_past t.operations (c - t.start) over
+
+  go : (c < t.start) ⊎ (t.start ≤ c) → operation_at t c ≡ None
+  go (inl early) = idle_before t c early
+  go (inr begun) = later begun (cases_lt (c - t.start) (length t.operations))
+
+some_lane : (ls : List Lane) (i : ℕ) → i < length ls → (l : Lane) × (slice_get ls i ≡ Some l)
+some_lane [] i h = absurd (omega arith)
+some_lane (l ∷ ls) zero h = (l, refl)
+some_lane (l ∷ ls) (suc i) h = some_lane ls i (omega arith)
+
+-- only tests over the wires have chains
+chains_tam : (content : Content) (tests : List PlannedTest) (m : Machine) (is : IsMachine content tests m) (i j : ℕ) (t : PlannedTest) → IsAt tests i t → j < length t.chains → t.tam ≡ true
+chains_tam content tests m is i j t at h = go (cases_Bool t.tam) where
+  lane_there : (l : Lane) → slice_get m.lanes.items i ≡ Some l → t.tam ≡ false → t.tam ≡ true
+  lane_there l there none = let e = (is.lanes.lane i t l at there).alone none in absurd (omega (arith, e.1))
+
+  go : (t.tam ≡ true) ⊎ (t.tam ≡ false) → t.tam ≡ true
+  go (inl yes') = yes'
+  go (inr none) =
+      let long : length m.lanes.items ≡ length tests = is.lanes.long in
+      let within : i < length tests = slice_get_within tests i t at in
+      let some = some_lane m.lanes.items i (omega arith) in
+      lane_there some.0 some.1 none
+
+-- ---- bits in a changed state
+
+other_test : (s : State) (p i j : ℕ) (b : List (List Bool)) → i ≢ p → bits_at (set s p b) i j ≡ bits_at s i j
+other_test s p i j b h = ap (λ bits. get_or bits j []) (get_or-set_other s p i b [] h)
+
+same_test : (s : State) (p j : ℕ) (b : List (List Bool)) → p < length s → bits_at (set s p b) p j ≡ get_or b j []
+same_test s p j b h = ap (λ bits. get_or bits j []) (get_or-set_same s p b [] h)
+
+-- ---- a wire with a user
+
+-- the lane of the user after a step of its chain on the wire
+abbrev pub StepsLane : Content → PlannedTest → ℕ → ℕ → Bool → Lane → Lane → Type 0
+StepsLane content t c j drive l l' = lane_bits l' ≡ set (lane_bits l) j (next_bits (content.response t.id) (chain_at t j) (slice_get t.operations (c - t.start)) drive (get_or (lane_bits l) j []))
+
+user_stepped : (content : Content) (tests : List PlannedTest) (m : Machine) (is : IsMachine content tests m) (w p : ℕ) (l l' : Lane) (drive : Bool) (u : IsUser content tests m w p l) → l.first_wire ≤ w → StepsLane content u.t m.cycle (w - l.first_wire) drive l l' →
+    IsWireStep content tests m.cycle w drive (lanes_state m.lanes.items) (set (lanes_state m.lanes.items) p (lane_bits l'))
+user_stepped content tests m is w p l l' drive u low steps = record {
+  here = λ i j t at h wire. go_here i j t at h wire (cases_eq i p);
+  others = λ i j t at h wire. go_others i j t at h wire (cases_eq i p);
+}
+  where
+    first : l.first_wire ≡ u.t.first_wire
+    first = u.first
+
+    chains : length (lane_bits l) ≡ length u.t.chains
+    chains = length-map l.paths.items _ ∙ (u.lane.wired u.tam).chains
+
+    place : p < length (lanes_state m.lanes.items)
+    place = let a = slice_get_within m.lanes.items p l u.lane_at in let b = length-map m.lanes.items lane_bits in omega arith
+
+    old : (j : ℕ) → bits_at (lanes_state m.lanes.items) p j ≡ get_or (lane_bits l) j []
+    old j = ap (λ bits. get_or bits j []) (get_or-map lane_bits m.lanes.items p l [] (slice_get_within m.lanes.items p l u.lane_at) ∙ ap lane_bits (get_or_from_slice_get m.lanes.items p l l u.lane_at))
+
+    begun : u.t.start ≤ m.cycle
+    begun = u.begun
+
+    user_here : (j : ℕ) → j < length u.t.chains → u.t.first_wire + j ≡ w →
+        bits_at (set (lanes_state m.lanes.items) p (lane_bits l')) p j ≡ next_bits (content.response u.t.id) (chain_at u.t j) (operation_at u.t m.cycle) drive (bits_at (lanes_state m.lanes.items) p j)
+    user_here j h wire =
+        let chain : w - l.first_wire ≡ j = omega (arith, first) in
+        let steps' = rw chain at steps in
+        same_test (lanes_state m.lanes.items) p j (lane_bits l') place ∙ ap (λ bits. get_or bits j []) steps'
+        ∙ get_or-set_same (lane_bits l) j _ [] (omega (arith, chains)) ∙ rw (old j, at_operation u.t m.cycle begun) refl
+
+    user_others : (j : ℕ) → j < length u.t.chains → u.t.first_wire + j ≢ w → bits_at (set (lanes_state m.lanes.items) p (lane_bits l')) p j ≡ bits_at (lanes_state m.lanes.items) p j
+    user_others j h wire =
+        let apart : j ≢ w - l.first_wire = λ e. wire (omega (arith, first, low)) in
+        same_test (lanes_state m.lanes.items) p j (lane_bits l') place ∙ ap (λ bits. get_or bits j []) steps ∙ get_or-set_other (lane_bits l) (w - l.first_wire) j _ [] apart ∙ sym (old j)
+
+    idle_here : (i j : ℕ) (t : PlannedTest) → IsAt tests i t → j < length t.chains → t.first_wire + j ≡ w → i ≢ p → operation_at t m.cycle ≡ None
+    idle_here i j t at h wire apart =
+        let fit : length t.chains ≤ t.width = is.wires.fit i t at in
+        idle t m.cycle j (chains_tam content tests m is i j t at h) (omega arith) (unused (cases_Bool (uses m.cycle (t.first_wire + j) t)))
+      where
+        unused : (uses m.cycle (t.first_wire + j) t ≡ true) ⊎ (uses m.cycle (t.first_wire + j) t ≡ false) → uses m.cycle (t.first_wire + j) t ≡ false
+        unused (inl yes') = absurd (apart (is.wires.alone m.cycle w p i u.t t u.at at u.used (subst (λ x. uses m.cycle x t ≡ true) wire yes')))
+        unused (inr no') = no'
+
+    go_here : (i j : ℕ) (t : PlannedTest) → IsAt tests i t → j < length t.chains → t.first_wire + j ≡ w → (i ≡ p) ⊎ (i ≢ p) →
+        bits_at (set (lanes_state m.lanes.items) p (lane_bits l')) i j ≡ next_bits (content.response t.id) (chain_at t j) (operation_at t m.cycle) drive (bits_at (lanes_state m.lanes.items) i j)
+    go_here i j t at h wire (inl same) =
+        let t_is : u.t ≡ t = same_Some _ _ (sym u.at ∙ subst (λ i. IsAt tests i t) same at) in
+        subst (λ i. bits_at (set (lanes_state m.lanes.items) p (lane_bits l')) i j ≡ next_bits (content.response t.id) (chain_at t j) (operation_at t m.cycle) drive (bits_at (lanes_state m.lanes.items) i j)) (sym same)
+        (subst (λ t. j < length t.chains → t.first_wire + j ≡ w → bits_at (set (lanes_state m.lanes.items) p (lane_bits l')) p j ≡ next_bits (content.response t.id) (chain_at t j) (operation_at t m.cycle) drive (bits_at (lanes_state m.lanes.items) p j)) t_is (user_here j) h wire)
+    go_here i j t at h wire (inr apart) = other_test (lanes_state m.lanes.items) p i j (lane_bits l') apart ∙ rw (idle_here i j t at h wire apart) refl
+
+    go_others : (i j : ℕ) (t : PlannedTest) → IsAt tests i t → j < length t.chains → t.first_wire + j ≢ w → (i ≡ p) ⊎ (i ≢ p) → bits_at (set (lanes_state m.lanes.items) p (lane_bits l')) i j ≡ bits_at (lanes_state m.lanes.items) i j
+    go_others i j t at h wire (inl same) =
+        let t_is : u.t ≡ t = same_Some _ _ (sym u.at ∙ subst (λ i. IsAt tests i t) same at) in
+        subst (λ i. bits_at (set (lanes_state m.lanes.items) p (lane_bits l')) i j ≡ bits_at (lanes_state m.lanes.items) i j) (sym same)
+        (user_others j (subst (λ t. j < length t.chains) (sym t_is) h) (λ e. wire (subst (λ t. t.first_wire + j ≡ w) t_is e)))
+    go_others i j t at h wire (inr apart) = other_test (lanes_state m.lanes.items) p i j (lane_bits l') apart
+
+pub user_step : (content : Content) (tests : List PlannedTest) (m : Machine) (is : IsMachine content tests m) (w p : ℕ) (l l' : Lane) (drive : Bool) (u : IsUser content tests m w p l) → l.first_wire ≤ w → StepsLane content u.t m.cycle (w - l.first_wire) drive l l' →
+    IsWireStep content tests m.cycle w drive (lanes_state m.lanes.items) (lanes_state (set m.lanes.items p l'))
+user_step content tests m is w p l l' drive u low steps =
+    subst (IsWireStep content tests m.cycle w drive (lanes_state m.lanes.items)) (sym (map-set lane_bits m.lanes.items p l')) (user_stepped content tests m is w p l l' drive u low steps)
+
+pub unused_step : (content : Content) (tests : List PlannedTest) (m : Machine) (is : IsMachine content tests m) (w : ℕ) (drive : Bool) → ((i : ℕ) (t : PlannedTest) → IsAt tests i t → uses m.cycle w t ≡ true → ⊥) →
+    IsWireStep content tests m.cycle w drive (lanes_state m.lanes.items) (lanes_state m.lanes.items)
+unused_step content tests m is w drive none = record {
+  here = λ i j t at h wire. rw (idle_at i j t at h wire) refl;
+  others = λ i j t at h wire. refl;
+}
+  where
+    idle_at : (i j : ℕ) (t : PlannedTest) → IsAt tests i t → j < length t.chains → t.first_wire + j ≡ w → operation_at t m.cycle ≡ None
+    idle_at i j t at h wire =
+        let fit : length t.chains ≤ t.width = is.wires.fit i t at in
+        idle t m.cycle j (chains_tam content tests m is i j t at h) (omega arith) (unused (cases_Bool (uses m.cycle (t.first_wire + j) t)))
+      where
+        unused : (uses m.cycle (t.first_wire + j) t ≡ true) ⊎ (uses m.cycle (t.first_wire + j) t ≡ false) → uses m.cycle (t.first_wire + j) t ≡ false
+        unused (inl yes') = absurd (none i t at (subst (λ x. uses m.cycle x t ≡ true) wire yes'))
+        unused (inr no') = no'
+
+-- the machine with one lane stepped
+pub with_lane : (content : Content) (tests : List PlannedTest) (m : Machine) (is : IsMachine content tests m) (w p : ℕ) (l l' : Lane) (u : IsUser content tests m w p l) → IsLane content u.t l' →
+    IsMachine content tests (record { lanes = with_item m.lanes p l'; users = m.users; cycle = m.cycle; change = m.change })
+with_lane content tests m is w p l l' u lane = record {
+  lanes = record {
+    long = length-set m.lanes.items p l' ∙ is.lanes.long;
+    lane = λ i t k at there. elim (from_set m.lanes.items p i l' k there) [
+      | inl here ↦
+          let t_is : u.t ≡ t = same_Some _ _ (sym u.at ∙ subst (λ i. IsAt tests i t) here.0 at) in
+          subst (IsLane content t) (sym here.1) (subst (λ t. IsLane content t l') t_is lane)
+      | inr other ↦ is.lanes.lane i t k at other
+    ];
+  };
+  wires = is.wires;
+  users = is.users;
+  change = is.change;
+}
+
+-- ---- all wires
+
+pub no_wires : (content : Content) (tests : List PlannedTest) (c : ℕ) (drive : ℕ → Bool) (s : State) → AreWireSteps content tests c 0 drive s s
+no_wires content tests c drive s = record {
+  done = λ i j t at h less. absurd (omega arith);
+  rest = λ i j t at h past. refl;
+}
+
+pub same_cycle : (content : Content) (tests : List PlannedTest) (c c' w : ℕ) (bit : Bool) (old new : State) → c ≡ c' → IsWireStep content tests c w bit old new → IsWireStep content tests c' w bit old new
+same_cycle content tests c c' w bit old new e step = rw (← e) step
+
+pub wire_more : (content : Content) (tests : List PlannedTest) (c w : ℕ) (drive : ℕ → Bool) (bit : Bool) (old mid new : State) → bit ≡ drive w → AreWireSteps content tests c w drive old mid → IsWireStep content tests c w bit mid new → AreWireSteps content tests c (w + 1) drive old new
+wire_more content tests c w drive bit old mid new is before step = record {
+  done = λ i j t at h less. done i j t at h less (cases_eq (t.first_wire + j) w);
+  rest = λ i j t at h past. step.others i j t at h (λ e. omega arith) ∙ before.rest i j t at h (omega arith);
+}
+  where
+    done : (i j : ℕ) (t : PlannedTest) → IsAt tests i t → j < length t.chains → t.first_wire + j < w + 1 → (t.first_wire + j ≡ w) ⊎ (t.first_wire + j ≢ w) →
+        bits_at new i j ≡ next_bits (content.response t.id) (chain_at t j) (operation_at t c) (drive (t.first_wire + j)) (bits_at old i j)
+    done i j t at h less (inl same) = step.here i j t at h same ∙ rw (is, ← same, before.rest i j t at h (omega arith)) refl
+    done i j t at h less (inr other) = step.others i j t at h other ∙ before.done i j t at h (below (t.first_wire + j) less other)
+      where
+        below : (x : ℕ) → x < w + 1 → x ≢ w → x < w
+        below x a b = omega arith
+
+-- a state by its chains
+pub state_is : (f : ℕ → PlannedTest → ℕ → List Bool) (n : ℕ) (tests : List PlannedTest) (s : State) → length s ≡ length tests → ((i : ℕ) (t : PlannedTest) → IsAt tests i t → length (get_or s i []) ≡ length t.chains) →
+    ((i j : ℕ) (t : PlannedTest) → IsAt tests i t → j < length t.chains → bits_at s i j ≡ f (n + i) t j) → s ≡ each_chain f n tests
+state_is f n [] [] long wide each = refl
+state_is f n [] (b ∷ s) long wide each = absurd (omega arith)
+state_is f n (t ∷ tests) [] long wide each = absurd (omega arith)
+state_is f n (t ∷ tests) (b ∷ s) long wide each = pair here (state_is f (n + 1) tests s (omega arith) (λ i u at. wide (suc i) u at) (λ i j u at h. let e : n + 1 + i ≡ n + suc i = omega arith in rw e (each (suc i) j u at h)))
+  where
+    pair : {X : Type 0} {x y : X} {xs ys : List X} → x ≡ y → xs ≡ ys → x ∷ xs ≡ y ∷ ys
+    pair e h = rw (e, h) refl
+
+    width : length b ≡ length t.chains
+    width = wide 0 t refl
+
+    long' : length (map (f n t) (range_with_len 0 (length t.chains))) ≡ length t.chains
+    long' = length-map (range_with_len 0 (length t.chains)) (f n t) ∙ length-range_with_len 0 (length t.chains)
+
+    here : b ≡ map (f n t) (range_with_len 0 (length t.chains))
+    here =
+        same_lists b (map (f n t) (range_with_len 0 (length t.chains))) (width ∙ sym long') (λ j d h.
+        let less : j < length t.chains = omega (arith, width) in
+        let zero' : n + 0 ≡ n = omega arith in
+        any_default b j d [] h ∙ each 0 j t refl less ∙ rw zero' (sym (get_or-map-range_with_len (f n t) 0 (length t.chains) j j d less (zero-add j))))
+
+lane_width : (content : Content) (t : PlannedTest) (l : Lane) → IsLane content t l → length (lane_bits l) ≡ length t.chains
+lane_width content t l is = length-map l.paths.items _ ∙ go (cases_Bool t.tam) where
+  go : (t.tam ≡ true) ⊎ (t.tam ≡ false) → length l.paths.items ≡ length t.chains
+  go (inl yes') = (is.wired yes').chains
+  go (inr no') = let e = is.alone no' in omega (arith, e.0, e.1)
+
+pub lanes_width : (content : Content) (tests : List PlannedTest) (m : Machine) (is : IsMachine content tests m) (i : ℕ) (t : PlannedTest) → IsAt tests i t → length (get_or (lanes_state m.lanes.items) i []) ≡ length t.chains
+lanes_width content tests m is i t at =
+    let long : length m.lanes.items ≡ length tests = is.lanes.long in
+    let within : i < length tests = slice_get_within tests i t at in
+    let some = some_lane m.lanes.items i (omega arith) in
+    ap length (get_or-map lane_bits m.lanes.items i some.0 [] (omega arith) ∙ ap lane_bits (get_or_from_slice_get m.lanes.items i some.0 some.0 some.1)) ∙ lane_width content t some.0 (is.lanes.lane i t some.0 at some.1)
+
+pub whole_step : (content : Content) (tests : List PlannedTest) (old m : Machine) (is : IsMachine content tests m) (c w : ℕ) (drive : ℕ → Bool) → length m.users.items ≤ w → AreWireSteps content tests c w drive (lanes_state old.lanes.items) (lanes_state m.lanes.items) →
+    lanes_state m.lanes.items ≡ step content tests drive c (lanes_state old.lanes.items)
+unfolding step
+whole_step content tests old m is c w drive all steps =
+    state_is (λ i t j. next_bits (content.response t.id) (chain_at t j) (operation_at t c) (drive (t.first_wire + j)) (bits_at (lanes_state old.lanes.items) i j)) 0 tests (lanes_state m.lanes.items)
+    (length-map m.lanes.items lane_bits ∙ is.lanes.long) (lanes_width content tests m is)
+    (λ i j t at h.
+    let fit : length t.chains ≤ t.width = is.wires.fit i t at in
+    let within : t.first_wire + t.width ≤ length m.users.items = is.wires.within i t at (chains_tam content tests m is i j t at h) in
+    steps.done i j t at h (omega arith) ∙ rw (zero-add i) refl)

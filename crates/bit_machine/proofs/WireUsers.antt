@@ -1,0 +1,190 @@
+-- The user of a wire, and what it carries, shows and answers.
+use Rattle.std.proofs.Common.{◌≡◌, ℕ, suc, ◌+◌, ◌-◌, ◌≤◌, ◌<◌, ◌⊎◌, Bool, true, false, Option, Some, None, List, [], ◌∷◌, length, get_or, drop, reverse, refl, ap, sym, subst, ◌∙◌, arith, inl, inr, zero-add}
+use Rattle.std.specs.Prelude.{slice_get}
+use Rattle.std.proofs.lemmas.List.{get_or-map, get_or_past, get_or-reverse, length-reverse}
+use Rattle.std.proofs.lemmas.List.Sums.{count_by-le-length}
+use Rattle.std.proofs.lemmas.Option.{slice_get-get_or, get_or_from_slice_get, slice_get_within, same_Some}
+use Rattle.std.proofs.lemmas.Bool.{cases_lt, false_from_ne_true, lt-ltb, le-ltb}
+use Rattle.plan_model.specs.Cells.{Cell, In, is_read, out_length}
+use Rattle.plan_model.specs.Operations.{Operation, Capture}
+use Rattle.plan_model.specs.Plans.{PlannedTest, uses, IsActive, end_of}
+use Rattle.plan_model.specs.Runs.{Content, wanted, last_bit, chain_at, bits_at, at_first_user, carried, shown}
+use Rattle.plan_model.specs.OneTest.{from_end}
+use Rattle.plan_model.specs.Right.{IsAt, IsReadAt}
+use Rattle.plan_model.proofs.ChainsInTheRun.{at_first_user_is}
+use Rattle.plan_model.proofs.LawOfOneTest.{reverse_is}
+use Rattle.plan_model.proofs.LoadsAndReads.{begun_at, at_start_plus, chain_is}
+use Rattle.plan_model.proofs.TestsInGoodPlans.{Uses, uses_is}
+use Rattle.bit_machine.specs.Chips.{IsCompared, expected}
+use Rattle.bit_machine.specs.Paths.{phase_ops, moment_behind, answer_by}
+use Rattle.bit_machine.specs.Lanes.{lane_bits, IsBusy, IsWired, IsLane, IsAnswer}
+use Rattle.bit_machine.specs.Machines.{lanes_state, IsMachine, IsSomeMachine, IsUser, HasWire, HasNoUser}
+use Rattle.bit_machine.specs.declared.lane.Lane.{Lane}
+use Rattle.bit_machine.specs.declared.machine.Machine.{Machine}
+
+-- a wire without a user
+pub nobody : (f : ℕ → PlannedTest → ℕ → Bool) (c x n : ℕ) (tests : List PlannedTest) → ((i : ℕ) (t : PlannedTest) → IsAt tests i t → uses c x t ≡ true → ⊥) → at_first_user f c x n tests ≡ false
+nobody f c x n [] none = refl
+nobody f c x n (t ∷ tests) none =
+    let other : uses c x t ≡ false = false_from_ne_true (uses c x t) (λ e. none 0 t refl e) in
+    rw other (nobody f c x (n + 1) tests (λ i u at e. none (suc i) u at e))
+
+pub user_place : (content : Content) (tests : List PlannedTest) (m : Machine) (is : IsMachine content tests m) (w i : ℕ) → slice_get m.users.items w ≡ Some (Some i) → i < length m.lanes.items
+user_place content tests m is w i there =
+    let u = is.users.user w i there in
+    let long : length m.lanes.items ≡ length tests = is.lanes.long in
+    let within : i < length tests = slice_get_within tests i u.0 u.1 in
+    omega arith
+
+busy_of : (content : Content) (t : PlannedTest) (l : Lane) (c : ℕ) → IsWired content t l → l.start ≡ t.start → IsActive t c → IsBusy l c
+busy_of content t l c w start active =
+    let begun : t.start ≤ c = active.0 in
+    let going : c < end_of t = active.1 in
+    let long : length t.operations ≡ length (phase_ops l.phases) = ap length w.operations in
+    record { begun = omega arith; going = omega arith }
+
+pub user_lane : (content : Content) (tests : List PlannedTest) (m : Machine) (is : IsMachine content tests m) (w i : ℕ) (l : Lane) → slice_get m.users.items w ≡ Some (Some i) → slice_get m.lanes.items i ≡ Some l → IsUser content tests m w i l
+user_lane content tests m is w i l there at =
+    let u = is.users.user w i there in
+    let x : Uses m.cycle w u.0 = uses_is m.cycle w u.0 u.2 in
+    let lane : IsLane content u.0 l = is.lanes.lane i u.0 l u.1 at in
+    let wired : IsWired content u.0 l = lane.wired x.tam in
+    record { t = u.0; at = u.1; lane_at = at; tam = x.tam; used = u.2; lane = lane; first = wired.first_wire; begun = x.active.0 }
+
+pub has_wire : (m : Machine) (s : IsSomeMachine m) (w i : ℕ) (l : Lane) → slice_get m.users.items w ≡ Some (Some i) → slice_get m.lanes.items i ≡ Some l → HasWire m w l
+has_wire m s w i l there at =
+    let u : IsUser s.content s.tests m w i l = user_lane s.content s.tests m s.is w i l there at in
+    let x : Uses m.cycle w u.t = uses_is m.cycle w u.t u.used in
+    let low : u.t.first_wire ≤ w = x.low in
+    let first : l.first_wire ≡ u.t.first_wire = u.first in
+    record {
+      ready = u.lane.ready;
+      busy = busy_of s.content u.t l m.cycle (u.lane.wired u.tam) u.lane.start x.active;
+      low = omega arith;
+      user = λ content tests is. (i, user_lane content tests m is w i l there at);
+    }
+
+-- what a wire with a user carries and shows
+first_user : (f : ℕ → PlannedTest → ℕ → Bool) (content : Content) (tests : List PlannedTest) (m : Machine) (is : IsMachine content tests m) (w i : ℕ) (l : Lane) (u : IsUser content tests m w i l) →
+    at_first_user f m.cycle w 0 tests ≡ f i u.t (w - l.first_wire)
+first_user f content tests m is w i l u =
+    at_first_user_is f m.cycle w 0 tests i u.t u.at u.used (λ i' t' at' used'. is.wires.alone m.cycle w i i' u.t t' u.at at' u.used used') ∙ rw (zero-add i, u.first) refl
+
+pub carried_by : (content : Content) (tests : List PlannedTest) (m : Machine) (is : IsMachine content tests m) (w i : ℕ) (l : Lane) (u : IsUser content tests m w i l) (b : Bool) →
+    b ≡ wanted (content.stimulus u.t.id) (chain_at u.t (w - l.first_wire)) (drop (m.cycle - u.t.start) u.t.operations) → b ≡ carried content tests m.cycle w
+unfolding carried
+carried_by content tests m is w i l u b bit =
+    bit ∙ sym (first_user (λ i t j. wanted (content.stimulus t.id) (chain_at t j) (drop (m.cycle - t.start) t.operations)) content tests m is w i l u)
+
+bits_in : (lanes : List Lane) (i j : ℕ) (l : Lane) → slice_get lanes i ≡ Some l → bits_at (lanes_state lanes) i j ≡ get_or (lane_bits l) j []
+bits_in lanes i j l at =
+    ap (λ bits. get_or bits j []) (get_or-map lane_bits lanes i l [] (slice_get_within lanes i l at) ∙ ap lane_bits (get_or_from_slice_get lanes i l l at))
+
+pub shown_by : (content : Content) (tests : List PlannedTest) (m : Machine) (is : IsMachine content tests m) (w i : ℕ) (l : Lane) (u : IsUser content tests m w i l) (b : Bool) →
+    b ≡ last_bit (get_or (lane_bits l) (w - l.first_wire) []) → b ≡ shown tests (lanes_state m.lanes.items) m.cycle w
+unfolding shown
+shown_by content tests m is w i l u b bit =
+    bit ∙ rw (← bits_in m.lanes.items i (w - l.first_wire) l u.lane_at) (sym (first_user (λ i t j. last_bit (bits_at (lanes_state m.lanes.items) i j)) content tests m is w i l u))
+
+-- a wire without a user carries and shows 0
+pub no_user : (content : Content) (tests : List PlannedTest) (m : Machine) (is : IsMachine content tests m) (w : ℕ) → w < length m.users.items → slice_get m.users.items w ≡ Some None → (i : ℕ) (t : PlannedTest) → IsAt tests i t → uses m.cycle w t ≡ true → ⊥
+no_user content tests m is w h none i t at used = none_some (same_Some _ _ (sym none ∙ is.users.every w i t h at used)) where
+  none_some : {X : Type 0} {x : X} → None ≡ Some x → ⊥
+  none_some e = cc
+
+pub carried_none : (content : Content) (tests : List PlannedTest) (m : Machine) (is : IsMachine content tests m) (w : ℕ) → HasNoUser m w → false ≡ carried content tests m.cycle w
+unfolding carried
+carried_none content tests m is w none =
+    sym (nobody (λ i t j. wanted (content.stimulus t.id) (chain_at t j) (drop (m.cycle - t.start) t.operations)) m.cycle w 0 tests (none content tests is))
+
+pub shown_none : (content : Content) (tests : List PlannedTest) (m : Machine) (is : IsMachine content tests m) (w : ℕ) → HasNoUser m w → false ≡ shown tests (lanes_state m.lanes.items) m.cycle w
+unfolding shown
+shown_none content tests m is w none = sym (nobody (λ i t j. last_bit (bits_at (lanes_state m.lanes.items) i j)) m.cycle w 0 tests (none content tests is))
+
+-- ---- the response bit that is read
+
+-- what is read is on a wire that the test uses, some Shifts behind its capture
+pub answer_read : (content : Content) (tests : List PlannedTest) (m : Machine) (is : IsMachine content tests m) (w i : ℕ) (l : Lane) (u : IsUser content tests m w i l) (b : Option Bool) →
+    ((content : Content) (t : PlannedTest) → t.tam ≡ true → IsLane content t l → IsAnswer content t l m.cycle (w - l.first_wire) b) → (r : IsCompared tests m.cycle w) → b ≡ Some (expected content r)
+answer_read content tests m is w i l u b answers r =
+    let used : uses m.cycle w r.test ≡ true = is.wires.reads r.place r.pattern m.cycle w r.test r.cell r.at r.read in
+    let place : r.place ≡ i = is.wires.alone m.cycle w i r.place u.t r.test u.at r.at u.used used in
+    let same : u.t ≡ r.test = same_Some _ _ (sym u.at ∙ subst (λ j. IsAt tests j r.test) place r.at) in
+    let lane : IsLane content r.test l = subst (λ t. IsLane content t l) same u.lane in
+    let x : Uses m.cycle w r.test = uses_is m.cycle w r.test used in
+    let first : l.first_wire ≡ r.test.first_wire = u.first ∙ ap (λ (t : PlannedTest). t.first_wire) same in
+    reading content r.test l m.cycle w b x.tam lane first (answers content r.test x.tam lane) r.pattern r.cell r.read
+  where
+    reading : (content : Content) (t : PlannedTest) (l : Lane) (c w : ℕ) (b : Option Bool) → t.tam ≡ true → IsLane content t l → l.first_wire ≡ t.first_wire → IsAnswer content t l c (w - l.first_wire) b →
+        (k : ℕ) (x : Cell) → IsReadAt t k x c w → b ≡ Some (content.response t.id k x)
+    reading content t l c w b tam lane first a k x read =
+        let wired : IsWired content t l = lane.wired tam in
+        let begun = begun_at t read.capture (Capture k) read.captures in
+        let early : t.start ≤ read.capture = begun.0 in
+        let cycle : c ≡ read.capture + 1 + read.shifts = read.cycle in
+        let start : l.start ≡ t.start = lane.start in
+        let wire : w ≡ t.first_wire + read.chain = read.wire in
+        let chain : w - l.first_wire ≡ read.chain = omega arith in
+        let cells : chain_at t read.chain ≡ read.cells = chain_is t read.chain read.cells read.there in
+        let out : out_length (chain_at t read.chain) ≤ l.phases.so = wired.out_fits read.chain in
+        let within : read.shifts < out_length (chain_at t read.chain) = rw cells read.within in
+        let behind : moment_behind a.moment ≡ Some (read.shifts, k) = a.is.every read.shifts k (read.capture - t.start) (rw (← wired.operations) begun.1) (omega arith) (omega arith) in
+        let last : from_end (chain_at t read.chain) read.shifts ≡ x = rw cells (reverse_is read.cells read.shifts x read.cell) in
+        a.bit ∙ rw (chain, behind, lt-ltb read.shifts (out_length (chain_at t read.chain)) within, last) refl
+
+none_some : {X : Type 0} {x : X} → None ≡ Some x → ⊥
+none_some e = cc
+
+-- and what is found there is read
+from_answer : (response : ℕ → Cell → Bool) (cells : List Cell) (a : Option (ℕ × ℕ)) (b : Bool) → answer_by response cells a ≡ Some b → (s : ℕ) × (k : ℕ) × (a ≡ Some (s, k)) × (s < out_length cells)
+from_answer response cells None b e = absurd cc
+from_answer response cells (Some a) b e = go (cases_lt a.0 (out_length cells)) where
+  go : (a.0 < out_length cells) ⊎ (out_length cells ≤ a.0) → (s : ℕ) × (k : ℕ) × (Some a ≡ Some (s, k)) × (s < out_length cells)
+  go (inl less) = (a.0, a.1, refl, less)
+  go (inr past) = let none = rw (le-ltb a.0 (out_length cells) past) at e in absurd (none_some none)
+
+pub answer_compared : (content : Content) (tests : List PlannedTest) (m : Machine) (w i : ℕ) (l : Lane) (u : IsUser content tests m w i l) (b : Option Bool) (v : Bool) → l.first_wire ≤ w →
+    ((content : Content) (t : PlannedTest) → t.tam ≡ true → IsLane content t l → IsAnswer content t l m.cycle (w - l.first_wire) b) → b ≡ Some v → IsCompared tests m.cycle w
+answer_compared content tests m w i l u b v low answers some =
+    let a : IsAnswer content u.t l m.cycle (w - l.first_wire) b = answers content u.t u.tam u.lane in
+    let f = from_answer (content.response u.t.id) (chain_at u.t (w - l.first_wire)) (moment_behind a.moment) v (sym a.bit ∙ some) in
+    let q = a.is.behind f.0 f.1 f.2 in
+    let wired : IsWired content u.t l = u.lane.wired u.tam in
+    let start : l.start ≡ u.t.start = u.lane.start in
+    let first : l.first_wire ≡ u.t.first_wire = u.first in
+    let number : m.cycle - l.start ≡ q.0 + 1 + f.0 = q.2 in
+    let begun : u.t.start ≤ m.cycle = u.begun in
+    let few : f.0 < out_length (chain_at u.t (w - l.first_wire)) = f.3 in
+    record {
+      place = i;
+      test = u.t;
+      pattern = f.1;
+      cell = from_end (chain_at u.t (w - l.first_wire)) f.0;
+      at = u.at;
+      read = record {
+        chain = w - l.first_wire;
+        cells = chain_at u.t (w - l.first_wire);
+        there = chain_there u.t (w - l.first_wire) f.0 few;
+        shifts = f.0;
+        within = few;
+        cell = at_end (chain_at u.t (w - l.first_wire)) f.0 few;
+        capture = u.t.start + q.0;
+        captures = at_start_plus u.t q.0 (Capture f.1) (subst (λ (ops : List Operation). slice_get ops q.0 ≡ Some (Capture f.1)) (sym wired.operations) q.1);
+        cycle = omega arith;
+        wire = omega arith;
+      };
+    }
+  where
+    chain_there : (t : PlannedTest) (j s : ℕ) → s < out_length (chain_at t j) → slice_get t.chains j ≡ Some (chain_at t j)
+    chain_there t j s h = go (cases_lt j (length t.chains)) where
+      go : (j < length t.chains) ⊎ (length t.chains ≤ j) → slice_get t.chains j ≡ Some (chain_at t j)
+      go (inl less) = slice_get-get_or t.chains j [] less
+      go (inr past) =
+          let empty : chain_at t j ≡ [] = get_or_past t.chains j [] past in
+          let h' = rw empty at h in
+          absurd (omega arith)
+
+    at_end : (cells : List Cell) (s : ℕ) → s < out_length cells → slice_get (reverse cells) s ≡ Some (from_end cells s)
+    at_end cells s h =
+        let few : out_length cells ≤ length cells = count_by-le-length is_read cells in
+        slice_get-get_or (reverse cells) s (In 0) (rw (length-reverse cells) (omega arith)) ∙ ap Some (get_or-reverse cells s (In 0) (omega arith))

@@ -1,0 +1,32 @@
+use Rattle.std.proofs.Common.{◌≡◌, ◌<◌, ◌+◌, ◌∙◌, [], ℕ, sym, ap, subst, length, get_or, take, arith}
+use Rattle.std.specs.List.{sum_by}
+use Rattle.std.proofs.lemmas.List.Sums.{sum_by_more}
+use Rattle.plan_model.specs.declared.ChainPlan.{ChainPlan}
+use Rattle.plan_model.specs.Views.{chain_value}
+use Rattle.bit_machine.specs.Layouts.{layout_cells, chain_of}
+use Rattle.bit_machine.specs.Building.{IsNewPath}
+use Rattle.bit_machine.proofs.Layouts.{dealt-at}
+use Rattle.bit_machine.proofs.Numbering.{paths_more}
+use Rattle.bit_machine.proofs.building.paths_of.Goals as goal
+
+pub loop-chain-preserved : goal.loop-chain-preserved
+loop-chain-preserved c =
+    let e = c.deref-chain-items.ensures.value in
+    let within : c.loop-chain.chain-index < length c.args.layout.now.chains.items = rw e at c.loop-chain-test.true in
+    let item = rw e at c.chain-item.is in
+    let at : get_or c.args.layout.now.chains.items c.loop-chain.chain-index c.chain-item.result ≡ c.chain-item.result = sym item in
+    let ins = rw at at (sum_by_more (λ (c : ChainPlan). c.ins) c.args.layout.now.chains.items c.loop-chain.chain-index c.chain-item.result within) in
+    let outs = rw at at (sum_by_more (λ (c : ChainPlan). c.outs) c.args.layout.now.chains.items c.loop-chain.chain-index c.chain-item.result within) in
+    let o : ℕ = sum_by (λ (c : ChainPlan). c.outs) (take c.loop-chain.chain-index c.args.layout.now.chains.items) in
+    let cells = dealt-at c.args.layout.now.lengths.items 0 0 c.args.layout.now.chains.items c.loop-chain.chain-index c.chain-item.result within at in
+    let first : 0 + sum_by (λ (c : ChainPlan). c.ins) (take c.loop-chain.chain-index c.args.layout.now.chains.items) ≡ c.loop-chain.ins_from = omega (arith, c.loop-chain.invariant.ins) in
+    let last : 0 + sum_by (λ (c : ChainPlan). c.outs) (take c.loop-chain.chain-index c.args.layout.now.chains.items) ≡ o = omega arith in
+    let same : get_or (layout_cells c.args.layout.now) c.loop-chain.chain-index [] ≡ chain_of c.args.layout.now.lengths.items c.loop-chain.ins_from o (chain_value c.chain-item.result) =
+    cells ∙ ap (λ i. chain_of c.args.layout.now.lengths.items i (0 + o) (chain_value c.chain-item.result)) first ∙ ap (λ o. chain_of c.args.layout.now.lengths.items c.loop-chain.ins_from o (chain_value c.chain-item.result)) last in
+    record {
+      ins = omega (arith, ins, c.loop-chain.invariant.ins);
+      outs = omega (arith, outs, c.loop-chain.invariant.outs);
+      paths =
+          paths_more c.args.inputs c.args.layout.now.lengths.items (layout_cells c.args.layout.now) c.loop-chain.chain-index c.loop-chain.paths.items c.push.new.to.items c.in_ok-path.path c.loop-chain.invariant.paths c.in_ok-push.ensures
+          (subst (λ v. IsNewPath c.args.inputs c.args.layout.now.lengths.items v c.in_ok-path.path) (sym same) (c.in_ok-path.ensures o c.loop-chain.invariant.outs));
+    }

@@ -1,0 +1,20 @@
+use Rattle.std.proofs.Common.{◌∙◌, ap, Some, arith}
+use Rattle.bit_machine.proofs.LaneSteps.{slice_at}
+use Rattle.bit_machine.proofs.WireUsers.{user_place, has_wire, no_user}
+use Rattle.bit_machine.proofs.machine.Machine.user.Goals as goal
+
+pub returns-in-None-clause-none : goal.returns-in-None-clause-none
+returns-in-None-clause-none c = λ content tests is.
+    no_user content tests c.args.self.now is c.args.wire c.requires.wire (slice_at c.args.self.now.users.items c.args.wire c.index.result.now c.requires.wire c.index.ensures ∙ ap Some c.in-None.is)
+
+pub index-requires-in-Some : goal.index-requires-in-Some
+index-requires-in-Some c =
+    let there = slice_at c.args.self.now.users.items c.args.wire c.index.result.now c.requires.wire c.index.ensures ∙ ap Some c.in-Some.is in
+    let place = user_place c.requires.machine.content c.requires.machine.tests c.args.self.now c.requires.machine.is c.args.wire c.in-Some.place there in
+    omega (arith, place, c.args.self.now.lanes.ok.0)
+
+pub returns-in-Some-clause-some : goal.returns-in-Some-clause-some
+returns-in-Some-clause-some c =
+    let there = slice_at c.args.self.now.users.items c.args.wire c.index.result.now c.requires.wire c.index.ensures ∙ ap Some c.in-Some.is in
+    let place = user_place c.requires.machine.content c.requires.machine.tests c.args.self.now c.requires.machine.is c.args.wire c.in-Some.place there in
+    has_wire c.args.self.now c.requires.machine c.args.wire c.in-Some.place c.index-in-Some.result.now there (slice_at c.args.self.now.lanes.items c.in-Some.place c.index-in-Some.result.now place c.index-in-Some.ensures)

@@ -1,0 +1,122 @@
+-- How the machine of a whole chip keeps all live tests, and which test each wire belongs to.
+use Rattle.std.specs.Prelude.{◌≡◌, ◌≢◌, ℕ, ◌+◌, ◌<◌, ◌≤◌, ◌⊎◌, Bool, true, false, Option, Some, None, List, [], map, length, get_or, slice_get}
+use Rattle.plan_model.specs.Cells.{Cell}
+use Rattle.plan_model.specs.Operations.{Capture}
+use Rattle.plan_model.specs.Plans.{PlannedTest, end_of, uses}
+use Rattle.plan_model.specs.Runs.{Content, State, operation_at, bits_at, chain_at, next_bits}
+use Rattle.plan_model.specs.Right.{IsAt, IsReadAt}
+use Rattle.bit_machine.specs.declared.lane.Lane.{Lane}
+use Rattle.bit_machine.specs.declared.machine.Machine.{Machine}
+use Rattle.bit_machine.specs.Chips.{is_capture, loads_right, IsCompared}
+use Rattle.bit_machine.specs.Lanes.{lane_bits, IsReady, IsBusy, IsLane}
+
+-- the bits of the chains of each test
+abbrev pub lanes_state : List Lane → State
+lanes_state lanes = map lane_bits lanes
+
+-- the lanes of the tests, in their order
+pub record AreLanes (content : Content) (tests : List PlannedTest) (lanes : List Lane) : Type 0 where
+  pub long : length lanes ≡ length tests
+  pub lane : (i : ℕ) (t : PlannedTest) (l : Lane) → IsAt tests i t → slice_get lanes i ≡ Some l → IsLane content t l
+
+-- what a good plan gives of its tests over so many wires: no wire has two users, and only what is on the wires is captured or read
+pub record AreOnWires (tests : List PlannedTest) (wires : ℕ) : Type 0 where
+  pub alone : (c x i i' : ℕ) (t t' : PlannedTest) → IsAt tests i t → IsAt tests i' t' → uses c x t ≡ true → uses c x t' ≡ true → i' ≡ i
+  pub within : (i : ℕ) (t : PlannedTest) → IsAt tests i t → t.tam ≡ true → t.first_wire + t.width ≤ wires
+  pub some : (i : ℕ) (t : PlannedTest) → IsAt tests i t → t.tam ≡ true → 1 ≤ t.width
+  pub fit : (i : ℕ) (t : PlannedTest) → IsAt tests i t → length t.chains ≤ t.width
+  pub captures : (i c k : ℕ) (t : PlannedTest) → IsAt tests i t → operation_at t c ≡ Some (Capture k) → t.tam ≡ true
+  pub reads : (i k c w : ℕ) (t : PlannedTest) (x : Cell) → IsAt tests i t → IsReadAt t k x c w → uses c w t ≡ true
+
+-- for each wire the place of the test that uses it
+pub record AreUsers (tests : List PlannedTest) (c : ℕ) (users : List (Option ℕ)) : Type 0 where
+  pub user : (w i : ℕ) → slice_get users w ≡ Some (Some i) → (t : PlannedTest) × IsAt tests i t × (uses c w t ≡ true)
+  pub every : (w i : ℕ) (t : PlannedTest) → w < length users → IsAt tests i t → uses c w t ≡ true → slice_get users w ≡ Some (Some i)
+
+-- before the change no test begins or ends after this cycle
+abbrev pub IsUnchanged : ℕ → ℕ → ℕ → Type 0
+IsUnchanged c change n = (n ≤ c) ⊎ (change ≤ n)
+
+abbrev pub AreUnchanged : List PlannedTest → ℕ → ℕ → Type 0
+AreUnchanged tests c change = (i : ℕ) (t : PlannedTest) → IsAt tests i t → IsUnchanged c change t.start × IsUnchanged c change (end_of t)
+
+-- the machine of the tests of a good plan
+pub record IsMachine (content : Content) (tests : List PlannedTest) (m : Machine) : Type 0 where
+  pub lanes : AreLanes content tests m.lanes.items
+  pub wires : AreOnWires tests (length m.users.items)
+  pub users : AreUsers tests m.cycle m.users.items
+  pub change : AreUnchanged tests m.cycle m.change
+
+-- of some tests
+pub record IsSomeMachine (m : Machine) : Type 0 where
+  pub content : Content
+  pub tests : List PlannedTest
+  pub is : IsMachine content tests m
+
+-- the test that uses a wire at this cycle, with its lane
+pub record IsUser (content : Content) (tests : List PlannedTest) (m : Machine) (w i : ℕ) (l : Lane) : Type 0 where
+  pub t : PlannedTest
+  pub at : IsAt tests i t
+  pub lane_at : slice_get m.lanes.items i ≡ Some l
+  pub tam : t.tam ≡ true
+  pub used : uses m.cycle w t ≡ true
+  pub lane : IsLane content t l
+  pub first : l.first_wire ≡ t.first_wire
+  pub begun : t.start ≤ m.cycle
+
+-- a lane that has a wire now
+pub record HasWire (m : Machine) (w : ℕ) (l : Lane) : Type 0 where
+  pub ready : IsReady l
+  pub busy : IsBusy l m.cycle
+  pub low : l.first_wire ≤ w
+  pub user : (content : Content) (tests : List PlannedTest) → IsMachine content tests m → (i : ℕ) × IsUser content tests m w i l
+
+-- no test uses the wire at this cycle
+abbrev pub HasNoUser : Machine → ℕ → Type 0
+HasNoUser m w = (content : Content) (tests : List PlannedTest) → IsMachine content tests m → (i : ℕ) (t : PlannedTest) → IsAt tests i t → uses m.cycle w t ≡ true → ⊥
+
+-- what one wire's chains do in a cycle: the chain on the wire takes a step, the others stay
+pub record IsWireStep (content : Content) (tests : List PlannedTest) (c w : ℕ) (drive : Bool) (old new : State) : Type 0 where
+  pub here : (i j : ℕ) (t : PlannedTest) → IsAt tests i t → j < length t.chains → t.first_wire + j ≡ w →
+      bits_at new i j ≡ next_bits (content.response t.id) (chain_at t j) (operation_at t c) drive (bits_at old i j)
+  pub others : (i j : ℕ) (t : PlannedTest) → IsAt tests i t → j < length t.chains → t.first_wire + j ≢ w → bits_at new i j ≡ bits_at old i j
+
+-- the same of the wires below a number
+pub record AreWireSteps (content : Content) (tests : List PlannedTest) (c w : ℕ) (drive : ℕ → Bool) (old new : State) : Type 0 where
+  pub done : (i j : ℕ) (t : PlannedTest) → IsAt tests i t → j < length t.chains → t.first_wire + j < w →
+      bits_at new i j ≡ next_bits (content.response t.id) (chain_at t j) (operation_at t c) (drive (t.first_wire + j)) (bits_at old i j)
+  pub rest : (i j : ℕ) (t : PlannedTest) → IsAt tests i t → j < length t.chains → w ≤ t.first_wire + j → bits_at new i j ≡ bits_at old i j
+
+-- the test whose bus begins with the wire captures at the cycle, and whether it finds its stimulus; none where no such test does
+pub record IsWireCapture (content : Content) (tests : List PlannedTest) (c w : ℕ) (state : State) (found : Option Bool) : Type 0 where
+  pub some : (b : Bool) → found ≡ Some b → (i : ℕ) × (t : PlannedTest) × IsAt tests i t × (t.first_wire ≡ w) × (is_capture (operation_at t c) ≡ true)
+      × (loads_right (content.stimulus t.id) (operation_at t c) t.chains (get_or state i []) ≡ b)
+  pub none : found ≡ None → (i : ℕ) (t : PlannedTest) → IsAt tests i t → t.first_wire ≡ w → is_capture (operation_at t c) ≡ true → ⊥
+
+-- 1 for a capture, and for one that finds its stimulus
+abbrev pub one_capture : Option Bool → ℕ
+one_capture None = 0
+one_capture (Some b) = 1
+
+abbrev pub one_right : Option Bool → ℕ
+one_right None = 0
+one_right (Some true) = 1
+one_right (Some false) = 0
+
+-- every test over the wires has its wires
+abbrev pub FitLanes : List Lane → ℕ → Type 0
+FitLanes lanes wires = (i : ℕ) (l : Lane) → slice_get lanes i ≡ Some l → l.tam ≡ true → l.first_wire + l.width ≤ wires
+
+-- no lane begins or ends between a cycle and the change
+abbrev pub IsLaneUnchanged : ℕ → ℕ → Lane → Type 0
+IsLaneUnchanged c change l = IsUnchanged c change l.start × IsUnchanged c change l.end
+
+-- the users among the tests below a place
+pub record AreUsersBelow (tests : List PlannedTest) (c p : ℕ) (users : List (Option ℕ)) : Type 0 where
+  pub user : (w i : ℕ) → slice_get users w ≡ Some (Some i) → (t : PlannedTest) × IsAt tests i t × (uses c w t ≡ true)
+  pub every : (w i : ℕ) (t : PlannedTest) → i < p → w < length users → IsAt tests i t → uses c w t ≡ true → slice_get users w ≡ Some (Some i)
+
+-- the bit says whether a response bit is read on the wire
+pub record IsMark (tests : List PlannedTest) (c w : ℕ) (b : Bool) : Type 0 where
+  pub read : IsCompared tests c w → b ≡ true
+  pub only : b ≡ true → IsCompared tests c w

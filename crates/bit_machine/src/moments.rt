@@ -1,0 +1,131 @@
+// What a test does at a cycle, by division.
+ghost use Rattle.std.specs.Prelude.{◌≡◌, ◌+◌, ◌^◌, ◌<◌, ◌≤◌, suc, Some, None, cond, length, nat_lt, option_map};
+ghost use Rattle.bit_machine.specs.Paths.{phase_ops, turn_value, moment_ahead, moment_behind, IsMoment, ArePhases};
+
+/// A capture that lies some Shifts ahead, or behind.
+#[derive(Clone, Copy, PartialEq, Eq, Debug)]
+pub struct Turn {
+    /// The Shifts between.
+    pub shifts: u64,
+    /// The pattern that is captured, counted from 1.
+    pub pattern: u64,
+}
+
+/// One cycle of a test over the wires.
+#[derive(Clone, Copy, PartialEq, Eq, Debug)]
+pub enum Moment {
+    /// At rest before the first Shift.
+    Setup,
+    /// Every bit moves one place on, between a capture ahead and one behind.
+    Shift {
+        ahead: Option<Turn>,
+        behind: Option<Turn>,
+    },
+    /// The capture of a pattern, counted from 1.
+    Capture {
+        pattern: u64,
+    },
+}
+
+impl Moment {
+    /// The capture ahead, where Shifts alone lie before it.
+    pub fn ahead(self) -> Option<Turn>
+        ensures { option_map turn_value result ≡ moment_ahead self }
+    {
+        match self {
+            Moment::Shift { ahead, .. } => ahead,
+            _ => None,
+        }
+    }
+
+    /// The capture behind, where Shifts alone lie after it.
+    pub fn behind(self) -> Option<Turn>
+        ensures { option_map turn_value result ≡ moment_behind self }
+    {
+        match self {
+            Moment::Shift { behind, .. } => behind,
+            _ => None,
+        }
+    }
+}
+
+/// The phases of a test over the wires, in cycles: Setups, Shifts before the first capture, Shifts behind the last one.
+#[derive(Clone, Copy, Drop)]
+pub struct Phases {
+    pub setup: u64,
+    pub si: u64,
+    pub so: u64,
+    pub patterns: u64,
+}
+
+impl Phases {
+    /// What the test does so many cycles after its start.
+    pub fn at(&self, cycle: u64) -> Moment
+        requires phases { ArePhases self.now }
+        requires active { cycle < length (phase_ops self.now) }
+        ensures { IsMoment self.now cycle result }
+    {
+        if cycle < self.setup {
+            return Moment::Setup;
+        }
+        let shifted = cycle - self.setup;
+        if shifted < self.si {
+            return self.before_all(shifted);
+        }
+        self.in_block(shifted - self.si)
+    }
+
+    /// A Shift before the first capture.
+    fn before_all(&self, shifted: u64) -> Moment
+        requires phases { ArePhases self.now }
+        requires active { shifted < self.now.si }
+        ensures { IsMoment self.now (self.now.setup + shifted) result }
+    {
+        let ahead = Turn {
+            shifts: self.si - 1 - shifted,
+            pattern: 1,
+        };
+        Moment::Shift {
+            ahead: Some(ahead),
+            behind: None,
+        }
+    }
+
+    /// What the test does so many cycles after its first capture. Each block begins with a capture, and each but the last
+    /// has as many Shifts as the longest path has cells.
+    fn in_block(&self, cycle: u64) -> Moment
+        requires phases { ArePhases self.now }
+        requires active { self.now.setup + self.now.si + cycle < length (phase_ops self.now) }
+        ensures { IsMoment self.now (self.now.setup + self.now.si + cycle) result }
+    {
+        let period = 1 + self.si.max(self.so);
+        let (block, place) = (cycle / period, cycle % period);
+        if place == 0 {
+            return Moment::Capture { pattern: block + 1 };
+        }
+        let ahead = self.capture_after(block, period - 1 - place);
+        let behind = Turn {
+            shifts: place - 1,
+            pattern: block + 1,
+        };
+        Moment::Shift {
+            ahead,
+            behind: Some(behind),
+        }
+    }
+
+    /// The capture that comes so many Shifts later, after a block.
+    fn capture_after(&self, block: u64, shifts: u64) -> Option<Turn>
+        requires { block + 2 < 2 ^ 64 }
+        ensures { result ≡ cond (nat_lt (suc block) self.now.patterns) (Some (record { shifts = shifts; pattern = suc (suc block) })) None }
+    {
+        if block + 1 < self.patterns {
+            Some(Turn {
+                shifts,
+                pattern: block + 2,
+            })
+        } else {
+            None
+        }
+    }
+}
