@@ -1,0 +1,7 @@
+pub mod ReadBits
+pub mod TextPlaces
+pub mod SameDrive
+pub mod DrivenByText
+pub mod CycleLines
+pub mod Rows
+pub mod TestChips

@@ -1,0 +1,4 @@
+pub mod Marks
+pub mod VectorText
+pub mod DrivenRuns
+pub mod Lines

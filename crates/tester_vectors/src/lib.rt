@@ -1,0 +1,115 @@
+// The text of a plan's test vectors: what a tester drives on each wire, cycle by cycle, and what it compares.
+#![tactic(auto)]
+
+ghost use Rattle.std.specs.Prelude.{◌≡◌, ℕ, ◌<◌, ◌≤◌, IfOk};
+ghost use Rattle.soc_model.specs.Chips.{soc_value};
+ghost use Rattle.soc_model.specs.SoundChips.{IsSoundChip};
+ghost use Rattle.plan_model.specs.Rules.{IsGoodAlone};
+ghost use Rattle.plan_model.specs.Views.{plan_value};
+ghost use Rattle.outside.specs.Held.{Rose, Appended, AppendedFront};
+ghost use Rattle.bit_machine.specs.Chips.{wires_of, made_content};
+ghost use Rattle.tester_vectors.specs.Marks.{MarksReads};
+ghost use Rattle.tester_vectors.specs.VectorText.{wire_cycles as cycles_by_wires, vector_text as whole_text};
+ghost use Rattle.tester_vectors.specs.DrivenRuns.{RunsAsShown};
+
+mod laws;
+mod lines;
+mod text;
+
+pub use laws::{marks_are_reads, vectors_run_as_shown};
+use outside::{Sink, put_all};
+use plan_model::Plan;
+use soc_model::Soc;
+use std::alloc::Global;
+use text::{all_wires, is_too_long, made_text, wire_cycles};
+
+/// The cycles of a run of vectors times its wires, at most. A plan without wires counts as one of one wire.
+pub const RUN_MOST: u128 = 20_000_000;
+
+/// Why there are no vectors.
+#[derive(Clone, Copy, PartialEq, Eq, Debug)]
+pub enum VectorFault {
+    /// The run has so many cycles times wires, more than [`RUN_MOST`].
+    RunTooLong { cells: u128 },
+    /// Memory was refused.
+    NoMemory,
+}
+
+/// How the writing of vectors ended.
+#[derive(Clone, Copy, PartialEq, Eq, Debug)]
+pub enum Outcome {
+    /// The whole text was written.
+    Written,
+    /// The run has so many cycles times wires, more than [`RUN_MOST`]. Nothing was written.
+    RunTooLong { cells: u128 },
+    /// Writing failed, and perhaps a front of the text was written.
+    WriteFault,
+    /// Memory was refused. Nothing was written.
+    NoMemory,
+}
+
+/// The vectors of a good plan of a sound chip, with the made contents of a seed: a line `vectors W C` with the wires of
+/// the plan and its cycles, then a line for each cycle. In it stand the bits that the wires carry, a space, and for each
+/// wire the response bit that is read there, or `-` where none is.
+///
+/// `RunTooLong` comes exactly where cycles times wires pass [`RUN_MOST`].
+pub fn vector_text(alloc: Global, soc: &Soc, plan: &Plan, seed: u64) -> Result<Vec<u8>, VectorFault>
+    requires sound { IsSoundChip (soc_value soc.now) }
+    requires good { IsGoodAlone (soc_value soc.now) (plan_value plan.now) }
+    requires narrow { wires_of (plan_value plan.now) ≤ 256 }
+    ensures text { IfOk result (λ text. text.items ≡ whole_text (soc_value soc.now) (plan_value plan.now) (made_content (soc_value soc.now) seed)) }
+    ensures too_long { RUN_MOST < cycles_by_wires (plan_value plan.now) → result ≡ Err (VectorFault.RunTooLong (cycles_by_wires (plan_value plan.now))) }
+    ensures only { (cells : ℕ) → result ≡ Err (VectorFault.RunTooLong cells) → RUN_MOST < cycles_by_wires (plan_value plan.now) }
+    ensures marks { MarksReads (soc_value soc.now) (plan_value plan.now) (made_content (soc_value soc.now) seed) }
+    ensures run { IfOk result (λ text. RunsAsShown (soc_value soc.now) (plan_value plan.now) (made_content (soc_value soc.now) seed) text.items) }
+{
+    let wires = all_wires(&plan.buses);
+    let cells = wire_cycles(plan.cycles, wires);
+    if is_too_long(cells) {
+        return Err(VectorFault::RunTooLong { cells });
+    }
+    match made_text(alloc, soc, plan, seed, wires) {
+        Ok(text) => Ok(text),
+        Err(_) => Err(VectorFault::NoMemory),
+    }
+}
+
+/// Writes the vectors of a good plan of a sound chip, with the made contents of a seed, as [`vector_text`] makes them.
+///
+/// `RunTooLong` comes exactly where cycles times wires pass [`RUN_MOST`]; then, and with `NoMemory`, nothing is written.
+/// `WriteFault` comes only where the number of the sink's faults rose, and a front of the text is then written.
+pub fn write_vectors<K: Sink>(
+    alloc: Global,
+    soc: &Soc,
+    plan: &Plan,
+    seed: u64,
+    out: &mut K,
+) -> Outcome
+    requires sound { IsSoundChip (soc_value soc.now) }
+    requires good { IsGoodAlone (soc_value soc.now) (plan_value plan.now) }
+    requires narrow { wires_of (plan_value plan.now) ≤ 256 }
+    ensures faults_never_fall { K.faults out.old ≤ K.faults out.new }
+    ensures written { result ≡ Outcome.Written → Appended (K.written out.old) (whole_text (soc_value soc.now) (plan_value plan.now) (made_content (soc_value soc.now) seed)) (K.written out.new) }
+    ensures run { RunsAsShown (soc_value soc.now) (plan_value plan.now) (made_content (soc_value soc.now) seed) (whole_text (soc_value soc.now) (plan_value plan.now) (made_content (soc_value soc.now) seed)) }
+    ensures marks { MarksReads (soc_value soc.now) (plan_value plan.now) (made_content (soc_value soc.now) seed) }
+
+    ensures too_long { RUN_MOST < cycles_by_wires (plan_value plan.now) → result ≡ Outcome.RunTooLong (cycles_by_wires (plan_value plan.now)) }
+    ensures only { (cells : ℕ) → result ≡ Outcome.RunTooLong cells → RUN_MOST < cycles_by_wires (plan_value plan.now) }
+    ensures too_long_writes_nothing { (cells : ℕ) → result ≡ Outcome.RunTooLong cells → out.new ≡ out.old }
+    ensures no_memory_writes_nothing { result ≡ Outcome.NoMemory → out.new ≡ out.old }
+
+    ensures fault { result ≡ Outcome.WriteFault → Rose (K.faults out.old) (K.faults out.new) }
+    ensures front { result ≡ Outcome.WriteFault → AppendedFront (K.written out.old) (whole_text (soc_value soc.now) (plan_value plan.now) (made_content (soc_value soc.now) seed)) (K.written out.new) }
+{
+    match vector_text(alloc, soc, plan, seed) {
+        Ok(text) => match put_all(out, &text) {
+            Ok(()) => Outcome::Written,
+            Err(_) => Outcome::WriteFault,
+        },
+        Err(VectorFault::RunTooLong { cells }) => Outcome::RunTooLong { cells },
+        Err(VectorFault::NoMemory) => Outcome::NoMemory,
+    }
+}
+
+#[cfg(test)]
+mod tests;
