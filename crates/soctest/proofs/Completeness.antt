@@ -15,13 +15,15 @@ use Rattle.plan_text.specs.Answers.{SaysPlan, last_line}
 use Rattle.soctest.specs.declared.FileKind.{FileKind}
 use Rattle.soctest.specs.declared.Status.{Status}
 use Rattle.soctest.specs.declared.Status.TheVariants.{Done, Refused, BadWords, ReadFault, TooLong, WriteFault, NoMemory}
-use Rattle.soctest.specs.Commands.{CommandValue, Print, Widths, MakePlan, Check, Chart}
+use Rattle.bit_machine.specs.Chips.{made_content}
+use Rattle.tester_vectors.specs.VectorText.{vector_text}
+use Rattle.soctest.specs.Commands.{CommandValue, Print, Widths, MakePlan, Check, Chart, Vectors}
 use Rattle.soctest.specs.Texts.{chip_line, chip_limit_line, plan_line, fault_line, accepted_line}
 use Rattle.soc_printer.specs.SocText.{soc_text}
 use Rattle.soctest.specs.WidthsText.{widths_text}
 use Rattle.soctest.specs.Readings.{RefusesChip, SaysLimits, refusal_of, RefusesLimits, SaysAccepted, RefusesPlan}
 use Rattle.chart.specs.ChartText.{chart_text}
-use Rattle.soctest.specs.Procedures.{Procedure, procedure_of, with_both, with_accepted, with_all, done_with, done_with_plan}
+use Rattle.soctest.specs.Procedures.{Procedure, Unless, run_refusal, procedure_of, with_both, with_accepted, with_all, done_with, done_with_plan}
 use Rattle.soctest.specs.Answers.{IsAnswer}
 use Rattle.soctest.specs.Decides.{IsUnread, IsUnreadOf}
 use Rattle.soctest.specs.Ends.{MayAnswer, Ends, fixes_text, EndsAsWanted, Complete, AreTaken, Finishes}
@@ -99,18 +101,19 @@ settled_both laws fixed soc limits next last = (
   λ chip. (limits_one laws.reading chip, limits_refused_one laws.reading chip, λ bounds. last chip bounds),
 )
 
--- a text that a chip, limits and an accepted plan fix
-settled_all : Laws → (soc limits plan : List ℕ) (text : SocValue → LimitsValue → PlanValue → List ℕ) → IsSettled true (with_all soc limits plan (λ chip bounds value. done_with (text chip bounds value)))
-settled_all laws soc limits plan text =
-    settled_both laws true soc limits (λ chip bounds. with_accepted chip bounds plan (λ value. done_with (text chip bounds value)))
-    (λ chip bounds. (plan_one laws.one_plan chip bounds, plan_refused_one laws chip bounds, λ value. done_once true (text chip bounds value)))
+-- what comes after a chip, limits and an accepted plan
+settled_all : Laws → (soc limits plan : List ℕ) (next : SocValue → LimitsValue → PlanValue → Procedure) → ((chip : SocValue) (bounds : LimitsValue) (value : PlanValue) → IsSettled true (next chip bounds value)) → IsSettled true (with_all soc limits plan next)
+settled_all laws soc limits plan next last =
+    settled_both laws true soc limits (λ chip bounds. with_accepted chip bounds plan (next chip bounds))
+    (λ chip bounds. (plan_one laws.one_plan chip bounds, plan_refused_one laws chip bounds, λ value. last chip bounds value))
 
 settled : Laws → (command : CommandValue) → IsSettled (fixes_text (Some command)) (procedure_of command)
 settled laws (Print soc) = (one_chip, chip_refused_one, λ chip. done_once true (soc_text chip))
 settled laws (Widths soc wires) = (one_chip, chip_refused_one, λ chip. done_once true (widths_text chip wires))
 settled laws (MakePlan soc limits) = settled_both laws false soc limits done_with_plan plan_once
-settled laws (Check soc limits plan) = settled_all laws soc limits plan (λ chip bounds value. accepted_line value)
-settled laws (Chart soc limits plan) = settled_all laws soc limits plan (λ chip bounds value. chart_text chip value)
+settled laws (Check soc limits plan) = settled_all laws soc limits plan (λ chip bounds value. done_with (accepted_line value)) (λ chip bounds value. done_once true (accepted_line value))
+settled laws (Chart soc limits plan) = settled_all laws soc limits plan (λ chip bounds value. done_with (chart_text chip value)) (λ chip bounds value. done_once true (chart_text chip value))
+settled laws (Vectors soc limits plan seed) = settled_all laws soc limits plan (λ chip bounds value. Unless (run_refusal value) (done_with (vector_text chip value (made_content chip seed)))) (λ chip bounds value. done_once true (vector_text chip value (made_content chip seed)))
 
 one : Laws → (command : Option CommandValue) (files : Files) (s : Status) (t : List ℕ) (s' : Status) (t' : List ℕ) → IsAnswer command files s t → IsAnswer command files s' t' → AreOne (fixes_text command) s t s' t'
 one laws None files s t s' t' a b = (a.0 ∙ sym b.0, λ fixed. a.1 ∙ sym b.1)

@@ -14,9 +14,9 @@ use Rattle.soctest.specs.declared.Verdict.TheVariants.{Answered, CannotRead, NoM
 use Rattle.soctest.specs.Commands.{CommandValue}
 use Rattle.soctest.specs.Texts.{bad_words_line, too_long_line}
 use Rattle.soctest.specs.Readings.{most_of, IsRead}
-use Rattle.soctest.specs.Procedures.{Procedure, Read, Answer, nothing, done_with}
+use Rattle.soctest.specs.Procedures.{Procedure, Read, Unless, Answer, nothing, done_with}
 use Rattle.soctest.specs.Answers.{Stage, Answers}
-use Rattle.soctest.specs.Decides.{MayFail, IsUnread, IsUnreadOf, Follows, Decides, Gives, GivesText, Refuses}
+use Rattle.soctest.specs.Decides.{MayFail, IsUnread, IsUnreadOf, Follows, Decides, Gives, GivesUnless, GivesText, Refuses}
 use Rattle.soctest.specs.Ends.{MayAnswer, Ends}
 
 within_case : (A B : Type 0) (b : Bool) → b ≡ false → B → MatchBool b A B
@@ -38,6 +38,8 @@ may_more held before mid after name order (inr missing) = inr missing
 
 unread_more : (steps : Procedure) (held : Option Files) (before mid after : ℕ) (missed : FileKind) → before ≤ mid → IsUnread steps held mid after missed → IsUnread steps held before after missed
 unread_more (Answer May) held before mid after missed order un = un
+unread_more (Unless None next) held before mid after missed order un = unread_more next held before mid after missed order un
+unread_more (Unless (Some line) next) held before mid after missed order un = un
 unread_more (Read file Says Refused' name next) held before mid after missed order (inl here) = inl (here.0, may_more held before mid after name order here.1)
 unread_more (Read file Says Refused' name next) held before mid after missed order (inr later) = inr (later.0, later.1, unread_more (next later.0) held before mid after missed order later.2)
 
@@ -69,6 +71,17 @@ done answer held before after OutOfMemory d = tt
 pub done_of : (answer : List ℕ) (made : Result (Vec ℕ) MemoryFault) (held : Option Files) (before after : ℕ) (verdict : Verdict) → IfOk made (λ text. text.items ≡ answer) → GivesText Done made verdict → Follows (done_with answer) held before after verdict
 done_of answer (Ok text) held before after verdict is d = done answer held before after verdict (rw is at d)
 done_of answer (Err fault) held before after verdict is d = rw d tt
+
+-- a text that is the answer unless a line refuses it
+pub unless_refused : (refusal : Option (List ℕ)) (answer : List ℕ) (held : Option Files) (before after : ℕ) (verdict : Verdict) → GivesUnless refusal answer verdict → Follows (Unless refusal (done_with answer)) held before after verdict
+unless_refused None answer None before after (Answered status text) d = (rw d.0 tt, tt)
+unless_refused None answer (Some files) before after (Answered status text) d = (rw d.0 tt, d)
+unless_refused None answer held before after (CannotRead missed) d = absurd d
+unless_refused None answer held before after OutOfMemory d = tt
+unless_refused (Some line) answer None before after (Answered status text) d = (rw d.0 d.2, tt)
+unless_refused (Some line) answer (Some files) before after (Answered status text) d = (rw d.0 d.2, (d.0, d.1))
+unless_refused (Some line) answer held before after (CannotRead missed) d = absurd d
+unless_refused (Some line) answer held before after OutOfMemory d = tt
 
 -- an answer of any text that is allowed with Done, or want of memory for it
 pub may_be_done : (May : Status → List ℕ → Type 0) (made : Result (Vec ℕ) MemoryFault) (held : Option Files) (before after : ℕ) (verdict : Verdict) → IfOk made (λ text. May Done text.items) → GivesText Done made verdict → Follows (Answer May) held before after verdict

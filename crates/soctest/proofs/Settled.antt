@@ -11,7 +11,7 @@ use Rattle.plan_model.specs.Plans.{LimitsValue}
 use Rattle.soctest.specs.declared.Status.TheVariants.{Done, Refused, TooLong}
 use Rattle.soctest.specs.Texts.{too_long_line}
 use Rattle.soctest.specs.Readings.{most_of, IsRead}
-use Rattle.soctest.specs.Procedures.{Procedure, Read, Answer, done_with, done_with_plan}
+use Rattle.soctest.specs.Procedures.{Procedure, Read, Unless, Answer, done_with, done_with_plan}
 use Rattle.soctest.specs.Answers.{Stage, Answers}
 use Rattle.soctest.specs.Decides.{IsUnread}
 use Rattle.soctest.specs.Ends.{AreTaken}
@@ -40,6 +40,7 @@ pub record RefusesOne {V : Type 0} (Says : List ℕ → V → Type 0) (Refuses :
 -- every file of the procedure says one value or has one refusal, and at the end there is one answer, which is Done
 abbrev pub IsSettled : Bool → Procedure → Type 0
 IsSettled fixed (Answer May) = AllowsOne fixed May × OnlyDone May
+IsSettled fixed (Unless refusal next) = IsSettled fixed next
 IsSettled fixed (Read {V} file Says Refuses name next) = SaysOne Says × RefusesOne Says Refuses × ((v : V) → IsSettled fixed (next v))
 
 stage_one : {V : Type 0} (fixed : Bool) (file : FileKind) (Says : List ℕ → V → Type 0) (Refuses : List ℕ → List ℕ → Type 0) (Next : V → Status → List ℕ → Type 0) → SaysOne Says → RefusesOne Says Refuses → ((v : V) → AllowsOne fixed (Next v)) → (held : Option (List ℕ)) → AllowsOne fixed (Stage file Says Refuses Next held)
@@ -58,6 +59,8 @@ stage_one {V} fixed file Says Refuses Next says refuses next (Some bytes) s t s'
 
 pub one_answer : (fixed : Bool) (steps : Procedure) → IsSettled fixed steps → (files : Files) → AllowsOne fixed (Answers steps files)
 one_answer fixed (Answer May) settled files = settled.0
+one_answer fixed (Unless None next) settled files = one_answer fixed next settled files
+one_answer fixed (Unless (Some line) next) settled files = λ s t s' t' a b. (a.0 ∙ sym b.0, λ one. a.1 ∙ sym b.1)
 one_answer fixed (Read file Says Refuses name next) settled files = stage_one fixed file Says Refuses (λ v. Answers (next v) files) settled.0 settled.1 (λ v. one_answer fixed (next v) (settled.2 v) files) (get files name)
 
 -- ---- an unread file allows no answer
@@ -75,6 +78,8 @@ missing file Says Refuses Next held s t is stage = rw is at stage
 
 pub no_answer : (fixed : Bool) (steps : Procedure) → IsSettled fixed steps → (files : Files) (missed : FileKind) (before after : ℕ) (s : Status) (t : List ℕ) → ¬ Rose before after → IsUnread steps (Some files) before after missed → Answers steps files s t → ⊥
 no_answer fixed (Answer May) settled files missed before after s t fine un answer = un
+no_answer fixed (Unless None next) settled files missed before after s t fine un answer = no_answer fixed next settled files missed before after s t fine un answer
+no_answer fixed (Unless (Some line) next) settled files missed before after s t fine un answer = un
 no_answer fixed (Read file Says Refuses name next) settled files missed before after s t fine (inl (at, inl rose)) answer = fine rose
 no_answer fixed (Read file Says Refuses name next) settled files missed before after s t fine (inl (at, inr none)) answer = missing file Says Refuses (λ v. Answers (next v) files) (get files name) s t none answer
 no_answer fixed (Read file Says Refuses name next) settled files missed before after s t fine (inr (v, read, un)) answer =
@@ -92,12 +97,16 @@ same_read file Says one held v w a b =
 -- the answer is Done
 pub only_done : (fixed : Bool) (steps : Procedure) → IsSettled fixed steps → (files : Files) (s : Status) (t : List ℕ) → AreTaken steps files → Answers steps files s t → s ≡ Done
 only_done fixed (Answer May) settled files s t taken answer = settled.1 s t answer
+only_done fixed (Unless None next) settled files s t taken answer = only_done fixed next settled files s t taken answer
+only_done fixed (Unless (Some line) next) settled files s t taken answer = absurd taken
 only_done fixed (Read file Says Refuses name next) settled files s t taken answer =
     only_done fixed (next taken.0) (settled.2 taken.0) files s t taken.2 (stage_read file Says Refuses (λ v. Answers (next v) files) settled.0 settled.1 (get files name) taken.0 s t taken.1 answer)
 
 -- no file is unread
 pub none_unread : (fixed : Bool) (steps : Procedure) → IsSettled fixed steps → (files : Files) (missed : FileKind) (before after : ℕ) → ¬ Rose before after → AreTaken steps files → IsUnread steps (Some files) before after missed → ⊥
 none_unread fixed (Answer May) settled files missed before after fine taken un = un
+none_unread fixed (Unless None next) settled files missed before after fine taken un = none_unread fixed next settled files missed before after fine taken un
+none_unread fixed (Unless (Some line) next) settled files missed before after fine taken un = un
 none_unread fixed (Read file Says Refuses name next) settled files missed before after fine taken (inl (at, inl rose)) = fine rose
 none_unread fixed (Read file Says Refuses name next) settled files missed before after fine taken (inl (at, inr none)) =
     let both : Some taken.1.bytes ≡ None = sym taken.1.held_is ∙ none in

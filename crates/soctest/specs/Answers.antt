@@ -8,7 +8,7 @@ use Rattle.soctest.specs.declared.Status.TheVariants.{Refused, BadWords, TooLong
 use Rattle.soctest.specs.Commands.{CommandValue}
 use Rattle.soctest.specs.Texts.{too_long_line, bad_words_line}
 use Rattle.soctest.specs.Readings.{most_of}
-use Rattle.soctest.specs.Procedures.{Procedure, Read, Answer, procedure_of}
+use Rattle.soctest.specs.Procedures.{Procedure, Read, Unless, Answer, procedure_of}
 
 -- The stage of one file, by what its name holds. Where it isn't held no text is allowed; where it is too long or refused
 -- a line says so; else the answer is that of what comes next, for the value that was read.
@@ -20,6 +20,8 @@ Stage {V} file Says Refuses Next (Some bytes) status text =
 
 -- a procedure's stages, one after another
 abbrev pub Answers : Procedure → Files → Status → List ℕ → Type 0
+Answers (Unless None next) files status text = Answers next files status text
+Answers (Unless (Some line) next) files status text = (status ≡ Refused) × (text ≡ line)
 Answers (Answer May) files status text = May status text
 Answers (Read file Says Refuses name next) files status text = Stage file Says Refuses (λ value. Answers (next value) files) (get files name) status text
 

@@ -2,6 +2,7 @@
 use Rattle.std.specs.Prelude.{ℕ, ◌≤◌, List, [], ◌∷◌, Option, None, Some, codes, nat_eq, nat_le, if◌then◌else◌}
 use Rattle.std.specs.Cmp.Lexicographic.{pointwise}
 use Rattle.outside.specs.Decimal.{number_of}
+use Rattle.soc_model.specs.declared.TheConstants.{NUMBER_WORD_MOST}
 use Rattle.plan_model.specs.declared.TheConstants.{WIRES_MOST}
 use Rattle.soctest.specs.declared.Command.{Command}
 use Rattle.soctest.specs.declared.Command.TheVariants as command
@@ -13,6 +14,7 @@ pub data CommandValue : Type 0 where
   MakePlan : (soc limits : List ℕ) → CommandValue
   Check : (soc limits plan : List ℕ) → CommandValue
   Chart : (soc limits plan : List ℕ) → CommandValue
+  Vectors : (soc limits plan : List ℕ) → (seed : ℕ) → CommandValue
 
 abbrev pub command_value : Command → CommandValue
 command_value (command.Print soc) = Print soc.now
@@ -20,6 +22,7 @@ command_value (command.Widths soc wires) = Widths soc.now wires
 command_value (command.Plan soc limits) = MakePlan soc.now limits.now
 command_value (command.Check soc limits plan) = Check soc.now limits.now plan.now
 command_value (command.Chart soc limits plan) = Chart soc.now limits.now plan.now
+command_value (command.Vectors soc limits plan seed) = Vectors soc.now limits.now plan.now seed
 
 -- the number of wires of a command is from 1 to the most
 abbrev pub HasWires : Command → Type 0
@@ -28,13 +31,20 @@ HasWires (command.Widths soc wires) = (1 ≤ wires) × (wires ≤ WIRES_MOST)
 HasWires (command.Plan soc limits) = Unit {0}
 HasWires (command.Check soc limits plan) = Unit {0}
 HasWires (command.Chart soc limits plan) = Unit {0}
+HasWires (command.Vectors soc limits plan seed) = Unit {0}
 
 -- `widths` with a number of wires, where it is from 1 to the most
 abbrev pub widths_of : (soc : List ℕ) → Option ℕ → Option CommandValue
 widths_of soc None = None
 widths_of soc (Some wires) = if nat_le 1 wires then Some (Widths soc wires) else None
 
--- `print SOC`, `widths SOC WIRES`, `plan SOC LIMITS`, `check SOC LIMITS PLAN` and `chart SOC LIMITS PLAN`; no other words are a command
+-- `vectors` with a seed, where it is a number word
+abbrev pub vectors_of : (soc limits plan : List ℕ) → Option ℕ → Option CommandValue
+vectors_of soc limits plan None = None
+vectors_of soc limits plan (Some seed) = Some (Vectors soc limits plan seed)
+
+-- `print SOC`, `widths SOC WIRES`, `plan SOC LIMITS`, `check SOC LIMITS PLAN`, `chart SOC LIMITS PLAN` and
+-- `vectors SOC LIMITS PLAN SEED`; no other words are a command
 abbrev pub command_of : List (List ℕ) → Option CommandValue
 command_of (word ∷ soc ∷ []) = if pointwise nat_eq word (codes "print") then Some (Print soc) else None
 command_of (word ∷ soc ∷ last ∷ []) =
@@ -45,4 +55,5 @@ command_of (word ∷ soc ∷ limits ∷ plan ∷ []) =
     if pointwise nat_eq word (codes "check") then Some (Check soc limits plan)
     else if pointwise nat_eq word (codes "chart") then Some (Chart soc limits plan)
     else None
+command_of (word ∷ soc ∷ limits ∷ plan ∷ seed ∷ []) = if pointwise nat_eq word (codes "vectors") then vectors_of soc limits plan (number_of seed NUMBER_WORD_MOST) else None
 command_of _ = None

@@ -29,7 +29,7 @@ use Rattle.soctest.specs.declared.loading.Accepted.{Accepted}
 use Rattle.soctest.specs.Commands.{CommandValue}
 use Rattle.soctest.specs.Texts.{is_line, bad_words_line, chip_line, chip_limit_line, limits_line, unknown_test_line, cycle_line, test_power_line, plan_line, fault_line}
 use Rattle.soctest.specs.Readings.{IsRead, SaysLimits, SaysAccepted}
-use Rattle.soctest.specs.Procedures.{Procedure, Read, Answer, nothing, with_chip, with_limits, with_accepted, with_both, with_all, procedure_of}
+use Rattle.soctest.specs.Procedures.{Procedure, Read, Unless, Answer, nothing, with_chip, with_limits, with_accepted, with_both, with_all, procedure_of}
 use Rattle.soctest.specs.Answers.{Answers}
 
 -- a status of a command that is decided before anything is written, and its text: one line, but for an answer
@@ -48,6 +48,8 @@ MayFail held before after name = Rose before after ⊎ IsMissing held name
 -- The file can't be read, and the files before it are read and taken.
 abbrev pub IsUnread : Procedure → Option Files → ℕ → ℕ → FileKind → Type 0
 IsUnread (Answer May) held before after missed = ⊥
+IsUnread (Unless None next) held before after missed = IsUnread next held before after missed
+IsUnread (Unless (Some line) next) held before after missed = ⊥
 IsUnread (Read {V} file Says Refuses name next) held before after missed =
     ((missed ≡ file) × MayFail held before after name)
     ⊎ ((value : V) × IfSome held (λ files. IsRead file Says (get files name) value) × IsUnread (next value) held before after missed)
@@ -129,6 +131,11 @@ abbrev pub Refuses : List ℕ → Verdict → Type 0
 Refuses line (Answered given bytes) = (given ≡ Refused) × (bytes.items ≡ line) × IsTrue (is_line bytes.items)
 Refuses line (CannotRead file) = ⊥
 Refuses line OutOfMemory = Unit {0}
+
+-- a verdict is the line that refuses, or else the answer, or wants memory
+abbrev pub GivesUnless : Option (List ℕ) → List ℕ → Verdict → Type 0
+GivesUnless None answer verdict = Gives Done answer verdict
+GivesUnless (Some line) answer verdict = Refuses line verdict
 
 -- the verdict on a chip's text
 abbrev pub RefusesSoc : SocFault → Verdict → Type 0

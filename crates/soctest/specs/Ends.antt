@@ -12,10 +12,10 @@ use Rattle.soctest.specs.declared.FileKind.{FileKind}
 use Rattle.soctest.specs.declared.FileKind.TheVariants.{Soc, Limits, Plan}
 use Rattle.soctest.specs.declared.Status.{Status}
 use Rattle.soctest.specs.declared.Status.TheVariants.{Done, Refused, BadWords, ReadFault, TooLong, WriteFault, NoMemory}
-use Rattle.soctest.specs.Commands.{CommandValue, Print, Widths, MakePlan, Check, Chart}
+use Rattle.soctest.specs.Commands.{CommandValue, Print, Widths, MakePlan, Check, Chart, Vectors}
 use Rattle.plan_text.specs.Answers.{SaysPlan}
 use Rattle.plan_text.specs.PlanLines.{plan_text}
-use Rattle.soctest.specs.Procedures.{Procedure, Read, Answer, procedure_of}
+use Rattle.soctest.specs.Procedures.{Procedure, Read, Unless, Answer, procedure_of}
 use Rattle.soctest.specs.Texts.{is_line, unread_line, accepted_line}
 use Rattle.soctest.specs.Readings.{IsRead, SaysLimits}
 use Rattle.soctest.specs.Answers.{IsAnswer}
@@ -64,6 +64,7 @@ fixes_text (Some (Widths soc wires)) = true
 fixes_text (Some (MakePlan soc limits)) = false
 fixes_text (Some (Check soc limits plan)) = true
 fixes_text (Some (Chart soc limits plan)) = true
+fixes_text (Some (Vectors soc limits plan seed)) = true
 
 -- Where neither count of faults rose and the files give an answer, the call ends with its status, or for want of memory;
 -- where the text is fixed, that is written.
@@ -74,9 +75,11 @@ abbrev pub Complete : Option CommandValue → Option Files → Type 0 → Type 0
 Complete command held shelf_failed sink_failed old end new =
     (files : Files) (wanted : Status) (text : List ℕ) → held ≡ Some files → ¬ shelf_failed → ¬ sink_failed → IsAnswer command files wanted text → EndsAsWanted (fixes_text command) wanted text old end new
 
--- every file of a procedure is held within its limit and says a value
+-- every file of a procedure is held within its limit and says a value, and the command has no refusal of its own
 abbrev pub AreTaken : Procedure → Files → Type 0
 AreTaken (Answer May) files = Unit {0}
+AreTaken (Unless None next) files = AreTaken next files
+AreTaken (Unless (Some line) next) files = ⊥
 AreTaken (Read {V} file Says Refuses name next) files = (value : V) × IsRead file Says (get files name) value × AreTaken (next value) files
 
 -- Where neither count of faults rose and every file of the command is taken, the call ends with Done, or for want of memory.

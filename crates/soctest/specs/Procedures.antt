@@ -1,5 +1,5 @@
 -- What a command does: it takes its files one after another, and then answers.
-use Rattle.std.specs.Prelude.{◌≡◌, ℕ, List}
+use Rattle.std.specs.Prelude.{◌≡◌, ℕ, List, Option, None, Some, nat_lt, if◌then◌else◌}
 use Rattle.soc_model.specs.Chips.{SocValue}
 use Rattle.plan_model.specs.Plans.{LimitsValue, PlanValue}
 use Rattle.soc_reader.specs.ChipForm.{SaysChip}
@@ -11,15 +11,20 @@ use Rattle.soctest.specs.declared.Status.TheVariants.{Done}
 use Rattle.chart.specs.ChartText.{chart_text}
 use Rattle.planner.specs.Plans.{IsPlanned}
 use Rattle.plan_text.specs.PlanLines.{plan_text}
-use Rattle.soctest.specs.Commands.{CommandValue, Print, Widths, MakePlan, Check, Chart}
-use Rattle.soctest.specs.Texts.{accepted_line}
+use Rattle.bit_machine.specs.Chips.{made_content}
+use Rattle.tester_vectors.specs.declared.TheConstants.{RUN_MOST}
+use Rattle.tester_vectors.specs.VectorText.{wire_cycles, vector_text}
+use Rattle.soctest.specs.Commands.{CommandValue, Print, Widths, MakePlan, Check, Chart, Vectors}
+use Rattle.soctest.specs.Texts.{accepted_line, run_line}
 use Rattle.soctest.specs.WidthsText.{widths_text}
 use Rattle.soctest.specs.Readings.{RefusesChip, SaysLimits, RefusesLimits, SaysAccepted, RefusesPlan}
 
 -- A file of a name is read, where its bytes say a value (`Says bytes value`); what is done next is fixed by that value.
--- Where they say none, a line says why (`Refuses bytes line`). At the end stands which statuses and texts are an answer.
+-- Where they say none, a line says why (`Refuses bytes line`). `Unless refusal next` goes on unless a command has a refusal of
+-- its own, a line. At the end stands which statuses and texts are an answer.
 pub data Procedure : Type 1 where
   Read : {V : Type 0} → FileKind → (Says : List ℕ → V → Type 0) → (Refuses : List ℕ → List ℕ → Type 0) → (name : List ℕ) → (V → Procedure) → Procedure
+  Unless : (refusal : Option (List ℕ)) → Procedure → Procedure
   Answer : (Status → List ℕ → Type 0) → Procedure
 
 -- there is no answer
@@ -33,6 +38,10 @@ done_with answer = Answer (λ status text. (status ≡ Done) × (text ≡ answer
 -- the answer is the text of any plan that the planner may make for a chip under limits
 abbrev pub done_with_plan : SocValue → LimitsValue → Procedure
 done_with_plan chip bounds = Answer (λ status text. (status ≡ Done) × ((value : PlanValue) × IsPlanned chip bounds value × (text ≡ plan_text value)))
+
+-- the line that refuses the vectors of a plan whose run is too long
+abbrev pub run_refusal : PlanValue → Option (List ℕ)
+run_refusal value = if nat_lt RUN_MOST (wire_cycles value) then Some (run_line (wire_cycles value)) else None
 
 -- ---- what commands have in common
 
@@ -61,3 +70,4 @@ procedure_of (Widths soc wires) = with_chip soc (λ chip. done_with (widths_text
 procedure_of (MakePlan soc limits) = with_both soc limits done_with_plan
 procedure_of (Check soc limits plan) = with_all soc limits plan (λ chip bounds value. done_with (accepted_line value))
 procedure_of (Chart soc limits plan) = with_all soc limits plan (λ chip bounds value. done_with (chart_text chip value))
+procedure_of (Vectors soc limits plan seed) = with_all soc limits plan (λ chip bounds value. Unless (run_refusal value) (done_with (vector_text chip value (made_content chip seed))))

@@ -85,6 +85,12 @@ cycle_line tests = codes "refused limits cycle" ++ tests_text tests ++ codes "\n
 abbrev pub test_power_line : TestId → ℕ → List ℕ
 test_power_line id power = codes "refused limits power " ++ test_text id ++ codes " " ++ decimal power ++ codes "\n"
 
+-- ---- runs that are too long
+
+-- a run of so many wire cycles
+abbrev pub run_line : ℕ → List ℕ
+run_line cells = codes "refused run " ++ decimal cells ++ codes "\n"
+
 -- ---- plans that are refused
 
 -- at a line of their text

@@ -4,27 +4,34 @@ ghost use Rattle.soc_model.specs.Chips.{soc_value};
 ghost use Rattle.soc_model.specs.SoundChips.{IsSoundChip};
 ghost use Rattle.plan_model.specs.Plans.{PlanValue};
 ghost use Rattle.plan_model.specs.SoundLimits.{IsSoundLimits};
-ghost use Rattle.plan_model.specs.Views.{limits_value};
+ghost use Rattle.plan_model.specs.Views.{limits_value, plan_value};
 ghost use Rattle.plan_text.specs.PlanLines.{plan_text};
+ghost use Rattle.schedule_search.specs.Estimates.{CanAsk, IsAtLeastReady, IsAtMostNow};
 ghost use Rattle.planner.specs.Plans.{IsPlanned};
 ghost use Rattle.plan_model.specs.declared.TheConstants.{WIRES_MOST};
-ghost use Rattle.soctest.specs.Commands.{Print, Widths, MakePlan, Check, Chart, command_of};
-ghost use Rattle.soctest.specs.Procedures.{procedure_of};
-ghost use Rattle.soctest.specs.Decides.{Follows, Decides};
+ghost use Rattle.soctest.specs.Commands.{Print, Widths, MakePlan, Check, Chart, Vectors, command_of};
+ghost use Rattle.plan_model.specs.Rules.{IsGoodAlone};
+ghost use Rattle.bit_machine.specs.Chips.{wires_of, made_content};
+ghost use Rattle.tester_vectors.specs.VectorText.{vector_text as text_of_vectors};
+ghost use Rattle.soctest.specs.Procedures.{procedure_of, run_refusal};
+ghost use Rattle.soctest.specs.Decides.{Follows, Decides, GivesUnless};
 
-use crate::lines::accepted_line;
-use crate::loading::{answered, answered_with, load_all, load_both, load_chip};
+use crate::lines::{accepted_line, run_line};
+use crate::loading::{answered, answered_with, load_all, load_both, load_chip, refused_with};
 use crate::widths::widths_text;
 use crate::words::command;
 use crate::{Command, Status, Verdict};
 use chart::print_chart;
 use outside::{NoMemory, Shelf};
-use plan_model::{Limits, good_without_limits};
+use plan_model::{Limits, Plan, good_without_limits};
 use plan_text::print_plan;
 use planner::plan;
+use resource_table::Table;
+use schedule_search::Ahead;
 use soc_model::Soc;
 use soc_printer::print_soc;
 use std::alloc::Global;
+use tester_vectors::{VectorFault, vector_text};
 
 /// `print SOC`: the chip's text.
 fn decide_print<H: Shelf>(alloc: Global, soc: &str, shelf: &mut H) -> Verdict
@@ -52,13 +59,21 @@ fn decide_widths<H: Shelf>(alloc: Global, soc: &str, wires: u64, shelf: &mut H) 
     }
 }
 
-/// The text of the planner's plan. `NoMemory` where memory runs out, and for no other reason.
+/// The text of the planner's plan, whose search estimates by the ends of the tests before. `NoMemory` where memory runs out,
+/// and for no other reason.
 fn text_of_plan(alloc: Global, soc: &Soc, limits: &Limits) -> Result<Vec<u8>, NoMemory>
     requires chip { IsSoundChip (soc_value soc.now) }
     requires limits { IsSoundLimits (soc_value soc.now) (limits_value limits.now) }
     ensures { IfOk result (λ text. (value : PlanValue) × IsPlanned (soc_value soc.now) (limits_value limits.now) value × (text.items ≡ plan_text value)) }
 {
-    let plan = plan(alloc, soc, limits)?;
+    let ahead = Ahead::new(
+        |table: &Table<'_>, test: usize| -> u64
+            requires { CanAsk table.now test }
+            ensures least { IsAtLeastReady table.now test result }
+            ensures most { IsAtMostNow table.now test result }
+        { table.ready_end(test) },
+    );
+    let plan = plan(alloc, soc, limits, ahead)?;
     print_plan(alloc, &plan)
 }
 
@@ -113,6 +128,42 @@ fn decide_chart<H: Shelf>(
     }
 }
 
+/// The vectors of a plan, or the refusal of a run that is too long.
+fn answer_vectors(alloc: Global, soc: &Soc, plan: &Plan, seed: u64) -> Verdict
+    requires sound { IsSoundChip (soc_value soc.now) }
+    requires good { IsGoodAlone (soc_value soc.now) (plan_value plan.now) }
+    requires narrow { wires_of (plan_value plan.now) ≤ 256 }
+    ensures { GivesUnless (run_refusal (plan_value plan.now)) (text_of_vectors (soc_value soc.now) (plan_value plan.now) (made_content (soc_value soc.now) seed)) result }
+{
+    match vector_text(alloc, soc, plan, seed) {
+        Ok(text) => answered_with(Status::Done, Ok(text)),
+        Err(VectorFault::RunTooLong { cells }) => refused_with(run_line(alloc, cells)),
+        Err(VectorFault::NoMemory) => Verdict::NoMemory,
+    }
+}
+
+/// `vectors SOC LIMITS PLAN SEED`: what a tester drives and compares in a plan that is accepted.
+fn decide_vectors<H: Shelf>(
+    alloc: Global,
+    soc: &str,
+    limits: &str,
+    plan: &str,
+    seed: u64,
+    shelf: &mut H,
+) -> Verdict
+    ensures held_stays { H.held shelf.new ≡ H.held shelf.old }
+    ensures faults_never_fall { H.faults shelf.old ≤ H.faults shelf.new }
+    ensures follows { Follows (procedure_of (Vectors soc.now limits.now plan.now seed)) (H.held shelf.old) (H.faults shelf.old) (H.faults shelf.new) result }
+{
+    match load_all(alloc, soc, limits, plan, shelf) {
+        Ok(all) => {
+            good_without_limits();
+            answer_vectors(alloc, &all.soc, &all.plan, seed)
+        }
+        Err(verdict) => verdict,
+    }
+}
+
 /// Decides how the command of these words ends. Words of no command leave the shelf untouched.
 pub fn decide<H: Shelf>(alloc: Global, words: &[String], shelf: &mut H) -> Verdict
     ensures held_stays { H.held shelf.new ≡ H.held shelf.old }
@@ -130,6 +181,14 @@ pub fn decide<H: Shelf>(alloc: Global, words: &[String], shelf: &mut H) -> Verdi
         Some(Command::Chart { soc, limits, plan }) => {
             decide_chart(alloc, soc, limits, plan, shelf)
         }
+        Some(
+            Command::Vectors {
+                soc,
+                limits,
+                plan,
+                seed,
+            },
+        ) => decide_vectors(alloc, soc, limits, plan, seed, shelf),
         None => answered(alloc, Status::BadWords, b"bad words\n"),
     }
 }

@@ -3,7 +3,7 @@ ghost use Rattle.std.specs.Prelude.{◌≡◌, ◌++◌, ◌&&◌, OnOk, IfOk, d
 ghost use Rattle.plan_model.specs.Views.{plan_value};
 ghost use Rattle.bound_certificate.specs.Checks.{certificate_fault};
 ghost use Rattle.plan_checker.specs.FaultValues.{fault_value};
-ghost use Rattle.soctest.specs.Texts.{is_line, no_feed, unread_line as unread_text, too_long_line as too_long_text, chip_line as chip_line_text, chip_limit_line as chip_limit_text, limits_line as limits_line_text, unknown_test_line as unknown_test_text, tests_text, cycle_line as cycle_line_text, test_power_line as test_power_text, plan_line as plan_line_text, limit_name, accepted_line as accepted_text, test_text, wrapper_text, pair_text, clash_text, two_numbers, certificate_text, fault_keyword, carried_text, fault_line as fault_line_text};
+ghost use Rattle.soctest.specs.Texts.{is_line, no_feed, unread_line as unread_text, too_long_line as too_long_text, chip_line as chip_line_text, chip_limit_line as chip_limit_text, limits_line as limits_line_text, unknown_test_line as unknown_test_text, tests_text, cycle_line as cycle_line_text, test_power_line as test_power_text, run_line as run_line_text, plan_line as plan_line_text, limit_name, accepted_line as accepted_text, test_text, wrapper_text, pair_text, clash_text, two_numbers, certificate_text, fault_keyword, carried_text, fault_line as fault_line_text};
 
 use crate::FileKind;
 use bound_certificate::BoundFault;
@@ -179,14 +179,14 @@ fn push_carried(to: &mut Vec<u8>, fault: &PlanFault) -> Result<(), NoMemory>
 }
 
 /// A line of words and a number.
-fn numbered(alloc: Global, words: &[u8], number: u64) -> Result<Vec<u8>, NoMemory>
+fn numbered(alloc: Global, words: &[u8], number: u128) -> Result<Vec<u8>, NoMemory>
     requires { IsTrue (no_feed words.now) }
     ensures text { IfOk result (λ text. text.items ≡ words.now ++ decimal number ++ codes "\n") }
     ensures line { IfOk result (λ text. IsTrue (is_line text.items)) }
 {
     let mut text = Vec::new(alloc);
     push(&mut text, words)?;
-    push_decimal(&mut text, u128::from(number))?;
+    push_decimal(&mut text, number)?;
     push(&mut text, b"\n")?;
     Ok(text)
 }
@@ -196,7 +196,7 @@ pub fn chip_line(alloc: Global, line: u64) -> Result<Vec<u8>, NoMemory>
     ensures text { IfOk result (λ text. text.items ≡ chip_line_text line) }
     ensures line { IfOk result (λ text. IsTrue (is_line text.items)) }
 {
-    numbered(alloc, b"refused soc line ", line)
+    numbered(alloc, b"refused soc line ", u128::from(line))
 }
 
 /// `refused soc limit`, the name of the limit and the number that passes it.
@@ -217,7 +217,7 @@ pub fn limits_line(alloc: Global, line: u64) -> Result<Vec<u8>, NoMemory>
     ensures text { IfOk result (λ text. text.items ≡ limits_line_text line) }
     ensures line { IfOk result (λ text. IsTrue (is_line text.items)) }
 {
-    numbered(alloc, b"refused limits line ", line)
+    numbered(alloc, b"refused limits line ", u128::from(line))
 }
 
 /// `refused limits unknown test line` and the line.
@@ -225,7 +225,11 @@ pub fn unknown_test_line(alloc: Global, line: u64) -> Result<Vec<u8>, NoMemory>
     ensures text { IfOk result (λ text. text.items ≡ unknown_test_text line) }
     ensures line { IfOk result (λ text. IsTrue (is_line text.items)) }
 {
-    numbered(alloc, b"refused limits unknown test line ", line)
+    numbered(
+        alloc,
+        b"refused limits unknown test line ",
+        u128::from(line),
+    )
 }
 
 /// Appends tests, each behind a space.
@@ -266,12 +270,20 @@ pub fn test_power_line(alloc: Global, test: &TestId, power: u64) -> Result<Vec<u
     Ok(text)
 }
 
+/// `refused run` and the wire cycles of the run.
+pub fn run_line(alloc: Global, cells: u128) -> Result<Vec<u8>, NoMemory>
+    ensures text { IfOk result (λ text. text.items ≡ run_line_text cells) }
+    ensures line { IfOk result (λ text. IsTrue (is_line text.items)) }
+{
+    numbered(alloc, b"refused run ", cells)
+}
+
 /// `refused plan line` and the line.
 pub fn plan_line(alloc: Global, line: u64) -> Result<Vec<u8>, NoMemory>
     ensures text { IfOk result (λ text. text.items ≡ plan_line_text line) }
     ensures line { IfOk result (λ text. IsTrue (is_line text.items)) }
 {
-    numbered(alloc, b"refused plan line ", line)
+    numbered(alloc, b"refused plan line ", u128::from(line))
 }
 
 /// `refused plan` and the fault.

@@ -59,7 +59,7 @@ pub(crate) fn answered_with(status: Status, text: Result<Vec<u8>, NoMemory>) -> 
 }
 
 /// The refusal with this line, where there was memory for it.
-fn refused_with(line: Result<Vec<u8>, NoMemory>) -> Verdict
+pub(crate) fn refused_with(line: Result<Vec<u8>, NoMemory>) -> Verdict
     ensures { GivesText Refused line result }
 {
     answered_with(Status::Refused, line)
@@ -223,6 +223,7 @@ pub(crate) fn load_all<H: Shelf>(
     ensures held_stays { H.held shelf.new ≡ H.held shelf.old }
     ensures faults_never_fall { H.faults shelf.old ≤ H.faults shelf.new }
     ensures sound { IfOk result (λ all. IsSoundChip (soc_value all.soc)) }
+    ensures limits { IfOk result (λ all. IsSoundLimits (soc_value all.soc) (limits_value all.limits)) }
     ensures accepted { IfOk result (λ all. IsFaultless (soc_value all.soc) (limits_value all.limits) (plan_value all.plan)) }
     ensures loads { LoadsAll soc.now limits.now plan.now (H.held shelf.old) (H.faults shelf.old) (H.faults shelf.new) result }
 {

@@ -78,6 +78,13 @@ pub enum Command<'a> {
         limits: &'a str,
         plan: &'a str,
     },
+    /// What a tester drives and compares in a plan that is accepted, with contents that are made from a seed.
+    Vectors {
+        soc: &'a str,
+        limits: &'a str,
+        plan: &'a str,
+        seed: u64,
+    },
 }
 
 /// How a command ends, decided before anything is written.

@@ -294,6 +294,37 @@ fn plans_chips(rt: HostRuntime) -> Result<(), Fail> {
     Ok(())
 }
 
+/// Chips, plans for them over one wire, seeds, and what their vectors are.
+const VECTORS: &str = "\
+Module 1 Inputs 1 Outputs 1 Test 1 Patterns 1 -> Plan 1 Cycles 3 Bus 1 : 1 Wrapper 1 scan Chain 1 1 Start 1 1 0 Bound 3 Module 1 -> vectors a.soc a.lim a.plan 0 -> vectors 1 3/1 -/0 -/0 0/
+Module 1 Inputs 1 Outputs 1 Test 1 Patterns 2 -> Plan 1 Cycles 5 Bus 1 : 1 Wrapper 1 scan Chain 1 1 Start 1 1 0 Bound 5 Module 1 -> vectors a.soc a.lim a.plan 5 -> vectors 1 5/1 -/0 -/1 0/0 -/0 1/
+Module 1 Setup 2 Inputs 1 Outputs 1 Test 1 Patterns 1 -> Plan 1 Cycles 5 Bus 1 : 1 Wrapper 1 scan Chain 1 1 Start 1 1 0 Bound 5 Module 1 -> vectors a.soc a.lim a.plan 0 -> vectors 1 5/0 -/0 -/1 -/0 -/0 0/
+Module 1 Test 1 TamUse 0 Patterns 2 -> Plan 1 Cycles 2 Start 1 1 0 Bound 2 Module 1 -> vectors a.soc a.lim a.plan 999999999999 -> vectors 0 2/ / /
+Module 1 Test 1 TamUse 0 Patterns 20000001 -> Plan 1 Cycles 20000001 Start 1 1 0 Bound 1 Module 1 -> vectors a.soc a.lim a.plan 0 -> refused run 20000001/
+";
+
+#[test]
+fn writes_vectors(rt: HostRuntime) -> Result<(), Fail> {
+    let alloc = rt.alloc();
+    let mut text = Vec::new(alloc);
+    let mut lines = Vec::new(alloc);
+    for row in VECTORS.lines() {
+        let (soc, rest) = two_parts(row);
+        let (plan, rest) = two_parts(rest);
+        let (words, vectors) = two_parts(rest);
+        let mut shelf = shelf_of(alloc, soc, "Limits 1 Wires 1", plan)?;
+        let status = answer(alloc, words, &mut shelf, &mut text)?;
+        put_lines(vectors, &mut lines)?;
+        assert_eq!(rt; text.as_slice(), lines.as_slice(), "{row}");
+        assert_eq!(rt;
+            status == Status::Done,
+            vectors.starts_with("vectors"),
+            "{row}"
+        );
+    }
+    Ok(())
+}
+
 #[test]
 fn draws_charts(rt: HostRuntime) -> Result<(), Fail> {
     let alloc = rt.alloc();
@@ -331,6 +362,8 @@ fn refuses_words_and_files(rt: HostRuntime) -> Result<(), Fail> {
         "widths a.soc +1",
         "plan a.soc",
         "plan a.soc a.lim a.plan",
+        "vectors a.soc a.lim a.plan",
+        "vectors a.soc a.lim a.plan 1000000000000",
         "Check a.soc a.lim a.plan",
     ] {
         let mut shelf = shelf_of(alloc, SOC, LIMITS, PLAN)?;

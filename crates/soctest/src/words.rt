@@ -7,6 +7,7 @@ ghost use Rattle.soctest.specs.Commands.{command_of, command_value, widths_of, H
 use crate::Command;
 use outside::number;
 use plan_model::WIRES_MOST;
+use soc_model::NUMBER_WORD_MOST;
 
 /// `widths` with a word for the wires, where that is a number from 1 to 256.
 fn widths<'a>(soc: &'a str, wires: &str) -> Option<Command<'a>>
@@ -41,6 +42,12 @@ pub fn command(words: &[String]) -> Option<Command<'_>>
             soc: soc.as_str(),
             limits: limits.as_str(),
             plan: plan.as_str(),
+        }),
+        [word, soc, limits, plan, seed] if word.as_str() == "vectors" => Some(Command::Vectors {
+            soc: soc.as_str(),
+            limits: limits.as_str(),
+            plan: plan.as_str(),
+            seed: number(seed.as_bytes(), NUMBER_WORD_MOST)?,
         }),
         _ => None,
     }

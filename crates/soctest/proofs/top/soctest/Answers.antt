@@ -4,6 +4,11 @@ use Rattle.soctest.proofs.Completeness.{complete, finishes}
 use Rattle.soctest.proofs.Headlines.{headline, plan_headline}
 use Rattle.soctest.proofs.top.soctest.Goals as goal
 
+pub returns-in-Ok-clause-ends : goal.returns-in-Ok-clause-ends
+returns-in-Ok-clause-ends g c =
+    let all = rw c.as_slice.ensures.value at c.in-Ok.ensures.all in
+    ends_answered _ _ (g.H.Shelf.faults c.args.shelf.now) (g.H.Shelf.faults c.decide.new.shelf) (g.K.Sink.faults c.args.out.now) (g.K.Sink.faults c.put_all.new.out) _ _ c.in-Answered.status c.in-Answered.text.items (answer_of _ _ _ _ c.in-Answered.status c.in-Answered.text c.in-Answered.ensures.decides) all
+
 pub returns-in-Ok-clause-complete : goal.returns-in-Ok-clause-complete
 returns-in-Ok-clause-complete g c =
     let all = rw c.as_slice.ensures.value at c.in-Ok.ensures.all in
