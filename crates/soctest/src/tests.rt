@@ -78,6 +78,20 @@ Plan 1 Cycles 28 Bus 1 : 1 Bus 1 : 2 Wrapper 1 scan Chain 2 3 : 0 1 Wrapper 2 sc
 Plan 1 Cycles 28 Bus 1 : 1 Bus 1 : 2 Wrapper 1 scan Chain 2 3 : 0 7 Wrapper 2 scan Chain 2 3 : 0 1 Start 1 1 0 Start 2 1 0 Bound 28 Area -> refused plan F5 1 scan
 Plan 1 Cycles 28 Bus 1 : 1 2 Wrapper 1 scan Chain 2 3 : 0 1 Wrapper 2 scan Chain 2 3 : 0 1 Start 1 1 0 Start 2 1 0 Bound 28 Area -> refused plan F7 1.1 2.1 0
 Plan 1 Cycles 28 Bus 1 : 1 Bus 1 : 2 Wrapper 1 scan Chain 2 3 : 0 1 Wrapper 2 scan Chain 2 3 : 0 1 Start 1 1 0 Start 2 1 0 Bound 28 Pair 1 -> refused plan F13 list 0
+Plan 1 Cycles 28 Bus 2000000000000000000 : 1 Bus 1 : 2 Wrapper 1 scan Chain 2 3 : 0 1 Wrapper 2 scan Chain 2 3 : 0 1 Start 1 1 0 Start 2 1 0 Bound 28 Area -> refused plan F1 0
+Plan 1 Cycles 28 Bus 1 : 1 Bus 1 : 2 Wrapper 1 scan Chain 2000000000000000000 3 : 0 1 Wrapper 2 scan Chain 2 3 : 0 1 Start 1 1 0 Start 2 1 0 Bound 28 Area -> refused plan F5 1 scan
+Plan 1 Cycles 28 Bus 1 : 1 Bus 1 : 2 Wrapper 1 scan Chain 2 3 : 0 1 Wrapper 2 scan Chain 2 3 : 0 1 Start 1 1 1000000000000000001 Start 2 1 0 Bound 28 Area -> refused plan line 1
+Plan 1 Cycles 28 Bus 1 : 1 Bus 1 : 2 Wrapper 1 scan Chain 2 3 : 0 1 Wrapper 2 scan Chain 2 3 : 0 1 Start 1 1 1000000000000000000 Start 2 1 0 Bound 28 Area -> refused plan F12 1000000000000000028
+Plan 1 Cycles 28 Bus 1 : 1 Bus 1 : 2 Wrapper 1 scan Chain 2 3 : 0 1 Wrapper 2 scan Chain 2 3 : 0 1 Start 1 1 0 Start 2 1 0 Bound 28 Forced 1 1 -> refused plan F13 list 1
+Plan 1 Cycles 28 Bus 1 : 1 Bus 1 : 2 Wrapper 1 scan Chain 2 3 : 0 1 Wrapper 2 scan Chain 2 3 : 0 1 Start 1 1 0 Start 2 1 0 Bound 28 Forced 9 -> refused plan F13 list 0
+Plan 1 Cycles 28 Bus 1 : 1 Bus 1 : 2 Wrapper 1 scan Chain 2 3 : 0 1 Wrapper 2 scan Chain 2 3 : 0 1 Start 1 1 0 Start 2 1 0 Bound 28 Forced 1 2 1 -> refused plan F13 list 2
+Plan 1 Cycles 28 Bus 1 : 1 Bus 1 : 2 Wrapper 1 scan Chain 2 3 : 0 1 Wrapper 2 scan Chain 2 3 : 0 1 Start 1 1 0 Start 2 1 0 Bound 28 Forced 1 2 -> accepted 28 28
+Plan 1 Cycles 28 Bus 1 : 1 Bus 1 : 2 Wrapper 1 scan Chain 2 3 : 0 1 Wrapper 2 scan Chain 2 3 : 0 1 Start 1 1 0 Start 2 1 0 Bound 33 Forced 1 2 -> refused plan F13 list 1
+Plan 1 Cycles 28 Bus 1 : 1 Bus 1 : 2 Wrapper 1 scan Chain 2 3 : 0 1 Wrapper 2 scan Chain 2 3 : 0 1 Start 1 1 0 Start 2 1 0 Bound 0 Forced 1 2 -> accepted 28 0
+Plan 1 Cycles 28 Bus 1 : 1 Bus 1 : 2 Wrapper 1 scan Chain 2 3 : 0 1 Wrapper 2 scan Chain 2 3 : 0 1 Start 1 1 0 Start 2 1 0 Bound 0 Forced -> accepted 28 0
+Plan 1 Cycles 28 Bus 1 : 1 Bus 1 : 2 Wrapper 1 scan Chain 2 3 : 0 1 Wrapper 2 scan Chain 2 3 : 0 1 Start 1 1 0 Start 2 1 0 Bound 0 Chain -> accepted 28 0
+Plan 1 Cycles 28 Bus 1 : 1 Bus 1 : 2 Wrapper 1 scan Chain 2 3 : 0 1 Wrapper 2 scan Chain 2 3 : 0 1 Start 1 1 0 Start 2 1 0 Bound 1 Forced -> refused plan F13 less 1 0
+Plan 1 Cycles 28 Bus 1 : 1 Bus 1 : 2 Wrapper 1 scan Chain 2 3 : 0 1 Wrapper 2 scan Chain 2 3 : 0 1 Start 1 1 0 Start 2 1 0 Bound 28 Chain 1 1 2 1 -> refused plan F13 list 1
 ";
 
 /// Checks under other limits and of other chips: the chip, the limits, the plan and the line.
@@ -255,11 +269,11 @@ fn prints_widths(rt: HostRuntime) -> Result<(), Fail> {
 
 /// Chips, limits and the planner's plans for them, and what a check of these plans answers.
 const PLANNED: &str = "\
- -> Limits 1 Wires 2 -> Plan 1/Cycles 0/Bound 0 Area/ -> accepted 0 0
 Module 1 Inputs 2 Outputs 3 ScanChains 2 : 4 2 Test 1 Patterns 2 Module 2 Inputs 2 Outputs 3 ScanChains 2 : 4 2 Test 1 Patterns 2 -> Limits 1 Wires 2 -> Plan 1/Cycles 28/Bus 1 : 1/Bus 1 : 2/Wrapper 1 scan/Chain 2 3 : 0 1/Wrapper 2 scan/Chain 2 3 : 0 1/Start 1 1 0/Start 2 1 0/Bound 28 Area/ -> accepted 28 28
 Module 1 Inputs 60 Outputs 60 Test 1 Patterns 10 Module 2 Inputs 60 Outputs 60 Test 1 Patterns 10 -> Limits 1 Wires 3 -> Plan 1/Cycles 460/Bus 3 : 2 1/Wrapper 1 scan/Chain 20 20/Chain 20 20/Chain 20 20/Wrapper 2 scan/Chain 20 20/Chain 20 20/Chain 20 20/Start 1 1 0/Start 2 1 230/Bound 460 Forced 1 2/ -> accepted 460 460
 Module 1 Test 1 TamUse 0 Patterns 5 Power 3 Module 2 Test 1 TamUse 0 Patterns 5 Power 4 -> Limits 2 Wires 2 Power 6 Profile 1 1 0 3 4 2 -> Plan 1/Cycles 9/Start 1 1 0/Start 2 1 4/Bound 6 Power/ -> accepted 9 6
 Module 1 Test 1 TamUse 0 Patterns 5 Module 2 Test 1 TamUse 0 Patterns 7 -> Limits 1 Wires 1 Before 1 1 2 1 -> Plan 1/Cycles 12/Start 1 1 0/Start 2 1 5/Bound 12 Chain 1 1 2 1/ -> accepted 12 12
+ -> Limits 1 Wires 2 -> Plan 1/Cycles 0/Bound 0 Area/ -> accepted 0 0
 ";
 
 /// A text whose lines are parted by `/`.
@@ -405,16 +419,26 @@ fn refuses_words_and_files(rt: HostRuntime) -> Result<(), Fail> {
 fn meets_faults(rt: HostRuntime) -> Result<(), Fail> {
     let alloc = rt.alloc();
     let mut text = Vec::new(alloc);
-    for (call, line) in [
-        (0, "cannot read SOC\n"),
-        (1, "cannot read LIMITS\n"),
-        (2, "cannot read PLAN\n"),
+    for (words, loads) in [
+        ("print a.soc", 1),
+        ("widths a.soc 1", 1),
+        ("plan a.soc a.lim", 2),
+        ("check a.soc a.lim a.plan", 3),
+        ("chart a.soc a.lim a.plan", 3),
+        ("vectors a.soc a.lim a.plan 0", 3),
     ] {
-        let mut shelf = shelf_of(alloc, SOC, LIMITS, PLAN)?;
-        shelf.fail_at(call)?;
-        let status = answer(alloc, "check a.soc a.lim a.plan", &mut shelf, &mut text)?;
-        assert_eq!(rt; status, Status::ReadFault);
-        assert_eq!(rt; text.as_slice(), line.as_bytes());
+        for call in 0..loads {
+            let mut shelf = shelf_of(alloc, SOC, LIMITS, PLAN)?;
+            shelf.fail_at(call)?;
+            let status = answer(alloc, words, &mut shelf, &mut text)?;
+            let line = match call {
+                0 => "cannot read SOC\n",
+                1 => "cannot read LIMITS\n",
+                _ => "cannot read PLAN\n",
+            };
+            assert_eq!(rt; status, Status::ReadFault, "{words} {call}");
+            assert_eq!(rt; text.as_slice(), line.as_bytes(), "{words} {call}");
+        }
     }
     Ok(())
 }
@@ -444,6 +468,15 @@ fn meets_a_failing_output(rt: HostRuntime) -> Result<(), Fail> {
         Status::WriteFault
     );
     assert_eq!(rt; out.bytes(), b"accep".as_slice());
+    // An answer without a byte makes no call of the output.
+    let no_lines = words_of(alloc, "widths a.soc 256")?;
+    let mut shelf = shelf_of(alloc, SOC, LIMITS, PLAN)?;
+    let mut out = MemSink::new(alloc, 100, 100)?;
+    out.fail_at(0)?;
+    assert_eq!(rt;
+        soctest(alloc, no_lines.as_slice(), &mut shelf, &mut out),
+        Status::Done
+    );
     // The first load and the first output fail together.
     let mut shelf = shelf_of(alloc, SOC, LIMITS, PLAN)?;
     shelf.fail_at(0)?;
