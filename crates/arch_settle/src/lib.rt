@@ -5,7 +5,6 @@
 // of memory alone, and then the architecture is given up.
 #![tactic(auto)]
 
-mod growing;
 mod merging;
 mod moving;
 mod settling;

@@ -6,9 +6,8 @@ ghost use Rattle.bus_model.specs.Buses.{BusValue, bus_value, arch_value, bus_at,
 ghost use Rattle.bus_model.specs.Sound.{IsSoundBus, IsSoundArch, wires_used};
 ghost use Rattle.arch_settle.specs.Neighbours.{joined_at, merged};
 
-use crate::growing::extend_from_slice;
 use bus_model::{Arch, spread};
-use outside::NoMemory;
+use outside::{NoMemory, extend};
 use width_table::WidthTable;
 
 /// Merges a bus into another and spreads the smaller of their widths.
@@ -37,7 +36,7 @@ fn join(arch: &mut Arch, from: usize, into: usize) -> Result<u64, NoMemory>
     let gone = arch.buses.remove(from);
     let at = if into < from { into } else { into - 1 };
     let bus = &mut arch.buses[at];
-    extend_from_slice(&mut bus.places, gone.places.as_slice())?;
+    extend(&mut bus.places, gone.places.as_slice())?;
     let smaller = bus.width.min(gone.width);
     bus.width = bus.width.max(gone.width);
     Ok(smaller)

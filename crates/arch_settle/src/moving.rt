@@ -8,9 +8,8 @@ ghost use Rattle.arch_settle.specs.Settling.{IsAtRest, IsStep};
 ghost use Rattle.arch_settle.specs.Neighbours.{others, moves, all_moves, moved, split_off};
 ghost use Rattle.arch_settle.specs.Moves.{AreWeights, IsMoveFrom, IsBestMove, moved_by, greatest_of};
 
-use crate::growing::push;
 use bus_model::{Arch, ArchBus, bus_time, cost, time_at};
-use outside::NoMemory;
+use outside::{NoMemory, push};
 use std::alloc::Global;
 use width_table::WidthTable;
 

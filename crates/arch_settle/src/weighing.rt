@@ -7,9 +7,8 @@ ghost use Rattle.bus_model.specs.Sound.{IsSoundBus, IsSoundArch, wires_used};
 ghost use Rattle.arch_settle.specs.Neighbours.{joined_at, merged};
 ghost use Rattle.arch_settle.specs.Loads.{AreLoads, IsHeldIn, held_places, load_value, loads_value};
 
-use crate::growing::{extend_from_slice, push};
 use bus_model::{Arch, bus_time, time_at};
-use outside::NoMemory;
+use outside::{NoMemory, extend, push};
 use std::alloc::Global;
 use width_table::WidthTable;
 
@@ -180,7 +179,7 @@ pub(crate) fn merged_cost(
     let width = own.max(further);
     let time = held_time(table, arch, from, into, Held::Both, width);
     room.clear();
-    extend_from_slice(room, loads)?;
+    extend(room, loads)?;
     room[into] = Load {
         held: Held::Both,
         width,

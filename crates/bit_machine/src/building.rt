@@ -9,16 +9,9 @@ ghost use Rattle.bit_machine.specs.Building.{flop_numbers, IsNewPath, AreNewPath
 use crate::layout::{Layout, zero_chain};
 use crate::path::Path;
 use crate::ring::Ring;
-use outside::NoMemory;
+use outside::{NoMemory, push};
 use plan_model::ChainPlan;
 use std::alloc::Global;
-
-/// Puts an item at the end of a list.
-pub fn push<T: Drop>(to: &mut Vec<T>, item: T) -> Result<(), NoMemory>
-    ensures { OnOk result (to.new.items ≡ to.old.items ++ item ∷ []) }
-{
-    to.push(item).map_err(|_| NoMemory)
-}
 
 /// Appends so many numbers from one on.
 fn push_numbers(numbers: &mut Vec<u64>, from: u64, count: u64) -> Result<(), NoMemory>

@@ -10,7 +10,7 @@ ghost use Rattle.bit_machine.specs.Sessions.{each_with, bits_of, response_bit, z
 ghost use Rattle.bit_machine.specs.Layouts.{chain_of, chain_length, layout_cells, IsLayout, IsStarts, IsLong};
 
 use crate::bits::put_bits;
-use outside::NoMemory;
+use outside::{NoMemory, push};
 use plan_model::{ChainPlan, Wrapper};
 use soc_model::Module;
 use std::alloc::Global;
@@ -48,7 +48,7 @@ fn starts_of(alloc: Global, lengths: &[u64]) -> Result<(Vec<usize>, usize), NoMe
     let mut starts = Vec::new(alloc);
     let mut start = 0;
     for length in lengths {
-        starts.push(start).map_err(|_| NoMemory)?;
+        push(&mut starts, start)?;
         start += *length as usize;
     }
     Ok((starts, start))
@@ -127,7 +127,7 @@ impl Layout {
         let mut all = Vec::new(alloc);
         for chain in &self.chains {
             let cells = length_of(&self.lengths, chain);
-            all.push(zero_chain(alloc, cells)?).map_err(|_| NoMemory)?;
+            push(&mut all, zero_chain(alloc, cells)?)?;
         }
         Ok(all)
     }

@@ -16,36 +16,15 @@ ghost use Rattle.bit_machine.specs.Chips.{made_content, wires_of};
 ghost use Rattle.bit_machine.specs.Lanes.{AreNewLanes, IsNewLane};
 ghost use Rattle.bit_machine.specs.Placed.{IsInWrapper, IsSelfLane, IsWiredLane, placed_tests};
 
-use crate::building::{paths_of, push};
+use crate::building::paths_of;
 use crate::lane::Lane;
 use crate::layout::Layout;
 use crate::made::base_of;
 use crate::moments::Phases;
-use outside::NoMemory;
-use plan_model::{Bus, Plan, Wrapper, lengths, tam_duration};
-use soc_model::{Module, Soc, Test, TestId, live};
+use outside::{NoMemory, push};
+use plan_model::{Bus, Plan, Wrapper, bus_of, lengths, tam_duration, wrapper_of};
+use soc_model::{Module, Soc, Test, TestId, live, module_at};
 use std::alloc::Global;
-
-/// Whether a bus lists a module.
-fn lists(bus: &Bus, module: u64) -> bool
-    ensures { result ≡ has_module «module» (bus_value bus.now) }
-{
-    bus.modules.iter().any(|listed| module == *listed)
-}
-
-/// The place of the first bus that lists a module, the number of buses where none does.
-fn bus_of(buses: &[Bus], module: u64) -> usize
-    ensures { result ≡ bus_place «module» 0 (map bus_value buses.now) }
-{
-    let mut place = 0;
-    for bus in buses {
-        if lists(bus, module) {
-            return place;
-        }
-        place += 1;
-    }
-    place
-}
 
 /// The wires of all buses, where a machine's number holds so many.
 pub fn wires_of(buses: &[Bus]) -> Option<usize>
@@ -72,22 +51,6 @@ fn first_wire(buses: &[Bus], bus: usize) -> usize
         wires += buses[place].width as usize;
     }
     wires
-}
-
-/// Whether the wrapper is of the module in a mode.
-fn wraps_mode(wrapper: &Wrapper, module: u64, scan: bool) -> bool
-    ensures { result ≡ wraps «module» scan (wrapper_value wrapper.now) }
-{
-    wrapper.module == module && wrapper.scan == scan
-}
-
-/// The place of the wrapper of a module in a mode.
-fn wrapper_of(wrappers: &[Wrapper], module: u64, scan: bool) -> Option<usize>
-    ensures { result ≡ position (λ (w : Wrapper). wraps «module» scan (wrapper_value w)) wrappers.now }
-{
-    wrappers
-        .iter()
-        .position(|wrapper| wraps_mode(wrapper, module, scan))
 }
 
 /// Whether both are the same test.
@@ -144,17 +107,6 @@ fn self_test(alloc: Global, test: &Test, start: u64, cycles: u64) -> Lane
         first_wire: 0,
         width: 0,
         paths: Vec::new(alloc),
-    }
-}
-
-/// The module at a place.
-fn module_at(soc: &Soc, place: usize) -> &Module
-    requires { place < length (soc_value soc.now).modules }
-    ensures { slice_get (soc_value soc.now).modules place ≡ Some (module_value result.now) }
-{
-    match soc.modules.get_index(place) {
-        Some((_, module)) => module,
-        None => unreachable!(),
     }
 }
 

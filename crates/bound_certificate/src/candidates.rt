@@ -12,9 +12,9 @@ ghost use Rattle.plan_model.specs.Certificates.{certificate_value, passes, IsCha
 ghost use Rattle.bound_certificate.specs.Best.{has_live, has_live_at, module_why, pair_why, chain_why, power_why, places, candidates, better, winner};
 ghost use Rattle.bound_certificate.specs.Winners.{considered, seen, HasValue, names_of};
 
-use bound_rules::{area_bound, chain_bound, module_at, module_bound, pair_bound, power_bound};
+use bound_rules::{area_bound, chain_bound, module_bound, pair_bound, power_bound};
 use plan_model::{Limits, Why};
-use soc_model::{Module, Soc, TestId, live, parent};
+use soc_model::{Module, Soc, TestId, live, module_at, parent};
 
 /// What one more candidate makes of the best so far; among equals the earlier one stays.
 fn consider(best: Option<(u128, Why)>, shown: u128, why: Why) -> Option<(u128, Why)>

@@ -16,9 +16,9 @@ ghost use Rattle.bound_certificate.specs.Checks.{IsCheck};
 ghost use Rattle.bound_certificate.specs.Forced.{IsForcedSoFar};
 
 use crate::{BoundFault, enough};
-use bound_rules::{lower_tam_time, module_at, need};
+use bound_rules::{lower_tam_time, need};
 use plan_model::Limits;
-use soc_model::{Module, Soc, live, place_of};
+use soc_model::{Module, Soc, live, module_at, place_of};
 
 /// Whether a live test of the module goes over the wires.
 pub fn has_tam_test(module: &Module) -> bool

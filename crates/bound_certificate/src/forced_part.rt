@@ -8,10 +8,10 @@ ghost use Rattle.bound_certificate.specs.Best.{places, by_need, up_to, IsForcedP
 ghost use Rattle.bound_certificate.specs.Needs.{need_or_zero, of_need};
 
 use crate::forced_lists::{forced_breach, has_tam_test};
-use bound_rules::{module_at, need};
+use bound_rules::need;
 use outside::NoMemory;
 use plan_model::Limits;
-use soc_model::Soc;
+use soc_model::{Soc, module_at};
 use std::alloc::Global;
 
 /// The need of the module at a place, or 0 where it has no test over the wires.

@@ -11,10 +11,10 @@ ghost use Rattle.plan_model.specs.Bounds.{sum_below, least_energy, power_bound};
 ghost use Rattle.bound_rules.specs.Sizes.{works_by, IsFitting};
 ghost use Rattle.bound_rules.specs.Energy.{powers_of, energies};
 
+use crate::quotient_up;
 use crate::sizes::Sizes;
-use crate::{module_at, quotient_up};
 use plan_model::{Limits, Profile};
-use soc_model::{Soc, Test, TestId, live};
+use soc_model::{Soc, Test, TestId, live, module_at};
 
 /// What a power draws in so many cycles.
 fn drawn(power: u64, cycles: u64) -> u128

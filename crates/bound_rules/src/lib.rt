@@ -20,19 +20,8 @@ mod widths;
 pub use energy::power_bound;
 pub use names::{chain_bound, live_time};
 use sizes::Sizes;
-use soc_model::{Module, Soc, Test, parent};
+use soc_model::{Module, Soc, Test, module_at, parent};
 pub use widths::{area_bound, lower_tam_time, need};
-
-/// The module at a place.
-pub fn module_at(soc: &Soc, place: usize) -> &Module
-    requires { place < length (soc_value soc.now).modules }
-    ensures { slice_get (soc_value soc.now).modules place ≡ Some (module_value result.now) }
-{
-    match soc.modules.get_index(place) {
-        Some((_, module)) => module,
-        None => unreachable!(),
-    }
-}
 
 /// A total over so many parts, rounded up.
 fn quotient_up(total: u128, parts: u64) -> u64

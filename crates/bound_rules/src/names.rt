@@ -9,9 +9,8 @@ ghost use Rattle.plan_model.specs.Bounds.{lower};
 ghost use Rattle.plan_model.specs.Certificates.{is_called, lower_of_id, IsChainItem};
 ghost use Rattle.bound_rules.specs.Named.{is_named};
 
-use crate::module_at;
 use crate::sizes::Sizes;
-use soc_model::{Soc, Test, TestId, live, place_of};
+use soc_model::{Soc, Test, TestId, live, module_at, place_of};
 
 /// The first live test of this number.
 fn live_test(tests: &[Test], number: u64) -> Option<Test>

@@ -7,9 +7,9 @@ ghost use Rattle.plan_model.specs.Rules.{IsBound};
 ghost use Rattle.plan_model.specs.Bounds.{lower_tam_time, need, first_below, least_from_one, sum_below, module_area, area_bound};
 ghost use Rattle.bound_rules.specs.Sizes.{tam_times_by, works_by, IsFitting};
 
+use crate::quotient_up;
 use crate::sizes::Sizes;
-use crate::{module_at, quotient_up};
-use soc_model::{Soc, Test};
+use soc_model::{Soc, Test, module_at};
 
 /// The cycles that the module's live tests over the wires take at least on `width` wires, one after another.
 pub fn lower_tam_time(soc: &Soc, place: usize, width: u64) -> u64

@@ -8,17 +8,10 @@ ghost use Rattle.bus_model.specs.Start.{IsStartOrder, IsStart, one_wire, placed_
 use crate::costs::quickest;
 use crate::spreading::spread;
 use crate::{Arch, ArchBus};
-use outside::NoMemory;
+use outside::{NoMemory, push};
 use std::alloc::Global;
 use std::cmp::Reverse;
 use width_table::WidthTable;
-
-/// Puts an item at the end of a list.
-fn push<T: Drop>(to: &mut Vec<T>, item: T) -> Result<(), NoMemory>
-    ensures { OnOk result (to.new.items ≡ to.old.items ++ item ∷ []) }
-{
-    to.push(item).map_err(|_| NoMemory)
-}
 
 /// The place of each module with a live test over the wires, behind its time on one wire in cycles.
 fn start_keys(alloc: Global, table: &WidthTable) -> Result<Vec<(Reverse<u64>, usize)>, NoMemory>

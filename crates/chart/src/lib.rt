@@ -12,23 +12,13 @@ ghost use Rattle.plan_model.specs.Rules.{IsGoodAlone};
 ghost use Rattle.plan_model.specs.Views.{plan_value, wrapper_value, bus_value};
 ghost use Rattle.chart.specs.ChartText.{is_marked, mark, bar, name_text, bus_text, times_text, bar_text, row_text, start_row, chart_text};
 
-use outside::{NoMemory, push_number};
-use plan_model::{Bus, Plan, Wrapper, tam_duration};
-use soc_model::{Module, Soc, Test, TestId, find_test};
+use outside::{NoMemory, extend, push_number};
+use plan_model::{Plan, bus_of, tam_duration, wrapper_of};
+use soc_model::{Module, Soc, Test, TestId, find_test, module_at};
 use std::alloc::Global;
 
 /// The characters of a bar.
 const BAR: u64 = 48;
-
-/// Appends bytes.
-fn push(text: &mut Vec<u8>, bytes: &[u8]) -> Result<(), NoMemory>
-    ensures { OnOk result (text.new.items ≡ text.old.items ++ bytes.now) }
-{
-    match text.extend_from_slice(bytes) {
-        Ok(()) => Ok(()),
-        Err(_) => Err(NoMemory),
-    }
-}
 
 /// Whether character `i` of a bar lies in the cycles of a test.
 fn marks(start: u64, end: u64, cycles: u64, i: u64) -> bool
@@ -47,9 +37,9 @@ fn push_mark(text: &mut Vec<u8>, start: u64, end: u64, cycles: u64, i: u64) -> R
     ensures { OnOk result (text.new.items ≡ text.old.items ++ mark start end cycles i ∷ []) }
 {
     if marks(start, end, cycles, i) {
-        push(text, b"#")
+        extend(text, b"#")
     } else {
-        push(text, b".")
+        extend(text, b".")
     }
 }
 
@@ -67,7 +57,7 @@ fn push_bar(text: &mut Vec<u8>, start: u64, end: u64, cycles: u64) -> Result<(),
 fn push_entry(text: &mut Vec<u8>, name: &[u8], number: u64) -> Result<(), NoMemory>
     ensures { OnOk result (text.new.items ≡ text.old.items ++ name.now ++ decimal number) }
 {
-    push(text, name)?;
+    extend(text, name)?;
     push_number(text, u128::from(number))
 }
 
@@ -83,11 +73,11 @@ fn push_name(text: &mut Vec<u8>, id: TestId) -> Result<(), NoMemory>
 fn push_bus(text: &mut Vec<u8>, tam: bool, bus: usize) -> Result<(), NoMemory>
     ensures { OnOk result (text.new.items ≡ text.old.items ++ bus_text tam bus) }
 {
-    push(text, b" bus ")?;
+    extend(text, b" bus ")?;
     if tam {
         push_number(text, bus as u128)
     } else {
-        push(text, b"-")
+        extend(text, b"-")
     }
 }
 
@@ -103,9 +93,9 @@ fn push_times(text: &mut Vec<u8>, start: u64, end: u64) -> Result<(), NoMemory>
 fn push_framed(text: &mut Vec<u8>, start: u64, end: u64, cycles: u64) -> Result<(), NoMemory>
     ensures { OnOk result (text.new.items ≡ text.old.items ++ bar_text start end cycles) }
 {
-    push(text, b" |")?;
+    extend(text, b" |")?;
     push_bar(text, start, end, cycles)?;
-    push(text, b"|\n")
+    extend(text, b"|\n")
 }
 
 /// A line of the chart.
@@ -147,59 +137,11 @@ fn push_row(text: &mut Vec<u8>, row: &Row) -> Result<(), NoMemory>
     push_framed(text, row.start, row.end, row.cycles)
 }
 
-/// Whether a bus lists a module.
-fn lists(bus: &Bus, module: u64) -> bool
-    ensures { result ≡ has_module «module» (bus_value bus.now) }
-{
-    bus.modules.iter().any(|listed| module == *listed)
-}
-
-/// The place of the first bus that lists a module, the number of buses where none does.
-fn bus_of(buses: &[Bus], module: u64) -> usize
-    ensures { result ≡ bus_place «module» 0 (map bus_value buses.now) }
-{
-    let mut place = 0;
-    for bus in buses {
-        if lists(bus, module) {
-            return place;
-        }
-        place += 1;
-    }
-    place
-}
-
-/// Whether both are scan, or both terminals.
-fn wraps_mode(wrapper: &Wrapper, module: u64, scan: bool) -> bool
-    ensures { result ≡ wraps «module» scan (wrapper_value wrapper.now) }
-{
-    wrapper.module == module && wrapper.scan == scan
-}
-
-/// The place of the wrapper of a module in a mode.
-fn wrapper_of(wrappers: &[Wrapper], module: u64, scan: bool) -> Option<usize>
-    ensures { result ≡ position (λ (w : Wrapper). wraps «module» scan (wrapper_value w)) wrappers.now }
-{
-    wrappers
-        .iter()
-        .position(|wrapper| wraps_mode(wrapper, module, scan))
-}
-
 /// What a chart is drawn from.
 #[derive(Clone, Copy, Drop)]
 struct Drawing<'a> {
     soc: &'a Soc,
     plan: &'a Plan,
-}
-
-/// The module at a place.
-fn module_at(soc: &Soc, place: usize) -> &Module
-    requires { place < length (soc_value soc.now).modules }
-    ensures { slice_get (soc_value soc.now).modules place ≡ Some (module_value result.now) }
-{
-    match soc.modules.get_index(place) {
-        Some((_, module)) => module,
-        None => unreachable!(),
-    }
 }
 
 impl<'a> Drawing<'a> {
@@ -263,7 +205,7 @@ pub fn print_chart(alloc: Global, soc: &Soc, plan: &Plan) -> Result<Vec<u8>, NoM
 {
     let mut text = Vec::new(alloc);
     push_entry(&mut text, b"cycles ", plan.cycles)?;
-    push(&mut text, b"\n")?;
+    extend(&mut text, b"\n")?;
     push_rows(&mut text, soc, plan)?;
     Ok(text)
 }

@@ -8,25 +8,16 @@ ghost use Rattle.plan_model.specs.SoundLimits.{IsSoundLimits};
 ghost use Rattle.limits_text.specs.Answers.{AreReadLimits};
 ghost use Rattle.limits_text.specs.Texts.{field, test_fields, number_line, power_lines, before_line, step_fields, profile_line, form_of as form_number_of, limits_text};
 
-use outside::{NoMemory, push_number};
+use outside::{NoMemory, extend, push_number};
 use plan_model::{Limits, Profile};
 use soc_model::TestId;
 use std::alloc::Global;
-
-fn push(to: &mut Vec<u8>, text: &[u8]) -> Result<(), NoMemory>
-    ensures { OnOk result (to.new.items ≡ to.old.items ++ text.now) }
-{
-    match to.extend_from_slice(text) {
-        Ok(()) => Ok(()),
-        Err(_) => Err(NoMemory),
-    }
-}
 
 /// Adds a space and a number.
 fn push_field(to: &mut Vec<u8>, number: u64) -> Result<(), NoMemory>
     ensures { OnOk result (to.new.items ≡ to.old.items ++ field number) }
 {
-    push(to, b" ")?;
+    extend(to, b" ")?;
     push_number(to, u128::from(number))?;
     Ok(())
 }
@@ -35,9 +26,9 @@ fn push_field(to: &mut Vec<u8>, number: u64) -> Result<(), NoMemory>
 fn push_line(to: &mut Vec<u8>, word: &[u8], number: u64) -> Result<(), NoMemory>
     ensures { OnOk result (to.new.items ≡ to.old.items ++ number_line word.now number) }
 {
-    push(to, word)?;
+    extend(to, word)?;
     push_field(to, number)?;
-    push(to, b"\n")?;
+    extend(to, b"\n")?;
     Ok(())
 }
 
@@ -65,10 +56,10 @@ fn push_power(to: &mut Vec<u8>, power: Option<u64>) -> Result<(), NoMemory>
 fn push_before(to: &mut Vec<u8>, first: TestId, second: TestId) -> Result<(), NoMemory>
     ensures { OnOk result (to.new.items ≡ to.old.items ++ before_line (first, second)) }
 {
-    push(to, b"Before")?;
+    extend(to, b"Before")?;
     push_test(to, first)?;
     push_test(to, second)?;
-    push(to, b"\n")?;
+    extend(to, b"\n")?;
     Ok(())
 }
 
@@ -94,10 +85,10 @@ fn push_steps(to: &mut Vec<u8>, steps: &[(u64, u64)]) -> Result<(), NoMemory>
 fn push_profile(to: &mut Vec<u8>, profile: &Profile) -> Result<(), NoMemory>
     ensures { OnOk result (to.new.items ≡ to.old.items ++ profile_line (profile_value profile.now)) }
 {
-    push(to, b"Profile")?;
+    extend(to, b"Profile")?;
     push_test(to, profile.test)?;
     push_steps(to, profile.steps.as_slice())?;
-    push(to, b"\n")?;
+    extend(to, b"\n")?;
     Ok(())
 }
 

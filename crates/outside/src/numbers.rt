@@ -3,6 +3,7 @@ ghost use Rattle.std.specs.Prelude.{◌≡◌, ◌++◌, OnOk, OnErr, decimal};
 ghost use Rattle.outside.specs.Decimal.{number_of};
 
 use crate::NoMemory;
+use crate::growing::extend;
 use itoa::Buffer;
 
 /// The number that a word of decimal digits stands for, leading zeros allowed.
@@ -33,9 +34,5 @@ pub fn push_number(to: &mut Vec<u8>, n: u128) -> Result<(), NoMemory>
     ensures err { OnErr result (to.new.items ≡ to.old.items) }
 {
     let mut buffer = Buffer::new();
-    let text = buffer.format(n).as_bytes();
-    match to.extend_from_slice(text) {
-        Ok(()) => Ok(()),
-        Err(_) => Err(NoMemory),
-    }
+    extend(to, buffer.format(n).as_bytes())
 }

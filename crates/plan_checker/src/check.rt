@@ -19,13 +19,13 @@ ghost use Rattle.plan_checker.specs.Room.{HasRoom};
 
 use crate::PlanFault;
 use crate::jobs::{Job, NO_JOB};
-use crate::lookups::{module_at, module_count};
+use crate::lookups::module_count;
 use crate::verdict::check_rules;
 use bound_certificate::{BoundScratch, check_bound};
 use indexmap::{IndexMap, IndexSet};
 use outside::NoMemory;
 use plan_model::{Limits, Plan, faults_are_exact, good_plans_run_right};
-use soc_model::{Soc, Test, TestId, live};
+use soc_model::{Soc, Test, TestId, live, module_at};
 use std::alloc::Global;
 use std::marker::Model;
 
@@ -87,24 +87,11 @@ fn live_count(soc: &Soc) -> Option<usize>
     Some(count)
 }
 
-/// So many places.
-fn place_room(alloc: Global, count: usize) -> Result<Vec<usize>, NoMemory>
+/// So many copies of an item.
+fn filled_room<T: Copy>(alloc: Global, item: T, count: usize) -> Result<Vec<T>, NoMemory>
     ensures { IfOk result (λ room. length room.items ≡ count) }
 {
-    match Vec::from_elem(alloc, 0, count) {
-        Ok(room) => Ok(room),
-        Err(_) => Err(NoMemory),
-    }
-}
-
-/// So many jobs.
-fn job_room(alloc: Global, count: usize) -> Result<Vec<Job>, NoMemory>
-    ensures { IfOk result (λ room. length room.items ≡ count) }
-{
-    match Vec::from_elem(alloc, NO_JOB, count) {
-        Ok(room) => Ok(room),
-        Err(_) => Err(NoMemory),
-    }
+    Vec::from_elem(alloc, item, count).map_err(|_| NoMemory)
 }
 
 /// Room for so many pairs of a module and a mode.
@@ -149,13 +136,13 @@ impl Scratch {
         ensures { IfOk result (λ room. (room.modules ≡ modules) × (pairs ≤ room.pairs) × (room.tests ≡ tests)) }
     {
         Ok(Scratch {
-            marks: place_room(alloc, modules)?,
-            parents: place_room(alloc, modules)?,
+            marks: filled_room(alloc, 0, modules)?,
+            parents: filled_room(alloc, 0, modules)?,
             wrappers: pair_room(alloc, pairs)?,
             starts: start_room(alloc, tests)?,
-            jobs: job_room(alloc, tests)?,
+            jobs: filled_room(alloc, NO_JOB, tests)?,
             names: name_room(alloc, tests)?,
-            profiles: place_room(alloc, tests)?,
+            profiles: filled_room(alloc, 0, tests)?,
             bound,
         })
     }

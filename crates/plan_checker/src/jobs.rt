@@ -13,10 +13,10 @@ ghost use Rattle.soc_model.specs.SoundChips.{IsSoundChip};
 ghost use Rattle.plan_checker.specs.Jobs.{StartEarly, job_of, jobs_in, jobs_of};
 ghost use Rattle.plan_checker.specs.Placing.{IsPlacing};
 
-use crate::lookups::{module_at, module_count};
+use crate::lookups::module_count;
 use indexmap::{IndexMap, IndexSet};
 use plan_model::{Plan, tam_duration};
-use soc_model::{Module, Soc, Test, TestId};
+use soc_model::{Module, Soc, Test, TestId, module_at};
 
 /// A live test as the plan places it: its module and its bus by their places, and the cycles from its start to its end.
 #[derive(Clone, Copy, Drop)]

@@ -14,9 +14,9 @@ ghost use Rattle.plan_checker.specs.Stages.{IsStage};
 ghost use Rattle.plan_checker.specs.Broken.{EachOf, Breaks};
 
 use crate::PlanFault;
-use crate::lookups::{find_module, is_known, module_at};
+use crate::lookups::{find_module, is_known};
 use plan_model::{Bus, Plan, Wrapper, is_proper};
-use soc_model::Soc;
+use soc_model::{Soc, module_at};
 
 /// The first number of no module.
 fn unknown_in(soc: &Soc, listed: &[u64]) -> Option<u64>

@@ -8,24 +8,13 @@ ghost use Rattle.soc_model.specs.Chips.{numbers};
 ghost use Rattle.plan_model.specs.Rules.{live_ids};
 ghost use Rattle.soc_model.specs.SoundChips.{IsSoundChip};
 
-use soc_model::{Module, Soc, Test, TestId, live, place_of};
+use soc_model::{Soc, Test, TestId, live, module_at, place_of};
 
 /// The number of modules.
 pub(crate) fn module_count(soc: &Soc) -> usize
     ensures { result ≡ length (soc_value soc.now).modules }
 {
     soc.modules.len()
-}
-
-/// The module at a place.
-pub(crate) fn module_at(soc: &Soc, place: usize) -> &Module
-    requires { place < length (soc_value soc.now).modules }
-    ensures { slice_get (soc_value soc.now).modules place ≡ Some (module_value result.now) }
-{
-    match soc.modules.get_index(place) {
-        Some((_, module)) => module,
-        None => unreachable!(),
-    }
 }
 
 /// The place of the module of a number.

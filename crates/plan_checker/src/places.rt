@@ -14,9 +14,9 @@ ghost use Rattle.plan_checker.specs.Broken.{EachOf};
 ghost use Rattle.plan_checker.specs.Marks.{AreMarks, IsUnlisted, AreMarked, AreBusesBy, IsFirstUnplaced};
 
 use crate::PlanFault;
-use crate::lookups::{find_module, module_at};
+use crate::lookups::find_module;
 use plan_model::{Bus, Plan};
-use soc_model::{Soc, Test};
+use soc_model::{Soc, Test, module_at};
 
 /// The place of a module of the chip.
 pub(crate) fn known_place(soc: &Soc, number: u64) -> usize

@@ -14,10 +14,10 @@ ghost use Rattle.soc_model.specs.SoundChips.{IsSoundChip};
 ghost use Rattle.plan_checker.specs.Broken.{EachOf, Breaks, IsKey, ids_in};
 
 use crate::PlanFault;
-use crate::lookups::{is_live_test, module_at, module_count};
+use crate::lookups::{is_live_test, module_count};
 use indexmap::IndexMap;
 use plan_model::Plan;
-use soc_model::{Soc, Test, TestId};
+use soc_model::{Soc, Test, TestId, module_at};
 
 /// Whether a start of the test is in the room.
 fn has_start(room: &IndexMap<TestId, u64>, id: TestId) -> bool

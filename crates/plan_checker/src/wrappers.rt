@@ -18,11 +18,11 @@ ghost use Rattle.plan_checker.specs.Pairs.{is_pair};
 
 use crate::PlanFault;
 use crate::jobs::bus_at;
-use crate::lookups::{find_module, module_at, module_count};
+use crate::lookups::{find_module, module_count};
 use crate::places::known_place;
 use indexmap::IndexSet;
 use plan_model::{Bus, ChainPlan, Plan, Wrapper};
-use soc_model::{Module, Soc, Test};
+use soc_model::{Module, Soc, Test, module_at};
 
 /// Whether a wrapper of the pair is in the room.
 fn has_pair(room: &IndexSet<(u64, bool)>, number: u64, scan: bool) -> bool

@@ -8,25 +8,16 @@ ghost use Rattle.plan_text.specs.PlanLines.{spaced, listed_text, line_text, text
 ghost use Rattle.plan_text.specs.Grammar.{IsInRange};
 ghost use Rattle.plan_text.specs.Answers.{SaysPlan};
 
-use outside::{NoMemory, push_number};
+use outside::{NoMemory, extend, push_number};
 use plan_model::{Bound, Bus, ChainPlan, Plan, Why, Wrapper};
 use soc_model::TestId;
 use std::alloc::Global;
-
-fn push(to: &mut Vec<u8>, text: &[u8]) -> Result<(), NoMemory>
-    ensures { OnOk result (to.new.items ≡ to.old.items ++ text.now) }
-{
-    match to.extend_from_slice(text) {
-        Ok(()) => Ok(()),
-        Err(_) => Err(NoMemory),
-    }
-}
 
 /// A number with a space before it.
 fn push_spaced(to: &mut Vec<u8>, n: u64) -> Result<(), NoMemory>
     ensures { OnOk result (to.new.items ≡ to.old.items ++ (32 ∷ decimal n)) }
 {
-    push(to, b" ")?;
+    extend(to, b" ")?;
     push_number(to, u128::from(n))
 }
 
@@ -47,56 +38,56 @@ fn push_listed(to: &mut Vec<u8>, numbers: &[u64]) -> Result<(), NoMemory>
     if numbers.is_empty() {
         return Ok(());
     }
-    push(to, b" :")?;
+    extend(to, b" :")?;
     push_numbers(to, numbers)
 }
 
 fn push_bus(to: &mut Vec<u8>, bus: &Bus) -> Result<(), NoMemory>
     ensures { OnOk result (to.new.items ≡ to.old.items ++ line_text (bus_line (bus_value bus.now))) }
 {
-    push(to, b"Bus")?;
+    extend(to, b"Bus")?;
     push_spaced(to, bus.width)?;
     push_listed(to, bus.modules.as_slice())?;
-    push(to, b"\n")
+    extend(to, b"\n")
 }
 
 fn push_chain(to: &mut Vec<u8>, chain: &ChainPlan) -> Result<(), NoMemory>
     ensures { OnOk result (to.new.items ≡ to.old.items ++ line_text (chain_line (chain_value chain.now))) }
 {
-    push(to, b"Chain")?;
+    extend(to, b"Chain")?;
     push_spaced(to, chain.ins)?;
     push_spaced(to, chain.outs)?;
     push_listed(to, chain.scans.as_slice())?;
-    push(to, b"\n")
+    extend(to, b"\n")
 }
 
 fn push_start(to: &mut Vec<u8>, test: &TestId, start: u64) -> Result<(), NoMemory>
     ensures { OnOk result (to.new.items ≡ to.old.items ++ line_text (start_line (test.now, start))) }
 {
-    push(to, b"Start")?;
+    extend(to, b"Start")?;
     push_spaced(to, test.module)?;
     push_spaced(to, test.test)?;
     push_spaced(to, start)?;
-    push(to, b"\n")
+    extend(to, b"\n")
 }
 
 fn push_mode(to: &mut Vec<u8>, scan: bool) -> Result<(), NoMemory>
     ensures { OnOk result (to.new.items ≡ to.old.items ++ (32 ∷ spelling (mode_key scan))) }
 {
     if scan {
-        push(to, b" scan")
+        extend(to, b" scan")
     } else {
-        push(to, b" terminals")
+        extend(to, b" terminals")
     }
 }
 
 fn push_wrapper_head(to: &mut Vec<u8>, module: u64, scan: bool) -> Result<(), NoMemory>
     ensures { OnOk result (to.new.items ≡ to.old.items ++ line_text (wrapper_line «module» scan)) }
 {
-    push(to, b"Wrapper")?;
+    extend(to, b"Wrapper")?;
     push_spaced(to, module)?;
     push_mode(to, scan)?;
-    push(to, b"\n")
+    extend(to, b"\n")
 }
 
 fn push_chains(to: &mut Vec<u8>, chains: &[ChainPlan]) -> Result<(), NoMemory>
@@ -155,11 +146,11 @@ fn push_reason_numbers(to: &mut Vec<u8>, why: &Why) -> Result<(), NoMemory>
 fn push_bound(to: &mut Vec<u8>, bound: &Bound) -> Result<(), NoMemory>
     ensures { OnOk result (to.new.items ≡ to.old.items ++ line_text (bound_line (bound_value bound.now))) }
 {
-    push(to, b"Bound")?;
+    extend(to, b"Bound")?;
     push_spaced(to, bound.cycles)?;
-    push(to, reason_word(&bound.why))?;
+    extend(to, reason_word(&bound.why))?;
     push_reason_numbers(to, &bound.why)?;
-    push(to, b"\n")
+    extend(to, b"\n")
 }
 
 fn push_buses(to: &mut Vec<u8>, buses: &[Bus]) -> Result<(), NoMemory>
@@ -193,11 +184,11 @@ fn push_starts(to: &mut Vec<u8>, starts: &[(TestId, u64)]) -> Result<(), NoMemor
 fn push_head(to: &mut Vec<u8>, cycles: u64) -> Result<(), NoMemory>
     ensures { OnOk result (to.new.items ≡ to.old.items ++ text_of (head_lines cycles)) }
 {
-    push(to, b"Plan")?;
+    extend(to, b"Plan")?;
     push_spaced(to, 1)?;
-    push(to, b"\nCycles")?;
+    extend(to, b"\nCycles")?;
     push_spaced(to, cycles)?;
-    push(to, b"\n")
+    extend(to, b"\n")
 }
 
 /// The text of a plan. Reading it gives the plan again, where the plan's numbers are in the grammar's range.

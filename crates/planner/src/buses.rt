@@ -7,13 +7,11 @@ ghost use Rattle.bus_model.specs.Buses.{BusValue as ArchBusValue, arch_value, bu
 ghost use Rattle.planner.specs.Wrapping.{HaveWidths};
 ghost use Rattle.planner.specs.Buses.{number_at, plan_bus, plan_buses, AreSettledBuses};
 
-use crate::lookups::module_at;
-use crate::push;
 use arch_settle::settle;
 use bus_model::{Arch, ArchBus, start_solution};
-use outside::NoMemory;
+use outside::{NoMemory, push};
 use plan_model::Bus;
-use soc_model::Soc;
+use soc_model::{Soc, module_at};
 use std::alloc::Global;
 use width_table::WidthTable;
 

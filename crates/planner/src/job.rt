@@ -15,12 +15,11 @@ ghost use Rattle.resource_table.specs.Jobs.{test_value, job_value};
 ghost use Rattle.bound_certificate.specs.Nodes.{AllDiffer};
 ghost use Rattle.planner.specs.Jobs.{settled_parts, steps_of as the_steps, bus_of as the_bus, test_of as the_test, test_in, places_of as the_places, both_places, job_of as the_job};
 
-use crate::lookups::{lists, module_at};
 use indexmap::IndexSet;
-use outside::NoMemory;
-use plan_model::{Bus, Limits, Profile, Wrapper, tam_duration};
+use outside::{NoMemory, push};
+use plan_model::{Bus, Limits, Profile, Wrapper, bus_of as bus_place_of, tam_duration, wrapper_of};
 use resource_table::{Job, JobTest};
-use soc_model::{Module, Soc, Test, TestId, live, parent};
+use soc_model::{Module, Soc, Test, TestId, live, module_at, parent};
 use std::alloc::Global;
 
 /// What the job of a plan is made from.
@@ -30,36 +29,6 @@ pub(crate) struct Parts<'a> {
     pub(crate) limits: &'a Limits,
     pub(crate) buses: &'a [Bus],
     pub(crate) wrappers: &'a [Wrapper],
-}
-
-/// The place of the first bus that lists a module, the number of buses where none does.
-fn bus_place_of(buses: &[Bus], module: u64) -> usize
-    ensures { result ≡ bus_place «module» 0 (map bus_value buses.now) }
-{
-    let mut place = 0;
-    for bus in buses {
-        if lists(bus, module) {
-            return place;
-        }
-        place += 1;
-    }
-    place
-}
-
-/// Whether a wrapper is of a module in a mode.
-fn wraps_mode(wrapper: &Wrapper, module: u64, scan: bool) -> bool
-    ensures { result ≡ wraps «module» scan (wrapper_value wrapper.now) }
-{
-    wrapper.module == module && wrapper.scan == scan
-}
-
-/// The place of the wrapper of a module in a mode.
-fn wrapper_of(wrappers: &[Wrapper], module: u64, scan: bool) -> Option<usize>
-    ensures { result ≡ position (λ (w : Wrapper). wraps «module» scan (wrapper_value w)) wrappers.now }
-{
-    wrappers
-        .iter()
-        .position(|wrapper| wraps_mode(wrapper, module, scan))
 }
 
 /// The modules of a chip.
@@ -183,7 +152,7 @@ fn push_live(
     for test in &module.tests {
         if live(test) {
             let entry = test_of(alloc, parts, place, module, test)?;
-            tests.push(entry).map_err(|_| NoMemory)?;
+            push(tests, entry)?;
         }
     }
     Ok(())
@@ -231,7 +200,7 @@ fn push_both(
     let Some(later) = second else {
         return Ok(());
     };
-    pairs.push((earlier, later)).map_err(|_| NoMemory)
+    push(pairs, (earlier, later))
 }
 
 /// The precedences whose tests both have places.

@@ -6,20 +6,12 @@ ghost use Rattle.std.specs.Prelude.{◌≡◌, ◌++◌, ◌∷◌, [], OnOk};
 
 mod buses;
 mod job;
-mod lookups;
 mod planning;
 mod schedule;
 mod wrappers;
 
 use outside::NoMemory;
 pub use planning::plan;
-
-/// Puts an item at the end of a list.
-fn push<T: Drop>(to: &mut Vec<T>, item: T) -> Result<(), NoMemory>
-    ensures { OnOk result (to.new.items ≡ to.old.items ++ item ∷ []) }
-{
-    to.push(item).map_err(|_| NoMemory)
-}
 
 #[cfg(test)]
 mod tests;

@@ -5,11 +5,9 @@ ghost use Rattle.plan_model.specs.Rules.{uses_mode, used_pairs, mode_pair};
 ghost use Rattle.plan_model.specs.Views.{bus_value, wrapper_value};
 ghost use Rattle.planner.specs.Wrapping.{bus_width, HaveWidths, IsUsedMode, AreUsedModes, AreTableWrappers};
 
-use crate::lookups::{lists, module_at};
-use crate::push;
-use outside::NoMemory;
-use plan_model::{Bus, Wrapper};
-use soc_model::{Module, Soc, live};
+use outside::{NoMemory, push};
+use plan_model::{Bus, Wrapper, lists_module};
+use soc_model::{Module, Soc, live, module_at};
 use std::alloc::Global;
 use width_table::WidthTable;
 
@@ -29,7 +27,7 @@ fn width_of(buses: &[Bus], number: u64) -> u64
     ensures { result ≡ bus_width (map bus_value buses.now) number }
 {
     for bus in buses {
-        if lists(bus, number) {
+        if lists_module(bus, number) {
             return bus.width;
         }
     }

@@ -3,7 +3,7 @@ ghost use Rattle.std.specs.Prelude.{◌≡◌, map, IfOk};
 ghost use Rattle.resource_table.specs.Jobs.{test_value, job_value};
 
 use crate::{Job, JobTest};
-use outside::NoMemory;
+use outside::{NoMemory, push};
 use std::alloc::Global;
 
 /// A copy of a test.
@@ -27,7 +27,7 @@ fn copy_tests(alloc: Global, tests: &[JobTest]) -> Result<Vec<JobTest>, NoMemory
 {
     let mut copy = Vec::new(alloc);
     for test in tests {
-        copy.push(copy_test(alloc, test)?).map_err(|_| NoMemory)?;
+        push(&mut copy, copy_test(alloc, test)?)?;
     }
     Ok(copy)
 }

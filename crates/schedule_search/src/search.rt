@@ -173,24 +173,11 @@ fn search_all<J, E: Estimate<J>>(
     list_starts(table, &room.progress.best, &mut room.starts);
 }
 
-/// Room for so many tests.
-fn room_for(alloc: Global, tests: usize) -> Result<Vec<usize>, NoMemory>
+/// Room for what is kept of so many tests.
+fn room_for<T>(alloc: Global, tests: usize) -> Result<Vec<T>, NoMemory>
     ensures { IfOk result (λ room. tests ≤ vec_capacity room) }
 {
-    match Vec::with_capacity(alloc, tests) {
-        Ok(room) => Ok(room),
-        Err(_) => Err(NoMemory),
-    }
-}
-
-/// Room for the starts of so many tests.
-fn room_for_starts(alloc: Global, tests: usize) -> Result<Vec<u64>, NoMemory>
-    ensures { IfOk result (λ room. tests ≤ vec_capacity room) }
-{
-    match Vec::with_capacity(alloc, tests) {
-        Ok(room) => Ok(room),
-        Err(_) => Err(NoMemory),
-    }
+    Vec::with_capacity(alloc, tests).map_err(|_| NoMemory)
 }
 
 /// Room for the best order of so many tests.
@@ -213,7 +200,7 @@ impl Room {
         Ok(Room {
             path: room_for(alloc, tests)?,
             progress: no_progress(alloc, tests)?,
-            starts: room_for_starts(alloc, tests)?,
+            starts: room_for(alloc, tests)?,
         })
     }
 

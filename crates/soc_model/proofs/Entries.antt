@@ -34,10 +34,10 @@ module-at (x ∷ es) zero e at = grind (arith, common_steps)
 module-at (x ∷ es) (suc i) e at = module-at es i e at
 
 -- its level
-pub level-at : (es : List (ℕ × Module)) (i : ℕ) (e : ℕ × Module) → slice_get es i ≡ Some e → e.1.level ≡ slice_index (map (λ (m : ModuleValue). m.level) (map value_of es)) i
-level-at [] i e at = grind (arith, common_steps)
-level-at (x ∷ es) zero e at = grind (arith, common_steps)
-level-at (x ∷ es) (suc i) e at = level-at es i e at
+pub level-at : (ms : List ModuleValue) (i : ℕ) (m : ModuleValue) → slice_get ms i ≡ Some m → m.level ≡ slice_index (map (λ (x : ModuleValue). x.level) ms) i
+level-at [] i m at = grind (arith, common_steps)
+level-at (x ∷ ms) zero m at = grind (arith, common_steps)
+level-at (x ∷ ms) (suc i) m at = level-at ms i m at
 
 none_from : {X : Type 0} (o : Option X) (b : Bool) → b ≡ is_some o → b ≡ false → o ≡ None
 none_from None b is absent = refl

@@ -7,7 +7,7 @@ mod lookups;
 mod sizes;
 
 use indexmap::IndexMap;
-pub use lookups::{find_test, live, parent, place_of};
+pub use lookups::{find_test, live, module_at, parent, place_of};
 pub use sizes::check_size;
 use std::alloc::Global;
 

@@ -1,10 +1,10 @@
 // Where modules and tests stand in a chip.
-ghost use Rattle.std.specs.Prelude.{◌≡◌, ℕ, ◌<◌, ◌≤◌, length, option_map, position, nat_eq, IfSome, IfNone};
-ghost use Rattle.soc_model.specs.Chips.{soc_value, is_live, level_at, parent_place, IsParent};
+ghost use Rattle.std.specs.Prelude.{◌≡◌, ℕ, ◌<◌, ◌≤◌, Some, length, option_map, position, slice_get, nat_eq, IfSome, IfNone};
+ghost use Rattle.soc_model.specs.Chips.{soc_value, module_value, is_live, level_at, parent_place, IsParent};
 ghost use Rattle.soc_model.specs.Lookups.{module_place, test_places};
 ghost use Rattle.soc_model.specs.declared.Test.{Test};
 
-use crate::{Soc, Test, TestId};
+use crate::{Module, Soc, Test, TestId};
 
 /// The place of the module that is found by a number, counted from 0 by first mention. None comes exactly where the
 /// number isn't there.
@@ -12,6 +12,17 @@ pub fn place_of(soc: &Soc, number: u64) -> Option<usize>
     ensures { result ≡ module_place (soc_value soc.now) number }
 {
     soc.modules.get_index_of(&number)
+}
+
+/// The module at a place, counted from 0 by first mention.
+pub fn module_at(soc: &Soc, place: usize) -> &Module
+    requires { place < length (soc_value soc.now).modules }
+    ensures { slice_get (soc_value soc.now).modules place ≡ Some (module_value result.now) }
+{
+    match soc.modules.get_index(place) {
+        Some((_, module)) => module,
+        None => unreachable!(),
+    }
 }
 
 /// The place of the first test of that number.
@@ -44,10 +55,7 @@ fn level_of(soc: &Soc, place: usize) -> u64
     requires { place < length (soc_value soc.now).modules }
     ensures { result ≡ level_at (soc_value soc.now).modules place }
 {
-    match soc.modules.get_index(place) {
-        Some((_, module)) => module.level,
-        None => unreachable!(),
-    }
+    module_at(soc, place).level
 }
 
 /// The place of a module's parent: the nearest module before it, by first mention, whose level is smaller. None comes

@@ -8,33 +8,23 @@ ghost use Rattle.soc_model.specs.SoundChips.{IsSoundChip};
 ghost use Rattle.soc_reader.specs.ChipForm.{SaysChip};
 ghost use Rattle.soc_printer.specs.SocText.{spaced, flag_word, name_words, setup_words, lengths_text, name_line, total_line, options_line, terminal_words, module_words, module_line, tests_line, test_line, module_text, soc_text};
 
-use outside::{NoMemory, push_number};
+use outside::{NoMemory, extend, push_number};
 use soc_model::{Module, Soc, Test};
 use std::alloc::Global;
-
-/// Appends bytes.
-fn push_bytes(text: &mut Vec<u8>, bytes: &[u8]) -> Result<(), NoMemory>
-    ensures { OnOk result (text.new.items ≡ text.old.items ++ bytes.now) }
-{
-    match text.extend_from_slice(bytes) {
-        Ok(()) => Ok(()),
-        Err(_) => Err(NoMemory),
-    }
-}
 
 /// Appends a space and a word.
 fn push_word(text: &mut Vec<u8>, word: &[u8]) -> Result<(), NoMemory>
     ensures { OnOk result (text.new.items ≡ text.old.items ++ spaced (word.now ∷ [])) }
 {
-    push_bytes(text, b" ")?;
-    push_bytes(text, word)
+    extend(text, b" ")?;
+    extend(text, word)
 }
 
 /// Appends a space and a number.
 fn push_count(text: &mut Vec<u8>, number: u64) -> Result<(), NoMemory>
     ensures { OnOk result (text.new.items ≡ text.old.items ++ spaced (decimal number ∷ [])) }
 {
-    push_bytes(text, b" ")?;
+    extend(text, b" ")?;
     push_number(text, u128::from(number))
 }
 
@@ -65,28 +55,28 @@ fn push_name_line(text: &mut Vec<u8>, name: &[u8]) -> Result<(), NoMemory>
     if name.is_empty() {
         return Ok(());
     }
-    push_bytes(text, b"SocName")?;
+    extend(text, b"SocName")?;
     push_word(text, name)?;
-    push_bytes(text, b"\n")
+    extend(text, b"\n")
 }
 
 /// Appends the line of the number of modules.
 fn push_total_line(text: &mut Vec<u8>, modules: usize) -> Result<(), NoMemory>
     ensures { OnOk result (text.new.items ≡ text.old.items ++ total_line modules) }
 {
-    push_bytes(text, b"TotalModules")?;
+    extend(text, b"TotalModules")?;
     push_count(text, modules as u64)?;
-    push_bytes(text, b"\n")
+    extend(text, b"\n")
 }
 
 /// Appends the line of the chip's flags.
 fn push_options_line(text: &mut Vec<u8>, power: bool, xy: bool) -> Result<(), NoMemory>
     ensures { OnOk result (text.new.items ≡ text.old.items ++ options_line power xy) }
 {
-    push_bytes(text, b"Options")?;
+    extend(text, b"Options")?;
     push_flag(text, b"Power", power)?;
     push_flag(text, b"XY", xy)?;
-    push_bytes(text, b"\n")
+    extend(text, b"\n")
 }
 
 /// Appends a module's name, where it has one.
@@ -135,7 +125,7 @@ fn push_lengths(text: &mut Vec<u8>, lengths: &[u64]) -> Result<(), NoMemory>
     if lengths.is_empty() {
         return Ok(());
     }
-    push_bytes(text, b" :")?;
+    extend(text, b" :")?;
     push_counts(text, lengths)
 }
 
@@ -155,34 +145,34 @@ fn push_module_words(text: &mut Vec<u8>, module: &Module) -> Result<(), NoMemory
 fn push_module_line(text: &mut Vec<u8>, module: &Module) -> Result<(), NoMemory>
     ensures { OnOk result (text.new.items ≡ text.old.items ++ module_line (module_value «module».now)) }
 {
-    push_bytes(text, b"Module")?;
+    extend(text, b"Module")?;
     push_module_words(text, module)?;
     push_lengths(text, &module.chains)?;
-    push_bytes(text, b"\n")
+    extend(text, b"\n")
 }
 
 /// Appends the line of the number of a module's tests.
 fn push_tests_line(text: &mut Vec<u8>, number: u64, tests: usize) -> Result<(), NoMemory>
     ensures { OnOk result (text.new.items ≡ text.old.items ++ tests_line number tests) }
 {
-    push_bytes(text, b"Module")?;
+    extend(text, b"Module")?;
     push_count(text, number)?;
     push_entry(text, b"TotalTests", tests as u64)?;
-    push_bytes(text, b"\n")
+    extend(text, b"\n")
 }
 
 /// Appends the line of a test.
 fn push_test_line(text: &mut Vec<u8>, number: u64, test: &Test) -> Result<(), NoMemory>
     ensures { OnOk result (text.new.items ≡ text.old.items ++ test_line number test.now) }
 {
-    push_bytes(text, b"Module")?;
+    extend(text, b"Module")?;
     push_count(text, number)?;
     push_entry(text, b"Test", test.number)?;
     push_flag(text, b"ScanUse", test.scan)?;
     push_flag(text, b"TamUse", test.tam)?;
     push_entry(text, b"Patterns", test.patterns)?;
     push_entry(text, b"Power", test.power)?;
-    push_bytes(text, b"\n")
+    extend(text, b"\n")
 }
 
 /// Appends the lines of tests.

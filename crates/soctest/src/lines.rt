@@ -7,7 +7,7 @@ ghost use Rattle.soctest.specs.Texts.{is_line, no_feed, unread_line as unread_te
 
 use crate::FileKind;
 use bound_certificate::BoundFault;
-use outside::{NoMemory, push_number};
+use outside::{NoMemory, extend, push_number};
 use plan_checker::PlanFault;
 use plan_model::Plan;
 use soc_model::{SocLimit, TestId, Which};
@@ -55,10 +55,7 @@ pub(crate) fn push(to: &mut Vec<u8>, text: &[u8]) -> Result<(), NoMemory>
     ensures text { OnOk result (to.new.items ≡ to.old.items ++ text.now) }
     ensures plain { OnOk result (no_feed to.new.items ≡ (no_feed to.old.items && no_feed text.now)) }
 {
-    match to.extend_from_slice(text) {
-        Ok(()) => Ok(()),
-        Err(_) => Err(NoMemory),
-    }
+    extend(to, text)
 }
 
 pub(crate) fn push_decimal(to: &mut Vec<u8>, n: u128) -> Result<(), NoMemory>

@@ -7,7 +7,7 @@ ghost use Rattle.soctest.specs.WidthsText.{width_line, module_widths, widths_tex
 
 use crate::lines::{push, push_decimal};
 use outside::NoMemory;
-use soc_model::{Module, Soc};
+use soc_model::{Module, Soc, module_at};
 use std::alloc::Global;
 use width_table::WidthTable;
 
@@ -22,17 +22,6 @@ fn push_line(text: &mut Vec<u8>, number: u64, width: u64, cycles: u64) -> Result
     push(text, b" time ")?;
     push_decimal(text, u128::from(cycles))?;
     push(text, b"\n")
-}
-
-/// The module at a place.
-fn module_at(soc: &Soc, place: usize) -> &Module
-    requires { place < length (soc_value soc.now).modules }
-    ensures { slice_get (soc_value soc.now).modules place ≡ Some (module_value result.now) }
-{
-    match soc.modules.get_index(place) {
-        Some((_, module)) => module,
-        None => unreachable!(),
-    }
 }
 
 /// Appends the lines of the module at a place, one for each width of the table. There is none where the module has no

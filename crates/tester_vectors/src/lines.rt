@@ -3,27 +3,7 @@ ghost use Rattle.std.specs.Prelude.{◌≡◌, ◌++◌, ◌∷◌, [], ◌<◌,
 ghost use Rattle.tester_vectors.specs.Marks.{digit as bit_digit};
 ghost use Rattle.tester_vectors.specs.Lines.{wire_mark, wire_marks, wires_line};
 
-use outside::NoMemory;
-
-/// Appends bytes.
-pub fn push(text: &mut Vec<u8>, bytes: &[u8]) -> Result<(), NoMemory>
-    ensures { OnOk result (text.new.items ≡ text.old.items ++ bytes.now) }
-{
-    match text.extend_from_slice(bytes) {
-        Ok(()) => Ok(()),
-        Err(_) => Err(NoMemory),
-    }
-}
-
-/// Appends a character.
-fn push_character(text: &mut Vec<u8>, character: u8) -> Result<(), NoMemory>
-    ensures { OnOk result (text.new.items ≡ text.old.items ++ character ∷ []) }
-{
-    match text.push(character) {
-        Ok(()) => Ok(()),
-        Err(_) => Err(NoMemory),
-    }
-}
+use outside::{NoMemory, extend, push};
 
 /// `0` or `1`.
 fn digit(bit: bool) -> u8
@@ -44,7 +24,7 @@ fn push_bits(text: &mut Vec<u8>, bits: &[bool]) -> Result<(), NoMemory>
     ensures { OnOk result (text.new.items ≡ text.old.items ++ map bit_digit bits.now) }
 {
     for bit in bits {
-        push_character(text, digit(*bit))?;
+        push(text, digit(*bit))?;
     }
     Ok(())
 }
@@ -55,7 +35,7 @@ fn push_marks(text: &mut Vec<u8>, care: &[bool], bits: &[bool]) -> Result<(), No
     ensures { OnOk result (text.new.items ≡ text.old.items ++ wire_marks care.now bits.now) }
 {
     for wire in 0..care.len() {
-        push_character(text, mark(care[wire], bits[wire]))?;
+        push(text, mark(care[wire], bits[wire]))?;
     }
     Ok(())
 }
@@ -71,7 +51,7 @@ pub fn push_line(
     ensures { OnOk result (text.new.items ≡ text.old.items ++ wires_line drive.now care.now bits.now) }
 {
     push_bits(text, drive)?;
-    push(text, b" ")?;
+    extend(text, b" ")?;
     push_marks(text, care, bits)?;
-    push(text, b"\n")
+    extend(text, b"\n")
 }

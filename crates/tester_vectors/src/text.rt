@@ -12,9 +12,9 @@ ghost use Rattle.tester_vectors.specs.VectorText.{head_line, cycle_line, vector_
 ghost use Rattle.tester_vectors.specs.Lines.{IsRunning, IsWide};
 
 use crate::RUN_MOST;
-use crate::lines::{push, push_line};
+use crate::lines::push_line;
 use bit_machine::Chip;
-use outside::{NoMemory, push_number};
+use outside::{NoMemory, extend, push_number};
 use plan_model::{Bus, Plan};
 use soc_model::Soc;
 use std::alloc::Global;
@@ -62,11 +62,11 @@ fn empty_text(alloc: Global, cycles: u64, wires: u64) -> Result<Vec<u8>, NoMemor
 fn push_head(text: &mut Vec<u8>, wires: u64, cycles: u64) -> Result<(), NoMemory>
     ensures { OnOk result (text.new.items ≡ text.old.items ++ head_line wires cycles) }
 {
-    push(text, b"vectors ")?;
+    extend(text, b"vectors ")?;
     push_number(text, u128::from(wires))?;
-    push(text, b" ")?;
+    extend(text, b" ")?;
     push_number(text, u128::from(cycles))?;
-    push(text, b"\n")
+    extend(text, b"\n")
 }
 
 /// So many bits 0.

@@ -9,7 +9,7 @@ ghost use Rattle.width_table.specs.Times.{mode_time};
 ghost use Rattle.width_table.specs.Choices.{choices_of, AreChoices, AreRows};
 
 use crate::choosing::{Choice, choices};
-use soc_model::{Module, Soc};
+use soc_model::{Module, Soc, module_at};
 use std::alloc::{AllocError, Global};
 
 /// The choices of a module at each width, for its two modes.
@@ -27,17 +27,6 @@ impl ModuleRow {
         ensures { result.now ≡ choices_of scan self.now }
     {
         if scan { &self.scan } else { &self.terminals }
-    }
-}
-
-/// The module at a place.
-pub fn module_at(soc: &Soc, place: usize) -> &Module
-    requires { place < length (soc_value soc.now).modules }
-    ensures { slice_get (soc_value soc.now).modules place ≡ Some (module_value result.now) }
-{
-    match soc.modules.get_index(place) {
-        Some((_, module)) => module,
-        None => unreachable!(),
     }
 }
 

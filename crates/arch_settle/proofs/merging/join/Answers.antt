@@ -15,11 +15,11 @@ returns-clause-value c =
       | then-into-from w ↦ shifted_below c.args.from c.args.into c.if-into-from.at w.if-into-from.true w.at-is
       | else-into-from w ↦ shifted_above c.args.from c.args.into c.if-into-from.at (differ_above c.args.from c.args.into w.if-into-from.false c.requires.differ) w.at-is
     ] in
-    ap (λ xs. map bus_value (set xs c.if-into-from.at (record { width = c.max-bus.result; places = c.extend_from_slice.new.to }))) left
+    ap (λ xs. map bus_value (set xs c.if-into-from.at (record { width = c.max-bus.result; places = c.extend.new.to }))) left
     ∙ join_value c.args.arch.now.buses.items c.args.from c.args.into c.if-into-from.at c.index_mut-bus.result.now c.remove-gone.result
-    (record { width = c.max-bus.result; places = c.extend_from_slice.new.to }) (omega arith) (omega arith) shifted
+    (record { width = c.max-bus.result; places = c.extend.new.to }) (omega arith) (omega arith) shifted
     (c.index_mut-bus.ensures.value ∙ ap (λ xs. get_or xs c.if-into-from.at c.index_mut-bus.result.now) left) c.remove-gone.ensures.value c.max-bus.ensures
-    (c.in_ok-extend_from_slice.ensures ∙ ap (λ ys. c.index_mut-bus.result.now.places.items ++ ys) c.as_slice.ensures.value)
+    (c.in_ok-extend.ensures.ok ∙ ap (λ ys. c.index_mut-bus.result.now.places.items ++ ys) c.as_slice.ensures.value)
   where
     differ_above : (a b : ℕ) → a ≤ b → (a ≡ b → ⊥) → a < b
     differ_above a b le ne = grind arith

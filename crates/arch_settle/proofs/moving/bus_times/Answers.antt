@@ -20,4 +20,4 @@ loop-bus-preserved c =
     let read = value_at c.args.arch.now.buses.items c.loop-bus.bus-index c.bus-item.result no_bus h (rw (← items) c.bus-item.is) in
     let time = c.bus_time.ensures ∙ ap (bus_time_of c.args.table.now) (sym read) in
     let more = ap (map (bus_time_of c.args.table.now)) (take_more A c.loop-bus.bus-index no_bus (omega arith)) ∙ map-append (bus_time_of c.args.table.now) (take c.loop-bus.bus-index A) (get_or A c.loop-bus.bus-index no_bus ∷ []) in
-    c.in_ok-push.ensures ∙ (ap (λ xs. xs ++ c.bus_time.result ∷ []) c.loop-bus.invariant ∙ (ap (λ t. map (bus_time_of c.args.table.now) (take c.loop-bus.bus-index A) ++ t ∷ []) time ∙ sym more))
+    c.in_ok-push.ensures.ok ∙ (ap (λ xs. xs ++ c.bus_time.result ∷ []) c.loop-bus.invariant ∙ (ap (λ t. map (bus_time_of c.args.table.now) (take c.loop-bus.bus-index A) ++ t ∷ []) time ∙ sym more))

@@ -16,4 +16,4 @@ returns c =
     (record { width = c.index_mut.result.now.width; places = c.remove-place.new.self }) c.index_mut-2.result.now
     (record { width = c.index_mut-2.result.now.width; places = c.push.new.to })
     (omega arith) (omega arith) valid.2 c.index_mut.ensures.value refl c.remove-place.ensures.items c.remove-place.ensures.value (omega arith)
-    c.index_mut-2.ensures.value refl c.in_ok-push.ensures
+    c.index_mut-2.ensures.value refl c.in_ok-push.ensures.ok

@@ -23,7 +23,7 @@ loop-at-preserved c =
     let k : c.loop-at.at < length A = omega arith in
     let read = value_at c.args.arch.now.buses.items c.loop-at.at c.bus-item.result no_bus h (rw (← items) c.bus-item.is) in
     let new : Load = record { held = One c.loop-at.at; width = c.bus-item.result.width; time = c.bus_time.result } in
-    let pushed : c.push.new.to.items ≡ c.loop-at.loads.items ++ new ∷ [] = c.in_ok-push.ensures in
+    let pushed : c.push.new.to.items ≡ c.loop-at.loads.items ++ new ∷ [] = c.in_ok-push.ensures.ok in
     let width = ap (λ b. b.width) (sym read) in
     let time = c.bus_time.ensures ∙ ap (bus_time_of c.args.table.now) (sym read) in
     record {

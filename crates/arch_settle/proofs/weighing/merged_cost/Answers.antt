@@ -41,8 +41,8 @@ spread_cost-requires-clause-loads c =
     let own = width_at c.args.arch.now.buses.items c.args.into c.index.result.now c.requires.into c.index.ensures in
     let further = width_at c.args.arch.now.buses.items c.args.from c.index-2.result.now c.requires.from c.index-2.ensures in
     let width : c.max-width.result ≡ max (bus_at A c.args.into).width (bus_at A c.args.from).width = omega (arith, c.max-width.ensures) in
-    let items = items_are c.args.loads.now c.clear.new.self.items c.extend_from_slice.new.to.items c.remove-gone.new.self.items c.args.into c.args.from new
-    c.clear.ensures.items c.in_ok-extend_from_slice.ensures c.remove-gone.ensures.items in
+    let items = items_are c.args.loads.now c.clear.new.self.items c.extend.new.to.items c.remove-gone.new.self.items c.args.into c.args.from new
+    c.clear.ensures.items c.in_ok-extend.ensures.ok c.remove-gone.ensures.items in
     let value : loads_value A c.args.from c.args.into c.remove-gone.new.self.items ≡ joined_at A c.args.from c.args.into =
     ap (loads_value A c.args.from c.args.into) items ∙ joined_loads_value A c.args.from c.args.into c.args.loads.now new c.requires.value refl width in
     subst (AreLoads c.args.table.now A c.args.from c.args.into) (sym items)
@@ -55,8 +55,8 @@ spread_cost-requires-clause-fits c =
     let own = width_at c.args.arch.now.buses.items c.args.into c.index.result.now c.requires.into c.index.ensures in
     let further = width_at c.args.arch.now.buses.items c.args.from c.index-2.result.now c.requires.from c.index-2.ensures in
     let width : c.max-width.result ≡ max (bus_at A c.args.into).width (bus_at A c.args.from).width = omega (arith, c.max-width.ensures) in
-    let items = items_are c.args.loads.now c.clear.new.self.items c.extend_from_slice.new.to.items c.remove-gone.new.self.items c.args.into c.args.from new
-    c.clear.ensures.items c.in_ok-extend_from_slice.ensures c.remove-gone.ensures.items in
+    let items = items_are c.args.loads.now c.clear.new.self.items c.extend.new.to.items c.remove-gone.new.self.items c.args.into c.args.from new
+    c.clear.ensures.items c.in_ok-extend.ensures.ok c.remove-gone.ensures.items in
     let value : loads_value A c.args.from c.args.into c.remove-gone.new.self.items ≡ joined_at A c.args.from c.args.into =
     ap (loads_value A c.args.from c.args.into) items ∙ joined_loads_value A c.args.from c.args.into c.args.loads.now new c.requires.value refl width in
     subst (IsSoundArch c.args.table.now) (sym value) (sound_joined c.args.table.now A c.args.from c.args.into c.requires.sound c.requires.from c.requires.into c.requires.differ)
@@ -68,8 +68,8 @@ spread_cost-requires-clause-free c =
     let own = width_at c.args.arch.now.buses.items c.args.into c.index.result.now c.requires.into c.index.ensures in
     let further = width_at c.args.arch.now.buses.items c.args.from c.index-2.result.now c.requires.from c.index-2.ensures in
     let width : c.max-width.result ≡ max (bus_at A c.args.into).width (bus_at A c.args.from).width = omega (arith, c.max-width.ensures) in
-    let items = items_are c.args.loads.now c.clear.new.self.items c.extend_from_slice.new.to.items c.remove-gone.new.self.items c.args.into c.args.from new
-    c.clear.ensures.items c.in_ok-extend_from_slice.ensures c.remove-gone.ensures.items in
+    let items = items_are c.args.loads.now c.clear.new.self.items c.extend.new.to.items c.remove-gone.new.self.items c.args.into c.args.from new
+    c.clear.ensures.items c.in_ok-extend.ensures.ok c.remove-gone.ensures.items in
     let value : loads_value A c.args.from c.args.into c.remove-gone.new.self.items ≡ joined_at A c.args.from c.args.into =
     ap (loads_value A c.args.from c.args.into) items ∙ joined_loads_value A c.args.from c.args.into c.args.loads.now new c.requires.value refl width in
     let used = ap wires_used value in
@@ -86,8 +86,8 @@ returns c =
     let own = width_at c.args.arch.now.buses.items c.args.into c.index.result.now c.requires.into c.index.ensures in
     let further = width_at c.args.arch.now.buses.items c.args.from c.index-2.result.now c.requires.from c.index-2.ensures in
     let width : c.max-width.result ≡ max (bus_at A c.args.into).width (bus_at A c.args.from).width = omega (arith, c.max-width.ensures) in
-    let items = items_are c.args.loads.now c.clear.new.self.items c.extend_from_slice.new.to.items c.remove-gone.new.self.items c.args.into c.args.from new
-    c.clear.ensures.items c.in_ok-extend_from_slice.ensures c.remove-gone.ensures.items in
+    let items = items_are c.args.loads.now c.clear.new.self.items c.extend.new.to.items c.remove-gone.new.self.items c.args.into c.args.from new
+    c.clear.ensures.items c.in_ok-extend.ensures.ok c.remove-gone.ensures.items in
     let value : loads_value A c.args.from c.args.into c.remove-gone.new.self.items ≡ joined_at A c.args.from c.args.into =
     ap (loads_value A c.args.from c.args.into) items ∙ joined_loads_value A c.args.from c.args.into c.args.loads.now new c.requires.value refl width in
     let smaller : c.min.result ≡ min (bus_at A c.args.from).width (bus_at A c.args.into).width = omega (arith, c.min.ensures) in

@@ -27,6 +27,6 @@ loop-chain-preserved c =
       ins = omega (arith, ins, c.loop-chain.invariant.ins);
       outs = omega (arith, outs, c.loop-chain.invariant.outs);
       paths =
-          paths_more c.args.inputs c.args.layout.now.lengths.items (layout_cells c.args.layout.now) c.loop-chain.chain-index c.loop-chain.paths.items c.push.new.to.items c.in_ok-path.path c.loop-chain.invariant.paths c.in_ok-push.ensures
+          paths_more c.args.inputs c.args.layout.now.lengths.items (layout_cells c.args.layout.now) c.loop-chain.chain-index c.loop-chain.paths.items c.push.new.to.items c.in_ok-path.path c.loop-chain.invariant.paths c.in_ok-push.ensures.ok
           (subst (λ v. IsNewPath c.args.inputs c.args.layout.now.lengths.items v c.in_ok-path.path) (sym same) (c.in_ok-path.ensures o c.loop-chain.invariant.outs));
     }

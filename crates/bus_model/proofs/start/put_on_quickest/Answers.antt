@@ -11,5 +11,5 @@ returns-clause-value c =
     let w = c.quickest-at.ensures.within in
     value_with_place c.args.arch.now.buses.items c.quickest-at.result c.args.place c.index_mut.result.now
     (record { width = c.index_mut.result.now.width; places = c.push.new.to })
-    (omega arith) c.index_mut.ensures.value refl c.in_ok-push.ensures
+    (omega arith) c.index_mut.ensures.value refl c.in_ok-push.ensures.ok
     ∙ ap (λ at. set A at (with_place (bus_at A at) c.args.place)) c.quickest-at.ensures.value

@@ -8,7 +8,7 @@ loop-place-init c = rw c.new-keys.ensures.items (keys_none c.args.table.now)
 
 pub loop-place-preserved : goal.loop-place-preserved
 loop-place-preserved c = elim c.if-has_tam_test.branch [
-  | then-has_tam_test+in_ok-push w ↦ rw (w.keys-is, w.in_ok-push.ensures)
+  | then-has_tam_test+in_ok-push w ↦ rw (w.keys-is, w.in_ok-push.ensures.ok)
       (keys_take c.args.table.now c.loop-place.place c.loop-place.keys.items (record { 0 = w.time.result }, c.loop-place.place) c.loop-place.invariant refl w.time.ensures.time (sym c.has_tam_test.ensures.tam ∙ w.if-has_tam_test.true))
   | else-has_tam_test w ↦ rw w.keys-is (keys_skip c.args.table.now c.loop-place.place c.loop-place.keys.items c.loop-place.invariant (sym c.has_tam_test.ensures.tam ∙ w.if-has_tam_test.false))
 ]

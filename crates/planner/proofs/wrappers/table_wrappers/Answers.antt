@@ -21,7 +21,7 @@ wrapper-requires-clause-within c = (mode_within c.args.table.now (soc_value c.ar
 
 pub loop-mode-preserved : goal.loop-mode-preserved
 loop-mode-preserved c = made_next (soc_value c.args.soc.now) (map bus_value c.args.buses.now) c.deref-mode-items.result.now c.loop-mode.mode-index (record { place = 0; scan = false; width = 0 }) c.loop-mode.wrappers.items c.push.new.to.items c.in_ok-wrapper.wrapper
-    c.loop-mode-test.true c.in_ok-push.ensures c.loop-mode.invariant
+    c.loop-mode-test.true c.in_ok-push.ensures.ok c.loop-mode.invariant
     (wrapper_made c.args.table.now (soc_value c.args.soc.now) (map bus_value c.args.buses.now) c.in_ok-modes.modes.items c.deref-mode-items.result.now c.loop-mode.mode-index (record { place = 0; scan = false; width = 0 }) c.requires.chip c.requires.widths c.in_ok-modes.ensures.used c.deref-mode-items.ensures.value c.loop-mode-test.true (wrapper_value c.in_ok-wrapper.wrapper) c.in_ok-wrapper.ensures.designed)
 
 pub returns : goal.returns

@@ -20,4 +20,4 @@ pub returns : goal.returns
 returns c = λ done test there are.
     ok_map (λ _. c.push.new.to.items ≡ c.args.lanes.now.items ++ c.in_ok-lane.lane ∷ []) (λ _. AreNewLanes (made_content (soc_value c.args.self.now.soc.now) c.args.self.now.seed) (done ++ placed_tests (plan_value c.args.self.now.plan.now) c.args.place (module_value c.args.module.now) (test ∷ [])) c.push.new.to.items)
     (λ x pushed. live_test (made_content (soc_value c.args.self.now.soc.now) c.args.self.now.seed) (plan_value c.args.self.now.plan.now) c.args.place (module_value c.args.module.now) test done c.args.lanes.now.items c.push.new.to.items c.in_ok-lane.lane (sym (ap is_live (the_test c.args.module.now.tests.items c.args.at c.index.result.now test (slice_at c.args.module.now.tests.items c.args.at c.index.result.now c.requires.at c.index.ensures) there)) ∙ sym c.live.ensures ∙ c.if-not-live.false) are pushed (c.in_ok-lane.ensures test there))
-    c.push.result c.push.ensures
+    c.push.result c.push.ensures.ok

@@ -2,7 +2,7 @@ use Rattle.std.proofs.Common.{ℕ, ◌∙◌, refl}
 use Rattle.std.proofs.lemmas.Option.{slice_get-map}
 use Rattle.soc_model.specs.declared.Module.{Module}
 use Rattle.soc_model.specs.Chips.{module_value}
-use Rattle.bound_rules.proofs.module_at.Goals as goal
+use Rattle.soc_model.proofs.lookups.module_at.Goals as goal
 
 pub returns : goal.returns
 returns c =
