@@ -2,7 +2,7 @@
 use Rattle.std.proofs.Common.{◌≡◌, ℕ, zero, suc, ◌+◌, ◌-◌, ◌<◌, ◌≤◌, inl, inr, List, length, get_or, drop, arith, max, sym, ap, ◌∙◌, subst}
 use Rattle.std.specs.List.{AllWithin}
 use Rattle.std.proofs.lemmas.Bool.{cases_lt, cases_eq}
-use Rattle.resource_table.specs.declared.profile.Point.{Point}
+use Rattle.resource_table.specs.declared.points.Point.{Point}
 use Rattle.resource_table.specs.Profiles.{no_point, IsProfile, IsCrowded, IsCrowdEnd, IsEndedProfile}
 use Rattle.resource_table.specs.Resources.{step_end, StepsFit}
 use Rattle.resource_table.proofs.Places.{same_item}

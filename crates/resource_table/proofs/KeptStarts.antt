@@ -1,7 +1,7 @@
 -- Where a test fits, by what a table keeps.
 use Rattle.std.proofs.Common.{◌≡◌, ℕ, ◌+◌, ◌*◌, ◌<◌, ◌≤◌, ◌^◌, Option, Some, List, [], ◌∷◌, length, get_or, map, arith, refl, sym, ap, ◌∙◌, subst}
 use Rattle.std.specs.Prelude.{slice_get, IfSome}
-use Rattle.std.specs.List.{All, sum_by}
+use Rattle.std.specs.List.{All, sum_by, flat_map}
 use Rattle.std.specs.Global.{Vec}
 use Rattle.std.proofs.lemmas.List.{length-map}
 use Rattle.std.proofs.lemmas.Option.{slice_get-get_or, get_or_from_slice_get}
@@ -16,13 +16,14 @@ use Rattle.resource_table.specs.declared.busy.Busy.{Busy}
 use Rattle.resource_table.specs.declared.power.Draw.{Draw}
 use Rattle.resource_table.specs.Jobs.{TestValue, JobValue, test_value, test_at, no_test, cycles_of, IsSoundTest}
 use Rattle.resource_table.specs.Schedules.{needs_of, last_end, MeetsNone, StaysWithin}
-use Rattle.resource_table.specs.Resources.{IsApart, load_of, StepsFit}
+use Rattle.resource_table.specs.Resources.{IsApart, load_of, marks_of, StepsFit}
 use Rattle.resource_table.specs.Kept.{IsKept}
-use Rattle.resource_table.specs.declared.profile.Point.{Point}
-use Rattle.resource_table.specs.Profiles.{ArePoints, IsEndedProfile}
+use Rattle.resource_table.specs.declared.points.Point.{Point}
+use Rattle.resource_table.specs.Profiles.{ArePoints, AreMarked, IsEndedProfile}
 use Rattle.resource_table.proofs.Places.{all_at}
 use Rattle.resource_table.proofs.Loads.{load_over}
 use Rattle.resource_table.proofs.Profiles.{drawn_profile}
+use Rattle.resource_table.proofs.KeptMarks.{all_marked}
 use Rattle.resource_table.proofs.Fitting.{in_map, apart_from_meets, meets_from_apart, times_end, draws_ended, last_small, cycles_small, steps_from_within, within_from_steps}
 
 -- a test that was read is the one of the job
@@ -70,9 +71,9 @@ module _ (job : JobValue) (trail : SmallVec Placement) (ends : Vec (Option ℕ))
       subst (λ (v : ℕ). All (λ (d : Draw). d.to ≤ v) ds) (sym is) (subst (λ (v : List Draw). All (λ (d : Draw). d.to ≤ last_end job trail.items) v) (sym (ds_is ∙ kept.draws_are)) (draws_ended job trail.items))
 
   -- the profile that is kept tells what the draws take
-  pub profile_here : (points read : List Point) (last : ℕ) → ArePoints draws.items [] points → read ≡ points → last ≡ last_end job trail.items → IsEndedProfile (load_of draws.items) read last
+  pub profile_here : (points read : List Point) (last : ℕ) → ArePoints draws.items (flat_map (marks_of job) trail.items) points → read ≡ points → last ≡ last_end job trail.items → IsEndedProfile (load_of draws.items) read last
   profile_here points read last are read_is is = subst (λ (v : List Point). IsEndedProfile (load_of draws.items) v last) (sym read_is) (record {
-    profile = drawn_profile draws.items [] points are;
+    profile = drawn_profile draws.items (flat_map (marks_of job) trail.items) points (subst (λ (v : List Draw). AreMarked v (flat_map (marks_of job) trail.items)) (sym kept.draws_are) (all_marked job trail.items kept.sound.job (λ i p at. (kept.sound.placed i p at).in_job))) are;
     over = (λ c late. load_over draws.items c (λ i d at. let end : d.to ≤ last = all_at (λ (d : Draw). d.to ≤ last) draws.items i d (draws_ended_by draws.items last refl is) at in omega arith));
   })
 

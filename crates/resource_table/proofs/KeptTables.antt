@@ -1,5 +1,5 @@
 -- What a table keeps, as tests are placed and taken back.
-use Rattle.std.proofs.Common.{◌≡◌, ℕ, zero, suc, ◌*◌, ◌^◌, replicate, ◌+◌, ◌-◌, ◌<◌, ◌≤◌, inl, inr, Option, None, Some, List, [], ◌∷◌, ◌++◌, length, get_or, set, take, map, arith, refl, sym, ap, ◌∙◌, subst, length-append, append_assoc, append-nil}
+use Rattle.std.proofs.Common.{◌≡◌, ℕ, zero, suc, replicate, ◌+◌, ◌-◌, ◌<◌, ◌≤◌, inl, inr, Option, None, Some, List, [], ◌∷◌, ◌++◌, length, get_or, set, take, map, arith, refl, sym, ap, ◌∙◌, subst, length-append, append_assoc, append-nil}
 use Rattle.std.specs.Prelude.{is_some, vec_capacity, IfSome}
 use Rattle.std.specs.List.{sum_by, flat_map}
 use Rattle.std.specs.Global.{Vec}
@@ -13,9 +13,9 @@ use Rattle.resource_table.specs.declared.busy.Busy.{Busy}
 use Rattle.resource_table.specs.declared.power.Draw.{Draw}
 use Rattle.resource_table.specs.Jobs.{TestValue, JobValue, IsSoundJob, test_value, test_at, no_test, cycles_of}
 use Rattle.resource_table.specs.Schedules.{at_start, end_of, is_placed, MayPlace, IsSoundTable}
-use Rattle.resource_table.specs.Resources.{load_of, busy_of, draws_from, draws_of, end_in}
+use Rattle.resource_table.specs.Resources.{load_of, busy_of, draws_from, draws_of, marks_of, end_in}
 use Rattle.resource_table.specs.declared.JobTest.{JobTest}
-use Rattle.resource_table.specs.declared.profile.Point.{Point}
+use Rattle.resource_table.specs.declared.points.Point.{Point}
 use Rattle.resource_table.specs.Profiles.{ArePoints}
 use Rattle.resource_table.specs.Kept.{IsKept, IsProfiled}
 use Rattle.std.proofs.lemmas.List.Elements.{All-nil}
@@ -70,15 +70,6 @@ draws_have_room job placed test start sound may =
         let here = length-draws_from p.start (cycles_of job p.test) (test_at job p.test).steps in
         omega (arith, length-append (draws_of job p) (flat_map (draws_of job) placed), sum_by-cons (λ (p : Placement). length (get_or job.tests p.test no_test).steps) p placed, go placed, here)
 
--- also for their points
-pub points_have_room : (job : JobValue) (placed : List Placement) (test start length' capacity : ℕ) (old new : List Draw) (steps : List (ℕ × ℕ)) → IsSoundTable (record { job = job; placed = placed }) → MayPlace job placed test start →
-    old ≡ flat_map (draws_of job) placed → new ≡ old ++ draws_from start length' steps → length steps ≡ length (test_at job test).steps → 2 * sum_by (λ (t : TestValue). length t.steps) job.tests ≤ capacity → 2 * length new ≤ capacity
-points_have_room job placed test start length' capacity old new steps sound may old_is new_is same room =
-    let fits = draws_have_room job placed test start sound may in
-    let before = ap length old_is in
-    let after : length new ≡ length old + length (draws_from start length' steps) = ap length new_is ∙ length-append old (draws_from start length' steps) in
-    omega (arith, fits, before, after, same, room, length-draws_from start length' steps)
-
 -- ---- nothing placed
 
 get_or-none : (n i : ℕ) → get_or (replicate n (let o : Option ℕ = None in o)) i None ≡ None
@@ -99,10 +90,10 @@ kept_new job trail ends busy draws tests steps sound tests_is steps_is trail_is 
   draws_room = omega arith;
 }
 
-pub profiled_new : (job : JobValue) (draws : Vec Draw) (points : Vec Point) (steps : ℕ) → steps ≡ sum_by (λ (t : TestValue). length t.steps) job.tests → draws.items ≡ [] → points.items ≡ [] → 2 * steps ≤ vec_capacity points → IsProfiled job draws points
-profiled_new job draws points steps steps_is draws_is points_is room = record {
-  are = under job.power (subst (λ (v : List Draw). ArePoints v [] points.items) (sym draws_is) (subst (ArePoints [] []) (sym points_is) none));
-  room = omega (arith, steps_is, room);
+pub profiled_new : (job : JobValue) (trail : SmallVec Placement) (draws : Vec Draw) (points : Vec Point) (tests steps : ℕ) → tests ≡ length job.tests → steps ≡ sum_by (λ (t : TestValue). length t.steps) job.tests → trail.items ≡ [] → draws.items ≡ [] → points.items ≡ [] → tests + steps ≤ vec_capacity points → IsProfiled job trail draws points
+profiled_new job trail draws points tests steps tests_is steps_is trail_is draws_is points_is room = record {
+  are = under job.power (subst (λ (v : List Placement). ArePoints draws.items (flat_map (marks_of job) v) points.items) (sym trail_is) (subst (λ (v : List Draw). ArePoints v [] points.items) (sym draws_is) (subst (ArePoints [] []) (sym points_is) none)));
+  room = omega (arith, tests_is, steps_is, room);
 }
   where
     under : {P : Type 0} (o : Option ℕ) → P → IfSome o (λ _. P)
@@ -115,7 +106,6 @@ profiled_new job draws points steps steps_is draws_is points_is room = record {
       loads = All-nil (λ (p : Point). p.load ≡ load_of [] p.cycle);
       marks = (λ c. refl);
       count = refl;
-      small = All-nil (λ (d : Draw). d.power < 2 ^ 64);
     }
 
 pub steps_same : (tests : List JobTest) → sum_by (λ (t : JobTest). length t.power.items) tests ≡ sum_by (λ (t : TestValue). length t.steps) (map test_value tests)
@@ -124,7 +114,7 @@ steps_same (t ∷ tests) = omega (arith, sum_by-cons (λ (t : JobTest). length t
 
 -- ---- one more, one less
 
-flat_map_push : {X Y : Type 0} (f : X → List Y) (xs : List X) (x : X) → flat_map f (xs ++ x ∷ []) ≡ flat_map f xs ++ f x
+pub flat_map_push : {X Y : Type 0} (f : X → List Y) (xs : List X) (x : X) → flat_map f (xs ++ x ∷ []) ≡ flat_map f xs ++ f x
 flat_map_push f [] x = append-nil (f x)
 flat_map_push f (y ∷ xs) x = ap (λ v. f y ++ v) (flat_map_push f xs x) ∙ sym (append_assoc (f y) (flat_map f xs) (f x))
 
@@ -195,6 +185,11 @@ pub last_inside : (job : JobValue) (trail : SmallVec Placement) (ends : Vec (Opt
 last_inside job trail ends busy draws kept placed p is =
     let P : List Placement → Placement → Type 0 = λ earlier q. MayPlace job earlier q.test q.start in
     (each_last P placed p (subst (Each P) is kept.sound.placed)).in_job
+
+-- the draws of the last test stand behind those of the others
+pub last_draws : (job : JobValue) (trail : SmallVec Placement) (ends : Vec (Option ℕ)) (busy : Vec Busy) (draws : Vec Draw) → IsKept job trail ends busy draws →
+    (placed : List Placement) (p : Placement) → trail.items ≡ placed ++ p ∷ [] → draws.items ≡ flat_map (draws_of job) placed ++ draws_of job p
+last_draws job trail ends busy draws kept placed p is = kept.draws_are ∙ ap (flat_map (draws_of job)) is ∙ flat_map_push (draws_of job) placed p
 
 pub last_steps : (job : JobValue) (trail : SmallVec Placement) (ends : Vec (Option ℕ)) (busy : Vec Busy) (draws : Vec Draw) → IsKept job trail ends busy draws →
     (placed : List Placement) (p : Placement) → trail.items ≡ placed ++ p ∷ [] → (wanted : TestValue) → wanted ≡ test_at job p.test → length wanted.steps ≤ length draws.items

@@ -5,8 +5,11 @@ pub mod BusyTimes
 pub mod Placed
 pub mod Fitting
 pub mod KeptTables
+pub mod KeptMarks
 pub mod KeptStarts
+pub mod Holes
 pub mod Profiles
+pub mod Marked
 pub mod Crowds
 pub mod Befores
 pub mod Ready

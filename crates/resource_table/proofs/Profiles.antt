@@ -1,20 +1,19 @@
 -- Profiles of the power that is drawn.
-use Rattle.std.proofs.Common.{◌≡◌, ◌⊎◌, ℕ, zero, suc, ◌+◌, ◌-◌, ◌*◌, ◌<◌, ◌≤◌, ◌^◌, inl, inr, Some, List, [], ◌∷◌, ◌++◌, length, get_or, set, take, drop, map, arith, true, refl, sym, ap, ◌∙◌, subst, length-append}
+use Rattle.std.proofs.Common.{◌≡◌, ◌⊎◌, ℕ, zero, suc, ◌+◌, ◌-◌, ◌<◌, ◌≤◌, ◌^◌, inl, inr, Some, List, [], ◌∷◌, ◌++◌, length, get_or, set, take, drop, map, arith, refl, sym, ap, ◌∙◌, subst}
 use Rattle.std.specs.Prelude.{slice_get, nat_eq, if◌then◌else◌}
 use Rattle.std.specs.List.{All, sum_by, insert, remove}
 use Rattle.std.specs.List.Sorted.{IsNonDecreasingBy, IsPartitionPoint}
 use Rattle.std.proofs.lemmas.Bool.{cases_lt, cases_eq, eqb-true, eq-eqb}
-use Rattle.std.proofs.lemmas.List.{take_at, take_more, same_lists, length-map, length-set, get_or-map, get_or-set_same, get_or-set_other}
+use Rattle.std.proofs.lemmas.List.{take_more, same_lists, length-map, length-set, get_or-map, get_or-set_same, get_or-set_other}
 use Rattle.std.proofs.lemmas.List.Edits.{length-insert, length-remove, get_or-remove_below, get_or-remove_above}
-use Rattle.std.proofs.lemmas.List.Elements.{All-append, All-cons, All-take, All-drop, All-map, All-push}
+use Rattle.std.proofs.lemmas.List.Elements.{All-append, All-cons, All-take, All-drop, All-map}
 use Rattle.std.proofs.lemmas.List.Sorted.{IsNonDecreasingBy-insert}
-use Rattle.std.proofs.lemmas.List.Sums.{sum_by-cons, sum_by_push, sum_by-insert, sum_by-remove, sum_by-le}
-use Rattle.std.proofs.lemmas.Option.{slice_get_within, get_or_from_slice_get}
-use Rattle.plan_model.proofs.Sums.{sum_by-le_at, item-le-sum_by, some_passes}
+use Rattle.std.proofs.lemmas.List.Sums.{sum_by-cons, sum_by_push, sum_by-insert, sum_by-remove, sum_by_more_le}
+use Rattle.plan_model.proofs.Sums.{sum_by-le_at, some_passes}
 use Rattle.resource_table.specs.declared.power.Draw.{Draw}
-use Rattle.resource_table.specs.declared.profile.Point.{Point}
+use Rattle.resource_table.specs.declared.points.Point.{Point}
 use Rattle.resource_table.specs.Resources.{taken_by, load_of}
-use Rattle.resource_table.specs.Profiles.{no_point, load_before, IsProfile, touches, stands_at, counted, ArePoints, raised_by}
+use Rattle.resource_table.specs.Profiles.{no_point, load_before, IsProfile, stands_at, counted, ArePoints, AreMarked, raised_by}
 use Rattle.resource_table.proofs.Places.{all_at, same_item}
 
 -- ---- what a draw takes
@@ -34,43 +33,47 @@ taken_same d a c le (inr f) t = none_taken d c (inl f) ∙ sym (none_taken d a (
 pub taken-le : (d : Draw) (c : ℕ) → taken_by c d ≤ d.power
 taken-le d c = grind arith
 
+never_taken : (d : Draw) (c : ℕ) → d.to ≤ d.from → taken_by c d ≡ 0
+never_taken d c empty = elim (cases_lt c d.from) [
+  | inl early ↦ none_taken d c (inl early)
+  | inr late ↦ none_taken d c (inr (omega arith))
+]
+
 -- ---- points of draws
 
--- where a draw begins or ends, there is a point
-point_of : (draws : List Draw) (more : List ℕ) (points : List Point) → ArePoints draws more points → (i : ℕ) (d : Draw) → slice_get draws i ≡ Some d → (c : ℕ) → 1 ≤ touches c d →
-    (j : ℕ) × (p : Point) × (slice_get points j ≡ Some p) × (p.cycle ≡ c)
-point_of draws more points are i d at c touch =
-    let one = item-le-sum_by (touches c) draws i d at in
+-- at each of the cycles there is a point
+pub point_of : (draws : List Draw) (cycles : List ℕ) (points : List Point) → ArePoints draws cycles points → (c : ℕ) → 1 ≤ counted c cycles → (j : ℕ) × (p : Point) × (slice_get points j ≡ Some p) × (p.cycle ≡ c)
+point_of draws cycles points are c some =
     let marks = are.marks c in
     let r = some_passes (λ (p : Point). nat_eq p.cycle c) points (omega arith) in
     (r.0, r.1, r.2, eqb-true r.1.cycle c r.3)
-
-from_touches : (d : Draw) → 1 ≤ touches d.from d
-from_touches d = let e = eq-eqb d.from d.from refl in rw e (omega arith)
-
-to_touches : (d : Draw) → 1 ≤ touches d.to d
-to_touches d = let e = eq-eqb d.to d.to refl in rw e (omega arith)
 
 none_at_all : (f : Draw → ℕ) (draws : List Draw) → ((i : ℕ) (d : Draw) → slice_get draws i ≡ Some d → f d ≡ 0) → sum_by f draws ≡ 0
 none_at_all f [] h = refl
 none_at_all f (d ∷ draws) h = omega (arith, sum_by-cons f d draws, h 0 d refl, none_at_all f draws (λ i e at. h (suc i) e at))
 
 -- the points of draws tell their load
-pub drawn_profile : (draws : List Draw) (more : List ℕ) (points : List Point) → ArePoints draws more points → IsProfile (load_of draws) points
-drawn_profile draws more points are = record {
+pub drawn_profile : (draws : List Draw) (cycles : List ℕ) (points : List Point) → AreMarked draws cycles → ArePoints draws cycles points → IsProfile (load_of draws) points
+drawn_profile draws cycles points marked are = record {
   ordered = are.ordered;
   here = are.loads;
-  none_before = (λ c all. none_at_all (taken_by c) draws (λ i d at.
-      let r = point_of draws more points are i d at d.from (from_touches d) in
-      let late : c < r.1.cycle = all_at (λ (p : Point). c < p.cycle) points r.0 r.1 all r.2 in
-      none_taken d c (inl (let e = r.3 in omega arith))));
+  none_before = (λ c all. none_at_all (taken_by c) draws (λ i d at. elim (marked.each i d at) [
+    | inl empty ↦ never_taken d c empty
+    | inr both ↦
+        (let r = point_of draws cycles points are d.from both.0 in
+        let late : c < r.1.cycle = all_at (λ (p : Point). c < p.cycle) points r.0 r.1 all r.2 in
+        none_taken d c (inl (let e = r.3 in omega arith)))
+  ]));
   between = (λ a c le all.
-      let same : (i : ℕ) (d : Draw) → slice_get draws i ≡ Some d → taken_by c d ≡ taken_by a d = λ i d at.
-      (let r = point_of draws more points are i d at d.from (from_touches d) in
-      let s = point_of draws more points are i d at d.to (to_touches d) in
-      taken_same d a c le
-      (subst (λ (v : ℕ). (v ≤ a) ⊎ (c < v)) r.3 (all_at (λ (p : Point). (p.cycle ≤ a) ⊎ (c < p.cycle)) points r.0 r.1 all r.2))
-      (subst (λ (v : ℕ). (v ≤ a) ⊎ (c < v)) s.3 (all_at (λ (p : Point). (p.cycle ≤ a) ⊎ (c < p.cycle)) points s.0 s.1 all s.2))) in
+      let same : (i : ℕ) (d : Draw) → slice_get draws i ≡ Some d → taken_by c d ≡ taken_by a d = λ i d at. elim (marked.each i d at) [
+        | inl empty ↦ never_taken d c empty ∙ sym (never_taken d a empty)
+        | inr both ↦
+            (let r = point_of draws cycles points are d.from both.0 in
+            let s = point_of draws cycles points are d.to both.1 in
+            taken_same d a c le
+            (subst (λ (v : ℕ). (v ≤ a) ⊎ (c < v)) r.3 (all_at (λ (p : Point). (p.cycle ≤ a) ⊎ (c < p.cycle)) points r.0 r.1 all r.2))
+            (subst (λ (v : ℕ). (v ≤ a) ⊎ (c < v)) s.3 (all_at (λ (p : Point). (p.cycle ≤ a) ⊎ (c < p.cycle)) points s.0 s.1 all s.2)))
+      ] in
       let most : load_of draws c ≤ load_of draws a = sum_by-le_at (taken_by c) (taken_by a) draws (λ i d at. let e = same i d at in omega arith) in
       let least : load_of draws a ≤ load_of draws c = sum_by-le_at (taken_by a) (taken_by c) draws (λ i d at. let e = same i d at in omega arith) in
       omega arith);
@@ -95,50 +98,26 @@ load_there load points is (suc n) c le parts =
 -- ---- a point more, a point less
 
 pub order_added : (points : List Point) (place load c : ℕ) → IsNonDecreasingBy (λ (p : Point). p.cycle) points → place ≤ length points →
-    IsPartitionPoint (λ (p : Point). p.cycle ≤ c) (λ (p : Point). c < p.cycle) points place → IsNonDecreasingBy (λ (p : Point). p.cycle) (insert points place (record { cycle = c; load = load }))
-order_added points place load c ordered le parts = IsNonDecreasingBy-insert (λ (p : Point). p.cycle) points place (record { cycle = c; load = load }) ordered le (λ k d lt. parts.0 k d (omega arith) lt) (λ k d from to. let h = parts.1 k d from to in omega arith)
+    ((k : ℕ) (d : Point) → k < place → (get_or points k d).cycle ≤ c) → ((k : ℕ) (d : Point) → place ≤ k → k < length points → c ≤ (get_or points k d).cycle) → IsNonDecreasingBy (λ (p : Point). p.cycle) (insert points place (record { cycle = c; load = load }))
+order_added points place load c ordered le low high = IsNonDecreasingBy-insert (λ (p : Point). p.cycle) points place (record { cycle = c; load = load }) ordered le low high
 
-pub point_added : (draws : List Draw) (more : List ℕ) (points : List Point) (place c : ℕ) → ArePoints draws more points → place ≤ length points →
-    IsPartitionPoint (λ (p : Point). p.cycle ≤ c) (λ (p : Point). c < p.cycle) points place → ArePoints draws (c ∷ more) (insert points place (record { cycle = c; load = load_before points place }))
-point_added draws more points place c are le parts = record {
-  ordered = order_added points place (load_before points place) c are.ordered le parts;
-  loads = All-append P (take place points) (new ∷ drop place points) (All-take P place points are.loads) (All-cons P new (drop place points) (sym (load_there (load_of draws) points (drawn_profile draws more points are) place c le parts)) (All-drop P place points are.loads));
-  marks = (λ x. let old = are.marks x in omega (arith, old, sum_by-insert (stands_at x) points place new, sum_by-cons (λ y. if nat_eq y x then 1 else 0) c more));
+pub point_added : (draws : List Draw) (cycles : List ℕ) (points : List Point) (place load c : ℕ) → ArePoints draws cycles points → place ≤ length points →
+    ((k : ℕ) (d : Point) → k < place → (get_or points k d).cycle ≤ c) → ((k : ℕ) (d : Point) → place ≤ k → k < length points → c ≤ (get_or points k d).cycle) → load ≡ load_of draws c → ArePoints draws (c ∷ cycles) (insert points place (record { cycle = c; load = load }))
+point_added draws cycles points place load c are le low high is = record {
+  ordered = order_added points place load c are.ordered le low high;
+  loads = All-append P (take place points) (new ∷ drop place points) (All-take P place points are.loads) (All-cons P new (drop place points) is (All-drop P place points are.loads));
+  marks = (λ x. let old = are.marks x in omega (arith, old, sum_by-insert (stands_at x) points place new, sum_by-cons (λ y. if nat_eq y x then 1 else 0) c cycles));
   count = (let old = are.count in omega (arith, old, length-insert points place new le));
-  small = are.small;
 }
   where
     P : Point → Type 0
     P p = p.load ≡ load_of draws p.cycle
 
     new : Point
-    new = record { cycle = c; load = load_before points place }
+    new = record { cycle = c; load = load }
 
--- a point at a cycle that has one is the last of those up to it
-self_counts : (c : ℕ) → (let n : ℕ = if nat_eq c c then 1 else 0 in n) ≡ 1
+pub self_counts : (c : ℕ) → (let n : ℕ = if nat_eq c c then 1 else 0 in n) ≡ 1
 self_counts c = rw (eq-eqb c c refl) refl
-
-pub point_there : (draws : List Draw) (more : List ℕ) (points : List Point) (place c : ℕ) → ArePoints draws (c ∷ more) points → place ≤ length points →
-    IsPartitionPoint (λ (p : Point). p.cycle ≤ c) (λ (p : Point). c < p.cycle) points place → (1 ≤ place) × ((get_or points (place - 1) no_point).cycle ≡ c)
-point_there draws more points place c are le parts =
-    let marks : sum_by (stands_at c) points ≡ sum_by (touches c) draws + counted c (c ∷ more) = are.marks c in
-    let split : counted c (c ∷ more) ≡ (if nat_eq c c then 1 else 0) + counted c more = sum_by-cons (λ y. if nat_eq y c then 1 else 0) c more in
-    let self = self_counts c in
-    let some : 1 ≤ sum_by (stands_at c) points = omega arith in
-    go (some_passes (λ (p : Point). nat_eq p.cycle c) points some)
-  where
-    go : (j : ℕ) × (p : Point) × (slice_get points j ≡ Some p) × (nat_eq p.cycle c ≡ true) → (1 ≤ place) × ((get_or points (place - 1) no_point).cycle ≡ c)
-    go r =
-        let lt : r.0 < length points = slice_get_within points r.0 r.1 r.2 in
-        let at : get_or points r.0 no_point ≡ r.1 = get_or_from_slice_get points r.0 r.1 no_point r.2 in
-        let is : (get_or points r.0 no_point).cycle ≡ c = ap (λ (p : Point). p.cycle) at ∙ eqb-true r.1.cycle c r.3 in
-        elim (cases_lt r.0 place) [
-          | inl before ↦
-              let below : (get_or points (place - 1) no_point).cycle ≤ c = parts.0 (place - 1) no_point (omega arith) (omega arith) in
-              let above : (get_or points r.0 no_point).cycle ≤ (get_or points (place - 1) no_point).cycle = are.ordered r.0 (place - 1) no_point (omega arith) (omega arith) in
-              (omega arith, omega arith)
-          | inr after ↦ absurd (let late : c < (get_or points r.0 no_point).cycle = parts.1 r.0 no_point after lt in omega arith)
-        ]
 
 pub order_removed : (points : List Point) (place : ℕ) → IsNonDecreasingBy (λ (p : Point). p.cycle) points → place < length points → IsNonDecreasingBy (λ (p : Point). p.cycle) (remove points place)
 order_removed points place ordered lt i j d le inside =
@@ -151,27 +130,19 @@ order_removed points place ordered lt i j d le inside =
       | inr i_above ↦ rw (get_or-remove_above points place d i i_above lt, get_or-remove_above points place d j (omega arith) lt) (ordered (i + 1) (j + 1) d (omega arith) (omega arith))
     ]
 
-pub point_removed : (draws : List Draw) (more : List ℕ) (points : List Point) (place c : ℕ) → ArePoints draws (c ∷ more) points → place < length points → (get_or points place no_point).cycle ≡ c → ArePoints draws more (remove points place)
-point_removed draws more points place c are lt is = record {
+pub point_removed : (draws : List Draw) (cycles : List ℕ) (points : List Point) (place c : ℕ) → ArePoints draws (c ∷ cycles) points → place < length points → (get_or points place no_point).cycle ≡ c → ArePoints draws cycles (remove points place)
+point_removed draws cycles points place c are lt is = record {
   ordered = order_removed points place are.ordered lt;
   loads = All-append P (take place points) (drop (suc place) points) (All-take P place points are.loads) (All-drop P (suc place) points are.loads);
   marks = (λ x.
       let old = are.marks x in
       let here : stands_at x (get_or points place no_point) ≡ (if nat_eq c x then 1 else 0) = ap (λ (v : ℕ). if nat_eq v x then 1 else 0) is in
-      omega (arith, old, here, sum_by-remove (stands_at x) points place no_point lt, sum_by-cons (λ y. if nat_eq y x then 1 else 0) c more));
+      omega (arith, old, here, sum_by-remove (stands_at x) points place no_point lt, sum_by-cons (λ y. if nat_eq y x then 1 else 0) c cycles));
   count = (let old = are.count in omega (arith, old, length-remove points place lt));
-  small = are.small;
 }
   where
     P : Point → Type 0
     P p = p.load ≡ load_of draws p.cycle
-
--- the point that is found and taken away
-pub point_gone : (draws : List Draw) (more : List ℕ) (points : List Point) (place c : ℕ) → ArePoints draws (c ∷ more) points → place ≤ length points →
-    IsPartitionPoint (λ (p : Point). p.cycle ≤ c) (λ (p : Point). c < p.cycle) points place → ArePoints draws more (remove points (place - 1))
-point_gone draws more points place c are le parts =
-    let last = point_there draws more points place c are le parts in
-    point_removed draws more points (place - 1) c are (omega (arith, last.0, le)) last.1
 
 -- ---- a draw more, a draw less
 
@@ -273,11 +244,8 @@ stands_raised : (d : Draw) (points : List Point) (c : ℕ) → sum_by (stands_at
 stands_raised d [] c = refl
 stands_raised d (p ∷ points) c = omega (arith, sum_by-cons (stands_at c) (raised_by d p) (map (raised_by d) points), sum_by-cons (stands_at c) p points, stands_raised d points c)
 
-ends_counted : (d : Draw) (c : ℕ) → counted c (d.to ∷ d.from ∷ []) ≡ touches c d
-ends_counted d c = omega (arith, sum_by-cons (λ (y : ℕ). if nat_eq y c then 1 else 0) d.to (d.from ∷ []), sum_by-cons (λ (y : ℕ). if nat_eq y c then 1 else 0) d.from [])
-
-pub draw_added : (draws : List Draw) (d : Draw) (low high : List Point) → ArePoints draws (d.to ∷ d.from ∷ []) low → d.power < 2 ^ 64 → high ≡ map (raised_by d) low → ArePoints (draws ++ d ∷ []) [] high
-draw_added draws d low high are power is = subst (ArePoints (draws ++ d ∷ []) []) (sym is) (record {
+pub draw_added : (draws : List Draw) (cycles : List ℕ) (d : Draw) (low high : List Point) → ArePoints draws cycles low → high ≡ map (raised_by d) low → ArePoints (draws ++ d ∷ []) cycles high
+draw_added draws cycles d low high are is = subst (ArePoints (draws ++ d ∷ []) cycles) (sym is) (record {
   ordered = (λ i j e le lt.
       let inside : j < length low = omega (arith, lt, length-map low (raised_by d)) in
       let first : (get_or (map (raised_by d) low) i e).cycle ≡ (get_or low i e).cycle = ap (λ (p : Point). p.cycle) (get_or-map (raised_by d) low i e e (omega (arith, le, inside))) in
@@ -287,15 +255,14 @@ draw_added draws d low high are power is = subst (ArePoints (draws ++ d ∷ []) 
   loads = All-map (λ (p : Point). p.load ≡ load_of (draws ++ d ∷ []) p.cycle) (raised_by d) low (λ k e lt.
       let old : (get_or low k e).load ≡ load_of draws (get_or low k e).cycle = are.loads k e lt in
       omega (arith, old, sum_by_push (taken_by (get_or low k e).cycle) draws d));
-  marks = (λ c. let old = are.marks c in omega (arith, old, stands_raised d low c, ends_counted d c, sum_by_push (touches c) draws d));
-  count = (let old = are.count in omega (arith, old, length-map low (raised_by d), length-append draws (d ∷ [])));
-  small = All-push (λ (x : Draw). x.power < 2 ^ 64) draws d are.small power;
+  marks = (λ c. let old = are.marks c in omega (arith, old, stands_raised d low c));
+  count = (let old = are.count in omega (arith, old, length-map low (raised_by d)));
 })
 
-pub draw_taken : (draws : List Draw) (d : Draw) (low high : List Point) → ArePoints (draws ++ d ∷ []) [] high → high ≡ map (raised_by d) low → ArePoints draws (d.to ∷ d.from ∷ []) low
-draw_taken draws d low high are' is = go (subst (ArePoints (draws ++ d ∷ []) []) is are')
+pub draw_taken : (draws : List Draw) (cycles : List ℕ) (d : Draw) (low high : List Point) → ArePoints (draws ++ d ∷ []) cycles high → high ≡ map (raised_by d) low → ArePoints draws cycles low
+draw_taken draws cycles d low high are' is = go (subst (ArePoints (draws ++ d ∷ []) cycles) is are')
   where
-    go : ArePoints (draws ++ d ∷ []) [] (map (raised_by d) low) → ArePoints draws (d.to ∷ d.from ∷ []) low
+    go : ArePoints (draws ++ d ∷ []) cycles (map (raised_by d) low) → ArePoints draws cycles low
     go are = record {
       ordered = (λ i j e le lt.
           let inside : j < length (map (raised_by d) low) = omega (arith, lt, length-map low (raised_by d)) in
@@ -309,26 +276,26 @@ draw_taken draws d low high are' is = go (subst (ArePoints (draws ++ d ∷ []) [
           let old : (raised_by d (get_or low k e)).load ≡ load_of (draws ++ d ∷ []) (raised_by d (get_or low k e)).cycle = subst (λ (p : Point). p.load ≡ load_of (draws ++ d ∷ []) p.cycle) there (are.loads k e inside) in
           let old' : (get_or low k e).load + taken_by (get_or low k e).cycle d ≡ load_of (draws ++ d ∷ []) (get_or low k e).cycle = old in
           omega (arith, old', sum_by_push (taken_by (get_or low k e).cycle) draws d));
-      marks = (λ c. let old = are.marks c in omega (arith, old, stands_raised d low c, ends_counted d c, sum_by_push (touches c) draws d));
-      count = (let old = are.count in omega (arith, old, length-map low (raised_by d), length-append draws (d ∷ [])));
-      small = subst (All (λ (x : Draw). x.power < 2 ^ 64)) (take_at draws (d ∷ []) (length draws) refl) (All-take (λ (x : Draw). x.power < 2 ^ 64) (length draws) (draws ++ d ∷ []) are.small);
+      marks = (λ c. let old = are.marks c in omega (arith, old, stands_raised d low c));
+      count = (let old = are.count in omega (arith, old, length-map low (raised_by d)));
     }
 
--- the loads have room for one draw more
-pub loads_fit : (draws : List Draw) (more : List ℕ) (points : List Point) → ArePoints draws more points → length points < 2 ^ 63 → All (λ (p : Point). p.load < 2 ^ 127) points
-loads_fit draws more points are few = λ k e lt.
-    let is : (get_or points k e).load ≡ load_of draws (get_or points k e).cycle = are.loads k e lt in
-    let most : load_of draws (get_or points k e).cycle ≤ length draws * 2 ^ 64 = sum_by-le (taken_by (get_or points k e).cycle) (2 ^ 64) draws (λ i x inside. let power' = are.small i x inside in let le = taken-le (get_or draws i x) (get_or points k e).cycle in omega (arith, power', le)) in
-    let count = are.count in
-    omega (arith, is, most, count, few)
+-- the loads have room for the next draw, and cover the last one
+pub loads_fit : (draws : List Draw) (cycles : List ℕ) (at limit : ℕ) (e : Draw) (points : List Point) → at < length draws → ArePoints (take at draws) cycles points → ((c : ℕ) → load_of draws c ≤ limit) → limit < 2 ^ 64 →
+    All (λ (p : Point). p.load + taken_by p.cycle (get_or draws at e) < 2 ^ 64) points
+loads_fit draws cycles at limit e points lt are within small = λ k d inside.
+    let c : ℕ = (get_or points k d).cycle in
+    let is : (get_or points k d).load ≡ load_of (take at draws) c = are.loads k d inside in
+    let part : load_of (take at draws) c + taken_by c (get_or draws at e) ≤ load_of draws c = sum_by_more_le (taken_by c) draws at e lt in
+    let whole = within c in
+    omega (arith, is, part, whole, small)
 
--- and they cover the last draw
-pub loads_cover : (draws : List Draw) (d : Draw) (points : List Point) → ArePoints (draws ++ d ∷ []) [] points → All (λ (p : Point). taken_by p.cycle d ≤ p.load) points
-loads_cover draws d points are = λ k e lt. let is = are.loads k e lt in omega (arith, is, sum_by_push (taken_by (get_or points k e).cycle) draws d)
+pub loads_cover : (draws : List Draw) (cycles : List ℕ) (d : Draw) (points : List Point) → ArePoints (draws ++ d ∷ []) cycles points → All (λ (p : Point). taken_by p.cycle d ≤ p.load) points
+loads_cover draws cycles d points are = λ k e lt. let is = are.loads k e lt in omega (arith, is, sum_by_push (taken_by (get_or points k e).cycle) draws d)
 
 -- with one of the draws that are listed
-pub next_added : (draws : List Draw) (at : ℕ) (d : Draw) (low high : List Point) → at < length draws → ArePoints (take at draws) ((get_or draws at d).to ∷ (get_or draws at d).from ∷ []) low → (get_or draws at d).power < 2 ^ 64 → high ≡ map (raised_by (get_or draws at d)) low → ArePoints (take (at + 1) draws) [] high
-next_added draws at d low high lt are power is = subst (λ (v : List Draw). ArePoints v [] high) (sym (take_more draws at d lt)) (draw_added (take at draws) (get_or draws at d) low high are power is)
+pub next_added : (draws : List Draw) (cycles : List ℕ) (at : ℕ) (d : Draw) (low high : List Point) → at < length draws → ArePoints (take at draws) cycles low → high ≡ map (raised_by (get_or draws at d)) low → ArePoints (take (at + 1) draws) cycles high
+next_added draws cycles at d low high lt are is = subst (λ (v : List Draw). ArePoints v cycles high) (sym (take_more draws at d lt)) (draw_added (take at draws) cycles (get_or draws at d) low high are is)
 
-pub last_split : (draws : List Draw) (at : ℕ) (d : Draw) (points : List Point) → at < length draws → ArePoints (take (at + 1) draws) [] points → ArePoints (take at draws ++ get_or draws at d ∷ []) [] points
-last_split draws at d points lt are = subst (λ (v : List Draw). ArePoints v [] points) (take_more draws at d lt) are
+pub last_split : (draws : List Draw) (cycles : List ℕ) (at : ℕ) (d : Draw) (points : List Point) → at < length draws → ArePoints (take (at + 1) draws) cycles points → ArePoints (take at draws ++ get_or draws at d ∷ []) cycles points
+last_split draws cycles at d points lt are = subst (λ (v : List Draw). ArePoints v cycles points) (take_more draws at d lt) are

@@ -1,9 +1,9 @@
 -- A profile of the power that is drawn: its load at some cycles, between which it stays the same.
-use Rattle.std.specs.Prelude.{◌≡◌, ℕ, zero, suc, ◌+◌, ◌*◌, ◌^◌, ◌<◌, ◌≤◌, ◌⊎◌, nat_eq, if◌then◌else◌, List, length, slice_index_or}
+use Rattle.std.specs.Prelude.{◌≡◌, ℕ, zero, suc, ◌+◌, ◌<◌, ◌≤◌, ◌⊎◌, ◌++◌, nat_eq, if◌then◌else◌, Some, List, length, take, drop, slice_get, slice_index_or}
 use Rattle.std.specs.List.{All, AllWithin, sum_by}
 use Rattle.std.specs.List.Sorted.{IsNonDecreasingBy}
 use Rattle.resource_table.specs.declared.power.Draw.{Draw}
-use Rattle.resource_table.specs.declared.profile.Point.{Point}
+use Rattle.resource_table.specs.declared.points.Point.{Point}
 use Rattle.resource_table.specs.Resources.{taken_by, load_of}
 
 -- what stands past the end of a list of points
@@ -22,10 +22,6 @@ pub record IsProfile (load : ℕ → ℕ) (points : List Point) : Type 0 where
   pub none_before : (c : ℕ) → All (λ (p : Point). c < p.cycle) points → load c ≡ 0
   pub between : (a c : ℕ) → a ≤ c → All (λ (p : Point). (p.cycle ≤ a) ⊎ (c < p.cycle)) points → load c ≡ load a
 
--- how often a draw begins or ends at a cycle
-abbrev pub touches : ℕ → Draw → ℕ
-touches c d = (if nat_eq d.from c then 1 else 0) + (if nat_eq d.to c then 1 else 0)
-
 -- whether a point stands at a cycle
 abbrev pub stands_at : ℕ → Point → ℕ
 stands_at c p = if nat_eq p.cycle c then 1 else 0
@@ -34,13 +30,24 @@ stands_at c p = if nat_eq p.cycle c then 1 else 0
 abbrev pub counted : ℕ → List ℕ → ℕ
 counted c cycles = sum_by (λ x. if nat_eq x c then 1 else 0) cycles
 
--- a point for each begin and end of a draw, and for some cycles more
-pub record ArePoints (draws : List Draw) (more : List ℕ) (points : List Point) : Type 0 where
+-- a point for each of some cycles, with what the draws take there
+pub record ArePoints (draws : List Draw) (cycles : List ℕ) (points : List Point) : Type 0 where
   pub ordered : IsNonDecreasingBy (λ (p : Point). p.cycle) points
   pub loads : All (λ (p : Point). p.load ≡ load_of draws p.cycle) points
-  pub marks : (c : ℕ) → sum_by (stands_at c) points ≡ sum_by (touches c) draws + counted c more
-  pub count : length points ≡ 2 * length draws + length more
-  pub small : All (λ (d : Draw). d.power < 2 ^ 64) draws
+  pub marks : (c : ℕ) → sum_by (stands_at c) points ≡ counted c cycles
+  pub count : length points ≡ length cycles
+
+-- each draw that takes anything begins and ends at one of the cycles
+pub record AreMarked (draws : List Draw) (cycles : List ℕ) : Type 0 where
+  pub each : (i : ℕ) (d : Draw) → slice_get draws i ≡ Some d → (d.to ≤ d.from) ⊎ ((1 ≤ counted d.from cycles) × (1 ≤ counted d.to cycles))
+
+-- each cycle is at least the one before
+pub record AreRising (cycles : List ℕ) : Type 0 where
+  pub next : (i : ℕ) → i + 1 < length cycles → slice_index_or cycles i 0 ≤ slice_index_or cycles (i + 1) 0
+
+-- the items of a list without so many from a place on
+abbrev pub without : {X : Type 0} → (place size : ℕ) → List X → List X
+without place size xs = take place xs ++ drop (place + size) xs
 
 -- a point, with a draw that begins to be taken
 abbrev pub raised_by : Draw → Point → Point

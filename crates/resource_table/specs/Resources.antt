@@ -1,5 +1,5 @@
 -- What a table keeps of its placed tests, as it would be built from the list of them.
-use Rattle.std.specs.Prelude.{◌≡◌, ℕ, ◌+◌, ◌<◌, ◌≤◌, ◌⊎◌, true, ◌&&◌, min, nat_eq, nat_lt, nat_le, Option, None, Some, List, [], ◌∷◌, if◌then◌else◌}
+use Rattle.std.specs.Prelude.{◌≡◌, ℕ, ◌+◌, ◌<◌, ◌≤◌, ◌⊎◌, true, ◌&&◌, min, nat_eq, nat_lt, nat_le, Option, None, Some, List, [], ◌∷◌, map, if◌then◌else◌}
 use Rattle.std.specs.List.{sum_by}
 use Rattle.resource_table.specs.declared.Placement.{Placement}
 use Rattle.resource_table.specs.declared.busy.Needs.{Needs}
@@ -31,6 +31,13 @@ draws_from start length (s ∷ next) = (record { from = start + s.0; to = start 
 
 abbrev pub draws_of : JobValue → Placement → List Draw
 draws_of job p = draws_from p.start (cycles_of job p.test) (test_at job p.test).steps
+
+-- the cycles of a test at which what it draws may change: its start, and the end of each draw
+abbrev pub marks_from : ℕ → List Draw → List ℕ
+marks_from start draws = start ∷ map (λ (d : Draw). d.to) draws
+
+abbrev pub marks_of : JobValue → Placement → List ℕ
+marks_of job p = marks_from p.start (draws_of job p)
 
 -- what a draw takes at a cycle
 abbrev pub taken_by : ℕ → Draw → ℕ

@@ -9,6 +9,8 @@ mod copies;
 mod earlier;
 mod frame;
 mod laws;
+mod marks;
+mod points;
 mod power;
 mod profile;
 mod table;

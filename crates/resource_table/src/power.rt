@@ -5,7 +5,8 @@ ghost use Rattle.soc_model.specs.declared.TheConstants.{POWER_MOST, NUMBER_WORD_
 ghost use Rattle.resource_table.specs.Resources.{step_end as step_end_of, draws_from, StepsFit};
 ghost use Rattle.resource_table.specs.Profiles.{IsEndedProfile};
 
-use crate::profile::{Point, crowd_end, crowded_place};
+use crate::points::Point;
+use crate::profile::{crowd_end, crowded_place};
 
 /// A power that is drawn from a cycle up to before another.
 #[derive(Clone, Copy)]

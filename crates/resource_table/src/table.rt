@@ -9,8 +9,9 @@ ghost use Rattle.resource_table.specs.Schedules.{TableValue, at_start, end_of, l
 use crate::busy::{Busy, after_busy, last_end, needs_of};
 use crate::copies::copy_job;
 use crate::earlier::{Before, all_before, earlier_than};
+use crate::points::Point;
 use crate::power::{Draw, after_power, push_draws};
-use crate::profile::{Point, add_drawn, take_drawn};
+use crate::profile::{add_drawn, take_drawn};
 use crate::{Job, JobTest, Placement};
 use outside::NoMemory;
 use smallvec::SmallVec;
@@ -54,7 +55,7 @@ impl<J> Model for TableOf<J> {
 
     ghost view = { λ t. record { job = job_value t.own; placed = t.trail.items } };
 
-    ghost invariant = { λ t. IsKept (job_value t.own) t.trail t.ends t.busy t.draws × AreListed (job_value t.own) (map listed t.before.items) × IsProfiled (job_value t.own) t.draws t.points };
+    ghost invariant = { λ t. IsKept (job_value t.own) t.trail t.ends t.busy t.draws × AreListed (job_value t.own) (map listed t.before.items) × IsProfiled (job_value t.own) t.trail t.draws t.points };
 }
 
 /// The end of a test, where it is placed and ends after `latest`; else `latest`.
@@ -125,12 +126,12 @@ fn new_draws(alloc: Global, steps: usize) -> Result<Vec<Draw>, NoMemory>
     Vec::with_capacity(alloc, steps).map_err(|_| NoMemory)
 }
 
-/// Points with room for two of each step.
-fn new_points(alloc: Global, steps: usize) -> Result<Vec<Point>, NoMemory>
+/// Points with room for one of each test and one of each step.
+fn new_points(alloc: Global, tests: usize, steps: usize) -> Result<Vec<Point>, NoMemory>
     ensures items { IfOk result (λ points. points.items ≡ []) }
-    ensures room { IfOk result (λ points. 2 * steps ≤ vec_capacity points) }
+    ensures room { IfOk result (λ points. tests + steps ≤ vec_capacity points) }
 {
-    let Some(room) = steps.checked_mul(2) else {
+    let Some(room) = tests.checked_add(steps) else {
         return Err(NoMemory);
     };
     Vec::with_capacity(alloc, room).map_err(|_| NoMemory)
@@ -152,7 +153,7 @@ impl<'a> TableOf<&'a Job> {
             ends: no_ends(alloc, tests)?,
             busy: new_busy(alloc, tests)?,
             draws: new_draws(alloc, steps)?,
-            points: new_points(alloc, steps)?,
+            points: new_points(alloc, tests, steps)?,
             before: all_before(alloc, tests, &own.before)?,
             own,
         })
@@ -300,7 +301,13 @@ impl<J> TableOf<J> {
         let wanted = &self.own.tests[test];
         let earlier = self.draws.len();
         push_draws(&mut self.draws, &wanted.power, start, wanted.length);
-        add_drawn(self.own.power, &mut self.points, &self.draws, earlier);
+        add_drawn(
+            self.own.power,
+            &mut self.points,
+            &self.draws,
+            earlier,
+            start,
+        );
         let to = start + wanted.length;
         self.busy.push_reserved(Busy {
             needs: needs_of(wanted),
@@ -320,7 +327,13 @@ impl<J> TableOf<J> {
         if let Some(last) = self.trail.pop() {
             let steps = self.own.tests[last.test].power.len();
             let count = self.draws.len() - steps;
-            take_drawn(self.own.power, &mut self.points, &self.draws, count);
+            take_drawn(
+                self.own.power,
+                &mut self.points,
+                &self.draws,
+                count,
+                last.start,
+            );
             self.draws.truncate(count);
             self.busy.truncate(self.trail.len());
             self.ends[last.test] = None;

@@ -1,6 +1,6 @@
 use Rattle.std.proofs.Common.{◌<◌, ◌+◌}
 use Rattle.std.specs.List.{AllWithin}
-use Rattle.resource_table.specs.declared.profile.Point.{Point}
+use Rattle.resource_table.specs.declared.points.Point.{Point}
 use Rattle.resource_table.proofs.profile.crowd_end.Given as goal
 
 abbrev pub invariant-loop-next : goal.invariant-loop-next

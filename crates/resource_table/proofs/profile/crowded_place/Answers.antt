@@ -1,6 +1,6 @@
 use Rattle.std.proofs.Common.{◌≡◌, ◌-◌, ◌<◌, inl, inr, ℕ, get_or, arith, sym, subst}
 use Rattle.std.proofs.lemmas.Bool.{cases_eq}
-use Rattle.resource_table.specs.declared.profile.Point.{Point}
+use Rattle.resource_table.specs.declared.points.Point.{Point}
 use Rattle.resource_table.specs.Profiles.{no_point}
 use Rattle.resource_table.proofs.Places.{same_item}
 use Rattle.resource_table.proofs.Crowds.{AreFree, free_less, free_behind, free_whole}

@@ -1,4 +1,5 @@
-use Rattle.std.proofs.Common.{◌≡◌, ◌-◌, ◌≤◌, [], length, take, vec_capacity}
+use Rattle.std.proofs.Common.{◌≡◌, ◌++◌, ◌-◌, ◌≤◌, ℕ, List, length, drop, take, vec_capacity}
+use Rattle.resource_table.specs.Resources.{marks_from}
 use Rattle.resource_table.specs.Profiles.{ArePoints}
 use Rattle.resource_table.proofs.profile.take_draws.Given as goal
 
@@ -6,7 +7,7 @@ abbrev pub invariant-loop-at : goal.invariant-loop-at
 invariant-loop-at l = record {
   most : l.at ≤ length l.draws;
   least : l.count ≤ l.at;
-  points : ArePoints (take l.at l.draws) [] l.points.items;
+  points : (cycles : List ℕ) → ArePoints l.draws (marks_from l.start (drop l.count l.draws) ++ cycles) l.fn.points.items → ArePoints (take l.at l.draws) (marks_from l.start (drop l.count l.draws) ++ cycles) l.points.items;
   capacity : vec_capacity l.points ≡ vec_capacity l.fn.points;
 }
 

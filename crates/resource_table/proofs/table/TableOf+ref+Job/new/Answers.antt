@@ -23,5 +23,5 @@ invariant_of-result c =
       kept_new (job_value c.in_ok-own.own) c.in_ok-new_trail.field-0 c.in_ok-no_ends.field-0 c.in_ok-new_busy.field-0 c.in_ok-new_draws.field-0 c.len-tests.result c.count_steps-steps.result sound tests steps
           c.in_ok-new_trail.ensures.items c.in_ok-new_trail.ensures.room c.in_ok-no_ends.ensures c.in_ok-new_busy.ensures.items c.in_ok-new_busy.ensures.room c.in_ok-new_draws.ensures.items c.in_ok-new_draws.ensures.room,
       listed_new (job_value c.in_ok-own.own) c.in_ok-all_before.field-0.items c.len-tests.result c.deref-2.result.now tests c.deref-2.ensures.value c.in_ok-all_before.ensures.long c.in_ok-all_before.ensures.lists,
-      profiled_new (job_value c.in_ok-own.own) c.in_ok-new_draws.field-0 c.in_ok-new_points.field-0 c.count_steps-steps.result steps c.in_ok-new_draws.ensures.items c.in_ok-new_points.ensures.items c.in_ok-new_points.ensures.room,
+      profiled_new (job_value c.in_ok-own.own) c.in_ok-new_trail.field-0 c.in_ok-new_draws.field-0 c.in_ok-new_points.field-0 c.len-tests.result c.count_steps-steps.result tests steps c.in_ok-new_trail.ensures.items c.in_ok-new_draws.ensures.items c.in_ok-new_points.ensures.items c.in_ok-new_points.ensures.room,
     )

@@ -1,11 +1,15 @@
-use Rattle.std.proofs.Common.{◌≡◌, ◌∙◌, ◌-◌, ℕ, length, take, List, [], ap, sym, subst, arith, refl, None}
+use Rattle.std.proofs.Common.{◌≡◌, ◌∙◌, ◌-◌, ◌++◌, ◌∷◌, ℕ, length, take, List, [], ap, length-append, sym, subst, arith, refl, None}
 use Rattle.std.specs.Prelude.{IfSome}
+use Rattle.std.specs.List.{flat_map}
+use Rattle.resource_table.specs.declared.Placement.{Placement}
+use Rattle.resource_table.specs.Resources.{draws_of, marks_of}
 use Rattle.std.specs.Vec.{with_item}
 use Rattle.std.proofs.lemmas.List.{length-map}
 use Rattle.resource_table.specs.declared.power.Draw.{Draw}
 use Rattle.resource_table.specs.Profiles.{ArePoints}
-use Rattle.resource_table.specs.Jobs.{TestValue, job_value, test_value, test_at}
-use Rattle.resource_table.proofs.KeptTables.{kept_pop, last_inside, last_steps}
+use Rattle.resource_table.specs.Jobs.{TestValue, job_value, test_value, test_at, cycles_of}
+use Rattle.resource_table.proofs.KeptTables.{kept_pop, last_inside, last_steps, last_draws, length-draws_from}
+use Rattle.resource_table.proofs.KeptMarks.{last_rising, before_pop, after_pop}
 use Rattle.resource_table.proofs.KeptStarts.{wanted_is}
 use Rattle.resource_table.proofs.table.TableOf.pop.Goals as goal
 
@@ -31,8 +35,17 @@ pub invariant_of-self : goal.invariant_of-self
 invariant_of-self g c =
     let inside = last_inside (job_value c.self.inside.own) c.self.inside.trail c.self.inside.ends c.self.inside.busy c.self.inside.draws c.self.invariant.0 c.pop.new.self.items c.in-Some.last c.in-Some.ensures.items in
     let wanted = wanted_is c.self.inside.own.tests.items c.in-Some.last.test c.index.result.now inside c.index.ensures in
+    let job = job_value c.self.inside.own in
+    let placed = c.pop.new.self.items in
+    let draws : c.deref.result.now ≡ flat_map (draws_of job) placed ++ draws_of job c.in-Some.last = c.deref.ensures.value ∙ last_draws job c.self.inside.trail c.self.inside.ends c.self.inside.busy c.self.inside.draws c.self.invariant.0 placed c.in-Some.last c.in-Some.ensures.items in
+    let few = length-draws_from c.in-Some.last.start (cycles_of job c.in-Some.last.test) (test_at job c.in-Some.last.test).steps in
+    let whole = ap length (sym c.deref.ensures.value ∙ draws) ∙ length-append (flat_map (draws_of job) placed) (draws_of job c.in-Some.last) in
+    let steps : c.len-steps.result ≡ length (test_at job c.in-Some.last.test).steps = c.len-steps.ensures ∙ c.index.result.now.power.ok.0 ∙ ap (λ (t : TestValue). length t.steps) wanted in
+    let count : c.len.result - c.len-steps.result ≡ length (flat_map (draws_of job) placed) = omega (arith, few, whole, steps, c.len.ensures, c.self.inside.draws.ok.0) in
+    let old : IfSome job.power (λ _. ArePoints c.deref.result.now (flat_map (marks_of job) (placed ++ c.in-Some.last ∷ [])) c.self.inside.points.items) =
+    subst (λ (v : List Draw). IfSome job.power (λ _. ArePoints v (flat_map (marks_of job) (placed ++ c.in-Some.last ∷ [])) c.self.inside.points.items)) (sym c.deref.ensures.value)
+    (subst (λ (v : List Placement). IfSome job.power (λ _. ArePoints c.self.inside.draws.items (flat_map (marks_of job) v) c.self.inside.points.items)) c.in-Some.ensures.items c.self.invariant.2.are) in
     let all : c.len.result ≡ length c.self.inside.draws.items = c.len.ensures ∙ c.self.inside.draws.ok.0 in
-    let steps : c.len-steps.result ≡ length (test_at (job_value c.self.inside.own) c.in-Some.last.test).steps = c.len-steps.ensures ∙ c.index.result.now.power.ok.0 ∙ ap (λ (t : TestValue). length t.steps) wanted in
     let front : c.len.result - c.len-steps.result ≡ length c.self.inside.draws.items - length (test_at (job_value c.self.inside.own) c.in-Some.last.test).steps = omega arith in (
       kept_pop (job_value c.self.inside.own) c.self.inside.trail c.pop.new.self c.self.inside.ends (with_item c.self.inside.ends c.in-Some.last.test None) c.self.inside.busy c.truncate-in-Some.new.self c.self.inside.draws c.truncate.new.self c.in-Some.last c.self.invariant.0
           c.in-Some.ensures.items c.in-Some.ensures.capacity refl
@@ -40,8 +53,41 @@ invariant_of-self g c =
           (c.truncate.ensures.items ∙ ap (λ (n : ℕ). take n c.self.inside.draws.items) front) c.truncate.ensures.capacity,
       c.self.invariant.1,
       record {
-        are = subst (λ (v : List Draw). IfSome c.self.inside.own.power (λ _. ArePoints v [] c.take_drawn.new.points.items)) (sym c.truncate.ensures.items)
-            (subst (λ (v : List Draw). IfSome c.self.inside.own.power (λ _. ArePoints (take (c.len.result - c.len-steps.result) v) [] c.take_drawn.new.points.items)) c.deref.ensures.value c.take_drawn.ensures.points);
+        are = subst (λ (v : List Draw). IfSome job.power (λ _. ArePoints v (flat_map (marks_of job) placed) c.take_drawn.new.points.items)) (sym c.truncate.ensures.items)
+            (subst (λ (v : List Draw). IfSome job.power (λ _. ArePoints (take (c.len.result - c.len-steps.result) v) (flat_map (marks_of job) placed) c.take_drawn.new.points.items)) c.deref.ensures.value
+            (after_pop job placed c.in-Some.last c.deref.result.now (c.len.result - c.len-steps.result) draws count c.self.inside.points.items c.take_drawn.new.points.items old c.take_drawn.ensures.points));
         room = (let room = c.self.invariant.2.room in omega (arith, room, c.take_drawn.ensures.capacity));
       },
     )
+
+pub take_drawn-requires-clause-rising : goal.take_drawn-requires-clause-rising
+take_drawn-requires-clause-rising g c =
+    let inside = last_inside (job_value c.self.inside.own) c.self.inside.trail c.self.inside.ends c.self.inside.busy c.self.inside.draws c.self.invariant.0 c.pop.new.self.items c.in-Some.last c.in-Some.ensures.items in
+    let wanted = wanted_is c.self.inside.own.tests.items c.in-Some.last.test c.index.result.now inside c.index.ensures in
+    let job = job_value c.self.inside.own in
+    let placed = c.pop.new.self.items in
+    let draws : c.deref.result.now ≡ flat_map (draws_of job) placed ++ draws_of job c.in-Some.last = c.deref.ensures.value ∙ last_draws job c.self.inside.trail c.self.inside.ends c.self.inside.busy c.self.inside.draws c.self.invariant.0 placed c.in-Some.last c.in-Some.ensures.items in
+    let few = length-draws_from c.in-Some.last.start (cycles_of job c.in-Some.last.test) (test_at job c.in-Some.last.test).steps in
+    let whole = ap length (sym c.deref.ensures.value ∙ draws) ∙ length-append (flat_map (draws_of job) placed) (draws_of job c.in-Some.last) in
+    let steps : c.len-steps.result ≡ length (test_at job c.in-Some.last.test).steps = c.len-steps.ensures ∙ c.index.result.now.power.ok.0 ∙ ap (λ (t : TestValue). length t.steps) wanted in
+    let count : c.len.result - c.len-steps.result ≡ length (flat_map (draws_of job) placed) = omega (arith, few, whole, steps, c.len.ensures, c.self.inside.draws.ok.0) in
+    let old : IfSome job.power (λ _. ArePoints c.deref.result.now (flat_map (marks_of job) (placed ++ c.in-Some.last ∷ [])) c.self.inside.points.items) =
+    subst (λ (v : List Draw). IfSome job.power (λ _. ArePoints v (flat_map (marks_of job) (placed ++ c.in-Some.last ∷ [])) c.self.inside.points.items)) (sym c.deref.ensures.value)
+    (subst (λ (v : List Placement). IfSome job.power (λ _. ArePoints c.self.inside.draws.items (flat_map (marks_of job) v) c.self.inside.points.items)) c.in-Some.ensures.items c.self.invariant.2.are) in
+    last_rising job placed c.in-Some.last c.deref.result.now (c.len.result - c.len-steps.result) draws count c.self.invariant.0.sound.job inside
+
+pub take_drawn-requires-clause-points : goal.take_drawn-requires-clause-points
+take_drawn-requires-clause-points g c =
+    let inside = last_inside (job_value c.self.inside.own) c.self.inside.trail c.self.inside.ends c.self.inside.busy c.self.inside.draws c.self.invariant.0 c.pop.new.self.items c.in-Some.last c.in-Some.ensures.items in
+    let wanted = wanted_is c.self.inside.own.tests.items c.in-Some.last.test c.index.result.now inside c.index.ensures in
+    let job = job_value c.self.inside.own in
+    let placed = c.pop.new.self.items in
+    let draws : c.deref.result.now ≡ flat_map (draws_of job) placed ++ draws_of job c.in-Some.last = c.deref.ensures.value ∙ last_draws job c.self.inside.trail c.self.inside.ends c.self.inside.busy c.self.inside.draws c.self.invariant.0 placed c.in-Some.last c.in-Some.ensures.items in
+    let few = length-draws_from c.in-Some.last.start (cycles_of job c.in-Some.last.test) (test_at job c.in-Some.last.test).steps in
+    let whole = ap length (sym c.deref.ensures.value ∙ draws) ∙ length-append (flat_map (draws_of job) placed) (draws_of job c.in-Some.last) in
+    let steps : c.len-steps.result ≡ length (test_at job c.in-Some.last.test).steps = c.len-steps.ensures ∙ c.index.result.now.power.ok.0 ∙ ap (λ (t : TestValue). length t.steps) wanted in
+    let count : c.len.result - c.len-steps.result ≡ length (flat_map (draws_of job) placed) = omega (arith, few, whole, steps, c.len.ensures, c.self.inside.draws.ok.0) in
+    let old : IfSome job.power (λ _. ArePoints c.deref.result.now (flat_map (marks_of job) (placed ++ c.in-Some.last ∷ [])) c.self.inside.points.items) =
+    subst (λ (v : List Draw). IfSome job.power (λ _. ArePoints v (flat_map (marks_of job) (placed ++ c.in-Some.last ∷ [])) c.self.inside.points.items)) (sym c.deref.ensures.value)
+    (subst (λ (v : List Placement). IfSome job.power (λ _. ArePoints c.self.inside.draws.items (flat_map (marks_of job) v) c.self.inside.points.items)) c.in-Some.ensures.items c.self.invariant.2.are) in
+    before_pop job placed c.in-Some.last c.deref.result.now (c.len.result - c.len-steps.result) draws count c.self.inside.points.items old

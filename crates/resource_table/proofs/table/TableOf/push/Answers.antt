@@ -1,15 +1,18 @@
-use Rattle.std.proofs.Common.{◌≡◌, ◌+◌, ◌∙◌, ◌++◌, ◌∷◌, [], ℕ, List, length, set, sym, subst, ap, arith, Some, lit<, vec_capacity}
+use Rattle.std.proofs.Common.{◌≡◌, ◌+◌, ◌∙◌, ◌++◌, ◌∷◌, [], ℕ, List, length, set, refl, sym, subst, ap, arith, Some, lit<, length-append}
 use Rattle.std.proofs.lemmas.List.{length-map}
 use Rattle.std.specs.Prelude.{IfSome}
+use Rattle.std.specs.List.{flat_map}
+use Rattle.resource_table.specs.declared.Placement.{Placement}
 use Rattle.std.specs.Vec.{with_item}
 use Rattle.resource_table.specs.declared.busy.Needs.{Needs}
 use Rattle.resource_table.specs.declared.busy.Busy.{Busy}
 use Rattle.resource_table.specs.declared.power.Draw.{Draw}
 use Rattle.resource_table.specs.Profiles.{ArePoints}
-use Rattle.resource_table.specs.Jobs.{TestValue, job_value, test_at}
-use Rattle.resource_table.specs.Schedules.{TableValue, needs_of, MayPlace}
-use Rattle.resource_table.specs.Resources.{busy_of, draws_from}
-use Rattle.resource_table.proofs.KeptTables.{kept_push, trail_has_room, draws_have_room, points_have_room}
+use Rattle.resource_table.specs.Jobs.{TestValue, job_value, test_at, cycles_of}
+use Rattle.resource_table.specs.Schedules.{TableValue, at_start, needs_of, MayPlace}
+use Rattle.resource_table.specs.Resources.{busy_of, draws_from, draws_of, marks_of}
+use Rattle.resource_table.proofs.KeptTables.{kept_push, trail_has_room, draws_have_room, length-draws_from}
+use Rattle.resource_table.proofs.KeptMarks.{last_room, last_rising, last_within, before_last, after_push}
 use Rattle.resource_table.proofs.KeptStarts.{wanted_is}
 use Rattle.resource_table.proofs.table.TableOf.push.Goals as goal
 
@@ -42,6 +45,13 @@ pub invariant_of-self : goal.invariant_of-self
 invariant_of-self g c =
     let may = subst (λ (t : TableValue). MayPlace t.job t.placed c.args.test c.args.start) (sym c.self.view_is) c.requires in
     let wanted = wanted_is c.self.inside.own.tests.items c.args.test c.index-wanted.result.now may.in_job c.index-wanted.ensures in
+    let job = job_value c.self.inside.own in
+    let placed = c.self.inside.trail.items in
+    let draws : c.deref-2.result.now ≡ flat_map (draws_of job) placed ++ draws_of job (at_start c.args.test c.args.start) =
+    c.deref-2.ensures.value ∙ c.push_draws.ensures.items ∙ ap (λ (v : List (ℕ × ℕ)). c.self.inside.draws.items ++ draws_from c.args.start c.index-wanted.result.now.length v) c.deref.ensures.value
+    ∙ ap (λ (t : TestValue). c.self.inside.draws.items ++ draws_from c.args.start t.cycles t.steps) wanted ∙ ap (λ (v : List Draw). v ++ draws_of job (at_start c.args.test c.args.start)) c.self.invariant.0.draws_are in
+    let earlier : c.len-earlier.result ≡ length (flat_map (draws_of job) placed) = c.len-earlier.ensures ∙ c.self.inside.draws.ok.0 ∙ ap length c.self.invariant.0.draws_are in
+    let old : IfSome job.power (λ _. ArePoints (flat_map (draws_of job) placed) (flat_map (marks_of job) placed) c.self.inside.points.items) = subst (λ (v : List Draw). IfSome job.power (λ _. ArePoints v (flat_map (marks_of job) placed) c.self.inside.points.items)) c.self.invariant.0.draws_are c.self.invariant.2.are in
     let end : ℕ = c.args.start + c.index-wanted.result.now.length in (
       kept_push (job_value c.self.inside.own) c.self.inside.trail c.push_reserved-2.new.self c.self.inside.ends (with_item c.self.inside.ends c.args.test (Some end)) c.self.inside.busy c.push_reserved.new.self c.self.inside.draws c.push_draws.new.draws c.args.test c.args.start
           c.self.invariant.0 may c.push_reserved-2.ensures.items c.push_reserved-2.ensures.capacity
@@ -54,7 +64,9 @@ invariant_of-self g c =
           c.push_draws.ensures.capacity,
       c.self.invariant.1,
       record {
-        are = subst (λ (v : List Draw). IfSome c.self.inside.own.power (λ _. ArePoints v [] c.add_drawn.new.points.items)) c.deref-2.ensures.value c.add_drawn.ensures.points;
+        are = subst (λ (v : List Placement). IfSome job.power (λ _. ArePoints c.push_draws.new.draws.items (flat_map (marks_of job) v) c.add_drawn.new.points.items)) (sym c.push_reserved-2.ensures.items)
+            (subst (λ (v : List Draw). IfSome job.power (λ _. ArePoints v (flat_map (marks_of job) (placed ++ at_start c.args.test c.args.start ∷ [])) c.add_drawn.new.points.items)) c.deref-2.ensures.value
+            (after_push job placed (at_start c.args.test c.args.start) c.deref-2.result.now c.len-earlier.result draws earlier c.self.inside.points.items c.add_drawn.new.points.items c.self.invariant.0.sound old c.add_drawn.ensures.points));
         room = (let room = c.self.invariant.2.room in omega (arith, room, c.add_drawn.ensures.capacity));
       },
     )
@@ -62,9 +74,67 @@ invariant_of-self g c =
 pub returns-clause-sound : goal.returns-clause-sound
 returns-clause-sound g c = (invariant_of-self g c).0.sound
 
+pub add_drawn-requires-clause-from : goal.add_drawn-requires-clause-from
+add_drawn-requires-clause-from g c =
+    let may = subst (λ (t : TableValue). MayPlace t.job t.placed c.args.test c.args.start) (sym c.self.view_is) c.requires in
+    let wanted = wanted_is c.self.inside.own.tests.items c.args.test c.index-wanted.result.now may.in_job c.index-wanted.ensures in
+    let job = job_value c.self.inside.own in
+    let placed = c.self.inside.trail.items in
+    let draws : c.deref-2.result.now ≡ flat_map (draws_of job) placed ++ draws_of job (at_start c.args.test c.args.start) =
+    c.deref-2.ensures.value ∙ c.push_draws.ensures.items ∙ ap (λ (v : List (ℕ × ℕ)). c.self.inside.draws.items ++ draws_from c.args.start c.index-wanted.result.now.length v) c.deref.ensures.value
+    ∙ ap (λ (t : TestValue). c.self.inside.draws.items ++ draws_from c.args.start t.cycles t.steps) wanted ∙ ap (λ (v : List Draw). v ++ draws_of job (at_start c.args.test c.args.start)) c.self.invariant.0.draws_are in
+    let earlier : c.len-earlier.result ≡ length (flat_map (draws_of job) placed) = c.len-earlier.ensures ∙ c.self.inside.draws.ok.0 ∙ ap length c.self.invariant.0.draws_are in
+    let old : IfSome job.power (λ _. ArePoints (flat_map (draws_of job) placed) (flat_map (marks_of job) placed) c.self.inside.points.items) = subst (λ (v : List Draw). IfSome job.power (λ _. ArePoints v (flat_map (marks_of job) placed) c.self.inside.points.items)) c.self.invariant.0.draws_are c.self.invariant.2.are in
+    omega (arith, earlier, ap length draws, length-append (flat_map (draws_of job) placed) (draws_of job (at_start c.args.test c.args.start)))
+
 pub add_drawn-requires-clause-room : goal.add_drawn-requires-clause-room
 add_drawn-requires-clause-room g c =
     let may = subst (λ (t : TableValue). MayPlace t.job t.placed c.args.test c.args.start) (sym c.self.view_is) c.requires in
     let wanted = wanted_is c.self.inside.own.tests.items c.args.test c.index-wanted.result.now may.in_job c.index-wanted.ensures in
-    let steps : length c.deref.result.now ≡ length (test_at (job_value c.self.inside.own) c.args.test).steps = ap length c.deref.ensures.value ∙ ap (λ (t : TestValue). length t.steps) wanted in
-    points_have_room (job_value c.self.inside.own) c.self.inside.trail.items c.args.test c.args.start c.index-wanted.result.now.length (vec_capacity c.self.inside.points) c.self.inside.draws.items c.deref-2.result.now c.deref.result.now c.self.invariant.0.sound may c.self.invariant.0.draws_are (c.deref-2.ensures.value ∙ c.push_draws.ensures.items) steps c.self.invariant.2.room
+    let job = job_value c.self.inside.own in
+    let placed = c.self.inside.trail.items in
+    let draws : c.deref-2.result.now ≡ flat_map (draws_of job) placed ++ draws_of job (at_start c.args.test c.args.start) =
+    c.deref-2.ensures.value ∙ c.push_draws.ensures.items ∙ ap (λ (v : List (ℕ × ℕ)). c.self.inside.draws.items ++ draws_from c.args.start c.index-wanted.result.now.length v) c.deref.ensures.value
+    ∙ ap (λ (t : TestValue). c.self.inside.draws.items ++ draws_from c.args.start t.cycles t.steps) wanted ∙ ap (λ (v : List Draw). v ++ draws_of job (at_start c.args.test c.args.start)) c.self.invariant.0.draws_are in
+    let earlier : c.len-earlier.result ≡ length (flat_map (draws_of job) placed) = c.len-earlier.ensures ∙ c.self.inside.draws.ok.0 ∙ ap length c.self.invariant.0.draws_are in
+    let old : IfSome job.power (λ _. ArePoints (flat_map (draws_of job) placed) (flat_map (marks_of job) placed) c.self.inside.points.items) = subst (λ (v : List Draw). IfSome job.power (λ _. ArePoints v (flat_map (marks_of job) placed) c.self.inside.points.items)) c.self.invariant.0.draws_are c.self.invariant.2.are in
+    last_room job placed (at_start c.args.test c.args.start) c.deref-2.result.now c.len-earlier.result draws earlier c.self.inside.points c.self.invariant.0.sound may c.self.invariant.2.room (length-draws_from c.args.start (cycles_of job c.args.test) (test_at job c.args.test).steps) old
+
+pub add_drawn-requires-clause-rising : goal.add_drawn-requires-clause-rising
+add_drawn-requires-clause-rising g c =
+    let may = subst (λ (t : TableValue). MayPlace t.job t.placed c.args.test c.args.start) (sym c.self.view_is) c.requires in
+    let wanted = wanted_is c.self.inside.own.tests.items c.args.test c.index-wanted.result.now may.in_job c.index-wanted.ensures in
+    let job = job_value c.self.inside.own in
+    let placed = c.self.inside.trail.items in
+    let draws : c.deref-2.result.now ≡ flat_map (draws_of job) placed ++ draws_of job (at_start c.args.test c.args.start) =
+    c.deref-2.ensures.value ∙ c.push_draws.ensures.items ∙ ap (λ (v : List (ℕ × ℕ)). c.self.inside.draws.items ++ draws_from c.args.start c.index-wanted.result.now.length v) c.deref.ensures.value
+    ∙ ap (λ (t : TestValue). c.self.inside.draws.items ++ draws_from c.args.start t.cycles t.steps) wanted ∙ ap (λ (v : List Draw). v ++ draws_of job (at_start c.args.test c.args.start)) c.self.invariant.0.draws_are in
+    let earlier : c.len-earlier.result ≡ length (flat_map (draws_of job) placed) = c.len-earlier.ensures ∙ c.self.inside.draws.ok.0 ∙ ap length c.self.invariant.0.draws_are in
+    let old : IfSome job.power (λ _. ArePoints (flat_map (draws_of job) placed) (flat_map (marks_of job) placed) c.self.inside.points.items) = subst (λ (v : List Draw). IfSome job.power (λ _. ArePoints v (flat_map (marks_of job) placed) c.self.inside.points.items)) c.self.invariant.0.draws_are c.self.invariant.2.are in
+    last_rising job placed (at_start c.args.test c.args.start) c.deref-2.result.now c.len-earlier.result draws earlier c.self.invariant.0.sound.job may.in_job
+
+pub add_drawn-requires-clause-within : goal.add_drawn-requires-clause-within
+add_drawn-requires-clause-within g c =
+    let may = subst (λ (t : TableValue). MayPlace t.job t.placed c.args.test c.args.start) (sym c.self.view_is) c.requires in
+    let wanted = wanted_is c.self.inside.own.tests.items c.args.test c.index-wanted.result.now may.in_job c.index-wanted.ensures in
+    let job = job_value c.self.inside.own in
+    let placed = c.self.inside.trail.items in
+    let draws : c.deref-2.result.now ≡ flat_map (draws_of job) placed ++ draws_of job (at_start c.args.test c.args.start) =
+    c.deref-2.ensures.value ∙ c.push_draws.ensures.items ∙ ap (λ (v : List (ℕ × ℕ)). c.self.inside.draws.items ++ draws_from c.args.start c.index-wanted.result.now.length v) c.deref.ensures.value
+    ∙ ap (λ (t : TestValue). c.self.inside.draws.items ++ draws_from c.args.start t.cycles t.steps) wanted ∙ ap (λ (v : List Draw). v ++ draws_of job (at_start c.args.test c.args.start)) c.self.invariant.0.draws_are in
+    let earlier : c.len-earlier.result ≡ length (flat_map (draws_of job) placed) = c.len-earlier.ensures ∙ c.self.inside.draws.ok.0 ∙ ap length c.self.invariant.0.draws_are in
+    let old : IfSome job.power (λ _. ArePoints (flat_map (draws_of job) placed) (flat_map (marks_of job) placed) c.self.inside.points.items) = subst (λ (v : List Draw). IfSome job.power (λ _. ArePoints v (flat_map (marks_of job) placed) c.self.inside.points.items)) c.self.invariant.0.draws_are c.self.invariant.2.are in
+    last_within job placed (at_start c.args.test c.args.start) c.deref-2.result.now c.len-earlier.result draws earlier c.self.invariant.0.sound may refl
+
+pub add_drawn-requires-clause-points : goal.add_drawn-requires-clause-points
+add_drawn-requires-clause-points g c =
+    let may = subst (λ (t : TableValue). MayPlace t.job t.placed c.args.test c.args.start) (sym c.self.view_is) c.requires in
+    let wanted = wanted_is c.self.inside.own.tests.items c.args.test c.index-wanted.result.now may.in_job c.index-wanted.ensures in
+    let job = job_value c.self.inside.own in
+    let placed = c.self.inside.trail.items in
+    let draws : c.deref-2.result.now ≡ flat_map (draws_of job) placed ++ draws_of job (at_start c.args.test c.args.start) =
+    c.deref-2.ensures.value ∙ c.push_draws.ensures.items ∙ ap (λ (v : List (ℕ × ℕ)). c.self.inside.draws.items ++ draws_from c.args.start c.index-wanted.result.now.length v) c.deref.ensures.value
+    ∙ ap (λ (t : TestValue). c.self.inside.draws.items ++ draws_from c.args.start t.cycles t.steps) wanted ∙ ap (λ (v : List Draw). v ++ draws_of job (at_start c.args.test c.args.start)) c.self.invariant.0.draws_are in
+    let earlier : c.len-earlier.result ≡ length (flat_map (draws_of job) placed) = c.len-earlier.ensures ∙ c.self.inside.draws.ok.0 ∙ ap length c.self.invariant.0.draws_are in
+    let old : IfSome job.power (λ _. ArePoints (flat_map (draws_of job) placed) (flat_map (marks_of job) placed) c.self.inside.points.items) = subst (λ (v : List Draw). IfSome job.power (λ _. ArePoints v (flat_map (marks_of job) placed) c.self.inside.points.items)) c.self.invariant.0.draws_are c.self.invariant.2.are in
+    before_last job placed (at_start c.args.test c.args.start) c.deref-2.result.now c.len-earlier.result draws earlier c.self.inside.points.items c.self.invariant.0.sound old

@@ -1,7 +1,7 @@
 use Rattle.std.proofs.Common.{leb, leb-true, leb-false, rules}
 use Rattle.std.proofs.lemmas.List.Sorted.{IsPartitionPoint-from_clause, IsPartitionedBy-leb}
-use Rattle.resource_table.specs.declared.profile.Point.{Point}
-use Rattle.resource_table.proofs.profile.places_to.Goals as goal
+use Rattle.resource_table.specs.declared.points.Point.{Point}
+use Rattle.resource_table.proofs.points.places_to.Goals as goal
 
 pub returns-clause-parts : goal.returns-clause-parts
 returns-clause-parts c =

@@ -1,7 +1,7 @@
 use Rattle.std.proofs.Common.{ltb, ltb-true, ltb-false, rules}
 use Rattle.std.proofs.lemmas.List.Sorted.{IsPartitionPoint-from_clause, IsPartitionedBy-ltb}
-use Rattle.resource_table.specs.declared.profile.Point.{Point}
-use Rattle.resource_table.proofs.profile.places_before.Goals as goal
+use Rattle.resource_table.specs.declared.points.Point.{Point}
+use Rattle.resource_table.proofs.points.places_before.Goals as goal
 
 pub returns-clause-parts : goal.returns-clause-parts
 returns-clause-parts c =

@@ -1,0 +1,36 @@
+use Rattle.std.proofs.Common.{◌++◌, ◌∙◌, List, drop, take, arith, subst}
+use Rattle.std.proofs.lemmas.List.{take_all}
+use Rattle.resource_table.specs.declared.power.Draw.{Draw}
+use Rattle.resource_table.specs.Resources.{marks_from}
+use Rattle.resource_table.specs.Profiles.{ArePoints}
+use Rattle.resource_table.proofs.Profiles.{loads_fit, next_added}
+use Rattle.resource_table.proofs.profile.add_draws.Goals as goal
+
+abbrev no_draw : Draw
+no_draw = record { from = 0; to = 0; power = 0 }
+
+pub add_marks-requires-clause-ordered : goal.add_marks-requires-clause-ordered
+add_marks-requires-clause-ordered c = c.requires.points.2.ordered
+
+pub loop-at-init : goal.loop-at-init
+loop-at-init c = record {
+  points = (λ cycles marked are. c.add_marks.ensures.points (take c.args.from c.args.draws.now) cycles marked are);
+  capacity = c.add_marks.ensures.capacity;
+}
+
+pub raise-requires-clause-ordered : goal.raise-requires-clause-ordered
+raise-requires-clause-ordered c = (c.loop-at.invariant.points c.requires.points.0 c.requires.points.1 c.requires.points.2).ordered
+
+pub raise-requires-clause-fits : goal.raise-requires-clause-fits
+raise-requires-clause-fits c =
+    loads_fit c.args.draws.now (marks_from c.args.start (drop c.args.from c.args.draws.now) ++ c.requires.points.0) c.loop-at.at c.args.limit no_draw c.loop-at.points.items c.loop-at-test.true (c.loop-at.invariant.points c.requires.points.0 c.requires.points.1 c.requires.points.2) c.requires.within (omega arith)
+
+pub loop-at-preserved : goal.loop-at-preserved
+loop-at-preserved c = record {
+  points = (λ cycles marked are. next_added c.args.draws.now (marks_from c.args.start (drop c.args.from c.args.draws.now) ++ cycles) c.loop-at.at no_draw c.loop-at.points.items c.raise.new.points.items c.loop-at-test.true (c.loop-at.invariant.points cycles marked are) c.raise.ensures.items);
+  capacity = c.raise.ensures.capacity ∙ c.loop-at.invariant.capacity;
+}
+
+pub returns-clause-points : goal.returns-clause-points
+returns-clause-points c = λ cycles marked are.
+    subst (λ (v : List Draw). ArePoints v (marks_from c.args.start (drop c.args.from c.args.draws.now) ++ cycles) c.loop-at.points.items) (take_all c.loop-at.at c.args.draws.now (let ended = c.loop-at-test.false in omega arith)) (c.loop-at.invariant.points cycles marked are)

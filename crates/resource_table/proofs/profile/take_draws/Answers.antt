@@ -1,0 +1,72 @@
+use Rattle.std.proofs.Common.{◌≡◌, ◌≤◌, ◌++◌, ◌+◌, ◌-◌, ◌∙◌, ℕ, List, length, drop, take, arith, get_or, refl, sym, subst}
+use Rattle.std.specs.List.{sum_by}
+use Rattle.std.proofs.lemmas.List.{take_all}
+use Rattle.std.proofs.lemmas.List.Sums.{sum_by-append}
+use Rattle.std.specs.Prelude.{nat_eq, if◌then◌else◌}
+use Rattle.resource_table.specs.declared.power.Draw.{Draw}
+use Rattle.resource_table.specs.declared.points.Point.{Point}
+use Rattle.resource_table.specs.Resources.{marks_from}
+use Rattle.resource_table.specs.Profiles.{ArePoints, stands_at, counted}
+use Rattle.resource_table.proofs.Profiles.{last_split, loads_cover, draw_taken}
+use Rattle.resource_table.proofs.profile.take_draws.Goals as goal
+
+abbrev no_draw : Draw
+no_draw = record { from = 0; to = 0; power = 0 }
+
+-- the points up to a draw, split at it
+split : (draws : List Draw) (cycles : List ℕ) (at : ℕ) (points : List Point) → 1 ≤ at → ArePoints (take at draws) cycles points → ArePoints (take (at - 1 + 1) draws) cycles points
+split draws cycles at points some are = subst (λ (n : ℕ). ArePoints (take n draws) cycles points) (let e : at ≡ at - 1 + 1 = omega arith in e) are
+
+-- the marks of a test are among the cycles
+among : (draws : List Draw) (marks cycles : List ℕ) (points : List Point) → ArePoints draws (marks ++ cycles) points → (c : ℕ) → counted c marks ≤ sum_by (stands_at c) points
+among draws marks cycles points are c = let all = are.marks c in omega (arith, all, sum_by-append (λ (x : ℕ). if nat_eq x c then 1 else 0) marks cycles)
+
+pub loop-at-init : goal.loop-at-init
+loop-at-init c = record {
+  most = omega arith;
+  least = c.requires.count;
+  points = (λ cycles are. subst (λ (v : List Draw). ArePoints v (marks_from c.args.start (drop c.args.count c.args.draws.now) ++ cycles) c.args.points.now.items) (sym (take_all (length c.args.draws.now) c.args.draws.now (omega arith))) are);
+  capacity = refl;
+}
+
+pub lower-requires-clause-ordered : goal.lower-requires-clause-ordered
+lower-requires-clause-ordered c = (c.loop-at.invariant.points c.requires.points.0 c.requires.points.1).ordered
+
+pub lower-requires-clause-covers : goal.lower-requires-clause-covers
+lower-requires-clause-covers c =
+    let marks : List ℕ = marks_from c.args.start (drop c.args.count c.args.draws.now) ++ c.requires.points.0 in
+    let at : ℕ = c.loop-at.at - 1 in
+    let most = c.loop-at.invariant.most in
+    let more = c.loop-at-test.true in
+    let are : ArePoints (take (at + 1) c.args.draws.now) marks c.loop-at.points.items = split c.args.draws.now marks c.loop-at.at c.loop-at.points.items (omega arith) (c.loop-at.invariant.points c.requires.points.0 c.requires.points.1) in
+    loads_cover (take at c.args.draws.now) marks (get_or c.args.draws.now at no_draw) c.loop-at.points.items (last_split c.args.draws.now marks at no_draw c.loop-at.points.items (omega arith) are)
+
+pub loop-at-preserved : goal.loop-at-preserved
+loop-at-preserved c =
+    let at : ℕ = c.loop-at.at - 1 in
+    let most = c.loop-at.invariant.most in
+    let least = c.loop-at.invariant.least in
+    let more = c.loop-at-test.true in
+    record {
+      most = omega arith;
+      least = omega arith;
+      points = (λ cycles old.
+          let marks : List ℕ = marks_from c.args.start (drop c.args.count c.args.draws.now) ++ cycles in
+          let are : ArePoints (take (at + 1) c.args.draws.now) marks c.loop-at.points.items = split c.args.draws.now marks c.loop-at.at c.loop-at.points.items (omega arith) (c.loop-at.invariant.points cycles old) in
+          draw_taken (take at c.args.draws.now) marks (get_or c.args.draws.now at no_draw) c.lower.new.points.items c.loop-at.points.items (last_split c.args.draws.now marks at no_draw c.loop-at.points.items (omega arith) are) c.lower.ensures.items);
+      capacity = c.lower.ensures.capacity ∙ c.loop-at.invariant.capacity;
+    }
+
+pub remove_marks-requires-clause-ordered : goal.remove_marks-requires-clause-ordered
+remove_marks-requires-clause-ordered c = (c.loop-at.invariant.points c.requires.points.0 c.requires.points.1).ordered
+
+pub remove_marks-requires-clause-there : goal.remove_marks-requires-clause-there
+remove_marks-requires-clause-there c = among (take c.loop-at.at c.args.draws.now) (marks_from c.args.start (drop c.args.count c.args.draws.now)) c.requires.points.0 c.loop-at.points.items (c.loop-at.invariant.points c.requires.points.0 c.requires.points.1)
+
+pub returns-clause-points : goal.returns-clause-points
+returns-clause-points c = λ cycles old.
+    let least = c.loop-at.invariant.least in
+    let ended = c.loop-at-test.false in
+    let same : c.loop-at.at ≡ c.args.count = omega arith in
+    let are = subst (λ (n : ℕ). ArePoints (take n c.args.draws.now) (marks_from c.args.start (drop c.args.count c.args.draws.now) ++ cycles) c.loop-at.points.items) same (c.loop-at.invariant.points cycles old) in
+    c.remove_marks.ensures.points (take c.args.count c.args.draws.now) cycles are
