@@ -201,29 +201,167 @@ fn limits_of(rt: &impl Abort, alloc: Global, soc: &Soc) -> Result<Limits, Fail>
     })
 }
 
+/// A sum over the tests of the chip, on 16 wires.
+#[derive(Clone, Copy)]
+enum Sum<'a> {
+    Module(usize),
+    Pair(usize),
+    Chain(&'a [TestId]),
+    Area,
+    Power,
+    Need { place: usize, claimed: u64 },
+}
+
+/// The tests of the one precedence, in their order.
+const CHAIN: [TestId; 2] = [TestId { module: 6, test: 1 }, TestId { module: 9, test: 1 }];
+
+/// Each sum with its value; none for a place of no module, and for the pair of a module without a parent.
+const SUMS: [(Sum<'static>, Option<u128>); 18] = [
+    (Sum::Module(0), Some(0)),
+    (Sum::Module(1), Some(92)),
+    (Sum::Module(2), Some(3110)),
+    (Sum::Module(3), Some(4640)),
+    (Sum::Module(4), Some(1065)),
+    (Sum::Module(5), Some(7880)),
+    (Sum::Module(6), Some(4000)),
+    (Sum::Module(7), Some(2014)),
+    (Sum::Module(8), Some(842)),
+    (Sum::Module(9), Some(8180)),
+    (Sum::Module(10), Some(1352)),
+    (Sum::Pair(4), Some(5705)),
+    (Sum::Pair(0), None),
+    (Sum::Chain(&CHAIN), Some(12_180)),
+    (Sum::Area, Some(6768)),
+    (Sum::Power, Some(9587)),
+    (
+        Sum::Need {
+            place: 9,
+            claimed: 8180,
+        },
+        Some(17),
+    ),
+    (
+        Sum::Need {
+            place: 9,
+            claimed: 8181,
+        },
+        Some(3),
+    ),
+];
+
+/// The value of a sum.
+fn value_of(soc: &Soc, limits: &Limits, sum: Sum<'_>) -> Option<u128>
+    requires sound { IsSoundChip (soc_value soc.now) }
+    requires limits { IsSoundLimits (soc_value soc.now) (limits_value limits.now) }
+{
+    let count = soc.modules.len();
+    match sum {
+        Sum::Module(place) if place < count => Some(u128::from(module_bound(soc, place, 16))),
+        Sum::Pair(place) if place < count => pair_bound(soc, place, 16).map(u128::from),
+        Sum::Need { place, claimed } if place < count => {
+            Some(u128::from(need(soc, place, 16, claimed)))
+        }
+        Sum::Chain(tests) => Some(chain_bound(soc, tests, 16)),
+        Sum::Area => Some(u128::from(area_bound(soc, 16))),
+        Sum::Power => Some(u128::from(power_bound(soc, limits))),
+        _ => None,
+    }
+}
+
 #[test]
 fn sums_of_ten_cores(rt: HostRuntime) -> Result<(), Fail> {
     let alloc = rt.alloc();
     let soc = ten_cores(&rt, alloc)?;
     let limits = limits_of(&rt, alloc, &soc)?;
-    let cycles = [0, 92, 3110, 4640, 1065, 7880, 4000, 2014, 842, 8180, 1352];
-    for (place, want) in cycles.iter().enumerate() {
-        assert!(rt; place < soc.modules.len());
-        assert_eq!(rt; module_bound(&soc, place, 16), *want, "at {place}");
+    for (place, (sum, want)) in SUMS.iter().enumerate() {
+        assert_eq!(rt; value_of(&soc, &limits, *sum), *want, "in row {place}");
     }
-    assert!(rt; 11 <= soc.modules.len());
-    assert_eq!(rt; pair_bound(&soc, 4, 16), Some(5705));
-    assert_eq!(rt; pair_bound(&soc, 0, 16), None);
-    let chain = vec![in alloc;
-        TestId { module: 6, test: 1 },
-        TestId { module: 9, test: 1 },
-    ]?;
-    assert_eq!(rt; chain_bound(&soc, &chain, 16), 12_180);
-    assert_eq!(rt; area_bound(&soc, 16), 6768);
-    assert_eq!(rt; power_bound(&soc, &limits), 9587);
-    assert_eq!(rt; need(&soc, 9, 16, 8180), 17);
-    assert_eq!(rt; need(&soc, 9, 16, 8181), 3);
     Ok(())
+}
+
+/// What a certificate rests on, with the modules that it names; a chain goes over the tests 1 of its modules.
+#[derive(Clone, Copy)]
+enum Ground<'a> {
+    Module(u64),
+    Pair(u64),
+    Chain(&'a [u64]),
+    Area,
+    Power,
+    Forced(&'a [u64]),
+}
+
+/// What the check says of a claim: it is accepted, its list is bad at a place, or it claims more than its ground shows.
+#[derive(Clone, Copy)]
+enum Says {
+    Accepted,
+    Bad(usize),
+    Shows(u128),
+}
+
+/// Each ground with the claimed cycles, and what the check says of them.
+const CLAIMS: [(Ground<'static>, u64, Says); 18] = [
+    (Ground::Module(9), 8180, Says::Accepted),
+    (Ground::Module(9), 8181, Says::Shows(8180)),
+    (Ground::Module(11), 0, Says::Bad(0)),
+    (Ground::Pair(4), 5705, Says::Accepted),
+    (Ground::Pair(4), 5706, Says::Shows(5705)),
+    (Ground::Pair(0), 0, Says::Bad(0)),
+    (Ground::Area, 6769, Says::Shows(6768)),
+    (Ground::Power, 9588, Says::Shows(9587)),
+    (Ground::Chain(&[6, 9]), 12_180, Says::Accepted),
+    (Ground::Chain(&[6, 9]), 12_181, Says::Shows(12_180)),
+    (Ground::Chain(&[9, 6]), 0, Says::Bad(1)),
+    (Ground::Chain(&[0]), 0, Says::Bad(0)),
+    (Ground::Chain(&[]), 1, Says::Shows(0)),
+    (Ground::Forced(&[9]), 8180, Says::Accepted),
+    (Ground::Forced(&[9]), 8181, Says::Shows(8180)),
+    (Ground::Forced(&[9, 5, 9]), 8180, Says::Bad(2)),
+    (Ground::Forced(&[9, 5]), 8181, Says::Bad(1)),
+    (Ground::Forced(&[6]), 0, Says::Bad(0)),
+];
+
+/// The answer of the check to a claim of so many cycles.
+fn answer(claimed: u64, says: Says) -> Result<(), BoundFault> {
+    match says {
+        Says::Accepted => Ok(()),
+        Says::Bad(place) => Err(BoundFault::BadList { place }),
+        Says::Shows(shown) => Err(BoundFault::Less { claimed, shown }),
+    }
+}
+
+/// The tests 1 of these modules.
+fn first_tests(alloc: Global, modules: &[u64]) -> Result<Vec<TestId>, Fail> {
+    let mut tests = Vec::new(alloc);
+    for module in modules {
+        tests.push(TestId {
+            module: *module,
+            test: 1,
+        })?;
+    }
+    Ok(tests)
+}
+
+/// A list of its own of these modules.
+fn listed(alloc: Global, modules: &[u64]) -> Result<Vec<u64>, Fail> {
+    let mut list = Vec::new(alloc);
+    list.extend_from_slice(modules)?;
+    Ok(list)
+}
+
+/// The reason of a certificate on this ground.
+fn why_of(alloc: Global, ground: Ground<'_>) -> Result<Why, Fail> {
+    match ground {
+        Ground::Module(module) => Ok(Why::Module { module }),
+        Ground::Pair(module) => Ok(Why::Pair { module }),
+        Ground::Chain(modules) => Ok(Why::Chain {
+            tests: first_tests(alloc, modules)?,
+        }),
+        Ground::Area => Ok(Why::Area),
+        Ground::Power => Ok(Why::Power),
+        Ground::Forced(modules) => Ok(Why::Forced {
+            modules: listed(alloc, modules)?,
+        }),
+    }
 }
 
 /// What the check says of a certificate.
@@ -242,114 +380,28 @@ fn checked(
     Ok(check_bound(soc, limits, &bound, &mut room))
 }
 
-/// The refusal of the list.
-const fn bad(place: usize) -> Result<(), BoundFault> {
-    Err(BoundFault::BadList { place })
-}
-
-/// The refusal of a claim one above the value.
-fn above(shown: u64) -> Result<(), BoundFault>
-    requires { shown < 10 ^ 18 }
-{
-    Err(BoundFault::Less {
-        claimed: shown + 1,
-        shown: u128::from(shown),
-    })
-}
-
 #[test]
-fn checks_sums(rt: HostRuntime) -> Result<(), Fail> {
+fn checks_claims(rt: HostRuntime) -> Result<(), Fail> {
     let alloc = rt.alloc();
     let soc = ten_cores(&rt, alloc)?;
     let limits = limits_of(&rt, alloc, &soc)?;
-    assert_eq!(rt;
-        checked(alloc, &soc, &limits, 8180, Why::Module { module: 9 })?,
-        Ok(())
-    );
-    assert_eq!(rt;
-        checked(alloc, &soc, &limits, 8181, Why::Module { module: 9 })?,
-        above(8180)
-    );
-    assert_eq!(rt;
-        checked(alloc, &soc, &limits, 0, Why::Module { module: 11 })?,
-        bad(0)
-    );
-    assert_eq!(rt;
-        checked(alloc, &soc, &limits, 5705, Why::Pair { module: 4 })?,
-        Ok(())
-    );
-    assert_eq!(rt;
-        checked(alloc, &soc, &limits, 5706, Why::Pair { module: 4 })?,
-        above(5705)
-    );
-    assert_eq!(rt;
-        checked(alloc, &soc, &limits, 0, Why::Pair { module: 0 })?,
-        bad(0)
-    );
-    assert_eq!(rt;
-        checked(alloc, &soc, &limits, 6769, Why::Area)?,
-        above(6768)
-    );
-    assert_eq!(rt;
-        checked(alloc, &soc, &limits, 9588, Why::Power)?,
-        above(9587)
-    );
-    Ok(())
-}
-
-/// The certificate of a chain of these modules' tests.
-fn chain(alloc: Global, modules: &[u64]) -> Result<Why, Fail> {
-    let mut tests = Vec::new(alloc);
-    for module in modules {
-        tests.push(TestId {
-            module: *module,
-            test: 1,
-        })?;
+    for (place, (ground, cycles, says)) in CLAIMS.iter().enumerate() {
+        let why = why_of(alloc, *ground)?;
+        let said = checked(alloc, &soc, &limits, *cycles, why)?;
+        assert_eq!(rt; said, answer(*cycles, *says), "in row {place}");
     }
-    Ok(Why::Chain { tests })
-}
-
-/// The certificate of this forced list.
-fn forced(alloc: Global, listed: &[u64]) -> Result<Why, Fail> {
-    let mut modules = Vec::new(alloc);
-    modules.extend_from_slice(listed)?;
-    Ok(Why::Forced { modules })
-}
-
-#[test]
-fn checks_chains(rt: HostRuntime) -> Result<(), Fail> {
-    let alloc = rt.alloc();
-    let soc = ten_cores(&rt, alloc)?;
-    let limits = limits_of(&rt, alloc, &soc)?;
-    let good = checked(alloc, &soc, &limits, 12_180, chain(alloc, &[6, 9])?)?;
-    assert_eq!(rt; good, Ok(()));
-    let less = checked(alloc, &soc, &limits, 12_181, chain(alloc, &[6, 9])?)?;
-    assert_eq!(rt; less, above(12_180));
-    let turned = checked(alloc, &soc, &limits, 0, chain(alloc, &[9, 6])?)?;
-    assert_eq!(rt; turned, bad(1));
-    let not_live = checked(alloc, &soc, &limits, 0, chain(alloc, &[0])?)?;
-    assert_eq!(rt; not_live, bad(0));
-    let none = checked(alloc, &soc, &limits, 1, chain(alloc, &[])?)?;
-    assert_eq!(rt; none, above(0));
     Ok(())
 }
 
-#[test]
-fn checks_forced_lists(rt: HostRuntime) -> Result<(), Fail> {
-    let alloc = rt.alloc();
-    let soc = ten_cores(&rt, alloc)?;
-    let limits = limits_of(&rt, alloc, &soc)?;
-    let good = checked(alloc, &soc, &limits, 8180, forced(alloc, &[9])?)?;
-    assert_eq!(rt; good, Ok(()));
-    let less = checked(alloc, &soc, &limits, 8181, forced(alloc, &[9])?)?;
-    assert_eq!(rt; less, above(8180));
-    let twice = checked(alloc, &soc, &limits, 8180, forced(alloc, &[9, 5, 9])?)?;
-    assert_eq!(rt; twice, bad(2));
-    let narrow = checked(alloc, &soc, &limits, 8181, forced(alloc, &[9, 5])?)?;
-    assert_eq!(rt; narrow, bad(1));
-    let self_test = checked(alloc, &soc, &limits, 0, forced(alloc, &[6])?)?;
-    assert_eq!(rt; self_test, bad(0));
-    Ok(())
+/// Whether the chain that is printed goes over these tests.
+fn prints(alloc: Global, soc: &Soc, limits: &Limits, want: &[TestId]) -> Result<bool, Fail>
+    requires sound { IsSoundChip (soc_value soc.now) }
+    requires limits { IsSoundLimits (soc_value soc.now) (limits_value limits.now) }
+{
+    match chains::printed_chain(alloc, soc, limits)? {
+        Some(tests) => Ok(tests.as_slice() == want),
+        None => Ok(false),
+    }
 }
 
 #[test]
@@ -357,11 +409,7 @@ fn goes_back_to_the_first_test(rt: HostRuntime) -> Result<(), Fail> {
     let alloc = rt.alloc();
     let soc = ten_cores(&rt, alloc)?;
     let limits = limits_of(&rt, alloc, &soc)?;
-    let want = [TestId { module: 6, test: 1 }, TestId { module: 9, test: 1 }];
-    match chains::printed_chain(alloc, &soc, &limits)? {
-        Some(tests) => assert_eq!(rt; tests.as_slice(), want.as_slice()),
-        None => panic!(rt; "test 9.1 has a live predecessor"),
-    }
+    assert!(rt; prints(alloc, &soc, &limits, &CHAIN)?);
     Ok(())
 }
 

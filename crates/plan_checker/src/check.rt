@@ -29,24 +29,32 @@ use soc_model::{Soc, Test, TestId, live, module_at};
 use std::alloc::Global;
 use std::marker::Model;
 
+/// What a check of the rules fills: lists that are as long as the chip has modules or live tests, and sets with room for
+/// what they take.
+#[derive(Drop)]
+pub(crate) struct Rooms {
+    /// For each module the place of its bus.
+    pub(crate) marks: Vec<usize>,
+    /// For each module the place of its parent.
+    pub(crate) parents: Vec<usize>,
+    /// The pairs of a module and a mode that have a wrapper, in the order of the plan.
+    pub(crate) wrappers: IndexSet<(u64, bool)>,
+    /// The start of each test, in the order of the plan.
+    pub(crate) starts: IndexMap<TestId, u64>,
+    /// The live tests as the plan places them, in the order of the chip.
+    pub(crate) jobs: Vec<Job>,
+    /// Their names, in the same order.
+    pub(crate) names: IndexSet<TestId>,
+    /// For each of them the place of its profile in the limits.
+    pub(crate) profiles: Vec<usize>,
+}
+
 /// Room for checking plans of a chip. Its model is the number of modules, of pairs of a module and a mode, and of live
 /// tests that there is room for.
 #[derive(Drop)]
 pub struct Scratch {
-    /// For each module the place of its bus.
-    marks: Vec<usize>,
-    /// For each module the place of its parent.
-    parents: Vec<usize>,
-    /// The pairs of a module and a mode that have a wrapper, in the order of the plan.
-    wrappers: IndexSet<(u64, bool)>,
-    /// The start of each test, in the order of the plan.
-    starts: IndexMap<TestId, u64>,
-    /// The live tests as the plan places them, in the order of the chip.
-    jobs: Vec<Job>,
-    /// Their names, in the same order.
-    names: IndexSet<TestId>,
-    /// For each of them the place of its profile in the limits.
-    profiles: Vec<usize>,
+    /// Room for the rules.
+    rooms: Rooms,
     /// Room for the list of the certificate.
     bound: BoundScratch,
 }
@@ -60,13 +68,13 @@ impl Model for Scratch {
     ghost Value = { RoomValue };
 
     ghost view = { λ s. record {
-      modules = length s.marks.items;
-      pairs = length (keys s.wrappers) + spare s.wrappers;
-      tests = length s.jobs.items;
+      modules = length s.rooms.marks.items;
+      pairs = length (keys s.rooms.wrappers) + spare s.rooms.wrappers;
+      tests = length s.rooms.jobs.items;
     } };
 
-    ghost invariant = { λ s. (length s.parents.items ≡ length s.marks.items) × (length s.profiles.items ≡ length s.jobs.items)
-        × (length s.jobs.items ≤ index_map_len s.starts + spare_places s.starts) × (length s.jobs.items ≤ length (keys s.names) + spare s.names) };
+    ghost invariant = { λ s. (length s.rooms.parents.items ≡ length s.rooms.marks.items) × (length s.rooms.profiles.items ≡ length s.rooms.jobs.items)
+        × (length s.rooms.jobs.items ≤ index_map_len s.rooms.starts + spare_places s.rooms.starts) × (length s.rooms.jobs.items ≤ length (keys s.rooms.names) + spare s.rooms.names) };
 }
 
 /// The number of live tests of a list.
@@ -135,7 +143,7 @@ impl Scratch {
     ) -> Result<Scratch, NoMemory>
         ensures { IfOk result (λ room. (room.modules ≡ modules) × (pairs ≤ room.pairs) × (room.tests ≡ tests)) }
     {
-        Ok(Scratch {
+        let rooms = Rooms {
             marks: filled_room(alloc, 0, modules)?,
             parents: filled_room(alloc, 0, modules)?,
             wrappers: pair_room(alloc, pairs)?,
@@ -143,8 +151,8 @@ impl Scratch {
             jobs: filled_room(alloc, NO_JOB, tests)?,
             names: name_room(alloc, tests)?,
             profiles: filled_room(alloc, 0, tests)?,
-            bound,
-        })
+        };
+        Ok(Scratch { rooms, bound })
     }
 
     /// Room for this chip and this plan, the list of its certificate included.
@@ -185,18 +193,7 @@ pub fn check_plan(
 {
     good_plans_run_right();
     faults_are_exact();
-    match check_rules(
-        soc,
-        limits,
-        plan,
-        &mut room.marks,
-        &mut room.parents,
-        &mut room.wrappers,
-        &mut room.starts,
-        &mut room.jobs,
-        &mut room.names,
-        &mut room.profiles,
-    ) {
+    match check_rules(soc, limits, plan, &mut room.rooms) {
         Some(fault) => Err(fault),
         None => match check_bound(soc, limits, &plan.bound, &mut room.bound) {
             Ok(()) => Ok(()),

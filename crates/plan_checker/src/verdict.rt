@@ -25,6 +25,7 @@ ghost use Rattle.plan_checker.specs.Marks.{AreBusesBy};
 ghost use Rattle.plan_checker.specs.Clashes.{AreParents, PlacesWithin};
 
 use crate::PlanFault;
+use crate::check::Rooms;
 use crate::clashes::{Apart, check_apart};
 use crate::jobs::{Job, Placing, fill_jobs};
 use crate::known::{check_cells, check_known};
@@ -152,47 +153,60 @@ fn check_placed(
 }
 
 /// The first rule that the plan breaks, with what shows it.
-pub fn check_rules(
+pub(crate) fn check_rules(
     soc: &Soc,
     limits: &Limits,
     plan: &Plan,
-    marks: &mut [usize],
-    parents: &mut [usize],
-    wrappers: &mut IndexSet<(u64, bool)>,
-    starts: &mut IndexMap<TestId, u64>,
-    jobs: &mut [Job],
-    names: &mut IndexSet<TestId>,
-    profiles: &mut [usize],
+    rooms: &mut Rooms,
 ) -> Option<PlanFault>
     requires sound { IsSoundChip (soc_value soc.now) }
     requires limits { IsSoundLimits (soc_value soc.now) (limits_value limits.now) }
     requires early { StartEarly plan.now.starts.items }
-    requires marks_fit { length marks.old ≡ length (soc_value soc.now).modules }
-    requires parents_fit { length parents.old ≡ length (soc_value soc.now).modules }
-    requires pairs_fit { length (used_pairs (soc_value soc.now)) ≤ length (keys wrappers.old) + spare wrappers.old }
-    requires starts_fit { length (live_ids (soc_value soc.now)) ≤ index_map_len starts.old + spare_places starts.old }
-    requires jobs_fit { length jobs.old ≡ length (jobs_of (soc_value soc.now) (plan_value plan.now)) }
-    requires names_fit { length jobs.old ≤ length (keys names.old) + spare names.old }
-    requires profiles_fit { length profiles.old ≡ length jobs.old }
+    requires marks_fit { length rooms.old.marks.items ≡ length (soc_value soc.now).modules }
+    requires parents_fit { length rooms.old.parents.items ≡ length (soc_value soc.now).modules }
+    requires pairs_fit { length (used_pairs (soc_value soc.now)) ≤ length (keys rooms.old.wrappers) + spare rooms.old.wrappers }
+    requires starts_fit { length (live_ids (soc_value soc.now)) ≤ index_map_len rooms.old.starts + spare_places rooms.old.starts }
+    requires jobs_fit { length rooms.old.jobs.items ≡ length (jobs_of (soc_value soc.now) (plan_value plan.now)) }
+    requires names_fit { length rooms.old.jobs.items ≤ length (keys rooms.old.names) + spare rooms.old.names }
+    requires profiles_fit { length rooms.old.profiles.items ≡ length rooms.old.jobs.items }
     ensures good { IfNone result (IsGood (soc_value soc.now) (limits_value limits.now) (plan_value plan.now)) }
     ensures fault { IfSome result (λ f. IsFault (soc_value soc.now) (limits_value limits.now) (plan_value plan.now) (fault_value f)) }
-    ensures pairs_left { length (used_pairs (soc_value soc.now)) ≤ length (keys wrappers.new) + spare wrappers.new }
-    ensures starts_left { length (live_ids (soc_value soc.now)) ≤ index_map_len starts.new + spare_places starts.new }
-    ensures names_left { length jobs.old ≤ length (keys names.new) + spare names.new }
+    ensures pairs_left { length (used_pairs (soc_value soc.now)) ≤ length (keys rooms.new.wrappers) + spare rooms.new.wrappers }
+    ensures starts_left { length (live_ids (soc_value soc.now)) ≤ index_map_len rooms.new.starts + spare_places rooms.new.starts }
+    ensures names_left { length rooms.old.jobs.items ≤ length (keys rooms.new.names) + spare rooms.new.names }
+    ensures marks_long { length rooms.new.marks.items ≡ length rooms.old.marks.items }
+    ensures parents_long { length rooms.new.parents.items ≡ length rooms.old.parents.items }
+    ensures jobs_long { length rooms.new.jobs.items ≡ length rooms.old.jobs.items }
+    ensures profiles_long { length rooms.new.profiles.items ≡ length rooms.old.profiles.items }
 {
+    let marks: &mut [usize] = &mut rooms.marks;
     match check_buses(soc, limits, plan, marks) {
         Some(fault) => Some(fault),
-        None => match check_tests(soc, limits, plan, marks, wrappers, starts) {
+        None => match check_tests(
+            soc,
+            limits,
+            plan,
+            marks,
+            &mut rooms.wrappers,
+            &mut rooms.starts,
+        ) {
             Some(fault) => Some(fault),
             None => {
                 let from = Placing {
                     soc,
                     plan,
-                    starts,
-                    wrappers,
+                    starts: &rooms.starts,
+                    wrappers: &rooms.wrappers,
                     buses: marks,
                 };
-                check_placed(limits, &from, parents, jobs, names, profiles)
+                check_placed(
+                    limits,
+                    &from,
+                    &mut rooms.parents,
+                    &mut rooms.jobs,
+                    &mut rooms.names,
+                    &mut rooms.profiles,
+                )
             }
         },
     }

@@ -1,4 +1,4 @@
-use Rattle.std.proofs.Common.{length, ap, arith}
+use Rattle.std.proofs.Common.{ap, arith}
 use Rattle.soc_model.specs.Chips.{soc_value}
 use Rattle.plan_model.specs.Right.{IsRight}
 use Rattle.plan_model.specs.Runs.{Content}
@@ -9,7 +9,7 @@ use Rattle.plan_checker.proofs.RoomSizes.{on_any}
 use Rattle.plan_checker.proofs.check.check_plan.Goals as goal
 
 pub check_rules-requires-clause-jobs_fit : goal.check_rules-requires-clause-jobs_fit
-check_rules-requires-clause-jobs_fit c = omega (arith, ap length c.deref_mut-3.ensures.value, ap (λ (r : RoomValue). r.tests) c.room.view_is, c.requires.room.tests, jobs_length (soc_value c.args.soc.now) (plan_value c.args.plan.now))
+check_rules-requires-clause-jobs_fit c = omega (arith, ap (λ (r : RoomValue). r.tests) c.room.view_is, c.requires.room.tests, jobs_length (soc_value c.args.soc.now) (plan_value c.args.plan.now))
 
 pub returns-after-check_bound-clause-right : goal.returns-after-check_bound-clause-right
 returns-after-check_bound-clause-right c = on_any c.match-check_bound.result ((content : Content) → IsRight (soc_value c.args.soc.now) (limits_value c.args.limits.now) (plan_value c.args.plan.now) content) (λ content. c.good_plans_run_right.ensures (soc_value c.args.soc.now) (limits_value c.args.limits.now) (plan_value c.args.plan.now) content c.in-None.ensures.good)
