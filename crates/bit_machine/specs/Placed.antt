@@ -1,5 +1,5 @@
 -- What a lane has of its test, its wrapper and its bus.
-use Rattle.std.specs.Prelude.{◌≡◌, ℕ, ◌+◌, ◌*◌, ◌%◌, ◌^◌, ◌≤◌, true, false, List, map, length, take, slice_index}
+use Rattle.std.specs.Prelude.{◌≡◌, ℕ, ◌+◌, ◌*◌, ◌%◌, ◌^◌, ◌<◌, ◌≤◌, true, false, List, map, length, take, slice_index}
 use Rattle.std.specs.List.{sum, filter}
 use Rattle.soc_model.specs.declared.Test.{Test}
 use Rattle.soc_model.specs.Chips.{ModuleValue, is_live}
@@ -36,14 +36,14 @@ pub record IsWiredLane (plan : PlanValue) (seed place at : ℕ) (m : ModuleValue
   pub short : length (operations_of m test (chains_of plan m test)) ≤ 10 ^ 18
   pub paths : AreNewPaths (m.inputs + m.bidirs) (scan_lengths m test.scan) (chains_of plan m test) (length (chains_of plan m test)) l.paths.items
 
--- the test is in this wrapper of its mode, and ends in the plan's cycles
+-- the test is in this wrapper of its mode, and its end is a machine's number
 pub record IsInWrapper (plan : PlanValue) (m : ModuleValue) (test : Test) (w : Wrapper) (start : ℕ) : Type 0 where
   pub tam : test.tam ≡ true
   pub live : 1 ≤ test.patterns
   pub mode : w.scan ≡ test.scan
   pub chains : chain_cells m test.scan (map chain_value w.chains.items) ≡ chains_of plan m test
   pub work : m.setup + test.patterns * module_size m ≤ 10 ^ 18
-  pub ends : start + length (operations_of m test (chains_of plan m test)) ≤ plan.cycles
+  pub ends : start + length (operations_of m test (chains_of plan m test)) < 2 ^ 64
 
 -- the live ones of some tests of the module at a place, as the plan places them
 abbrev pub placed_tests : PlanValue → ℕ → ModuleValue → List Test → List PlannedTest

@@ -21,7 +21,7 @@ pub self_test-requires : goal.self_test-requires
 self_test-requires c =
     let ends = ends_by_start (soc_value c.args.self.now.soc.now) (bare_limits (plan_value c.args.self.now.plan.now)) (plan_value c.args.self.now.plan.now) c.requires.good c.args.place c.args.at (module_value c.args.module.now) c.index-test.result.now c.start_of-start.result c.requires.module_there (slice_at c.args.module.now.tests.items c.args.at c.index-test.result.now c.requires.at c.index-test.ensures) (c.requires.live c.index-test.result.now (slice_at c.args.module.now.tests.items c.args.at c.index-test.result.now c.requires.at c.index-test.ensures)) (start_by_name (plan_value c.args.self.now.plan.now) c.args.place (module_value c.args.module.now) c.index-test.result.now c.start_of-start.result (c.start_of-start.ensures ∙ ap (of_first (λ (s : TestId × ℕ). same_test s.0 (id_of (the_live c.args.place (module_value c.args.module.now) c.index-test.result.now))) (λ (s : TestId × ℕ). s.1) 0) c.deref.ensures.value)) in
     let long = self_long (plan_value c.args.self.now.plan.now) (module_value c.args.module.now) c.index-test.result.now c.if-not-test.true in
-    omega (arith, ends, long, c.cycles_of.ensures)
+    omega (arith, ends, long, c.cycles_of-cycles.ensures, c.cycles_of-cycles.type_inv)
 
 pub returns-then-not-test : goal.returns-then-not-test
 returns-then-not-test c = λ test there.
@@ -45,7 +45,7 @@ wired_test-requires-clause-test c = λ test there.
       mode = f.1.scan_is;
       chains = chains_found (plan_value c.args.self.now.plan.now) (module_value c.args.module.now) c.index-test.result.now c.index.result.now c.if-not-test.false f.1;
       work = tam_work-le (soc_value c.args.self.now.soc.now) c.requires.sound c.args.place c.args.at (module_value c.args.module.now) c.index-test.result.now c.requires.module_there (slice_at c.args.module.now.tests.items c.args.at c.index-test.result.now c.requires.at c.index-test.ensures) (c.requires.live c.index-test.result.now (slice_at c.args.module.now.tests.items c.args.at c.index-test.result.now c.requires.at c.index-test.ensures)) c.if-not-test.false;
-      ends = ends_by_start (soc_value c.args.self.now.soc.now) (bare_limits (plan_value c.args.self.now.plan.now)) (plan_value c.args.self.now.plan.now) c.requires.good c.args.place c.args.at (module_value c.args.module.now) c.index-test.result.now c.start_of-start.result c.requires.module_there (slice_at c.args.module.now.tests.items c.args.at c.index-test.result.now c.requires.at c.index-test.ensures) (c.requires.live c.index-test.result.now (slice_at c.args.module.now.tests.items c.args.at c.index-test.result.now c.requires.at c.index-test.ensures)) (start_by_name (plan_value c.args.self.now.plan.now) c.args.place (module_value c.args.module.now) c.index-test.result.now c.start_of-start.result (c.start_of-start.ensures ∙ ap (of_first (λ (s : TestId × ℕ). same_test s.0 (id_of (the_live c.args.place (module_value c.args.module.now) c.index-test.result.now))) (λ (s : TestId × ℕ). s.1) 0) c.deref.ensures.value));
+      ends = (let ends = ends_by_start (soc_value c.args.self.now.soc.now) (bare_limits (plan_value c.args.self.now.plan.now)) (plan_value c.args.self.now.plan.now) c.requires.good c.args.place c.args.at (module_value c.args.module.now) c.index-test.result.now c.start_of-start.result c.requires.module_there (slice_at c.args.module.now.tests.items c.args.at c.index-test.result.now c.requires.at c.index-test.ensures) (c.requires.live c.index-test.result.now (slice_at c.args.module.now.tests.items c.args.at c.index-test.result.now c.requires.at c.index-test.ensures)) (start_by_name (plan_value c.args.self.now.plan.now) c.args.place (module_value c.args.module.now) c.index-test.result.now c.start_of-start.result (c.start_of-start.ensures ∙ ap (of_first (λ (s : TestId × ℕ). same_test s.0 (id_of (the_live c.args.place (module_value c.args.module.now) c.index-test.result.now))) (λ (s : TestId × ℕ). s.1) 0) c.deref.ensures.value)) in omega (arith, ends, c.cycles_of-cycles.ensures, c.cycles_of-cycles.type_inv));
     })
 
 pub wired_test-requires-clause-bus : goal.wired_test-requires-clause-bus

@@ -29,11 +29,11 @@ paths_of-requires-clause-outs c =
     let t = terminals (module_value c.args.module.now) c.args.wrapper.now.scan (map chain_value c.args.wrapper.now.chains.items) c.in_ok-layout.layout.chains.items c.requires.proper c.in_ok-layout.ensures.chains in
     omega (arith, t.1, c.requires.small)
 
-pub end_of-requires : goal.end_of-requires
-end_of-requires c =
+pub overflow_add-result : goal.overflow_add-result
+overflow_add-result c =
     let ends = (c.requires.test c.index-test.result.now (slice_at c.args.module.now.tests.items c.args.at c.index-test.result.now c.requires.at c.index-test.ensures)).ends in
     let time = c.tam_duration-length.ensures.time ∙ ap (λ v. length (operations_of (module_value c.args.module.now) c.index-test.result.now v)) (c.requires.test c.index-test.result.now (slice_at c.args.module.now.tests.items c.args.at c.index-test.result.now c.requires.at c.index-test.ensures)).chains in
-    omega (arith, ends, time, c.cycles_of.ensures)
+    omega (arith, ends, time)
 
 pub returns : goal.returns
 returns c = λ test there.
@@ -45,7 +45,7 @@ returns c = λ test there.
       tam = refl;
       base = c.base_of.ensures.base;
       start_is = refl;
-      ends = c.end_of.ensures ∙ ap (λ n. c.args.start + n) time;
+      ends = ap (λ n. c.args.start + n) time;
       setup = refl;
       si = c.lengths-si.ensures.si ∙ ap si_of cells;
       so = c.lengths-si.ensures.so ∙ ap so_of cells;
