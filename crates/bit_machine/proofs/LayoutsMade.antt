@@ -1,12 +1,14 @@
 -- The layout that is made of a proper wrapper.
-use Rattle.std.proofs.Common.{◌≡◌, ◌+◌, ◌≤◌, ◌^◌, Bool, true, false, List, get_or, map, ap, ◌∙◌, sym, arith, subst}
+use Rattle.std.proofs.Common.{◌≡◌, ◌+◌, ◌≤◌, ◌^◌, Bool, true, false, List, get_or, length, map, ap, ◌∙◌, sym, arith, subst}
 use Rattle.std.specs.List.{All, sum, sum_by}
+use Rattle.std.proofs.lemmas.List.{length-map}
 use Rattle.std.proofs.lemmas.Option.{slice_get-get_or}
 use Rattle.soc_model.specs.Chips.{ModuleValue}
 use Rattle.plan_model.specs.declared.ChainPlan.{ChainPlan}
-use Rattle.plan_model.specs.Cells.{ChainValue, IsProper, is_read, out_length, scan_lengths, chain_cells, dealt}
+use Rattle.plan_model.specs.Cells.{Cell, ChainValue, IsProper, is_read, out_length, scan_lengths, chain_cells, dealt}
 use Rattle.plan_model.specs.Listing.{module_size}
 use Rattle.plan_model.specs.Views.{chain_value}
+use Rattle.plan_model.proofs.CellOrder.{length-dealt}
 use Rattle.plan_model.proofs.ChainLengths.{FitsModule, chain_fits}
 use Rattle.plan_model.proofs.LowerTimes.{read_counts, total-is}
 use Rattle.plan_model.proofs.ProperByCounts.{IsCounted, proper_is_counted}
@@ -35,3 +37,13 @@ layout_from m scan given l proper small lengths starts flops copied =
       chains = subst (λ ns. All (IsListed ns) l.chains.items) (sym lengths) (listed_chains m scan l.chains.items proper' small);
       read = subst (λ ns. sum_by out_length (dealt ns 0 0 (map chain_value l.chains.items)) ≡ sum ns + sum_by (λ (c : ChainPlan). c.outs) l.chains.items) (sym lengths) (read_cells m scan l.chains.items proper');
     }
+
+-- a proper wrapper in scan mode: how many chains, and how many of their cells are read
+pub scan_counts : (m : ModuleValue) (scan : Bool) (chains : List ChainPlan) (cells : List (List Cell)) → IsProper m scan (map chain_value chains) → scan ≡ true → cells ≡ chain_cells m scan (map chain_value chains) →
+    (length cells ≡ length chains) × (sum_by out_length cells ≡ sum m.chains + (m.outputs + m.bidirs))
+scan_counts m scan chains cells proper on are =
+    let counted : IsCounted m scan chains = proper_is_counted m scan chains proper in
+    let flops : sum (scan_lengths m scan) ≡ sum m.chains = ap (λ b. sum (scan_lengths m b)) on in
+    let outs : sum_by (λ (c : ChainPlan). c.outs) chains ≡ m.outputs + m.bidirs = counted.outs in
+    let read : sum_by out_length cells ≡ sum (scan_lengths m scan) + sum_by (λ (c : ChainPlan). c.outs) chains = ap (sum_by out_length) are ∙ read_cells m scan chains proper in
+    (ap length are ∙ length-dealt (scan_lengths m scan) 0 0 (map chain_value chains) ∙ length-map chains chain_value, read ∙ omega (arith, flops, outs))

@@ -1,10 +1,10 @@
-ghost use Rattle.std.specs.Prelude.{◌≡◌, ℕ, ◌+◌, ◌*◌, ◌^◌, ◌≤◌, ◌∷◌, [], true, length, map, sum_by, IfOk};
+ghost use Rattle.std.specs.Prelude.{◌≡◌, ◌+◌, ◌≤◌, ◌<◌, ◌^◌, true, length, map, sum_by, IfOk};
+ghost use Rattle.std.specs.List.{sum};
 ghost use Rattle.soc_model.specs.Chips.{module_value};
-ghost use Rattle.plan_model.specs.Cells.{out_length};
+ghost use Rattle.plan_model.specs.Cells.{IsProper, out_length};
 ghost use Rattle.plan_model.specs.Listing.{module_size};
 ghost use Rattle.plan_model.specs.Views.{chain_value, plan_value};
 ghost use Rattle.bit_machine.specs.EmptyChips.{no_plan};
-ghost use Rattle.bit_machine.specs.Sessions.{at_rest};
 
 use super::*;
 use plan_model::{Bound, ChainPlan, Plan, Why, Wrapper, is_proper};
@@ -14,10 +14,12 @@ use std::process::Abort;
 use std::test::Fail;
 
 /// A module of so many input and output terminals with these scan chains and a setup.
-fn module(alloc: Global, terminals: (u64, u64), setup: u64, chains: Vec<u64>) -> Module
-    ensures { module_value result ≡ record { number = 1; name = []; level = 1; inputs = terminals.0; outputs = terminals.1; bidirs = 0; setup = setup; chains = chains.items; tests = [] } }
+fn module(alloc: Global, terminals: (u64, u64), setup: u64, scans: &[u64]) -> Result<Module, Fail>
+    requires terminals { terminals.0 + terminals.1 ≤ 99 }
+    requires scans { sum scans.now ≤ 99 }
+    ensures { IfOk result (λ m. module_size (module_value m) ≤ 10 ^ 18) }
 {
-    Module {
+    Ok(Module {
         number: 1,
         name: Vec::new(alloc),
         level: 1,
@@ -25,226 +27,298 @@ fn module(alloc: Global, terminals: (u64, u64), setup: u64, chains: Vec<u64>) ->
         outputs: terminals.1,
         bidirs: 0,
         setup,
-        chains,
+        chains: Vec::from_slice(alloc, scans)?,
         tests: Vec::new(alloc),
-    }
-}
-
-/// A chain of a wrapper.
-fn chain(alloc: Global, ins: u64, scans: &[u64], outs: u64) -> Result<ChainPlan, Fail>
-    ensures { IfOk result (λ c. chain_value c ≡ record { ins = ins; scans = scans.now; outs = outs }) }
-{
-    Ok(ChainPlan {
-        ins,
-        scans: Vec::from_slice(alloc, scans)?,
-        outs,
     })
 }
 
-/// A session of the module in a wrapper of these chains.
+/// A wrapper of these chains, each by its input cells, its scan chains and its output cells.
+fn wrapper(alloc: Global, chains: &[(u64, &[u64], u64)]) -> Result<Wrapper, Fail> {
+    let mut listed = Vec::new(alloc);
+    for chain in chains {
+        let scans = Vec::from_slice(alloc, chain.1)?;
+        listed.push(ChainPlan {
+            ins: chain.0,
+            scans,
+            outs: chain.2,
+        })?;
+    }
+    Ok(Wrapper {
+        module: 1,
+        scan: true,
+        chains: listed,
+    })
+}
+
+/// The bits of a response of the module.
+fn response_bits(module: &Module) -> u64
+    requires { module_size (module_value «module».now) ≤ 10 ^ 18 }
+    ensures { result ≡ sum «module».now.chains.items + («module».now.outputs + «module».now.bidirs) }
+{
+    let flops: u64 = module.chains.iter().sum();
+    flops + (module.outputs + module.bidirs)
+}
+
+/// Stops where the wrapper isn't a proper one of the scan mode.
+fn expect_proper(rt: &impl Abort, module: &Module, wrapper: &Wrapper)
+    ensures scan { wrapper.now.scan ≡ true }
+    ensures proper { IsProper (module_value «module».now) wrapper.now.scan (map chain_value wrapper.now.chains.items) }
+{
+    assert!(rt; wrapper.scan);
+    assert!(rt; is_proper(module, wrapper));
+}
+
+/// A session of the module in the wrapper, with the number of its chains and the bits of a response.
 fn session(
     rt: &impl Abort,
     alloc: Global,
     module: &Module,
-    chains: Vec<ChainPlan>,
-) -> Result<Session, Fail>
+    wrapper: &Wrapper,
+) -> Result<(Session, usize, usize), Fail>
     requires { module_size (module_value «module».now) ≤ 10 ^ 18 }
-    ensures { IfOk result (λ s. s ≡ at_rest (module_value «module».now) true (map chain_value chains.items)) }
+    ensures chains { IfOk result (λ r. r.1 ≡ length r.0.cells) }
+    ensures bits { IfOk result (λ r. r.2 ≡ sum_by out_length r.0.cells) }
 {
-    let wrapper = Wrapper {
-        module: 1,
-        scan: true,
-        chains,
-    };
-    assert!(rt; is_proper(module, &wrapper));
-    Ok(Session::new(alloc, module, &wrapper)?)
+    expect_proper(rt, module, wrapper);
+    let session = Session::new(alloc, module, wrapper)?;
+    Ok((
+        session,
+        wrapper.chains.len(),
+        response_bits(module) as usize,
+    ))
 }
 
-/// Shifts a session of one chain.
-fn shift_one(session: &mut Session, drive: bool) -> bool
-    requires { length session.old.cells ≡ 1 }
-    ensures { session.new.cells ≡ session.old.cells }
-{
-    let mut read = [false];
-    session.shift(&[drive], &mut read);
-    read[0]
-}
-
-/// Shifts a session of one chain once for each bit of a text, and says whether what it read are the wanted bits.
-fn shifts(session: &mut Session, drive: &str, want: &str) -> bool
-    requires { length session.old.cells ≡ 1 }
-    ensures { session.new.cells ≡ session.old.cells }
-{
-    let mut right = drive.len() == want.len();
-    for (bit, wanted) in drive.bytes().zip(want.bytes()) {
-        let read = shift_one(session, bit == b'1');
-        right = right && read == (wanted == b'1');
+/// The bits of a text of `0` and `1`.
+fn bits_of(alloc: Global, text: &str) -> Result<Vec<bool>, Fail> {
+    let mut bits = Vec::new(alloc);
+    for digit in text.as_bytes() {
+        bits.push(*digit == b'1')?;
     }
-    right
+    Ok(bits)
 }
 
-/// Shifts a session of two chains.
-fn shift_two(session: &mut Session, drive: [bool; 2]) -> [bool; 2]
-    requires { length session.old.cells ≡ 2 }
-    ensures { session.new.cells ≡ session.old.cells }
+/// The bits of all chains at one of so many cycles, by a text for each chain.
+fn bits_at(
+    rt: &impl Abort,
+    alloc: Global,
+    texts: &[&str],
+    cycle: usize,
+    cycles: usize,
+) -> Result<Vec<bool>, Fail>
+    requires { cycle < cycles }
 {
-    let mut read = [false; 2];
-    session.shift(&drive, &mut read);
-    read
+    let mut bits = Vec::new(alloc);
+    for text in texts {
+        let digits = text.as_bytes();
+        assert!(rt; digits.len() == cycles);
+        bits.push(digits[cycle] == b'1')?;
+    }
+    Ok(bits)
 }
 
 /// One cycle of capturing.
-fn answer(session: &mut Session, response: &[bool])
-    requires { length response.now ≡ sum_by out_length session.old.cells }
+fn capture(rt: &impl Abort, session: &mut Session, reads: usize, response: &[bool])
+    requires { reads ≡ sum_by out_length session.old.cells }
     ensures { session.new.cells ≡ session.old.cells }
 {
+    assert!(rt; response.len() == reads);
     session.capture(response);
+}
+
+/// One cycle of shifting, in which the wanted bits are read.
+fn shift(
+    rt: &impl Abort,
+    alloc: Global,
+    session: &mut Session,
+    chains: usize,
+    drive: &[bool],
+    want: &[bool],
+) -> Result<(), Fail>
+    requires { chains ≡ length session.old.cells }
+    ensures { session.new.cells ≡ session.old.cells }
+{
+    let mut read = vec![in alloc; false; chains]?;
+    assert!(rt; drive.len() == chains);
+    session.shift(drive, &mut read);
+    assert_eq!(rt; read.as_slice(), want);
+    Ok(())
+}
+
+/// Captures a response, if there is one, and shifts as many times as each chain's text has bits: what is driven, and what
+/// is to be read.
+fn go_on(
+    rt: &impl Abort,
+    alloc: Global,
+    session: &mut Session,
+    chains: usize,
+    reads: usize,
+    row: &(Option<&str>, &[&str], &[&str]),
+) -> Result<(), Fail>
+    requires chains { chains ≡ length session.old.cells }
+    requires reads { reads ≡ sum_by out_length session.old.cells }
+    ensures { session.new.cells ≡ session.old.cells }
+{
+    if let Some(response) = row.0 {
+        let bits = bits_of(alloc, response)?;
+        capture(rt, session, reads, &bits);
+    }
+    assert!(rt; !row.1.is_empty());
+    let cycles = row.1[0].len();
+    for cycle in 0..cycles {
+        let drive = bits_at(rt, alloc, row.1, cycle, cycles)?;
+        let want = bits_at(rt, alloc, row.2, cycle, cycles)?;
+        shift(rt, alloc, session, chains, &drive, &want)?;
+    }
+    Ok(())
+}
+
+/// Runs rows in a session of the module in a wrapper of these chains.
+fn run(
+    rt: &impl Abort,
+    alloc: Global,
+    module: &Module,
+    chains: &[(u64, &[u64], u64)],
+    rows: &[(Option<&str>, &[&str], &[&str])],
+) -> Result<(), Fail>
+    requires { module_size (module_value «module».now) ≤ 10 ^ 18 }
+{
+    let wrapper = wrapper(alloc, chains)?;
+    let (mut session, chains, reads) = session(rt, alloc, module, &wrapper)?;
+    for row in rows {
+        go_on(rt, alloc, &mut session, chains, reads, row)?;
+    }
+    Ok(())
 }
 
 #[test]
 fn output_cells_alone(rt: HostRuntime) -> Result<(), Fail> {
     let alloc = rt.alloc();
-    let module = module(alloc, (0, 2), 0, Vec::new(alloc));
-    let mut session = session(
+    let module = module(alloc, (0, 2), 0, &[])?;
+    run(
         &rt,
         alloc,
         &module,
-        vec![in alloc; chain(alloc, 0, &[], 2)?]?,
-    )?;
-    answer(&mut session, &[true, false]);
-    assert!(rt; shifts(&mut session, "00", "01"));
-    answer(&mut session, &[false, true]);
-    assert!(rt; shifts(&mut session, "00", "10"));
-    Ok(())
+        &[(0, &[], 2)],
+        &[
+            (Some("10"), &["00"], &["01"]),
+            (Some("01"), &["00"], &["10"]),
+        ],
+    )
 }
 
 #[test]
 fn input_cells_alone(rt: HostRuntime) -> Result<(), Fail> {
     let alloc = rt.alloc();
-    let module = module(alloc, (2, 0), 0, Vec::new(alloc));
-    let mut session = session(
+    let module = module(alloc, (2, 0), 0, &[])?;
+    // the stimuli 01 and 11, and after the last capture two shifts more
+    run(
         &rt,
         alloc,
         &module,
-        vec![in alloc; chain(alloc, 2, &[], 0)?]?,
-    )?;
-    // the stimuli 01 and 11, and after the last capture two shifts more
-    assert!(rt; shifts(&mut session, "10", "00"));
-    answer(&mut session, &[]);
-    assert!(rt; shifts(&mut session, "11", "10"));
-    answer(&mut session, &[]);
-    assert!(rt; shifts(&mut session, "00", "11"));
-    Ok(())
+        &[(2, &[], 0)],
+        &[
+            (None, &["10"], &["00"]),
+            (Some(""), &["11"], &["10"]),
+            (Some(""), &["00"], &["11"]),
+        ],
+    )
 }
 
 #[test]
 fn more_input_than_output_cells(rt: HostRuntime) -> Result<(), Fail> {
     let alloc = rt.alloc();
-    let module = module(alloc, (5, 1), 0, Vec::new(alloc));
-    let mut session = session(
+    let module = module(alloc, (5, 1), 0, &[])?;
+    // the stimuli 10110 and 01001, and after the last block five shifts more
+    run(
         &rt,
         alloc,
         &module,
-        vec![in alloc; chain(alloc, 5, &[], 1)?]?,
-    )?;
-    // the stimuli 10110 and 01001, and after the last block five shifts more
-    assert!(rt; shifts(&mut session, "01101", "00000"));
-    answer(&mut session, &[true]);
-    assert!(rt; shifts(&mut session, "10010", "10110"));
-    answer(&mut session, &[false]);
-    assert!(rt; shifts(&mut session, "0", "0"));
-    assert!(rt; shifts(&mut session, "00000", "10010"));
-    Ok(())
+        &[(5, &[], 1)],
+        &[
+            (None, &["01101"], &["00000"]),
+            (Some("1"), &["10010"], &["10110"]),
+            (Some("0"), &["0"], &["0"]),
+            (None, &["00000"], &["10010"]),
+        ],
+    )
 }
 
 #[test]
 fn a_chain_without_cells(rt: HostRuntime) -> Result<(), Fail> {
     let alloc = rt.alloc();
-    let module = module(alloc, (1, 1), 0, Vec::new(alloc));
-    let chains = vec![in alloc; chain(alloc, 0, &[], 0)?, chain(alloc, 1, &[], 1)?]?;
-    let mut session = session(&rt, alloc, &module, chains)?;
-    assert_eq!(rt; shift_two(&mut session, [true, true]), [false, false]);
-    answer(&mut session, &[true]);
-    assert_eq!(rt; shift_two(&mut session, [true, false]), [false, true]);
-    assert_eq!(rt; shift_two(&mut session, [true, false]), [false, true]);
-    assert_eq!(rt; shift_two(&mut session, [true, false]), [false, false]);
-    Ok(())
+    let module = module(alloc, (1, 1), 0, &[])?;
+    run(
+        &rt,
+        alloc,
+        &module,
+        &[(0, &[], 0), (1, &[], 1)],
+        &[
+            (None, &["1", "1"], &["0", "0"]),
+            (Some("1"), &["111", "000"], &["000", "110"]),
+        ],
+    )
 }
 
 #[test]
 fn a_setup_is_no_cycle_of_a_session(rt: HostRuntime) -> Result<(), Fail> {
     let alloc = rt.alloc();
-    let module = module(alloc, (1, 1), 2, Vec::new(alloc));
-    let mut session = session(
+    let module = module(alloc, (1, 1), 2, &[])?;
+    run(
         &rt,
         alloc,
         &module,
-        vec![in alloc; chain(alloc, 1, &[], 1)?]?,
-    )?;
-    assert!(rt; shifts(&mut session, "1", "0"));
-    answer(&mut session, &[false]);
-    assert!(rt; shifts(&mut session, "00", "01"));
-    Ok(())
+        &[(1, &[], 1)],
+        &[(None, &["1"], &["0"]), (Some("0"), &["00"], &["01"])],
+    )
 }
 
 #[test]
 fn a_whole_test_of_two_patterns(rt: HostRuntime) -> Result<(), Fail> {
     let alloc = rt.alloc();
-    let module = module(alloc, (2, 3), 0, vec![in alloc; 4, 2]?);
-    let mut session = session(
+    let module = module(alloc, (2, 3), 0, &[4, 2])?;
+    // the stimulus 10 0111 01 stands before its capture, and the response is 1100 10 011; then the stimulus 01 1010 01,
+    // and the response 0110 11 100
+    run(
         &rt,
         alloc,
         &module,
-        vec![in alloc; chain(alloc, 2, &[0, 1], 3)?]?,
-    )?;
-    // the stimulus 10 0111 01 stands before its capture, and the response is 1100 10 011
-    assert!(rt; shifts(&mut session, "10111001", "00000000"));
-    answer(
-        &mut session,
-        &[true, true, false, false, true, false, false, true, true],
-    );
-    // the stimulus 01 1010 01, and the response 0110 11 100
-    assert!(rt; shifts(&mut session, "010010110", "110010011"));
-    answer(
-        &mut session,
-        &[false, true, true, false, true, true, true, false, false],
-    );
-    assert!(rt; shifts(&mut session, "000000000", "001110110"));
-    assert!(rt; shifts(&mut session, "00", "10"));
-    Ok(())
+        &[(2, &[0, 1], 3)],
+        &[
+            (None, &["10111001"], &["00000000"]),
+            (Some("110010011"), &["010010110"], &["110010011"]),
+            (Some("011011100"), &["000000000"], &["001110110"]),
+            (None, &["00"], &["10"]),
+        ],
+    )
 }
 
 #[test]
 fn a_stimulus_stands_in_its_cells(rt: HostRuntime) -> Result<(), Fail> {
     let alloc = rt.alloc();
-    let module = module(alloc, (2, 3), 0, vec![in alloc; 4, 2]?);
-    let mut session = session(
+    let module = module(alloc, (2, 3), 0, &[4, 2])?;
+    run(
         &rt,
         alloc,
         &module,
-        vec![in alloc; chain(alloc, 2, &[0, 1], 3)?]?,
-    )?;
-    assert!(rt; shifts(&mut session, "10111001", "00000000"));
-    assert!(rt; shifts(&mut session, "00000000000", "00010111001"));
-    Ok(())
+        &[(2, &[0, 1], 3)],
+        &[
+            (None, &["10111001"], &["00000000"]),
+            (None, &["00000000000"], &["00010111001"]),
+        ],
+    )
 }
 
 #[test]
 fn responses_go_by_the_place_of_a_scan_chain(rt: HostRuntime) -> Result<(), Fail> {
     let alloc = rt.alloc();
-    let module = module(alloc, (2, 3), 0, vec![in alloc; 4, 2]?);
-    let chains = vec![in alloc; chain(alloc, 2, &[1], 2)?, chain(alloc, 0, &[0], 1)?]?;
-    let mut session = session(&rt, alloc, &module, chains)?;
-    answer(
-        &mut session,
-        &[true, false, false, true, true, false, false, true, true],
-    );
-    assert_eq!(rt; shift_two(&mut session, [false, false]), [true, true]);
-    assert_eq!(rt; shift_two(&mut session, [false, false]), [false, true]);
-    assert_eq!(rt; shift_two(&mut session, [false, false]), [false, false]);
-    assert_eq!(rt; shift_two(&mut session, [false, false]), [true, false]);
-    assert_eq!(rt; shift_two(&mut session, [false, false]), [false, true]);
-    Ok(())
+    let module = module(alloc, (2, 3), 0, &[4, 2])?;
+    run(
+        &rt,
+        alloc,
+        &module,
+        &[(2, &[1], 2), (0, &[0], 1)],
+        &[(Some("100110011"), &["00000", "00000"], &["10010", "11001"])],
+    )
 }
 
 #[test]

@@ -1,8 +1,0 @@
-use Rattle.std.proofs.Common.{◌≡◌}
-use Rattle.bit_machine.proofs.tests.shifts.Given as goal
-
-abbrev pub invariant-loop-bit : goal.invariant-loop-bit
-invariant-loop-bit l =
-    (goal.iterator-loop-bit).can_next l.bit-iterator
-    × (goal.iterator-loop-bit).is_finite l.bit-iterator
-    × (l.session.cells ≡ l.initial.session.cells)
