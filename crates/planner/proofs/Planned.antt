@@ -18,14 +18,22 @@ use Rattle.plan_model.proofs.PlannedTests.{Origin, origin, of_first_is}
 use Rattle.plan_model.proofs.Sums.{sum_by-filter, sum_by-or, sum_by-le_at, item-le-sum_by}
 use Rattle.resource_table.specs.declared.Placement.{Placement}
 use Rattle.resource_table.specs.Jobs.{TestValue, JobValue, no_test, test_at, cycles_of, Precedes}
-use Rattle.resource_table.specs.Schedules.{TableValue, exclude, same_bus, is_at, end_of, last_end, IsActive, is_active, power_of, drawn, power_at, IsSoundTable}
+use Rattle.resource_table.specs.Schedules.{TableValue, exclude, same_bus, is_at, end_of, last_end, IsActive, is_active, power_of, drawn, power_at, IsListSchedule, IsSoundTable}
 use Rattle.resource_table.proofs.Schedules.{sound_apart, sound_power, sound_order}
 use Rattle.resource_table.proofs.Placed.{sound_tests}
 use Rattle.bound_certificate.specs.Nodes.{AllDiffer}
 use Rattle.planner.specs.Jobs.{bus_of, test_of, job_of}
 use Rattle.schedule_search.specs.Orders.{IsTopological}
-use Rattle.planner.specs.Schedules.{start_of, IsPlaced, KeepsTimes}
+use Rattle.planner.specs.Schedules.{start_of, KeepsTimes}
 use Rattle.planner.proofs.JobPrecedences.{to_job}
+
+-- a sound table whose tests were placed in an order, with their starts and the end of the last one
+pub record IsPlaced (t : TableValue) (order : List ℕ) (starts : List (TestId × ℕ)) (cycles : ℕ) : Type 0 where
+  pub sound : IsSoundTable t
+  pub in_order : map (λ (p : Placement). p.test) t.placed ≡ order
+  pub list : IsListSchedule t.job t.placed
+  pub starts_are : starts ≡ map (start_of t.job) t.placed
+  pub ends : cycles ≡ last_end t.job t.placed
 
 -- all that is known of a plan and its placed tests
 pub record IsLaid (soc : SocValue) (limits : LimitsValue) (plan : PlanValue) (t : TableValue) (order : List ℕ) (cycles : ℕ) : Type 0 where

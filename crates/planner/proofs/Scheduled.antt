@@ -22,8 +22,8 @@ use Rattle.schedule_search.specs.Found.{IsFound}
 use Rattle.schedule_search.proofs.PlacedOrders.{placed_has, placed_not}
 use Rattle.schedule_search.proofs.CycleCounts.{takes_short}
 use Rattle.planner.specs.Jobs.{settled_parts, job_of}
-use Rattle.planner.specs.Schedules.{start_of, IsFoundSchedule, AreStartsOf, IsFoundList, IsPlaced, KeepsTimes}
-use Rattle.planner.proofs.Planned.{keeps_times}
+use Rattle.planner.specs.Schedules.{start_of, IsFoundSchedule, AreStartsOf, IsFoundList, KeepsTimes}
+use Rattle.planner.proofs.Planned.{IsPlaced, keeps_times}
 
 pub if_ok : {A E : Type 0} (r : Result A E) (P Q : A → Type 0) → ((a : A) → P a → Q a) → IfOk r P → IfOk r Q
 if_ok (Ok a) P Q h p = h a p

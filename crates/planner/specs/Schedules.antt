@@ -6,7 +6,7 @@ use Rattle.plan_model.specs.Plans.{PlanValue, LimitsValue, planned, end_of, grea
 use Rattle.plan_model.specs.Rules.{Keeps, Starts, Wires, Busy, Parents, Precedences, Power}
 use Rattle.resource_table.specs.declared.Placement.{Placement}
 use Rattle.resource_table.specs.Jobs.{JobValue, test_at}
-use Rattle.resource_table.specs.Schedules.{TableValue, last_end, IsListSchedule, IsSoundTable}
+use Rattle.resource_table.specs.Schedules.{last_end, IsListSchedule}
 use Rattle.planner.specs.Jobs.{job_of}
 use Rattle.schedule_search.specs.Found.{IsFound}
 
@@ -43,14 +43,6 @@ pub record IsFoundList (job : JobValue) (budget : ℕ) (listed : List (TestId ×
   pub complete : Bool
   pub found : IsFound job budget order starts cycles complete
   pub are : AreStartsOf job order starts listed
-
--- a sound table whose tests were placed in an order, with their starts and the end of the last one
-pub record IsPlaced (t : TableValue) (order : List ℕ) (starts : List (TestId × ℕ)) (cycles : ℕ) : Type 0 where
-  pub sound : IsSoundTable t
-  pub in_order : map (λ (p : Placement). p.test) t.placed ≡ order
-  pub list : IsListSchedule t.job t.placed
-  pub starts_are : starts ≡ map (start_of t.job) t.placed
-  pub ends : cycles ≡ last_end t.job t.placed
 
 -- a plan keeps the rules that look at its starts, and its last test ends at so many cycles
 pub record KeepsTimes (soc : SocValue) (limits : LimitsValue) (plan : PlanValue) (cycles : ℕ) : Type 0 where
