@@ -52,7 +52,7 @@ pub fn push_draws(draws: &mut Vec<Draw>, steps: &[(u64, u64)], start: u64, lengt
 /// A start from `start` on before which a test of these steps doesn't stay within the limit beside what the points tell.
 /// It is `start` where the test does. Of the cycles at which too much is drawn the last ones of a step count, up to the
 /// end of their crowd.
-pub fn after_power(
+fn next_within(
     points: &[Point],
     limit: u64,
     steps: &[(u64, u64)],
@@ -77,4 +77,33 @@ pub fn after_power(
         }
     }
     start
+}
+
+/// The least start from `start` on at which a test of these steps stays within the limit beside what the points tell.
+pub fn after_power(
+    points: &[Point],
+    limit: u64,
+    steps: &[(u64, u64)],
+    length: u64,
+    start: u64,
+    last: u64,
+) -> u64
+    requires start { start ≤ last }
+    requires last { last + length < 2 ^ 63 }
+    requires profile { (load : ℕ → ℕ) × IsEndedProfile load points.now last }
+    requires steps { All (λ (s : ℕ × ℕ). s.0 ≤ NUMBER_WORD_MOST) steps.now }
+    requires within { All (λ (s : ℕ × ℕ). s.1 ≤ limit) steps.now }
+    ensures from { start ≤ result }
+    ensures most { result ≤ last }
+    ensures fits { (load : ℕ → ℕ) → IsEndedProfile load points.now last → StepsFit load limit result length steps.now }
+    ensures least { (load : ℕ → ℕ) → IsEndedProfile load points.now last → (other : ℕ) → start ≤ other → StepsFit load limit other length steps.now → result ≤ other }
+{
+    let mut found = start;
+    'starts: loop {
+        let next = next_within(points, limit, steps, length, found, last);
+        if next == found {
+            return found;
+        }
+        found = next;
+    }
 }

@@ -1,8 +1,14 @@
-use Rattle.std.proofs.Common.{ℕ, drop}
+use Rattle.std.proofs.Common.{ℕ, ◌-◌, ◌≤◌}
 use Rattle.resource_table.specs.Resources.{StepsFit}
 use Rattle.resource_table.specs.Profiles.{IsEndedProfile}
 use Rattle.resource_table.proofs.power.after_power.Given as goal
 
--- the steps before fit
-abbrev pub invariant-loop-at : goal.invariant-loop-at
-invariant-loop-at l = (load : ℕ → ℕ) → IsEndedProfile load l.points l.last → StepsFit load l.limit l.start l.length (drop l.at l.steps) → StepsFit load l.limit l.start l.length l.steps
+abbrev pub invariant-starts : goal.invariant-starts
+invariant-starts l = record {
+  from : l.start ≤ l.found;
+  most : l.found ≤ l.last;
+  least : (load : ℕ → ℕ) → IsEndedProfile load l.points l.last → (other : ℕ) → l.start ≤ other → StepsFit load l.limit other l.length l.steps → l.found ≤ other;
+}
+
+abbrev pub decreases-starts : goal.decreases-starts
+decreases-starts l = l.last - l.found

@@ -1,0 +1,8 @@
+use Rattle.std.proofs.Common.{ℕ, drop}
+use Rattle.resource_table.specs.Resources.{StepsFit}
+use Rattle.resource_table.specs.Profiles.{IsEndedProfile}
+use Rattle.resource_table.proofs.power.next_within.Given as goal
+
+-- the steps before fit
+abbrev pub invariant-loop-at : goal.invariant-loop-at
+invariant-loop-at l = (load : ℕ → ℕ) → IsEndedProfile load l.points l.last → StepsFit load l.limit l.start l.length (drop l.at l.steps) → StepsFit load l.limit l.start l.length l.steps
