@@ -1,7 +1,8 @@
 -- What is answered of a text.
-use Rattle.std.specs.Prelude.{◌≡◌, ℕ, ◌+◌, Bool, List, Option, None, Some, Result, Ok, Err, count_by}
+use Rattle.std.specs.Prelude.{◌≡◌, ℕ, ◌+◌, ◌<◌, Bool, List, Option, None, Some, Result, Ok, Err, length, count_by}
 use Rattle.outside.specs.Words.{words_of, is_line_feed}
 use Rattle.soc_model.specs.declared.TestId.{TestId}
+use Rattle.soc_model.specs.declared.TheConstants.{NUMBER_WORD_MOST}
 use Rattle.soc_model.specs.Chips.{SocValue}
 use Rattle.plan_model.specs.declared.Limits.{Limits}
 use Rattle.plan_model.specs.Plans.{LimitsValue}
@@ -11,7 +12,7 @@ use Rattle.limits_text.specs.declared.LimFault.{LimFault}
 use Rattle.limits_text.specs.declared.LimFault.TheVariants as fault
 use Rattle.limits_text.specs.declared.items.Items.{Items}
 use Rattle.limits_text.specs.declared.whole.TextFault.{TextFault}
-use Rattle.limits_text.specs.declared.whole.TextFault.TheVariants.{Text, NoMemory}
+use Rattle.limits_text.specs.declared.whole.TextFault.TheVariants.{Text, TooLong, NoMemory}
 use Rattle.limits_text.specs.Items.{Item}
 use Rattle.limits_text.specs.Grammar.{IsText, RefusedAt}
 use Rattle.limits_text.specs.Meaning.{limits_of, first_unknown, test_power}
@@ -22,10 +23,11 @@ use Rattle.limits_text.specs.Views.{done_of}
 abbrev pub last_line : List ℕ → ℕ
 last_line bytes = 1 + count_by is_line_feed bytes
 
--- The text is these items; or the grammar refuses it at that line; or memory ran out.
+-- The text is these items; or the grammar refuses it at that line; or it has 10 ^ 12 bytes or more; or memory ran out.
 abbrev pub ItemsRead : List ℕ → Result Items TextFault → Type 0
 ItemsRead bytes (Ok items) = IsText items.second (done_of items) (words_of bytes)
 ItemsRead bytes (Err (Text line)) = RefusedAt (words_of bytes) (last_line bytes) line
+ItemsRead bytes (Err TooLong) = NUMBER_WORD_MOST < length bytes
 ItemsRead bytes (Err NoMemory) = Unit {0}
 
 -- the text says these limits

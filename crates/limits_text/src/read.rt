@@ -22,7 +22,7 @@ pub fn read_limits(alloc: Global, bytes: &[u8], soc: &Soc) -> Result<Limits, Lim
     let items = match read_items(alloc, bytes) {
         Ok(items) => items,
         Err(TextFault::Text { line }) => return Err(LimFault::Text { line }),
-        Err(TextFault::NoMemory) => return Err(LimFault::NoMemory),
+        Err(TextFault::TooLong | TextFault::NoMemory) => return Err(LimFault::NoMemory),
     };
     if let Some(line) = first_unknown(soc, items.list.as_slice()) {
         return Err(LimFault::UnknownTest { line });

@@ -1,5 +1,5 @@
 use super::*;
-use outside::NoMemory;
+use outside::{NoMemory, extend};
 use soc_model::{Module, Soc, Test};
 use std::alloc::Global;
 use std::test::Fail;
@@ -39,11 +39,12 @@ fn self_tests(alloc: Global, tests: &[(u64, u64)]) -> Result<Soc, NoMemory> {
     Ok(soc)
 }
 
-/// The line that a text is refused at, or 0.
+/// The line that a text is refused at; 0 where limits are read, and the greatest number where there is another answer.
 fn text_line(alloc: Global, text: &str, soc: &Soc) -> u64 {
     match read_limits(alloc, text.as_bytes(), soc) {
+        Ok(_) => 0,
         Err(LimFault::Text { line }) => line,
-        _ => 0,
+        Err(_) => u64::MAX,
     }
 }
 
@@ -153,6 +154,10 @@ fn prints_what_it_reads(rt: HostRuntime) -> Result<(), Fail> {
             "Limits 2 Profile 2 1 0 3 4 2 Wires 2 Budget 7 Power 6",
             "Limits 2\nWires 2\nPower 6\nBudget 7\nProfile 2 1 0 3 4 2\n",
         ),
+        (
+            "Limits 2 Wires 2 Profile 2 1 0 3 Profile 1 1 0 4 7 1",
+            "Limits 2\nWires 2\nBudget 20000\nProfile 2 1 0 3\nProfile 1 1 0 4 7 1\n",
+        ),
     ];
     for (text, wanted) in rows {
         match read_limits(alloc, text.as_bytes(), &soc) {
@@ -162,6 +167,24 @@ fn prints_what_it_reads(rt: HostRuntime) -> Result<(), Fail> {
             },
             Err(_) => panic!(rt; "{text} is read"),
         }
+    }
+    Ok(())
+}
+
+#[test]
+fn reads_a_long_text(rt: HostRuntime) -> Result<(), Fail> {
+    let alloc = rt.alloc();
+    let Ok(soc) = self_tests(alloc, &[(5, 0), (5, 0)]) else {
+        panic!(rt; "no memory");
+    };
+    let mut text = Vec::new(alloc);
+    extend(&mut text, b"Limits 1 Wires 1")?;
+    for _ in 0..1000 {
+        extend(&mut text, b" Before 1 1 2 1")?;
+    }
+    match read_limits(alloc, text.as_slice(), &soc) {
+        Ok(limits) => assert_eq!(rt; limits.before.len(), 1000),
+        Err(fault) => panic!(rt; "{fault}"),
     }
     Ok(())
 }

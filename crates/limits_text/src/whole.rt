@@ -12,15 +12,17 @@ use std::alloc::Global;
 #[derive(Clone, Copy, PartialEq, Eq, Debug)]
 pub enum TextFault {
     Text { line: u64 },
+    /// The text is so long that its profiles could name every test that there may be.
+    TooLong,
     NoMemory,
 }
 
-/// The items of a text. A text so long that its profiles could name every test that there may be is `NoMemory`.
+/// The items of a text. `TooLong` comes only where it has 10^12 bytes or more.
 pub fn read_items(alloc: Global, bytes: &[u8]) -> Result<Items, TextFault>
     ensures { ItemsRead bytes.now result }
 {
     if bytes.len() as u64 > NUMBER_WORD_MOST {
-        return Err(TextFault::NoMemory);
+        return Err(TextFault::TooLong);
     }
     let mut items = no_items(alloc);
     let mut part = Part::Title;

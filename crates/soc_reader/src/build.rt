@@ -1,6 +1,8 @@
 // Makes the chip that items say.
-ghost use Rattle.std.specs.Prelude.{◌≡◌, OnOk, IfOk, map, reverse, true};
+ghost use Rattle.std.specs.Prelude.{◌≡◌, OnOk, IfOk, IsOk, map, reverse, nat_eq, true};
+ghost use Rattle.std.specs.List.{list_any};
 ghost use Rattle.soc_model.specs.Chips.{soc_value, module_value};
+ghost use Rattle.soc_model.specs.Lookups.{has_module_number};
 ghost use Rattle.soc_reader.specs.Views.{value_of, item_of, is_known};
 ghost use Rattle.soc_reader.specs.Drafts.{IsNumbered, IsIndexed};
 ghost use Rattle.soc_reader.specs.Meaning.{test_says, module_says, chip_says, says as item_says, tells, at_module as modules_at, with_module as modules_with, chip_of, with_test as tests_with, new_test as test_new, new_module as module_new, at_test as tests_at};
@@ -84,11 +86,12 @@ fn give_test_at(
     }
 }
 
-/// Adds a test where it is new.
+/// Adds a test where it is new. One that is there already takes no memory.
 fn add_test(tests: &mut Vec<Test>, numbers: &mut TestNumbers, number: u64) -> Result<(), NoMemory>
     requires { IsNumbered numbers.old tests.old.items }
     ensures added { OnOk result (tests.new.items ≡ tests_with number tests.old.items) }
     ensures numbered { OnOk result (IsNumbered numbers.new tests.new.items) }
+    ensures known { list_any (nat_eq number) numbers.old.set.keys ≡ true → IsOk result }
 {
     if numbers.set.contains(&number) {
         return Ok(());
@@ -143,7 +146,8 @@ fn give_module(
 
 /// A module that is there already is no fault.
 fn known(fault: PutFault) -> Result<(), NoMemory>
-    ensures { OnOk result (is_known fault ≡ true) }
+    ensures ok { OnOk result (is_known fault ≡ true) }
+    ensures known { is_known fault ≡ true → IsOk result }
 {
     match fault {
         PutFault::Known { .. } => Ok(()),
@@ -151,11 +155,12 @@ fn known(fault: PutFault) -> Result<(), NoMemory>
     }
 }
 
-/// Adds a module where it is new.
+/// Adds a module where it is new. One that is there already is no want of memory.
 fn add_module(alloc: Global, draft: &mut Draft, number: u64) -> Result<(), NoMemory>
     requires { IsIndexed draft.old }
     ensures added { OnOk result (soc_value draft.new.soc ≡ modules_with number (soc_value draft.old.soc)) }
     ensures indexed { OnOk result (IsIndexed draft.new) }
+    ensures known { has_module_number (soc_value draft.old.soc) number ≡ true → IsOk result }
 {
     match draft.soc.put(new_module(alloc, number)) {
         Ok(()) => {}

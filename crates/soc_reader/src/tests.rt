@@ -1,11 +1,12 @@
 use super::*;
 use std::test::Fail;
 
-/// The line that is refused, or 0.
+/// The line that is refused; 0 where a chip is read, and the greatest number where there is another answer.
 fn line_of(alloc: Global, bytes: &[u8]) -> u64 {
     match read_soc(alloc, bytes) {
+        Ok(_) => 0,
         Err(SocFault::Text { line }) => line,
-        _ => 0,
+        Err(_) => u64::MAX,
     }
 }
 
@@ -53,10 +54,13 @@ fn passes_place_data_over(rt: HostRuntime) -> Result<(), Fail> {
 
 #[test]
 fn refuses_lines(rt: HostRuntime) -> Result<(), Fail> {
-    let cases: [(&[u8], u64); 19] = [
+    let cases: [(&[u8], u64); 22] = [
         (WHOLE, 0),
         (b"", 0),
         (b"# no word", 0),
+        (b"Module 1 Test 1 Module 1 Test 1 Power 2", 0),
+        (b"Module 1 a Module 1 a Module 2 a", 0),
+        (b"Module 1 Test 1 Power 2 Module 1 Test 1\nPower 2", 2),
         (
             b"#\n#\n#\n#\n#\n#\n#\nModule 1 ScanChains 4 : 54 53 52\nModule 1 TotalTests 1\n",
             9,
