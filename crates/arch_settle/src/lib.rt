@@ -13,6 +13,3 @@ mod weighing;
 
 pub use settling::{reshuffle, settle};
 pub use steps::{bottom_up, top_down};
-
-#[cfg(test)]
-mod tests;

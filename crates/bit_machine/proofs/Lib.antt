@@ -23,5 +23,4 @@ pub mod PlacedLanes
 pub mod PlacedTests
 pub mod NewChips
 pub mod Stimuli
-pub mod EmptyChip
 pub mod HeldStimuli

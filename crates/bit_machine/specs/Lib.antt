@@ -7,4 +7,3 @@ pub mod Machines
 pub mod WholeChips
 pub mod Building
 pub mod Placed
-pub mod EmptyChips

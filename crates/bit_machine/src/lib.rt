@@ -24,6 +24,3 @@ pub use laws::{
     held_stimuli_stand, responses_are_numbered, responses_have_lengths, stimuli_are_numbered,
 };
 pub use session::Session;
-
-#[cfg(test)]
-mod tests;

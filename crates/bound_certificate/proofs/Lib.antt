@@ -15,4 +15,3 @@ pub mod GreatestSums
 pub mod SumSteps
 pub mod FirstBest
 pub mod WayBack
-pub mod TestChips

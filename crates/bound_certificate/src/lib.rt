@@ -156,6 +156,3 @@ pub fn check_bound(
 {
     check_why(soc, limits, &bound.why, bound.cycles, room)
 }
-
-#[cfg(test)]
-mod tests;

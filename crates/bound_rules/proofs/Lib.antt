@@ -5,4 +5,3 @@ pub mod LeastWidths
 pub mod Areas
 pub mod Energies
 pub mod Naming
-pub mod TestChips

@@ -80,6 +80,3 @@ pub fn pair_bound(soc: &Soc, place: usize, wires: u64) -> Option<u64>
         None => None,
     }
 }
-
-#[cfg(test)]
-mod tests;

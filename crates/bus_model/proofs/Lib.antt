@@ -6,4 +6,3 @@ pub mod Keys
 pub mod Least
 pub mod Starts
 pub mod OneStart
-pub mod TestChips

@@ -28,6 +28,3 @@ pub struct Arch {
     /// The buses, in order.
     pub buses: Vec<ArchBus>,
 }
-
-#[cfg(test)]
-mod tests;

@@ -125,6 +125,3 @@ pub struct Plan {
     /// A lower bound on the cycles of every good plan.
     pub bound: Bound,
 }
-
-#[cfg(test)]
-mod tests;

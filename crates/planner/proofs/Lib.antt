@@ -14,5 +14,4 @@ pub mod SoundJobs
 pub mod Planned
 pub mod Scheduled
 pub mod WholePlans
-mod TestLimits
 mod Rows

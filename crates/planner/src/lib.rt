@@ -12,6 +12,3 @@ mod wrappers;
 
 use outside::NoMemory;
 pub use planning::plan;
-
-#[cfg(test)]
-mod tests;

@@ -161,6 +161,3 @@ impl Soc {
         }
     }
 }
-
-#[cfg(test)]
-mod tests;

@@ -216,6 +216,3 @@ pub fn print_soc(alloc: Global, soc: &Soc) -> Result<Vec<u8>, NoMemory>
     push_modules(&mut text, soc)?;
     Ok(text)
 }
-
-#[cfg(test)]
-mod tests;

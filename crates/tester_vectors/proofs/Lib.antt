@@ -4,4 +4,3 @@ pub mod SameDrive
 pub mod DrivenByText
 pub mod CycleLines
 pub mod Rows
-pub mod TestChips

@@ -110,6 +110,3 @@ pub fn write_vectors<K: Sink>(
         Err(VectorFault::NoMemory) => Outcome::NoMemory,
     }
 }
-
-#[cfg(test)]
-mod tests;

@@ -2,4 +2,3 @@ pub mod Work
 pub mod LeastWidths
 pub mod TableLaws
 pub mod WorkedRows
-pub mod TestChips

@@ -144,6 +144,3 @@ impl<'a> WidthTable<'a> {
         design(alloc, module_at(self.soc, place), scan, chosen)
     }
 }
-
-#[cfg(test)]
-mod tests;

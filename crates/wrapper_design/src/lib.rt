@@ -70,6 +70,3 @@ fn chains_of(
     let outs = module.outputs + module.bidirs;
     build(alloc, &order, flops, ins, outs, width)
 }
-
-#[cfg(test)]
-mod tests;
