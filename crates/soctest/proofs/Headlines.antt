@@ -1,6 +1,6 @@
--- An accepted plan was read from the held files, runs right, and its bound is one.
+-- A plan that is printed or accepted runs right, its bound is one, and it is for the chip and the limits in the held files.
 use Rattle.std.proofs.Common.{◌≡◌, ℕ, ◌≤◌, ◌⊎◌, inl, inr, List, Option, None, Some, Bool, true, false, length, refl, subst}
-use Rattle.std.specs.Prelude.{nat_lt, MatchBool}
+use Rattle.std.specs.Prelude.{nat_lt, MatchBool, IfSome}
 use Rattle.std.specs.FinMap.{get}
 use Rattle.std.proofs.lemmas.Bool.{ltb-false}
 use Rattle.outside.specs.Held.{Files, Appended}
@@ -15,15 +15,21 @@ use Rattle.plan_text.specs.Answers.{SaysPlan}
 use Rattle.soctest.specs.declared.FileKind.{FileKind}
 use Rattle.soctest.specs.declared.FileKind.TheVariants.{Soc, Limits, Plan}
 use Rattle.soctest.specs.declared.Status.{Status}
-use Rattle.soctest.specs.declared.Status.TheVariants.{Done, Refused, TooLong}
+use Rattle.soctest.specs.declared.Status.TheVariants.{Done, Refused, BadWords, TooLong}
+use Rattle.soctest.specs.declared.Verdict.TheVariants.{Answered}
+use Rattle.soctest.specs.Decides.{Suits, Decides}
+use Rattle.std.specs.Global.{Vec}
 use Rattle.planner.specs.Plans.{IsPlanned}
 use Rattle.plan_text.specs.PlanLines.{plan_text}
-use Rattle.soctest.specs.Commands.{CommandValue, MakePlan, Check}
-use Rattle.soctest.specs.Texts.{too_long_line, accepted_line}
+use Rattle.chart.specs.ChartText.{chart_text}
+use Rattle.bit_machine.specs.Chips.{made_content}
+use Rattle.tester_vectors.specs.VectorText.{vector_text}
+use Rattle.soctest.specs.Commands.{CommandValue, Print, Widths, MakePlan, Check, Chart, Vectors}
+use Rattle.soctest.specs.Texts.{too_long_line, bad_words_line, accepted_line}
 use Rattle.soctest.specs.Readings.{most_of, IsRead, RefusesChip, SaysLimits, RefusesLimits, SaysAccepted, RefusesPlan}
-use Rattle.soctest.specs.Procedures.{Procedure, with_limits, with_accepted, with_both, done_with, done_with_plan}
+use Rattle.soctest.specs.Procedures.{Procedure, Unless, with_limits, with_accepted, with_both, with_all, done_with, done_with_plan, run_refusal}
 use Rattle.soctest.specs.Answers.{Stage, Answers, IsAnswer}
-use Rattle.soctest.specs.Ends.{MayAnswer, Ends, IsTrustworthy, IsTrustworthyPlan, Headline, PlanHeadline}
+use Rattle.soctest.specs.Ends.{MayAnswer, Ends, PlanUse, plan_use, IsTrustworthy, Headline, SaysBadWords}
 
 -- a stage that ends with Done has read its file
 stage_done : {V : Type 0} (file : FileKind) (Says : List ℕ → V → Type 0) (Refuses : List ℕ → List ℕ → Type 0) (Next : V → Status → List ℕ → Type 0) (held : Option (List ℕ)) (text : List ℕ) → Stage file Says Refuses Next held Done text → (v : V) × IsRead file Says held v × Next v Done text
@@ -51,13 +57,20 @@ after_both files soc limits text next answer =
     let b = stage_done Limits (SaysLimits a.0) (RefusesLimits a.0) (λ bounds. Answers (next a.0 bounds) files) (get files limits) text a.2 in
     (a.0, b.0, a.1, b.1, b.2)
 
-trusted : Laws → (files : Files) (soc limits plan : List ℕ) (text : List ℕ) (old new : Option (List ℕ)) → IsAnswer (Some (Check soc limits plan)) files Done text → Appended old text new → IsTrustworthy files soc limits plan old new
-trusted laws files soc limits plan text old new answer put =
-    let b = after_both files soc limits text (λ chip bounds. with_accepted chip bounds plan (λ value. done_with (accepted_line value))) answer in
-    let c = stage_done Plan (SaysAccepted b.0 b.1) (RefusesPlan b.0 b.1) (λ value. Answers (done_with (accepted_line value)) files) (get files plan) text b.4 in
-    go b.0 b.1 c.0 b.2 b.3 c.1 c.2.1
+-- the use of a plan that is read from a file
+abbrev from_file : (soc limits plan : List ℕ) → (SocValue → PlanValue → List ℕ) → PlanUse
+from_file soc limits plan text_of = record { soc = soc; limits = limits; plan = Some plan; text = text_of }
+
+-- an accepted plan, of which a command writes a text
+accepted : Laws → (files : Files) (soc limits plan : List ℕ) (text_of : SocValue → PlanValue → List ℕ) (next : SocValue → LimitsValue → PlanValue → Procedure) →
+    ((chip : SocValue) (bounds : LimitsValue) (value : PlanValue) (text : List ℕ) → Answers (next chip bounds value) files Done text → text ≡ text_of chip value) →
+    (text : List ℕ) (old new : Option (List ℕ)) → Answers (with_all soc limits plan next) files Done text → Appended old text new → IsTrustworthy files (from_file soc limits plan text_of) old new
+accepted laws files soc limits plan text_of next writes text old new answer put =
+    let b = after_both files soc limits text (λ chip bounds. with_accepted chip bounds plan (next chip bounds)) answer in
+    let c = stage_done Plan (SaysAccepted b.0 b.1) (RefusesPlan b.0 b.1) (λ value. Answers (next b.0 b.1 value) files) (get files plan) text b.4 in
+    go b.0 b.1 c.0 b.2 b.3 c.1 (writes b.0 b.1 c.0 text c.2)
   where
-    go : (chip : SocValue) (bounds : LimitsValue) (value : PlanValue) → IsRead Soc SaysChip (get files soc) chip → IsRead Limits (SaysLimits chip) (get files limits) bounds → IsRead Plan (SaysAccepted chip bounds) (get files plan) value → text ≡ accepted_line value → IsTrustworthy files soc limits plan old new
+    go : (chip : SocValue) (bounds : LimitsValue) (value : PlanValue) → IsRead Soc SaysChip (get files soc) chip → IsRead Limits (SaysLimits chip) (get files limits) bounds → IsRead Plan (SaysAccepted chip bounds) (get files plan) value → text ≡ text_of chip value → IsTrustworthy files (from_file soc limits plan text_of) old new
     go chip bounds value a b c is = record {
       chip = chip;
       bounds = bounds;
@@ -70,31 +83,58 @@ trusted laws files soc limits plan text old new answer put =
       written = subst (λ t. Appended old t new) is put;
     }
 
-trusted_plan : Laws → (files : Files) (soc limits : List ℕ) (text : List ℕ) (old new : Option (List ℕ)) → IsAnswer (Some (MakePlan soc limits)) files Done text → Appended old text new → IsTrustworthyPlan files soc limits old new
-trusted_plan laws files soc limits text old new answer put =
+-- the planner's plan, whose text is written
+printed : Laws → (files : Files) (soc limits : List ℕ) (text : List ℕ) (old new : Option (List ℕ)) → Answers (with_both soc limits done_with_plan) files Done text → Appended old text new → IsTrustworthy files (record { soc = soc; limits = limits; plan = None; text = λ chip value. plan_text value }) old new
+printed laws files soc limits text old new answer put =
     let b = after_both files soc limits text done_with_plan answer in
     go b.0 b.1 b.4.1.0 b.2 b.3 b.4.1.1 b.4.1.2
   where
-    go : (chip : SocValue) (bounds : LimitsValue) (value : PlanValue) → IsRead Soc SaysChip (get files soc) chip → IsRead Limits (SaysLimits chip) (get files limits) bounds → IsPlanned chip bounds value → text ≡ plan_text value → IsTrustworthyPlan files soc limits old new
+    go : (chip : SocValue) (bounds : LimitsValue) (value : PlanValue) → IsRead Soc SaysChip (get files soc) chip → IsRead Limits (SaysLimits chip) (get files limits) bounds → IsPlanned chip bounds value → text ≡ plan_text value → IsTrustworthy files (record { soc = soc; limits = limits; plan = None; text = λ chip value. plan_text value }) old new
     go chip bounds value a b planned is = record {
       chip = chip;
       bounds = bounds;
       value = value;
       chip_read = a;
       limits_read = b;
+      plan_read = tt;
       right = λ content. laws.right chip bounds value content planned.good;
       bound = laws.bound chip bounds value.bound b.says.sound.some_wire planned.accepted;
       written = subst (λ t. Appended old t new) is put;
     }
 
-pub plan_headline : Laws → (command : Option CommandValue) (held : Option Files) (sb sa kb ka : ℕ) (old new : Option (List ℕ)) (end : Status) → Ends (MayAnswer command held sb sa) kb ka old end new → PlanHeadline command held old end new
-plan_headline laws command held sb sa kb ka old new end ends files soc limits is names done =
-    let ends' = rw done at ends in
-    let answer = rw (is, names) at ends'.1 in
-    trusted_plan laws files soc limits ends'.0 old new answer ends'.2
+-- the vectors of a run that isn't refused
+not_refused : (files : Files) (refusal : Option (List ℕ)) (vectors text : List ℕ) → Answers (Unless refusal (done_with vectors)) files Done text → text ≡ vectors
+not_refused files None vectors text answer = answer.1
+not_refused files (Some line) vectors text answer = let wrong : Done ≡ Refused = answer.0 in absurd cc
+
+some_one : (a b : PlanUse) → Some a ≡ Some b → a ≡ b
+some_one a b same = cc
+
+-- each command over a plan
+trusted : Laws → (files : Files) (command : CommandValue) (over : PlanUse) (text : List ℕ) (old new : Option (List ℕ)) → plan_use command ≡ Some over → IsAnswer (Some command) files Done text → Appended old text new → IsTrustworthy files over old new
+trusted laws files (Print soc) over text old new is answer put = absurd cc
+trusted laws files (Widths soc wires) over text old new is answer put = absurd cc
+trusted laws files (MakePlan soc limits) over text old new is answer put = subst (λ u. IsTrustworthy files u old new) (some_one _ _ is) (printed laws files soc limits text old new answer put)
+trusted laws files (Check soc limits plan) over text old new is answer put =
+    subst (λ u. IsTrustworthy files u old new) (some_one _ _ is)
+    (accepted laws files soc limits plan (λ chip value. accepted_line value) (λ chip bounds value. done_with (accepted_line value)) (λ chip bounds value text a. a.1) text old new answer put)
+trusted laws files (Chart soc limits plan) over text old new is answer put =
+    subst (λ u. IsTrustworthy files u old new) (some_one _ _ is)
+    (accepted laws files soc limits plan chart_text (λ chip bounds value. done_with (chart_text chip value)) (λ chip bounds value text a. a.1) text old new answer put)
+trusted laws files (Vectors soc limits plan seed) over text old new is answer put =
+    subst (λ u. IsTrustworthy files u old new) (some_one _ _ is)
+    (accepted laws files soc limits plan (λ chip value. vector_text chip value (made_content chip seed)) (λ chip bounds value. Unless (run_refusal value) (done_with (vector_text chip value (made_content chip seed))))
+    (λ chip bounds value text a. not_refused files (run_refusal value) (vector_text chip value (made_content chip seed)) text a) text old new answer put)
 
 pub headline : Laws → (command : Option CommandValue) (held : Option Files) (sb sa kb ka : ℕ) (old new : Option (List ℕ)) (end : Status) → Ends (MayAnswer command held sb sa) kb ka old end new → Headline command held old end new
-headline laws command held sb sa kb ka old new end ends files soc limits plan is names done =
+headline laws command held sb sa kb ka old new end ends files given over is names of_plan done =
     let ends' = rw done at ends in
     let answer = rw (is, names) at ends'.1 in
-    trusted laws files soc limits plan ends'.0 old new answer ends'.2
+    trusted laws files given over ends'.0 old new of_plan answer ends'.2
+
+-- ---- words that are no command
+
+-- what is decided to be BadWords is its line
+pub bad_words : (command : Option CommandValue) (held : Option Files) (sb sa : ℕ) (status : Status) (text : Vec ℕ) → Decides command held sb sa (Answered status text) → status ≡ BadWords → text.items ≡ bad_words_line
+bad_words None held sb sa status text decides bad = decides.1
+bad_words (Some command) held sb sa status text decides bad = let suits : Suits BadWords text.items = subst (λ s. Suits s text.items) bad decides.0 in absurd suits

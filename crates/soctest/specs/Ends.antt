@@ -15,8 +15,11 @@ use Rattle.soctest.specs.declared.Status.TheVariants.{Done, Refused, BadWords, R
 use Rattle.soctest.specs.Commands.{CommandValue, Print, Widths, MakePlan, Check, Chart, Vectors}
 use Rattle.plan_text.specs.Answers.{SaysPlan}
 use Rattle.plan_text.specs.PlanLines.{plan_text}
+use Rattle.chart.specs.ChartText.{chart_text}
+use Rattle.bit_machine.specs.Chips.{made_content}
+use Rattle.tester_vectors.specs.VectorText.{vector_text}
 use Rattle.soctest.specs.Procedures.{Procedure, Read, Unless, Answer, procedure_of}
-use Rattle.soctest.specs.Texts.{is_line, unread_line, accepted_line}
+use Rattle.soctest.specs.Texts.{is_line, unread_line, bad_words_line, accepted_line}
 use Rattle.soctest.specs.Readings.{IsRead, SaysLimits}
 use Rattle.soctest.specs.Answers.{IsAnswer}
 use Rattle.soctest.specs.Decides.{IsUnreadOf}
@@ -88,38 +91,42 @@ Finishes None held shelf_failed sink_failed end = Unit {0}
 Finishes (Some command) held shelf_failed sink_failed end =
     (files : Files) → held ≡ Some files → ¬ shelf_failed → ¬ sink_failed → AreTaken (procedure_of command) files → (end ≡ Done) ⊎ (end ≡ NoMemory)
 
--- What an accepted plan is: it was read from the held files, it runs right for every content and ends in exactly the
--- cycles that were written, and no good plan of the chip under the limits ends before the bound that was written.
-pub record IsTrustworthy (files : Files) (soc limits plan : List ℕ) (old new : Option (List ℕ)) : Type 0 where
+-- What a command writes of a plan: the names of the files of the chip and the limits, that of the plan where it is read from a
+-- file (the planner makes it where none is named), and the text that is written of it.
+pub record PlanUse : Type 0 where
+  pub soc : List ℕ
+  pub limits : List ℕ
+  pub plan : Option (List ℕ)
+  pub text : SocValue → PlanValue → List ℕ
+
+-- the commands over a plan that is printed or accepted
+abbrev pub plan_use : CommandValue → Option PlanUse
+plan_use (Print soc) = None
+plan_use (Widths soc wires) = None
+plan_use (MakePlan soc limits) = Some (record { soc = soc; limits = limits; plan = None; text = λ chip value. plan_text value })
+plan_use (Check soc limits plan) = Some (record { soc = soc; limits = limits; plan = Some plan; text = λ chip value. accepted_line value })
+plan_use (Chart soc limits plan) = Some (record { soc = soc; limits = limits; plan = Some plan; text = λ chip value. chart_text chip value })
+plan_use (Vectors soc limits plan seed) = Some (record { soc = soc; limits = limits; plan = Some plan; text = λ chip value. vector_text chip value (made_content chip seed) })
+
+-- What a plan is that is printed or accepted: the chip and the limits that it is for were read from the held files, and so was
+-- the plan where a file is named for it; it runs right for every content and ends in exactly the cycles that it states; no
+-- good plan of the chip under the limits ends before its bound; and its text was written.
+pub record IsTrustworthy (files : Files) (over : PlanUse) (old new : Option (List ℕ)) : Type 0 where
   pub chip : SocValue
   pub bounds : LimitsValue
   pub value : PlanValue
-  pub chip_read : IsRead Soc SaysChip (get files soc) chip
-  pub limits_read : IsRead Limits (SaysLimits chip) (get files limits) bounds
-  pub plan_read : IsRead Plan SaysPlan (get files plan) value
+  pub chip_read : IsRead Soc SaysChip (get files over.soc) chip
+  pub limits_read : IsRead Limits (SaysLimits chip) (get files over.limits) bounds
+  pub plan_read : IfSome over.plan (λ name. IsRead Plan SaysPlan (get files name) value)
   pub right : (content : Content) → IsRight chip bounds value content
   pub bound : IsBound chip bounds value.bound.cycles
-  pub written : Appended old (accepted_line value) new
+  pub written : Appended old (over.text chip value) new
 
--- What a printed plan is: it was made for a chip and limits that were read from the held files, it runs right for every
--- content and ends in exactly the cycles that it states, and no good plan of the chip under the limits ends before its
--- bound. Its text was written.
-pub record IsTrustworthyPlan (files : Files) (soc limits : List ℕ) (old new : Option (List ℕ)) : Type 0 where
-  pub chip : SocValue
-  pub bounds : LimitsValue
-  pub value : PlanValue
-  pub chip_read : IsRead Soc SaysChip (get files soc) chip
-  pub limits_read : IsRead Limits (SaysLimits chip) (get files limits) bounds
-  pub right : (content : Content) → IsRight chip bounds value content
-  pub bound : IsBound chip bounds value.bound.cycles
-  pub written : Appended old (plan_text value) new
-
--- The headline for plans that are printed, where the shelf tells what it holds.
-abbrev pub PlanHeadline : Option CommandValue → Option Files → Option (List ℕ) → Status → Option (List ℕ) → Type 0
-PlanHeadline command held old end new =
-    (files : Files) (soc limits : List ℕ) → held ≡ Some files → command ≡ Some (MakePlan soc limits) → end ≡ Done → IsTrustworthyPlan files soc limits old new
-
--- The headline for plans that are accepted.
+-- The headline, for each command over a plan, where the shelf tells what it holds.
 abbrev pub Headline : Option CommandValue → Option Files → Option (List ℕ) → Status → Option (List ℕ) → Type 0
 Headline command held old end new =
-    (files : Files) (soc limits plan : List ℕ) → held ≡ Some files → command ≡ Some (Check soc limits plan) → end ≡ Done → IsTrustworthy files soc limits plan old new
+    (files : Files) (given : CommandValue) (over : PlanUse) → held ≡ Some files → command ≡ Some given → plan_use given ≡ Some over → end ≡ Done → IsTrustworthy files over old new
+
+-- BadWords comes with its line, also where the shelf tells nothing.
+abbrev pub SaysBadWords : Option (List ℕ) → Status → Option (List ℕ) → Type 0
+SaysBadWords old end new = end ≡ BadWords → Appended old bad_words_line new

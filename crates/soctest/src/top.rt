@@ -2,7 +2,7 @@
 ghost use Rattle.std.specs.Prelude.{◌≡◌, ◌≤◌, None, map, string_bytes};
 ghost use Rattle.outside.specs.Held.{Rose};
 ghost use Rattle.soctest.specs.Commands.{command_of};
-ghost use Rattle.soctest.specs.Ends.{MayAnswer, Ends, OneLine, EndsByWords, Complete, Finishes, Headline, PlanHeadline};
+ghost use Rattle.soctest.specs.Ends.{MayAnswer, Ends, OneLine, EndsByWords, Complete, Finishes, SaysBadWords, Headline};
 
 use crate::deciding::decide;
 use crate::lines::unread_line;
@@ -37,8 +37,9 @@ pub fn soctest<H: Shelf, K: Sink>(
 
     ensures finishes { Finishes (command_of (map string_bytes words.now)) (H.held shelf.old) (Rose (H.faults shelf.old) (H.faults shelf.new)) (Rose (K.faults out.old) (K.faults out.new)) result }
 
-    // The headline: what is printed or accepted runs right, and its bound is one.
-    ensures plans { PlanHeadline (command_of (map string_bytes words.now)) (H.held shelf.old) (K.written out.old) result (K.written out.new) }
+    ensures bad_words { SaysBadWords (K.written out.old) result (K.written out.new) }
+
+    // The headline: a plan that is printed or accepted, by any command, runs right, and its bound is one.
     ensures headline { Headline (command_of (map string_bytes words.now)) (H.held shelf.old) (K.written out.old) result (K.written out.new) }
 {
     good_plans_run_right();

@@ -1,7 +1,9 @@
 use Rattle.soctest.specs.declared.Status.TheVariants.{ReadFault}
 use Rattle.soctest.proofs.FileStages.{unread_of, answer_of, ends_answered}
 use Rattle.soctest.proofs.Completeness.{complete, finishes}
-use Rattle.soctest.proofs.Headlines.{headline, plan_headline}
+use Rattle.std.proofs.Common.{subst}
+use Rattle.outside.specs.Held.{Appended}
+use Rattle.soctest.proofs.Headlines.{headline, bad_words}
 use Rattle.soctest.proofs.top.soctest.Goals as goal
 
 pub returns-in-Ok-clause-ends : goal.returns-in-Ok-clause-ends
@@ -46,8 +48,7 @@ returns-in-Ok-put_all-clause-finishes g c =
     finishes (record { reading = c.texts_have_one_answer.ensures; one_plan = c.say_one_plan.ensures; not_refused = c.plans_are_not_refused.ensures; refused_once = c.refused_once.ensures; one_fault = c.faults_are_exact.ensures.one; no_fault = c.faults_are_exact.ensures.none }) _ _ (g.H.Shelf.faults c.args.shelf.now) (g.H.Shelf.faults c.decide.new.shelf) (g.K.Sink.faults c.args.out.now) (g.K.Sink.faults c.put_all-in-CannotRead.new.out) _ _ ReadFault
     (c.unread_line.result.now, (c.in-CannotRead.file, c.unread_line.ensures.text, unread_of _ _ _ _ c.in-CannotRead.file c.in-CannotRead.ensures.decides), c.in-Ok-put_all.ensures.all)
 
-pub returns-in-Ok-clause-plans : goal.returns-in-Ok-clause-plans
-returns-in-Ok-clause-plans g c =
+pub returns-in-Ok-clause-bad_words : goal.returns-in-Ok-clause-bad_words
+returns-in-Ok-clause-bad_words g c =
     let all = rw c.as_slice.ensures.value at c.in-Ok.ensures.all in
-    plan_headline (record { right = c.good_plans_run_right.ensures; bound = c.certificates_are_bounds.ensures.accepted }) _ _ (g.H.Shelf.faults c.args.shelf.now) (g.H.Shelf.faults c.decide.new.shelf) (g.K.Sink.faults c.args.out.now) (g.K.Sink.faults c.put_all.new.out) _ _ c.in-Answered.status
-    (ends_answered _ _ _ _ _ _ _ _ c.in-Answered.status c.in-Answered.text.items (answer_of _ _ _ _ c.in-Answered.status c.in-Answered.text c.in-Answered.ensures.decides) all)
+    λ bad. subst (λ t. Appended (g.K.Sink.written c.args.out.now) t (g.K.Sink.written c.put_all.new.out)) (bad_words _ _ _ _ c.in-Answered.status c.in-Answered.text c.in-Answered.ensures.decides bad) all
