@@ -3,7 +3,9 @@ use Rattle.std.specs.Prelude.{◌≡◌, ℕ, List, Result}
 use Rattle.plan_model.specs.declared.Plan.{Plan}
 use Rattle.plan_model.specs.Plans.{PlanValue}
 use Rattle.plan_text.specs.PlanLines.{plan_text}
-use Rattle.plan_text.specs.Grammar.{Word, IsPlanText, InGrammar, RefusedAt, IsInRange}
+use Rattle.outside.specs.Words.{Word}
+use Rattle.outside.specs.Grammars.{RefusedAt}
+use Rattle.plan_text.specs.Grammar.{IsPlanText, InGrammar, IsInRange}
 use Rattle.plan_text.specs.declared.PlanTextFault.{PlanTextFault}
 use Rattle.plan_text.specs.Answers.{SaysPlan, PlanRead, IsAnswer}
 
@@ -13,11 +15,11 @@ SayOnePlan = (ws : List Word) (a b : PlanValue) → IsPlanText ws a → IsPlanTe
 
 -- words that are the text of a plan are refused at no line
 abbrev pub PlansAreNotRefused : Type 0
-PlansAreNotRefused = (ws : List Word) (end line : ℕ) → InGrammar ws → RefusedAt ws end line → ⊥
+PlansAreNotRefused = (ws : List Word) (end line : ℕ) → InGrammar ws → RefusedAt InGrammar ws end line → ⊥
 
 -- words are refused at no more than one line
 abbrev pub RefusedOnce : Type 0
-RefusedOnce = (ws : List Word) (end a b : ℕ) → RefusedAt ws end a → RefusedAt ws end b → a ≡ b
+RefusedOnce = (ws : List Word) (end a b : ℕ) → RefusedAt InGrammar ws end a → RefusedAt InGrammar ws end b → a ≡ b
 
 -- the printed text of a plan in the grammar's range says that plan
 abbrev pub PrintedPlansAreRead : Type 0

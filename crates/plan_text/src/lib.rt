@@ -31,6 +31,3 @@ pub enum PlanTextFault {
     #[error("out of memory while the plan's text was read")]
     NoMemory,
 }
-
-#[cfg(test)]
-mod tests;

