@@ -10,7 +10,7 @@ use Rattle.soc_reader.specs.Table.{Item}
 use Rattle.outside.specs.Grammars.{IsRefused}
 use Rattle.soc_reader.specs.Grammar.{IsText, InGrammar}
 use Rattle.soc_reader.specs.Meaning.{chip_of, first_wrong}
-use Rattle.soc_reader.specs.ChipForm.{SaysModules}
+use Rattle.soc_reader.specs.ChipForm.{SaysModules, SaysChip}
 
 -- The words of the bytes are items, and the first of their totals that does not agree stands on this line.
 pub record HasWrongTotal (bytes : List ℕ) (line : ℕ) : Type 0 where
@@ -33,3 +33,7 @@ abbrev pub Refuses : List ℕ → SocFault → Type 0
 Refuses bytes (Text line) = IsRefusedLine bytes line
 Refuses bytes (Limit which value) = IsTooLarge bytes (record { which = which; value = value })
 Refuses bytes NoMemory = Unit {0}
+
+-- The bytes say a chip, or are refused at a line, or pass a limit.
+abbrev pub HasAnswer : List ℕ → Type 0
+HasAnswer bytes = ((soc : SocValue) × SaysChip bytes soc) ⊎ (((line : ℕ) × IsRefusedLine bytes line) ⊎ ((limit : SocLimit) × IsTooLarge bytes limit))

@@ -6,7 +6,7 @@ ghost use Rattle.soc_model.specs.declared.SocLimit.{SocLimit};
 ghost use Rattle.soc_model.specs.Chips.{SocValue, soc_value};
 ghost use Rattle.soc_model.specs.SoundChips.{IsSoundChip};
 ghost use Rattle.soc_reader.specs.ChipForm.{SaysChip};
-ghost use Rattle.soc_reader.specs.Refusals.{IsRefusedLine, IsTooLarge, Refuses};
+ghost use Rattle.soc_reader.specs.Refusals.{IsRefusedLine, IsTooLarge, Refuses, HasAnswer};
 
 mod build;
 mod collect;
@@ -73,4 +73,9 @@ pub fn texts_have_one_answer()
     ensures chip_or_line { (bytes : List ℕ) (soc : SocValue) (line : ℕ) → SaysChip bytes soc → IsRefusedLine bytes line → ⊥ }
     ensures chip_or_limit { (bytes : List ℕ) (soc : SocValue) (limit : SocLimit) → SaysChip bytes soc → IsTooLarge bytes limit → ⊥ }
     ensures limit_or_line { (bytes : List ℕ) (limit : SocLimit) (line : ℕ) → IsTooLarge bytes limit → IsRefusedLine bytes line → ⊥ }
+{}
+
+/// Each text has an answer: it says a chip, or is refused at a line, or passes a limit.
+pub fn each_text_has_an_answer()
+    ensures { (bytes : List ℕ) → HasAnswer bytes }
 {}
