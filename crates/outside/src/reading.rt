@@ -1,9 +1,11 @@
 // Reads whole texts, word by word.
-ghost use Rattle.std.specs.Prelude.{◌++◌, ◌∷◌, ◌≤◌, ℕ, List, [], length};
+ghost use Rattle.std.specs.Prelude.{◌≡◌, ◌++◌, ◌∷◌, ◌≤◌, ℕ, List, [], length};
 ghost use Rattle.outside.specs.Words.{Word as ReadWord};
 ghost use Rattle.outside.specs.Grammars.{Steps, Ends, IsRead};
 
+use crate::NoMemory;
 use crate::words::{Word, Words, end_line};
+use std::alloc::AllocFailed;
 
 /// Why a reader stopped.
 #[derive(Clone, Copy, PartialEq, Eq, Debug)]
@@ -12,6 +14,26 @@ pub enum Stop {
     Refused,
     /// There was no memory.
     NoMemory,
+}
+
+impl From<NoMemory> for Stop {
+    ghost use Rattle.outside.specs.declared.reading.Stop.TheVariants.{NoMemory};
+
+    ghost from_gives = { λ _ stop. stop ≡ NoMemory };
+
+    fn from(_want: NoMemory) -> Stop {
+        Stop::NoMemory
+    }
+}
+
+impl<T: Drop> From<AllocFailed<T>> for Stop {
+    ghost use Rattle.outside.specs.declared.reading.Stop.TheVariants.{NoMemory};
+
+    ghost from_gives = { λ _ stop. stop ≡ NoMemory };
+
+    fn from(_failed: AllocFailed<T>) -> Stop {
+        Stop::NoMemory
+    }
 }
 
 /// Why a text was not read.
