@@ -10,8 +10,10 @@ use Rattle.plan_model.specs.declared.TheConstants.{STEPS_MOST}
 use Rattle.plan_model.specs.SoundLimits.{Grow}
 use Rattle.limits_text.specs.declared.items.Amount.{Amount}
 use Rattle.limits_text.specs.declared.items.Naming.TheVariants.{First, Profiled}
-use Rattle.limits_text.specs.Items.{Word, number, Item, amount_item, before_item, profile_item, ArePairs, AreSteps}
-use Rattle.limits_text.specs.Grammar.{AmountComes, BeforeComes, ProfileComes, Comes, AreItems, form_number, IsText, Viable}
+use Rattle.outside.specs.Words.{Word}
+use Rattle.limits_text.specs.Items.{number, Item, amount_item, before_item, profile_item, ArePairs, AreSteps}
+use Rattle.outside.specs.Grammars.{Viable}
+use Rattle.limits_text.specs.Grammar.{AmountComes, BeforeComes, ProfileComes, Comes, AreItems, form_number, IsText, InGrammar}
 use Rattle.limits_text.specs.Steps.{Part, title, version, between, wants, module_for, test_for, steps_for, power_for, State, start, at, last_from, may_follow, begin, step_at, step, step_from, run, ended_at, ended}
 use Rattle.limits_text.proofs.WordFacts.{key_no_number}
 
@@ -138,5 +140,5 @@ front_read o a b form items is = by_cases (run o a) refl
         absurd (rw none at is)
 
 -- what is viable is read so far
-pub viable_read : (ws : List Word) → Viable ws → (s : State) × (run (Some start) ws ≡ Some s)
+pub viable_read : (ws : List Word) → Viable InGrammar ws → (s : State) × (run (Some start) ws ≡ Some s)
 viable_read ws v = front_read (Some start) ws v.0 v.1.0 v.1.1 (text_read v.1.0 v.1.1 (ws ++ v.0) v.1.2)

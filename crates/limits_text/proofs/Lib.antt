@@ -16,8 +16,6 @@ pub mod Reading
 pub mod PrintedWords
 pub mod Printing
 pub mod PrintedTexts
-pub mod WordCounts
-pub mod Refused
 pub mod PowersWithin
 pub mod OneCycle
 pub mod OneAnswer

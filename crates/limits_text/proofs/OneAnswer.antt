@@ -7,15 +7,16 @@ use Rattle.plan_model.specs.Plans.{LimitsValue}
 use Rattle.plan_model.specs.Views.{limits_value}
 use Rattle.plan_model.specs.SoundLimits.{IsAcyclic}
 use Rattle.limits_text.specs.declared.LimFault.TheVariants as fault
-use Rattle.limits_text.specs.Grammar.{RefusedAt}
+use Rattle.outside.specs.Grammars.{IsRefused, last_line}
+use Rattle.limits_text.specs.Grammar.{InGrammar}
 use Rattle.limits_text.specs.Meaning.{first_unknown, test_power}
 use Rattle.limits_text.specs.Cycles.{IsCycleOf}
-use Rattle.limits_text.specs.Answers.{last_line, SaysLimits, SaysKnown, AreReadLimits, NamesUnknown, HasCycle, PassesPower, read_as, refused_line, unknown_line, shown_cycle, passing_power}
+use Rattle.limits_text.specs.Answers.{SaysLimits, SaysKnown, AreReadLimits, NamesUnknown, HasCycle, PassesPower, read_as, refused_line, unknown_line, shown_cycle, passing_power}
 use Rattle.limits_text.specs.Laws.{TextsHaveOneAnswer, TextsAreAnswered}
 use Rattle.limits_text.proofs.Complete.{some_same}
 use Rattle.limits_text.proofs.Viable.{one_text}
 use Rattle.limits_text.proofs.PowersWithin.{none_passes}
-use Rattle.limits_text.proofs.Refused.{refused_once, not_refused}
+use Rattle.outside.proofs.Refusals.{refused_once, not_refused}
 use Rattle.limits_text.proofs.CycleTests.{ranked}
 use Rattle.limits_text.proofs.OneCycle.{one_cycle_of, no_ranked_cycle}
 use Rattle.limits_text.proofs.Reading.{one_limits, one_unknown}
@@ -62,8 +63,8 @@ one_power bytes soc s t m n x y =
 -- ---- of any text
 
 -- a text that says limits is refused at no line
-said_or_line : (bytes : List ℕ) (limits : LimitsValue) (line : ℕ) → SaysLimits bytes limits → RefusedAt (words_of bytes) (last_line bytes) line → ⊥
-said_or_line bytes limits line says refused = not_refused (words_of bytes) (last_line bytes) line (says.form, says.items, says.text) refused
+said_or_line : (bytes : List ℕ) (limits : LimitsValue) (line : ℕ) → SaysLimits bytes limits → IsRefused InGrammar bytes line → ⊥
+said_or_line bytes limits line says refused = not_refused InGrammar (words_of bytes) (last_line bytes) line (says.form, says.items, says.text) refused
 
 pub one_reading : TextsHaveOneAnswer
 one_reading bytes soc (read_as a) (read_as b) x y = ap read_as (one_known bytes soc a b x.said y.said)
@@ -72,7 +73,7 @@ one_reading bytes soc (read_as a) (unknown_line n) x y = absurd (known_or_not by
 one_reading bytes soc (read_as a) (shown_cycle tests) x y = absurd (limits_or_cycle bytes soc a tests x y)
 one_reading bytes soc (read_as a) (passing_power t n) x y = absurd (limits_or_power bytes soc a t n x y)
 one_reading bytes soc (refused_line m) (read_as b) x y = absurd (said_or_line bytes b m y.said.says x)
-one_reading bytes soc (refused_line m) (refused_line n) x y = ap refused_line (refused_once (words_of bytes) (last_line bytes) m n x y)
+one_reading bytes soc (refused_line m) (refused_line n) x y = ap refused_line (refused_once InGrammar (words_of bytes) (last_line bytes) m n x y)
 one_reading bytes soc (refused_line m) (unknown_line n) x y = absurd (said_or_line bytes y.limits m y.says x)
 one_reading bytes soc (refused_line m) (shown_cycle tests) x y = absurd (said_or_line bytes y.limits m y.said.says x)
 one_reading bytes soc (refused_line m) (passing_power t n) x y = absurd (said_or_line bytes y.limits m y.said.says x)

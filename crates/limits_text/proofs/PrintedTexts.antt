@@ -7,7 +7,7 @@ use Rattle.std.proofs.lemmas.Bool.Decides.{nat_tests}
 use Rattle.std.proofs.lemmas.List.Elements.{All-head, All-tail, All-get_or}
 use Rattle.std.proofs.lemmas.List.Quantifiers.{position-Some}
 use Rattle.std.proofs.lemmas.Option.{slice_get-get_or, slice_get_within, get_or_from_slice_get}
-use Rattle.outside.specs.Words.{words_left, words_of, AllInWord}
+use Rattle.outside.specs.Words.{words_left, words_of, AllInWord, Word}
 use Rattle.soc_model.specs.declared.Test.{Test}
 use Rattle.soc_model.specs.declared.TestId.{TestId}
 use Rattle.soc_model.specs.declared.TheConstants.{NUMBER_WORD_MOST, POWER_MOST}
@@ -21,7 +21,7 @@ use Rattle.plan_model.specs.Plans.{ProfileValue, LimitsValue}
 use Rattle.plan_model.specs.SoundLimits.{HasTest, IsSoundProfile, IsSoundLimits}
 use Rattle.plan_model.proofs.Lists.{in_append_right, in_flat_map}
 use Rattle.limits_text.specs.declared.items.Amount.TheVariants.{Wires, Power, Budget}
-use Rattle.limits_text.specs.Items.{Word, is_in_range, Item, amount_item, has_amount}
+use Rattle.limits_text.specs.Items.{is_in_range, Item, amount_item, has_amount}
 use Rattle.limits_text.specs.Grammar.{AreItems, form_number}
 use Rattle.limits_text.specs.Meaning.{limits_of}
 use Rattle.limits_text.specs.Answers.{SaysLimits}

@@ -1,12 +1,12 @@
 -- The words of printed limits.
 use Rattle.std.proofs.Common.{◌≡◌, ℕ, ◌+◌, ◌<◌, ◌≤◌, ◌^◌, List, [], ◌∷◌, ◌++◌, length, codes, decimal, refl, ◌∙◌, ap, arith, append_assoc}
 use Rattle.std.proofs.lemmas.Fmt.{decimal_nonempty}
-use Rattle.outside.specs.Words.{words_left, AllInWord, IsEnd}
+use Rattle.outside.specs.Words.{words_left, AllInWord, IsEnd, Word}
 use Rattle.outside.proofs.DecimalLemmas.{decimal_in_word}
 use Rattle.outside.proofs.WordLemmas.{first_word}
 use Rattle.soc_model.specs.declared.TestId.{TestId}
 use Rattle.soc_model.specs.declared.TheConstants.{NUMBER_WORD_MOST}
-use Rattle.limits_text.specs.Items.{Word, NamesTest, ArePairs}
+use Rattle.limits_text.specs.Items.{NamesTest, ArePairs}
 use Rattle.limits_text.specs.Texts.{field, test_fields, number_line, before_line, step_fields}
 use Rattle.limits_text.proofs.WordFacts.{number-decimal}
 

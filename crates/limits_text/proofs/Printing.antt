@@ -3,7 +3,7 @@ use Rattle.std.proofs.Common.{◌≡◌, ◌⊎◌, inl, inr, ℕ, zero, suc, �
 use Rattle.std.specs.List.{All, flat_map}
 use Rattle.std.proofs.lemmas.List.Elements.{All-head, All-tail, All-weaker}
 use Rattle.std.proofs.lemmas.Option.{slice_get_within}
-use Rattle.outside.specs.Words.{words_left, AllInWord, IsEnd}
+use Rattle.outside.specs.Words.{words_left, AllInWord, IsEnd, Word}
 use Rattle.outside.proofs.WordLemmas.{first_word}
 use Rattle.soc_model.specs.declared.TestId.{TestId}
 use Rattle.soc_model.specs.declared.TheConstants.{NUMBER_WORD_MOST, POWER_MOST}
@@ -13,7 +13,7 @@ use Rattle.plan_model.specs.SoundLimits.{IsSoundProfile}
 use Rattle.limits_text.specs.declared.items.Amount.{Amount}
 use Rattle.limits_text.specs.declared.items.Amount.TheVariants.{Wires, Power, Budget}
 use Rattle.limits_text.specs.declared.items.Key.TheVariants.{One, Before, Profile}
-use Rattle.limits_text.specs.Items.{Word, key_of, is_in_range, Item, amount_item, before_item, profile_item, has_amount, has_profile, AreSteps}
+use Rattle.limits_text.specs.Items.{key_of, is_in_range, Item, amount_item, before_item, profile_item, has_amount, has_profile, AreSteps}
 use Rattle.limits_text.specs.Grammar.{Comes, AreItems}
 use Rattle.limits_text.specs.Meaning.{limits_of}
 use Rattle.limits_text.specs.Texts.{test_fields, number_line, before_line, step_fields, profile_line}

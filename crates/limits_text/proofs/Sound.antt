@@ -14,7 +14,8 @@ use Rattle.limits_text.specs.declared.items.Key.{Key}
 use Rattle.limits_text.specs.declared.items.Key.TheVariants.{One, Before, Profile}
 use Rattle.limits_text.specs.declared.items.Naming.{Naming}
 use Rattle.limits_text.specs.declared.items.Naming.TheVariants.{First, Second, Profiled}
-use Rattle.limits_text.specs.Items.{Word, number, is_title, key_of, is_in_range, Item, amount_item, before_item, profile_item, has_amount, has_profile, NamesTest, ArePairs, AreSteps}
+use Rattle.outside.specs.Words.{Word}
+use Rattle.limits_text.specs.Items.{number, is_title, key_of, is_in_range, Item, amount_item, before_item, profile_item, has_amount, has_profile, NamesTest, ArePairs, AreSteps}
 use Rattle.limits_text.specs.Grammar.{Comes, AreItems, form_number, IsText}
 use Rattle.limits_text.specs.Steps.{ended_at, Part, title, version, between, wants, module_for, test_for, steps_for, power_for, State, start, at, at_if, last_from, may_follow, begin_by, after_title, after_version, after_amount, after_module, named, after_test, end_profile, after_step, after_power, step_at, step_from, run}
 use Rattle.limits_text.proofs.Complete.{some_same}

@@ -15,7 +15,8 @@ use Rattle.plan_model.specs.declared.TheConstants.{WIRES_MOST, BUDGET_MOST}
 use Rattle.plan_model.specs.Plans.{ProfileValue, LimitsValue, of_first, step_power, power_of_id}
 use Rattle.plan_model.specs.SoundLimits.{HasTest, IsSoundProfile, IsAcyclic, IsSoundLimits}
 use Rattle.limits_text.specs.declared.items.Amount.TheVariants.{Wires, Power, Budget}
-use Rattle.limits_text.specs.Items.{Word, number, Item, amount_item, before_item, profile_item, has_amount, has_profile, ArePairs}
+use Rattle.outside.specs.Words.{Word}
+use Rattle.limits_text.specs.Items.{number, Item, amount_item, before_item, profile_item, has_amount, has_profile, ArePairs}
 use Rattle.limits_text.specs.Grammar.{AreItems, IsText, ProfileComes}
 use Rattle.limits_text.specs.Meaning.{limits_of, is_known, line_if, unknown_line, or_first, first_line, first_unknown, powers_among, with_test, first_passing, live_powers_in, live_powers, under, test_power}
 use Rattle.limits_text.proofs.WordFacts.{both_true}

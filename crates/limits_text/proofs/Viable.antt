@@ -6,8 +6,10 @@ use Rattle.limits_text.specs.declared.items.Amount.{Amount}
 use Rattle.limits_text.specs.declared.items.Amount.TheVariants.{Wires}
 use Rattle.limits_text.specs.declared.items.Naming.{Naming}
 use Rattle.limits_text.specs.declared.items.Naming.TheVariants.{First, Second, Profiled}
-use Rattle.limits_text.specs.Items.{Word, Item, amount_item, before_item, profile_item, has_amount}
-use Rattle.limits_text.specs.Grammar.{IsText, Viable, StopsAt, EndsEarly}
+use Rattle.outside.specs.Words.{Word}
+use Rattle.limits_text.specs.Items.{Item, amount_item, before_item, profile_item, has_amount}
+use Rattle.outside.specs.Grammars.{Viable, Stops, EndsEarly}
+use Rattle.limits_text.specs.Grammar.{IsText, InGrammar}
 use Rattle.limits_text.specs.Steps.{Part, title, version, between, wants, module_for, test_for, steps_for, power_for, State, start, at, step_at, step, run, ended_at, ended, whole_if, whole_of, closed}
 use Rattle.limits_text.proofs.WordFacts.{word_at, one_word, zero_word, title_word, wires_word, one_is, zero_is, title_is, wires_is, one_in_range, number-decimal, key_no_number}
 use Rattle.limits_text.proofs.Fresh.{fresh_test}
@@ -125,29 +127,21 @@ read_text ws s items e is =
     text_of s.form s.done s.part items ws (holds_at (run (Some start) ws) s ws (read_valid ws) e) parts.0 parts.1
 
 -- words that are read so far are viable
-pub read_viable : (ws : List Word) (s : State) → length ws ≤ NUMBER_WORD_MOST → run (Some start) ws ≡ Some s → Viable ws
+pub read_viable : (ws : List Word) (s : State) → length ws ≤ NUMBER_WORD_MOST → run (Some start) ws ≡ Some s → Viable InGrammar ws
 read_viable ws s few e =
     let room : HasRoom s.done = omega (arith, few, no_more_items s.form s.done s.part ws (holds_at (run (Some start) ws) s ws (read_valid ws) e)) in
     let c = completes s.form s.done s.part room in
     let runs : run (Some start) (ws ++ c.more) ≡ Some c.end = run-append (Some start) ws c.more ∙ ap (λ o. run o c.more) e ∙ c.runs in
     (c.more, (c.end.form, c.items, read_text (ws ++ c.more) c.end c.items runs c.whole))
 
-none_some : {X : Type 0} (o : Option X) (s : X) → o ≡ None → o ≡ Some s → ⊥
+pub none_some : {X : Type 0} (o : Option X) (s : X) → o ≡ None → o ≡ Some s → ⊥
 none_some o s e f = cc
 
 -- the word at which the reader stops
-pub stops_here : (front rest : List Word) (w : Word) (s : State) → length front ≤ NUMBER_WORD_MOST → run (Some start) front ≡ Some s → step s w ≡ None → StopsAt (front ++ w ∷ rest) w.1
-stops_here front rest w s few e stop =
+pub stops_here : (front : List Word) (w : Word) (s : State) → length front ≤ NUMBER_WORD_MOST → run (Some start) front ≡ Some s → step s w ≡ None → Stops InGrammar front w
+stops_here front w s few e stop =
     let all : run (Some start) (front ++ w ∷ []) ≡ None = run-append (Some start) front (w ∷ []) ∙ ap (λ o. run o (w ∷ [])) e ∙ stop in
-    record {
-      front = front;
-      stop = w;
-      rest = rest;
-      words = refl;
-      before = read_viable front s few e;
-      refused = λ v. (let r = viable_read (front ++ w ∷ []) v in none_some _ r.0 all r.1);
-      here = refl;
-    }
+    record { before = read_viable front s few e; refused = λ v. (let r = viable_read (front ++ w ∷ []) v in none_some _ r.0 all r.1) }
 
 closed_state : (form : Bool) (s : State) (items : List Item) (o : Option State) → o ≡ Some s → Read o form items → ended s ≡ Some items
 closed_state form s items o e r = is (rw e at r)
@@ -155,13 +149,14 @@ closed_state form s items o e r = is (rw e at r)
     is : IsRead s form items → ended s ≡ Some items
     is k = k.items_are
 
+-- words that are read, but not to an end, are no text
+pub no_text : (ws : List Word) (s : State) → run (Some start) ws ≡ Some s → closed s ≡ None → InGrammar ws → ⊥
+no_text ws s e open_end g =
+    none_some (closed s) g.1 open_end (ap whole_of (closed_state g.0 s g.1 (run (Some start) ws) e (text_read g.0 g.1 ws g.2)) ∙ ap (λ b. whole_if b g.1) g.2.wires)
+
 -- the text that ends too early
-pub ends_here : (ws : List Word) (s : State) → length ws ≤ NUMBER_WORD_MOST → run (Some start) ws ≡ Some s → closed s ≡ None → EndsEarly ws
-ends_here ws s few e open_end =
-    record {
-      viable = read_viable ws s few e;
-      refused = λ g. none_some (closed s) g.1 open_end (ap whole_of (closed_state g.0 s g.1 (run (Some start) ws) e (text_read g.0 g.1 ws g.2)) ∙ ap (λ b. whole_if b g.1) g.2.wires);
-    }
+pub ends_here : (ws : List Word) (s : State) → length ws ≤ NUMBER_WORD_MOST → run (Some start) ws ≡ Some s → closed s ≡ None → EndsEarly InGrammar ws
+ends_here ws s few e open_end = record { viable = read_viable ws s few e; refused = no_text ws s e open_end }
 
 -- a list of words is at most one list of items
 pub one_text : (ws : List Word) (form other : Bool) (a b : List Item) → IsText form a ws → IsText other b ws → (form ≡ other) × (a ≡ b)

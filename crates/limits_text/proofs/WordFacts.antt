@@ -4,7 +4,7 @@ use Rattle.std.specs.Prelude.{nat_le}
 use Rattle.std.specs.Char.{to_ascii_lowercase, is_ascii_digit}
 use Rattle.std.specs.Str.{all_ascii_digits}
 use Rattle.std.proofs.lemmas.Grind.{common_steps}
-use Rattle.outside.specs.Words.{same_letters}
+use Rattle.outside.specs.Words.{same_letters, Word}
 use Rattle.outside.specs.Decimal.{value_after}
 use Rattle.outside.proofs.DecimalLemmas.{number_of-decimal}
 use Rattle.soc_model.specs.declared.TheConstants.{NUMBER_WORD_MOST}
@@ -12,7 +12,7 @@ use Rattle.limits_text.specs.declared.items.Amount.{Amount}
 use Rattle.limits_text.specs.declared.items.Amount.TheVariants.{Wires, Power, Budget}
 use Rattle.limits_text.specs.declared.items.Key.{Key}
 use Rattle.limits_text.specs.declared.items.Key.TheVariants.{One}
-use Rattle.limits_text.specs.Items.{Word, number, is_title, key_of, is_in_range}
+use Rattle.limits_text.specs.Items.{number, is_title, key_of, is_in_range}
 
 pub both_true : (p q : Bool) → (p && q) ≡ true → (p ≡ true) × (q ≡ true)
 both_true true q e = (refl, e)

@@ -1,8 +1,7 @@
 -- What is answered of a text.
-use Rattle.std.specs.Prelude.{◌≡◌, ℕ, ◌+◌, ◌<◌, Bool, List, Option, None, Some, Result, Ok, Err, length, count_by}
-use Rattle.outside.specs.Words.{words_of, is_line_feed}
+use Rattle.std.specs.Prelude.{◌≡◌, ℕ, Bool, List, Option, None, Some, Result, Ok, Err}
+use Rattle.outside.specs.Words.{words_of}
 use Rattle.soc_model.specs.declared.TestId.{TestId}
-use Rattle.soc_model.specs.declared.TheConstants.{NUMBER_WORD_MOST}
 use Rattle.soc_model.specs.Chips.{SocValue}
 use Rattle.plan_model.specs.declared.Limits.{Limits}
 use Rattle.plan_model.specs.Plans.{LimitsValue}
@@ -10,25 +9,11 @@ use Rattle.plan_model.specs.Views.{limits_value}
 use Rattle.plan_model.specs.SoundLimits.{IsAcyclic, IsSoundLimits}
 use Rattle.limits_text.specs.declared.LimFault.{LimFault}
 use Rattle.limits_text.specs.declared.LimFault.TheVariants as fault
-use Rattle.limits_text.specs.declared.items.Items.{Items}
-use Rattle.limits_text.specs.declared.whole.TextFault.{TextFault}
-use Rattle.limits_text.specs.declared.whole.TextFault.TheVariants.{Text, TooLong, NoMemory}
 use Rattle.limits_text.specs.Items.{Item}
-use Rattle.limits_text.specs.Grammar.{IsText, RefusedAt}
+use Rattle.outside.specs.Grammars.{IsRefused}
+use Rattle.limits_text.specs.Grammar.{IsText, InGrammar}
 use Rattle.limits_text.specs.Meaning.{limits_of, first_unknown, test_power}
 use Rattle.limits_text.specs.Cycles.{IsCycleOf}
-use Rattle.limits_text.specs.Views.{done_of}
-
--- the line at the end of a text
-abbrev pub last_line : List ℕ → ℕ
-last_line bytes = 1 + count_by is_line_feed bytes
-
--- The text is these items; or the grammar refuses it at that line; or it has 10 ^ 12 bytes or more; or memory ran out.
-abbrev pub ItemsRead : List ℕ → Result Items TextFault → Type 0
-ItemsRead bytes (Ok items) = IsText items.second (done_of items) (words_of bytes)
-ItemsRead bytes (Err (Text line)) = RefusedAt (words_of bytes) (last_line bytes) line
-ItemsRead bytes (Err TooLong) = NUMBER_WORD_MOST < length bytes
-ItemsRead bytes (Err NoMemory) = Unit {0}
 
 -- the text says these limits
 pub record SaysLimits (bytes : List ℕ) (limits : LimitsValue) : Type 0 where
@@ -69,7 +54,7 @@ pub record PassesPower (bytes : List ℕ) (soc : SocValue) (test : TestId) (powe
 -- The answer is the limits that the text says, and they are sound; or the first refusal that stands; or memory ran out.
 abbrev pub LimitsRead : List ℕ → SocValue → Result Limits LimFault → Type 0
 LimitsRead bytes soc (Ok limits) = AreReadLimits bytes soc (limits_value limits)
-LimitsRead bytes soc (Err (fault.Text line)) = RefusedAt (words_of bytes) (last_line bytes) line
+LimitsRead bytes soc (Err (fault.Text line)) = IsRefused InGrammar bytes line
 LimitsRead bytes soc (Err (fault.UnknownTest line)) = NamesUnknown bytes soc line
 LimitsRead bytes soc (Err (fault.Cycle tests)) = HasCycle bytes soc tests.items
 LimitsRead bytes soc (Err (fault.TestPower test power)) = PassesPower bytes soc test power
@@ -86,7 +71,7 @@ pub data Reading : Type 0 where
 -- the text is that for the chip
 abbrev pub IsReading : List ℕ → SocValue → Reading → Type 0
 IsReading bytes soc (read_as limits) = AreReadLimits bytes soc limits
-IsReading bytes soc (refused_line line) = RefusedAt (words_of bytes) (last_line bytes) line
+IsReading bytes soc (refused_line line) = IsRefused InGrammar bytes line
 IsReading bytes soc (unknown_line line) = NamesUnknown bytes soc line
 IsReading bytes soc (shown_cycle tests) = HasCycle bytes soc tests
 IsReading bytes soc (passing_power test power) = PassesPower bytes soc test power

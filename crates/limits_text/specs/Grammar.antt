@@ -1,10 +1,11 @@
 -- The limits grammar: a text is `Limits`, the number of its form, and items that may stand in any order.
-use Rattle.std.specs.Prelude.{◌≡◌, ◌⊎◌, ℕ, ◌++◌, List, [], ◌∷◌, Bool, true, false, Some}
+use Rattle.std.specs.Prelude.{◌≡◌, ℕ, ◌++◌, List, [], ◌∷◌, Bool, true, false, Some}
 use Rattle.soc_model.specs.declared.TestId.{TestId}
 use Rattle.limits_text.specs.declared.items.Amount.{Amount}
 use Rattle.limits_text.specs.declared.items.Amount.TheVariants.{Wires}
 use Rattle.limits_text.specs.declared.items.Key.TheVariants.{One, Before, Profile}
-use Rattle.limits_text.specs.Items.{Word, number, is_title, key_of, Item, amount_item, before_item, profile_item, is_in_range, has_amount, has_profile, NamesTest, ArePairs, AreSteps}
+use Rattle.outside.specs.Words.{Word}
+use Rattle.limits_text.specs.Items.{number, is_title, key_of, Item, amount_item, before_item, profile_item, is_in_range, has_amount, has_profile, NamesTest, ArePairs, AreSteps}
 
 -- Lists of earlier items have the latest item first.
 
@@ -76,26 +77,3 @@ pub record IsText (form : Bool) (items : List Item) (ws : List Word) : Type 0 wh
 -- the set of whole lists of words
 abbrev pub InGrammar : List Word → Type 0
 InGrammar ws = (form : Bool) × (items : List Item) × IsText form items ws
-
--- some list of the set begins so
-abbrev pub Viable : List Word → Type 0
-Viable ws = (more : List Word) × InGrammar (ws ++ more)
-
--- the first word with which no list of the set begins
-pub record StopsAt (ws : List Word) (line : ℕ) : Type 0 where
-  pub front : List Word
-  pub stop : Word
-  pub rest : List Word
-  pub words : ws ≡ front ++ stop ∷ rest
-  pub before : Viable front
-  pub refused : Viable (front ++ stop ∷ []) → ⊥
-  pub here : line ≡ stop.1
-
--- the words begin a list of the set, and are none
-pub record EndsEarly (ws : List Word) : Type 0 where
-  pub viable : Viable ws
-  pub refused : InGrammar ws → ⊥
-
--- the line that is refused: of the first such word, or else the last line of the text
-abbrev pub RefusedAt : List Word → ℕ → ℕ → Type 0
-RefusedAt ws end line = StopsAt ws line ⊎ (EndsEarly ws × (line ≡ end))

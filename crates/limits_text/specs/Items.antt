@@ -1,7 +1,7 @@
 -- The words of the limits format, and its items: for each keyword what follows it.
 use Rattle.std.specs.Prelude.{◌≡◌, ℕ, ◌≤◌, ◌&&◌, List, [], ◌∷◌, Bool, true, false, codes, nat_le, length, Option, None, Some, if◌then◌else◌}
 use Rattle.std.specs.List.{All, list_any}
-use Rattle.outside.specs.Words.{same_letters}
+use Rattle.outside.specs.Words.{Word, same_letters}
 use Rattle.outside.specs.Decimal.{number_of}
 use Rattle.soc_model.specs.declared.TestId.{TestId}
 use Rattle.soc_model.specs.declared.TheConstants.{NUMBER_WORD_MOST, POWER_MOST}
@@ -12,10 +12,6 @@ use Rattle.limits_text.specs.declared.items.Amount.{Amount}
 use Rattle.limits_text.specs.declared.items.Amount.TheVariants.{Wires, Power, Budget}
 use Rattle.limits_text.specs.declared.items.Key.{Key}
 use Rattle.limits_text.specs.declared.items.Key.TheVariants.{One, Before, Profile}
-
--- a word, and the line that it stands on
-abbrev pub Word : Type 0
-Word = List ℕ × ℕ
 
 -- numbers are below 10 ^ 12
 unfoldable pub number : List ℕ → Option ℕ

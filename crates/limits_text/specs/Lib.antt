@@ -2,6 +2,7 @@ pub mod Items
 pub mod Grammar
 pub mod Steps
 pub mod Views
+pub mod Reads
 pub mod Meaning
 pub mod Cycles
 pub mod Orders

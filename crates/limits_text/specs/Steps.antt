@@ -9,7 +9,8 @@ use Rattle.limits_text.specs.declared.items.Key.{Key}
 use Rattle.limits_text.specs.declared.items.Key.TheVariants.{One, Before, Profile}
 use Rattle.limits_text.specs.declared.items.Naming.{Naming}
 use Rattle.limits_text.specs.declared.items.Naming.TheVariants.{First, Second, Profiled}
-use Rattle.limits_text.specs.Items.{Word, number, is_title, key_of, Item, amount_item, before_item, profile_item, is_in_range, has_amount, has_profile}
+use Rattle.outside.specs.Words.{Word}
+use Rattle.limits_text.specs.Items.{number, is_title, key_of, Item, amount_item, before_item, profile_item, is_in_range, has_amount, has_profile}
 
 -- what was read of an unfinished item, or of the two words before the items
 pub data Part : Type 0 where

@@ -9,8 +9,8 @@ use Rattle.limits_text.specs.declared.items.Item.TheVariants as read
 use Rattle.limits_text.specs.declared.items.Items.{Items}
 use Rattle.limits_text.specs.declared.items.Part.{Part as ReadPart}
 use Rattle.limits_text.specs.declared.items.Part.TheVariants as part
-use Rattle.limits_text.specs.declared.items.Stop.{Stop}
-use Rattle.limits_text.specs.declared.items.Stop.TheVariants as stop
+use Rattle.outside.specs.declared.reading.Stop.{Stop}
+use Rattle.outside.specs.declared.reading.Stop.TheVariants as stop
 use Rattle.limits_text.specs.Items.{Item, amount_item, before_item, profile_item, has_profile}
 use Rattle.limits_text.specs.Steps.{Part, title, version, between, wants, module_for, test_for, steps_for, power_for, State}
 
@@ -37,12 +37,9 @@ part_of (part.TestFor n m) = test_for n m
 part_of (part.StepsFor line id steps) = steps_for line id steps.items
 part_of (part.PowerFor line id steps from) = power_for line id steps.items from
 
-abbrev pub state_of : Items → ReadPart → State
-state_of items p = record { form = items.second; done = done_of items; part = part_of p }
-
 -- The next state is this part and these items; or there is none.
 abbrev pub Steps : Option State → Result ReadPart Stop → Items → Type 0
-Steps next (Ok p) items = (next ≡ Some (state_of items p)) × InStep items
+Steps next (Ok p) items = (next ≡ Some (record { form = items.second; done = done_of items; part = part_of p })) × InStep items
 Steps next (Err stop.Refused) items = next ≡ None
 Steps next (Err stop.NoMemory) items = Unit {0}
 

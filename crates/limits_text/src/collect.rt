@@ -5,8 +5,9 @@ ghost use Rattle.soc_model.specs.Chips.{same_test};
 ghost use Rattle.limits_text.specs.Items.{gives_amount as gives, has_amount as has_that_amount, has_profile as has_that_profile, gives_profile, same_amount as is_same_amount};
 ghost use Rattle.limits_text.specs.Views.{item_of, done_of, InStep};
 
-use crate::items::{Amount, Item, Items, Stop};
+use crate::items::{Amount, Item, Items};
 use indexmap::IndexSet;
+use outside::Stop;
 use soc_model::TestId;
 use std::alloc::Global;
 

@@ -84,10 +84,3 @@ pub enum Part {
         from: u64,
     },
 }
-
-/// Why reading stopped.
-#[derive(Clone, Copy, PartialEq, Eq, Debug)]
-pub enum Stop {
-    Refused,
-    NoMemory,
-}

@@ -46,6 +46,3 @@ pub enum LimFault {
     #[error("out of memory while the limits' text was read")]
     NoMemory,
 }
-
-#[cfg(test)]
-mod tests;

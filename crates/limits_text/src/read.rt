@@ -6,7 +6,8 @@ use crate::LimFault;
 use crate::build::limits_of;
 use crate::cycles::cycle_of;
 use crate::refusals::{first_unknown, live_list, test_power};
-use crate::whole::{TextFault, read_items};
+use crate::whole::read_items;
+use outside::Unread;
 use plan_model::Limits;
 use soc_model::Soc;
 use std::alloc::Global;
@@ -21,8 +22,8 @@ pub fn read_limits(alloc: Global, bytes: &[u8], soc: &Soc) -> Result<Limits, Lim
 {
     let items = match read_items(alloc, bytes) {
         Ok(items) => items,
-        Err(TextFault::Text { line }) => return Err(LimFault::Text { line }),
-        Err(TextFault::TooLong | TextFault::NoMemory) => return Err(LimFault::NoMemory),
+        Err(Unread::Refused { line }) => return Err(LimFault::Text { line }),
+        Err(Unread::NoMemory) => return Err(LimFault::NoMemory),
     };
     if let Some(line) = first_unknown(soc, items.list.as_slice()) {
         return Err(LimFault::UnknownTest { line });

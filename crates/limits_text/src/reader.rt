@@ -6,9 +6,9 @@ ghost use Rattle.limits_text.specs.Steps.{at, between, begin as begins, after_ti
 ghost use Rattle.limits_text.specs.Views.{item_of, done_of, part_of, InStep, Steps, Closes};
 
 use crate::collect::{has_amount, has_profile, push};
-use crate::items::{Amount, Item, Items, Key, Naming, Part, Stop};
+use crate::items::{Amount, Item, Items, Key, Naming, Part};
 use crate::lexicon::{is_in_range, is_title, key_of, number_of};
-use outside::Word;
+use outside::{Stop, Word};
 use plan_model::STEPS_MOST;
 use soc_model::{POWER_MOST, TestId};
 use std::alloc::Global;

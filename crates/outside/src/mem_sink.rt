@@ -5,6 +5,7 @@ ghost use Rattle.outside.specs.Held.{Rose, Appended};
 ghost use Rattle.outside.specs.SinkState.{share_of, after_taking, after_failing, fails_now};
 
 use crate::NoMemory;
+use crate::growing::push;
 use crate::sink::{Put, Sink};
 use std::alloc::Global;
 use std::marker::Model;
@@ -49,17 +50,15 @@ impl MemSink {
         ensures { IfOk result (λ sink.
             sink ≡ record { written = []; room = room; most = most; failing = []; calls = 0; faults = 0 }) }
     {
-        match Vec::with_capacity(alloc, room) {
-            Ok(bytes) => Ok(MemSink {
-                bytes,
-                room,
-                most,
-                failing: Vec::new(alloc),
-                calls: 0,
-                faults: 0,
-            }),
-            Err(_) => Err(NoMemory),
-        }
+        let bytes = Vec::with_capacity(alloc, room)?;
+        Ok(MemSink {
+            bytes,
+            room,
+            most,
+            failing: Vec::new(alloc),
+            calls: 0,
+            faults: 0,
+        })
     }
 
     /// Lists a put that is to fail, by its number from 0. All else stays. After `NoMemory` the sink is as it was.
@@ -67,10 +66,7 @@ impl MemSink {
         ensures ok { OnOk result (self.new ≡ record self.old { failing = self.old.failing ++ call ∷ [] }) }
         ensures err { OnErr result (self.new ≡ self.old) }
     {
-        match self.failing.push(call) {
-            Ok(()) => Ok(()),
-            Err(_) => Err(NoMemory),
-        }
+        push(&mut self.failing, call)
     }
 
     /// All bytes that were written, in order.

@@ -1,6 +1,6 @@
 // Decimal numbers, read and written.
 ghost use Rattle.std.specs.Prelude.{◌≡◌, ◌++◌, OnOk, OnErr, decimal};
-ghost use Rattle.outside.specs.Decimal.{number_of};
+ghost use Rattle.outside.specs.Decimal.{number_of, spaced_number, dotted_numbers};
 
 use crate::NoMemory;
 use crate::growing::extend;
@@ -35,4 +35,21 @@ pub fn push_number(to: &mut Vec<u8>, n: u128) -> Result<(), NoMemory>
 {
     let mut buffer = Buffer::new();
     extend(to, buffer.format(n).as_bytes())
+}
+
+/// Appends a space and the decimal text of a number. After `NoMemory` the text may have the space.
+pub fn push_spaced(to: &mut Vec<u8>, n: u64) -> Result<(), NoMemory>
+    ensures { OnOk result (to.new.items ≡ to.old.items ++ spaced_number n) }
+{
+    extend(to, b" ")?;
+    push_number(to, u128::from(n))
+}
+
+/// Appends two numbers with a dot between them, as those of a module and of its test.
+pub fn push_dotted(to: &mut Vec<u8>, first: u64, second: u64) -> Result<(), NoMemory>
+    ensures { OnOk result (to.new.items ≡ to.old.items ++ dotted_numbers first second) }
+{
+    push_number(to, u128::from(first))?;
+    extend(to, b".")?;
+    push_number(to, u128::from(second))
 }

@@ -1,6 +1,6 @@
 // Where output is written to.
 ghost use Rattle.std.specs.Prelude.{◌≡◌, ℕ, ◌<◌, ◌≤◌, List, [], Option, length, IsOk, OnOk, OnErr, take};
-ghost use Rattle.outside.specs.Held.{Rose, Appended, AppendedFront};
+ghost use Rattle.outside.specs.Held.{Rose, Appended, AppendedFront, AppendedShorter};
 
 /// How a put ended.
 #[derive(Clone, Copy, PartialEq, Eq, Debug)]
@@ -40,11 +40,13 @@ pub trait Sink {
 
 /// Writes all the bytes, in as many puts as the sink wants, and makes no put where no byte is left. It takes no memory.
 ///
-/// `WriteFault` comes only where the number of faults rose. Some front of the bytes is then written.
+/// `WriteFault` comes only where the number of faults rose. Some front of the bytes is then written, and not all of them:
+/// after the last byte nothing more is put.
 pub fn put_all<K: Sink>(out: &mut K, bytes: &[u8]) -> Result<(), WriteFault>
     ensures faults_never_fall { K.faults out.old ≤ K.faults out.new }
     ensures all { OnOk result (Appended (K.written out.old) bytes.now (K.written out.new)) }
     ensures front { OnErr result (AppendedFront (K.written out.old) bytes.now (K.written out.new)) }
+    ensures shorter { OnErr result (AppendedShorter (K.written out.old) bytes.now (K.written out.new)) }
     ensures fault { OnErr result (Rose (K.faults out.old) (K.faults out.new)) }
 
     // With no bytes the sink is not called.

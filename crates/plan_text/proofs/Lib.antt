@@ -5,3 +5,4 @@ pub mod Viable
 pub mod Exact
 pub mod Progress
 pub mod Printed
+pub mod EachText

@@ -1,53 +1,36 @@
 -- How far a text was read.
-use Rattle.std.proofs.Common.{◌≡◌, inl, inr, ℕ, List, [], ◌∷◌, ◌++◌, map, Option, None, Some, refl, sym, ◌∙◌, ap, subst, append_assoc, append-nil}
+use Rattle.std.proofs.Common.{◌≡◌, List, [], ◌∷◌, ◌++◌, map, Option, None, Some, sym, ◌∙◌, ap, subst}
 use Rattle.std.specs.Prelude.{Ok, Err}
 use Rattle.std.proofs.lemmas.List.{map-append}
+use Rattle.outside.specs.declared.reading.Stop.{Stop}
+use Rattle.outside.specs.declared.reading.Stop.TheVariants.{Refused, NoMemory}
+use Rattle.outside.specs.Words.{Word}
+use Rattle.outside.specs.Grammars.{Stops, EndsEarly, Steps as Goes}
+use Rattle.plan_model.specs.declared.Plan.{Plan}
 use Rattle.plan_model.specs.Plans.{BoundValue}
+use Rattle.plan_model.specs.Views.{plan_value}
 use Rattle.plan_text.specs.declared.parts.Draft.{Draft}
-use Rattle.plan_text.specs.declared.parts.Part.{Part}
-use Rattle.plan_text.specs.declared.parts.Stop.TheVariants.{Refused}
+use Rattle.plan_text.specs.declared.reading.PlanText.{PlanText}
 use Rattle.plan_text.specs.declared.tokens.Token.{Token}
 use Rattle.plan_text.specs.Tokens.{token_of}
-use Rattle.plan_text.specs.Grammar.{Word, Spells, IsPlanText, IsInRange, StopsAt, RefusedAt}
-use Rattle.plan_text.specs.Steps.{State, at, start, step, run, plan_with, bound_at}
+use Rattle.plan_text.specs.Grammar.{Spells, IsPlanText, IsInRange, InGrammar}
+use Rattle.plan_text.specs.Steps.{State, start, step, run, plan_with, bound_at}
 use Rattle.plan_text.specs.PartValues.{draft_value, part_value, Steps}
+use Rattle.plan_text.specs.Reads.{state_of, HasRead, SaysInRange}
 use Rattle.plan_text.proofs.Complete.{run-append}
 use Rattle.plan_text.proofs.Ranges.{spelled_small, range_of}
-use Rattle.plan_text.proofs.Viable.{Refuses, read_text, stops_here, ends_here}
+use Rattle.plan_text.proofs.Viable.{read_text, stops_here, ends_here}
 
-abbrev state_of : Draft → Part → State
-state_of draft part = at (draft_value draft) (part_value part)
-
--- the words up to here were read, and these are left
-pub record Progress (all : List Word) (draft : Draft) (part : Part) (left : List Word) : Type 0 where
-  pub front : List Word
-  pub tokens : List Token
-  pub words : all ≡ front ++ left
-  pub spelled : Spells front tokens
-  pub read : run (Some start) tokens ≡ Some (at (draft_value draft) (part_value part))
-
-one_more : (front : List Word) (ts : List Token) (w : Word) (t : Token) → Spells front ts → token_of w.0 ≡ Some t → Spells (front ++ w ∷ []) (ts ++ t ∷ [])
+pub one_more : (front : List Word) (ts : List Token) (w : Word) (t : Token) → Spells front ts → token_of w.0 ≡ Some t → Spells (front ++ w ∷ []) (ts ++ t ∷ [])
 one_more front ts w t spells is =
     map-append (λ (w : Word). token_of w.0) front (w ∷ []) ∙ ap (λ l. l ++ token_of w.0 ∷ []) spells ∙ ap (λ o. map Some ts ++ o ∷ []) is ∙ sym (map-append Some ts (t ∷ []))
 
-pub goes_on : (all before left : List Word) (w : Word) (t : Token) (draft new : Draft) (part next : Part) → Progress all draft part before → before ≡ w ∷ left → Some t ≡ token_of w.0 → Steps (step (at (draft_value draft) (part_value part)) t) (Ok next) new → Progress all new next left
-goes_on all before left w t draft new part next p is token steps =
-    record {
-      front = p.front ++ w ∷ [];
-      tokens = p.tokens ++ t ∷ [];
-      words = p.words ∙ ap (λ l. p.front ++ l) is ∙ sym (append_assoc p.front (w ∷ []) left);
-      spelled = one_more p.front p.tokens w t p.spelled (sym token);
-      read = run-append (Some start) p.tokens (t ∷ []) ∙ ap (λ o. run o (t ∷ [])) p.read ∙ steps;
-    }
+pub one_step : (ts : List Token) (t : Token) (s : State) → run (Some start) ts ≡ Some s → run (Some start) (ts ++ t ∷ []) ≡ step s t
+one_step ts t s read = run-append (Some start) ts (t ∷ []) ∙ ap (λ o. run o (t ∷ [])) read
 
-stops_at : (all other : List Word) (line : ℕ) → all ≡ other → StopsAt other line → StopsAt all line
-stops_at all other line e s =
-    record { front = s.front; stop = s.stop; rest = s.rest; words = e ∙ s.words; before = s.before; refused = s.refused; here = s.here }
-
-refused_by : (all before left : List Word) (w : Word) (draft : Draft) (part : Part) (end : ℕ) → Progress all draft part before → before ≡ w ∷ left → Refuses (state_of draft part) w → RefusedAt all end w.1
-refused_by all before left w draft part end p is refuses =
-    inl (stops_at all (p.front ++ w ∷ left) w.1 (p.words ∙ ap (λ l. p.front ++ l) is)
-    (stops_here p.front left w p.tokens (state_of draft part) p.spelled p.read refuses))
+pub goes_on : (front : List Word) (w : Word) (t : Token) (text next : PlanText) → HasRead text front → Some t ≡ token_of w.0 → Steps (step (state_of text) t) (Ok next.part) next.draft → HasRead next (front ++ w ∷ [])
+goes_on front w t text next has token steps =
+    record { tokens = has.tokens ++ t ∷ []; spelled = one_more front has.tokens w t has.spelled (sym token); read = one_step has.tokens t (state_of text) has.read ∙ steps }
 
 none_some : (o : Option Token) (t : Token) → None ≡ o → o ≡ Some t → ⊥
 none_some o t e f = cc
@@ -56,39 +39,24 @@ same_token : (o : Option Token) (t u : Token) → Some t ≡ o → o ≡ Some u 
 same_token o t u e f = cc
 
 -- the word stands for nothing
-pub unknown_here : (all before left : List Word) (w : Word) (draft : Draft) (part : Part) (end : ℕ) → Progress all draft part before → before ≡ w ∷ left → None ≡ token_of w.0 → RefusedAt all end w.1
-unknown_here all before left w draft part end p is none =
-    refused_by all before left w draft part end p is (record { refused = λ t e. absurd (none_some (token_of w.0) t none e) })
+pub unknown : (front : List Word) (w : Word) (text : PlanText) → HasRead text front → None ≡ token_of w.0 → Stops InGrammar front w
+unknown front w text has none =
+    stops_here front w has.tokens (state_of text) has.spelled has.read (record { refused = λ t e. absurd (none_some (token_of w.0) t none e) })
 
 -- nothing goes on with the word
-pub refused_here : (all before left : List Word) (w : Word) (t : Token) (draft new : Draft) (part : Part) (end : ℕ) → Progress all draft part before → before ≡ w ∷ left → Some t ≡ token_of w.0 → Steps (step (at (draft_value draft) (part_value part)) t) (Err Refused) new → RefusedAt all end w.1
-refused_here all before left w t draft new part end p is token steps =
-    refused_by all before left w draft part end p is
-    (record { refused = λ u e. ap (step (state_of draft part)) (sym (same_token (token_of w.0) t u token e)) ∙ steps })
-
--- all words were read
-record Done (all : List Word) (draft : Draft) (part : Part) : Type 0 where
-  tokens : List Token
-  spelled : Spells all tokens
-  read : run (Some start) tokens ≡ Some (state_of draft part)
-
-done : (all left : List Word) (draft : Draft) (part : Part) → Progress all draft part left → left ≡ [] → Done all draft part
-done all left draft part p is =
-    let same : all ≡ p.front = p.words ∙ ap (λ l. p.front ++ l) is ∙ append-nil p.front in
-    record { tokens = p.tokens; spelled = subst (λ l. Spells l p.tokens) (sym same) p.spelled; read = p.read }
+pub stops : (front : List Word) (w : Word) (t : Token) (text : PlanText) (new : Draft) (stop : Stop) → HasRead text front → Some t ≡ token_of w.0 → Steps (step (state_of text) t) (Err stop) new → Goes InGrammar HasRead front w (Err stop)
+stops front w t text new Refused has token steps =
+    stops_here front w has.tokens (state_of text) has.spelled has.read (record { refused = λ u e. ap (step (state_of text)) (sym (same_token (token_of w.0) t u token e)) ∙ steps })
+stops front w t text new NoMemory has token steps = tt
 
 -- the plan that was read
-pub record Read (all : List Word) (draft : Draft) (bound : BoundValue) : Type 0 where
-  pub said : IsPlanText all (plan_with (draft_value draft) bound)
-  pub range : IsInRange (plan_with (draft_value draft) bound)
+pub whole_read : (words : List Word) (text : PlanText) (bound : BoundValue) (plan : Plan) → HasRead text words → Some bound ≡ bound_at (part_value text.part) → plan_value plan ≡ plan_with (draft_value text.draft) bound → SaysInRange words plan
+whole_read words text bound plan has ends is =
+    let said = read_text words has.tokens (state_of text) bound has.spelled has.read (sym ends) in
+    record {
+      said = subst (IsPlanText words) (sym is) said;
+      range = subst IsInRange (sym is) (range_of (plan_with (draft_value text.draft) bound) (spelled_small words _ said.words) said.small_starts);
+    }
 
-pub whole_read : (all left : List Word) (draft : Draft) (part : Part) (bound : BoundValue) → Progress all draft part left → left ≡ [] → Some bound ≡ bound_at (part_value part) → Read all draft bound
-whole_read all left draft part bound p is ends =
-    let d = done all left draft part p is in
-    let text = read_text all d.tokens (state_of draft part) bound d.spelled d.read (sym ends) in
-    record { said = text; range = range_of (plan_with (draft_value draft) bound) (spelled_small all _ text.words) text.small_starts }
-
-pub refused_early : (all left : List Word) (draft : Draft) (part : Part) (end : ℕ) → Progress all draft part left → left ≡ [] → None ≡ bound_at (part_value part) → RefusedAt all end end
-refused_early all left draft part end p is ends =
-    let d = done all left draft part p is in
-    inr (ends_here all d.tokens (state_of draft part) d.spelled d.read (sym ends), refl)
+pub ends : (words : List Word) (text : PlanText) → HasRead text words → None ≡ bound_at (part_value text.part) → EndsEarly InGrammar words
+ends words text has none = ends_here words has.tokens (state_of text) has.spelled has.read (sym none)

@@ -17,7 +17,8 @@ use Rattle.plan_text.specs.declared.tokens.Token.{Token}
 use Rattle.plan_text.specs.declared.tokens.Token.TheVariants.{Key, Number}
 use Rattle.plan_text.specs.Tokens.{spelling, keywords, named, number_or_key, token_of}
 use Rattle.plan_text.specs.PlanLines.{Line, bus_line, chain_line, wrapper_lines, start_line, test_numbers, reason_numbers, bound_line, bound_line_by, line_tokens, tokens_of, plan_tokens, token_text}
-use Rattle.plan_text.specs.Grammar.{Word, Spells, AreSmallStarts, IsNumber, AreNumbers, IsBusInRange, IsChainInRange, IsWrapperInRange, IsTestInRange, IsStartInRange, IsReasonInRange, IsInRange}
+use Rattle.outside.specs.Words.{Word}
+use Rattle.plan_text.specs.Grammar.{Spells, AreSmallStarts, IsNumber, AreNumbers, IsBusInRange, IsChainInRange, IsWrapperInRange, IsTestInRange, IsStartInRange, IsReasonInRange, IsInRange}
 use Rattle.plan_text.proofs.Sound.{tokens_append}
 
 abbrev pub IsSmall : Token → Type 0

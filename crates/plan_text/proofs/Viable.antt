@@ -8,7 +8,9 @@ use Rattle.plan_text.specs.declared.tokens.Token.{Token}
 use Rattle.plan_text.specs.declared.tokens.Token.TheVariants.{Key, Number}
 use Rattle.plan_text.specs.Tokens.{token_of}
 use Rattle.plan_text.specs.PlanLines.{plan_tokens, token_text}
-use Rattle.plan_text.specs.Grammar.{Word, meanings, Spells, IsPlanText, InGrammar, Viable, StopsAt, EndsEarly}
+use Rattle.outside.specs.Words.{Word}
+use Rattle.outside.specs.Grammars.{Viable, Stops, EndsEarly}
+use Rattle.plan_text.specs.Grammar.{meanings, Spells, IsPlanText, InGrammar}
 use Rattle.plan_text.specs.Steps.{DraftValue, PartValue, wants_plan, wants_form, wants_cycles_word, wants_cycles, after_cycles, wants_width, in_bus, wants_module, wants_mode, in_wrapper, wants_ins, wants_outs, in_chain, wants_test_module, wants_test, wants_start, after_start, wants_bound, wants_reason, wants_bound_module, wants_pair_module, in_tests, wants_test_of, in_forced, whole, State, at, start, with_bus, with_wrapper, with_start, with_chain, step, run, plan_with, bound_at}
 use Rattle.plan_text.proofs.Sound.{closed_says, run_none}
 use Rattle.plan_text.proofs.Complete.{run-append, plan_read}
@@ -125,7 +127,7 @@ read_text ws ts s b spells e is =
     record { words = spells ∙ ap (map Some) says.words; small_starts = says.small_starts }
 
 -- words that are read so far are viable
-pub read_viable : (ws : List Word) (ts : List Token) (s : State) → Spells ws ts → run (Some start) ts ≡ Some s → Viable ws
+pub read_viable : (ws : List Word) (ts : List Token) (s : State) → Spells ws ts → run (Some start) ts ≡ Some s → Viable InGrammar ws
 read_viable ws ts s spells e =
     let f = finish s.part s.draft in
     let all : run (Some start) (ts ++ f.more) ≡ Some f.end = run-append (Some start) ts f.more ∙ ap (λ o. run o f.more) e ∙ f.runs in (
@@ -163,7 +165,7 @@ pub record Refuses (s : State) (w : Word) : Type 0 where
 none_some : {X : Type 0} (o : Option X) (x : X) → o ≡ None → o ≡ Some x → ⊥
 none_some o x e f = cc
 
-not_viable : (front : List Word) (ts : List Token) (s : State) (w : Word) → Spells front ts → run (Some start) ts ≡ Some s → Refuses s w → Viable (front ++ w ∷ []) → ⊥
+not_viable : (front : List Word) (ts : List Token) (s : State) (w : Word) → Spells front ts → run (Some start) ts ≡ Some s → Refuses s w → Viable InGrammar (front ++ w ∷ []) → ⊥
 not_viable front ts s w spells e refuses v =
     let plan = v.1.0 in
     let text = v.1.1 in
@@ -176,17 +178,8 @@ not_viable front ts s w spells e refuses v =
     none_some (run (Some start) (plan_tokens plan)) r.end (ap (run (Some start)) f.words ∙ ran) r.read
 
 -- the word at which the reader stops
-pub stops_here : (front rest : List Word) (w : Word) (ts : List Token) (s : State) → Spells front ts → run (Some start) ts ≡ Some s → Refuses s w → StopsAt (front ++ w ∷ rest) w.1
-stops_here front rest w ts s spells e refuses =
-    record {
-      front = front;
-      stop = w;
-      rest = rest;
-      words = refl;
-      before = read_viable front ts s spells e;
-      refused = not_viable front ts s w spells e refuses;
-      here = refl;
-    }
+pub stops_here : (front : List Word) (w : Word) (ts : List Token) (s : State) → Spells front ts → run (Some start) ts ≡ Some s → Refuses s w → Stops InGrammar front w
+stops_here front w ts s spells e refuses = record { before = read_viable front ts s spells e; refused = not_viable front ts s w spells e refuses }
 
 same_tokens : (xs ys : List Token) → map Some xs ≡ map Some ys → xs ≡ ys
 same_tokens [] [] e = refl
@@ -198,7 +191,7 @@ same_tokens (x ∷ xs) (y ∷ ys) e =
     cc
 
 -- the text that ends too early
-pub ends_here : (ws : List Word) (ts : List Token) (s : State) → Spells ws ts → run (Some start) ts ≡ Some s → bound_at s.part ≡ None → EndsEarly ws
+pub ends_here : (ws : List Word) (ts : List Token) (s : State) → Spells ws ts → run (Some start) ts ≡ Some s → bound_at s.part ≡ None → EndsEarly InGrammar ws
 ends_here ws ts s spells e open_end = record { viable = read_viable ws ts s spells e; refused = no_plan }
   where
     same_state : (a b : State) → Some a ≡ Some b → a ≡ b

@@ -1,24 +1,21 @@
 -- What is answered of a text.
-use Rattle.std.specs.Prelude.{◌≡◌, ℕ, ◌+◌, List, count_by, Result, Ok, Err}
-use Rattle.outside.specs.Words.{words_of, is_line_feed}
+use Rattle.std.specs.Prelude.{◌≡◌, ℕ, List, Result, Ok, Err}
+use Rattle.outside.specs.Words.{words_of}
 use Rattle.plan_model.specs.declared.Plan.{Plan}
 use Rattle.plan_model.specs.Plans.{PlanValue}
 use Rattle.plan_model.specs.Views.{plan_value}
 use Rattle.plan_text.specs.declared.PlanTextFault.{PlanTextFault}
 use Rattle.plan_text.specs.declared.PlanTextFault.TheVariants.{Text, NoMemory}
-use Rattle.plan_text.specs.Grammar.{IsPlanText, IsInRange, RefusedAt}
+use Rattle.outside.specs.Grammars.{IsRefused}
+use Rattle.plan_text.specs.Grammar.{IsPlanText, IsInRange, InGrammar}
 
 -- the text says this plan
 abbrev pub SaysPlan : List ℕ → PlanValue → Type 0
 SaysPlan bytes plan = IsPlanText (words_of bytes) plan
 
--- the line on which a text ends
-abbrev pub last_line : List ℕ → ℕ
-last_line bytes = 1 + count_by is_line_feed bytes
-
 -- the grammar refuses the text at this line
 abbrev pub RefusesText : List ℕ → ℕ → Type 0
-RefusesText bytes line = RefusedAt (words_of bytes) (last_line bytes) line
+RefusesText bytes line = IsRefused InGrammar bytes line
 
 -- a plan that a text says
 pub record IsReadPlan (bytes : List ℕ) (plan : PlanValue) : Type 0 where

@@ -1,6 +1,7 @@
--- The grammar of a plan's text: a set of whole lists of words, what begins a list of the set, and the refused line.
-use Rattle.std.specs.Prelude.{◌≡◌, ◌⊎◌, ◌≤◌, ℕ, ◌++◌, List, [], ◌∷◌, Option, Some, map}
+-- The grammar of a plan's text: a set of whole lists of words.
+use Rattle.std.specs.Prelude.{◌≡◌, ◌≤◌, ℕ, List, Option, Some, map}
 use Rattle.std.specs.List.{All}
+use Rattle.outside.specs.Words.{Word}
 use Rattle.soc_model.specs.declared.TestId.{TestId}
 use Rattle.plan_model.specs.Cells.{ChainValue}
 use Rattle.plan_model.specs.Plans.{BusValue, WrapperValue, WhyValue, OfModule, OfPair, OfChain, OfArea, OfPower, OfForced, PlanValue}
@@ -8,10 +9,6 @@ use Rattle.plan_model.specs.declared.TheConstants.{PLAN_NUMBER_MOST, START_MOST}
 use Rattle.plan_text.specs.declared.tokens.Token.{Token}
 use Rattle.plan_text.specs.Tokens.{token_of}
 use Rattle.plan_text.specs.PlanLines.{plan_tokens}
-
--- a word, and the line that it stands on
-abbrev pub Word : Type 0
-Word = List ℕ × ℕ
 
 -- what each word stands for
 abbrev pub meanings : List Word → List (Option Token)
@@ -33,29 +30,6 @@ pub record IsPlanText (ws : List Word) (plan : PlanValue) : Type 0 where
 -- the set of whole lists of words
 abbrev pub InGrammar : List Word → Type 0
 InGrammar ws = (plan : PlanValue) × IsPlanText ws plan
-
--- some list of the set begins so
-abbrev pub Viable : List Word → Type 0
-Viable ws = (more : List Word) × InGrammar (ws ++ more)
-
--- the first word with which nothing of the set begins so
-pub record StopsAt (ws : List Word) (line : ℕ) : Type 0 where
-  pub front : List Word
-  pub stop : Word
-  pub rest : List Word
-  pub words : ws ≡ front ++ stop ∷ rest
-  pub before : Viable front
-  pub refused : Viable (front ++ stop ∷ []) → ⊥
-  pub here : line ≡ stop.1
-
--- the words begin a list of the set, and are none
-pub record EndsEarly (ws : List Word) : Type 0 where
-  pub viable : Viable ws
-  pub refused : InGrammar ws → ⊥
-
--- the line that is refused: of the first such word, or else the line on which the text ends
-abbrev pub RefusedAt : List Word → ℕ → ℕ → Type 0
-RefusedAt ws end line = StopsAt ws line ⊎ (EndsEarly ws × (line ≡ end))
 
 -- ---- the numbers of a text's plan
 

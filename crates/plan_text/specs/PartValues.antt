@@ -4,8 +4,8 @@ use Rattle.plan_model.specs.Views.{bus_value, chain_value, wrapper_value, bound_
 use Rattle.plan_text.specs.declared.parts.Draft.{Draft}
 use Rattle.plan_text.specs.declared.parts.Part.{Part}
 use Rattle.plan_text.specs.declared.parts.Part.TheVariants as read
-use Rattle.plan_text.specs.declared.parts.Stop.{Stop}
-use Rattle.plan_text.specs.declared.parts.Stop.TheVariants.{Refused, NoMemory}
+use Rattle.outside.specs.declared.reading.Stop.{Stop}
+use Rattle.outside.specs.declared.reading.Stop.TheVariants.{Refused, NoMemory}
 use Rattle.plan_text.specs.Steps.{DraftValue, PartValue, wants_plan, wants_form, wants_cycles_word, wants_cycles, after_cycles, wants_width, in_bus, wants_module, wants_mode, in_wrapper, wants_ins, wants_outs, in_chain, wants_test_module, wants_test, wants_start, after_start, wants_bound, wants_reason, wants_bound_module, wants_pair_module, in_tests, wants_test_of, in_forced, whole, State, at}
 
 abbrev pub draft_value : Draft → DraftValue

@@ -1,5 +1,5 @@
 // What a text says is settled. Each law is the contract of a function that does nothing: a caller learns it by the call.
-ghost use Rattle.plan_text.specs.Laws.{SayOnePlan, PlansAreNotRefused, RefusedOnce, PrintedPlansAreRead, PlansAreAnswered, PrintedPlansAreAnswered};
+ghost use Rattle.plan_text.specs.Laws.{SayOnePlan, PlansAreNotRefused, RefusedOnce, PrintedPlansAreRead, PlansAreAnswered, PrintedPlansAreAnswered, EachTextHasAnAnswer};
 
 /// A text says at most one plan.
 pub fn say_one_plan()
@@ -29,4 +29,9 @@ pub fn plans_are_answered()
 /// The printed text of a plan in the grammar's range is answered with that plan, unless memory runs out.
 pub fn printed_plans_are_answered()
     ensures { PrintedPlansAreAnswered }
+{}
+
+/// Each text says a plan in the grammar's range, or is refused at a line.
+pub fn each_text_has_an_answer()
+    ensures { EachTextHasAnAnswer }
 {}

@@ -13,7 +13,7 @@ mod steps;
 mod tokens;
 
 pub use laws::{
-    plans_are_answered, plans_are_not_refused, printed_plans_are_answered, printed_plans_are_read,
+    each_text_has_an_answer, plans_are_answered, plans_are_not_refused, printed_plans_are_answered, printed_plans_are_read,
     refused_once, say_one_plan,
 };
 pub use printing::print_plan;
@@ -31,6 +31,3 @@ pub enum PlanTextFault {
     #[error("out of memory while the plan's text was read")]
     NoMemory,
 }
-
-#[cfg(test)]
-mod tests;

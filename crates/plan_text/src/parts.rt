@@ -100,10 +100,3 @@ pub enum Section {
     Wrappers,
     Starts,
 }
-
-/// Why reading stopped.
-#[derive(Clone, Copy, PartialEq, Eq, Debug)]
-pub enum Stop {
-    Refused,
-    NoMemory,
-}

@@ -2,12 +2,65 @@
 ghost use Rattle.plan_text.specs.Answers.{PlanRead};
 
 use crate::PlanTextFault;
-use crate::parts::{Part, Stop};
+use crate::parts::{Draft, Part};
 use crate::steps::{bound_at, new_draft, step};
 use crate::tokens::token_of;
-use outside::{Words, end_line};
+use outside::{Reader, Stop, Unread, Word, read_text};
 use plan_model::Plan;
 use std::alloc::Global;
+
+/// What was read of a plan's text so far.
+#[derive(Drop)]
+struct PlanText {
+    alloc: Global,
+    draft: Draft,
+    part: Part,
+}
+
+impl<'a> Reader<'a> for PlanText {
+    type Value = Plan;
+
+    ghost use Rattle.std.specs.Prelude.{◌^◌};
+    ghost use Rattle.plan_text.specs.Grammar.{InGrammar};
+    ghost use Rattle.plan_text.specs.Reads.{HasRead, SaysInRange};
+
+    ghost whole = { InGrammar };
+
+    ghost most = { 2 ^ 64 };
+
+    ghost has_read = { HasRead };
+
+    ghost says = { SaysInRange };
+
+    fn step(self, word: Word<'a>) -> Result<PlanText, Stop> {
+        let PlanText {
+            alloc,
+            mut draft,
+            part,
+        } = self;
+        let Some(token) = token_of(word.bytes) else {
+            return Err(Stop::Refused);
+        };
+        match step(alloc, &mut draft, part, token) {
+            Ok(part) => Ok(PlanText { alloc, draft, part }),
+            Err(stop) => Err(stop),
+        }
+    }
+
+    fn end(self) -> Result<Plan, Stop> {
+        let PlanText { draft, part, .. } = self;
+        match bound_at(part) {
+            Some(bound) => Ok(Plan {
+                buses: draft.buses,
+                wrappers: draft.wrappers,
+                starts: draft.starts,
+                cycles: draft.cycles,
+                bound,
+            }),
+            None => Err(Stop::Refused),
+        }
+    }
+}
 
 /// The plan that a text says, with all its numbers in the grammar's range.
 ///
@@ -16,30 +69,14 @@ use std::alloc::Global;
 pub fn read_plan(alloc: Global, bytes: &[u8]) -> Result<Plan, PlanTextFault>
     ensures { PlanRead bytes.now result }
 {
-    let mut draft = new_draft(alloc);
-    let mut part = Part::WantsPlan;
-    let mut words = Words::new(bytes);
-    while let Some(word) = words.next() {
-        let line = word.line;
-        let Some(token) = token_of(word.bytes) else {
-            return Err(PlanTextFault::Text { line });
-        };
-        part = match step(alloc, &mut draft, part, token) {
-            Ok(next) => next,
-            Err(Stop::Refused) => return Err(PlanTextFault::Text { line }),
-            Err(Stop::NoMemory) => return Err(PlanTextFault::NoMemory),
-        };
-    }
-    match bound_at(part) {
-        Some(bound) => Ok(Plan {
-            buses: draft.buses,
-            wrappers: draft.wrappers,
-            starts: draft.starts,
-            cycles: draft.cycles,
-            bound,
-        }),
-        None => Err(PlanTextFault::Text {
-            line: end_line(bytes),
-        }),
+    let start = PlanText {
+        alloc,
+        draft: new_draft(alloc),
+        part: Part::WantsPlan,
+    };
+    match read_text(start, bytes) {
+        Ok(plan) => Ok(plan),
+        Err(Unread::Refused { line }) => Err(PlanTextFault::Text { line }),
+        Err(Unread::NoMemory) => Err(PlanTextFault::NoMemory),
     }
 }

@@ -2,12 +2,11 @@
 use Rattle.std.proofs.Common.{◌≡◌, ℕ, ◌+◌, ◌<◌, ◌^◌, List, [], ◌∷◌, ◌++◌, length, map, Bool, true, false, cond, nat_eq, codes, decimal, refl, ◌∙◌, ap, append_assoc}
 use Rattle.std.specs.List.{All, flat_map}
 use Rattle.std.proofs.lemmas.List.Elements.{All-head, All-tail}
-use Rattle.outside.specs.Words.{words_left}
+use Rattle.outside.specs.Words.{words_left, Word}
 use Rattle.soc_model.specs.declared.Test.{Test}
 use Rattle.soc_model.specs.Chips.{ModuleValue}
 use Rattle.soc_model.specs.SoundChips.{IsName}
 use Rattle.soc_model.proofs.Sums.{IsSmallTest}
-use Rattle.soc_reader.specs.Keywords.{Word}
 use Rattle.soc_printer.specs.SocText.{flag_word, name_words, setup_words, terminal_words, module_words, module_line, tests_line, test_line, module_text, name_line, total_line, options_line}
 use Rattle.soc_printer.proofs.TextWords.{IsOneWord, AllWords, AllWords-append, words_on, line-words, module_line-words, plain-word, flag-word, decimal-word, decimal-words}
 use Rattle.soc_printer.proofs.PrintedWords.{name-word}

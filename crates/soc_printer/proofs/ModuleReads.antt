@@ -11,7 +11,7 @@ use Rattle.soc_model.proofs.Sums.{IsSmallTest}
 use Rattle.soc_reader.specs.declared.keys.Key.TheVariants.{Level, Inputs, Outputs, Bidirs, Setup, ScanChains, TotalTests, ScanUse, TamUse, Patterns, Power}
 use Rattle.soc_reader.specs.declared.keys.Subject.{Subject}
 use Rattle.soc_reader.specs.declared.keys.Subject.TheVariants.{OfModule, OfTest}
-use Rattle.soc_reader.specs.Keywords.{Word}
+use Rattle.outside.specs.Words.{Word}
 use Rattle.soc_reader.specs.Table.{count, flag, lengths, name, Follows}
 use Rattle.soc_reader.specs.declared.keys.Shape.TheVariants.{ManyNumbers}
 use Rattle.soc_reader.specs.Meaning.{new_module, new_test, test_count, tells}

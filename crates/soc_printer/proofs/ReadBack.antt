@@ -3,7 +3,7 @@ use Rattle.std.proofs.Common.{◌≡◌, ℕ, ◌+◌, ◌<◌, ◌≤◌, ◌^�
 use Rattle.std.specs.List.{All, flat_map}
 use Rattle.std.proofs.lemmas.List.{map-append}
 use Rattle.std.proofs.lemmas.List.Elements.{All-head, All-tail, All-weaker}
-use Rattle.outside.specs.Words.{words_of}
+use Rattle.outside.specs.Words.{words_of, Word}
 use Rattle.soc_model.specs.declared.Test.{Test}
 use Rattle.soc_model.specs.Chips.{ModuleValue, SocValue, numbers}
 use Rattle.soc_model.specs.Lookups.{module_place}
@@ -15,7 +15,7 @@ use Rattle.soc_model.proofs.Sums.{IsSmallTest, small_module, all_flat, all_right
 use Rattle.soc_reader.specs.declared.keys.Key.{Key}
 use Rattle.soc_reader.specs.declared.keys.Key.TheVariants.{SocName, TotalModules, Options, PowerFlag, XyFlag}
 use Rattle.soc_reader.specs.declared.keys.Subject.TheVariants.{Chip}
-use Rattle.soc_reader.specs.Keywords.{Word, key_of, is_printable}
+use Rattle.soc_reader.specs.Keywords.{key_of, is_printable}
 use Rattle.soc_reader.specs.Table.{Value, nothing, word, count, flag, entry, owner, shape_of, Follows}
 use Rattle.soc_reader.specs.Grammar.{open_after, after, is_options, may_give, IsText}
 use Rattle.soc_reader.specs.Meaning.{empty_chip, says, wrong_total, module_count, test_count}

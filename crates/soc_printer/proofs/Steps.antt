@@ -10,7 +10,8 @@ use Rattle.soc_reader.specs.declared.keys.Subject.{Subject}
 use Rattle.soc_reader.specs.declared.keys.Subject.TheVariants.{Chip, OfModule, OfTest}
 use Rattle.soc_reader.specs.declared.keys.Shape.TheVariants.{OneNumber, OneFlag}
 use Rattle.soc_reader.specs.declared.keys.After.TheVariants.{AfterNumber}
-use Rattle.soc_reader.specs.Keywords.{Word, key_of}
+use Rattle.outside.specs.Words.{Word}
+use Rattle.soc_reader.specs.Keywords.{key_of}
 use Rattle.soc_reader.specs.Table.{Value, count, flag, Item, entry, owner, shape_of, may_repeat, Follows}
 use Rattle.soc_reader.specs.Grammar.{open_after, after, after_entry, is_options, opens, is_given, renames, same_subject, row, may_give, Comes, IsText}
 use Rattle.soc_reader.specs.Meaning.{chip_of, says, tells, first_wrong, wrong_total, or_else, new_module, new_test, module_says, test_says}

@@ -3,10 +3,9 @@ use Rattle.std.proofs.Common.{◌≡◌, ℕ, ◌+◌, ◌<◌, ◌^◌, List, [
 use Rattle.std.specs.List.{All, list_all}
 use Rattle.std.proofs.lemmas.List.Elements.{All-head, All-tail}
 use Rattle.std.proofs.lemmas.Fmt.{decimal_nonempty}
-use Rattle.outside.specs.Words.{words_left, ends_word, IsEnd, AllInWord}
+use Rattle.outside.specs.Words.{words_left, ends_word, IsEnd, AllInWord, Word}
 use Rattle.outside.proofs.WordLemmas.{first_word}
 use Rattle.outside.proofs.DecimalLemmas.{decimal_in_word}
-use Rattle.soc_reader.specs.Keywords.{Word}
 use Rattle.soc_printer.specs.SocText.{spaced, line_of, flag_word, lengths_text}
 
 -- a word, as it may stand in a text

@@ -3,7 +3,7 @@
 
 ghost use Rattle.std.specs.Prelude.{◌≡◌, ◌∷◌, [], ◌++◌, List, length, decimal, codes, map, OnOk, IfOk};
 ghost use Rattle.std.specs.List.{flat_map};
-ghost use Rattle.soc_model.specs.Chips.{soc_value, module_value};
+ghost use Rattle.soc_model.specs.Chips.{SocValue, soc_value, module_value};
 ghost use Rattle.soc_model.specs.SoundChips.{IsSoundChip};
 ghost use Rattle.soc_reader.specs.ChipForm.{SaysChip};
 ghost use Rattle.soc_printer.specs.SocText.{spaced, flag_word, name_words, setup_words, lengths_text, name_line, total_line, options_line, terminal_words, module_words, module_line, tests_line, test_line, module_text, soc_text};
@@ -216,3 +216,8 @@ pub fn print_soc(alloc: Global, soc: &Soc) -> Result<Vec<u8>, NoMemory>
     push_modules(&mut text, soc)?;
     Ok(text)
 }
+
+/// The text of every sound chip is read as that chip.
+pub fn printed_chips_are_read()
+    ensures { (soc : SocValue) → IsSoundChip soc → SaysChip (soc_text soc) soc }
+{}

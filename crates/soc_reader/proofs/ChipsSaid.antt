@@ -3,7 +3,7 @@ use Rattle.std.proofs.Common.{◌≡◌, inl, inr, ℕ, zero, suc, ◌<◌, ◌^
 use Rattle.std.proofs.lemmas.Grind.{common_steps}
 use Rattle.std.specs.List.{All, list_any}
 use Rattle.std.proofs.lemmas.List.Elements.{All-nil, All-cons, All-head, All-tail, All-push, All-weaker}
-use Rattle.outside.specs.Words.{words_of}
+use Rattle.outside.specs.Words.{words_of, Word}
 use Rattle.soc_model.specs.declared.Test.{Test}
 use Rattle.soc_model.specs.Chips.{ModuleValue, SocValue, numbers}
 use Rattle.soc_model.specs.Lookups.{module_place, has_module_number}
@@ -15,7 +15,7 @@ use Rattle.soc_reader.specs.declared.keys.Key.TheVariants.{SocName, PowerFlag, X
 use Rattle.soc_reader.specs.declared.keys.Subject.TheVariants.{Chip, OfModule, OfTest}
 use Rattle.soc_reader.specs.declared.keys.Shape.{Shape}
 use Rattle.soc_reader.specs.declared.keys.Shape.TheVariants.{NoWord, OneWord, OneNumber, OneFlag, ManyNumbers}
-use Rattle.soc_reader.specs.Keywords.{Word, number, flag_of, is_printable}
+use Rattle.soc_reader.specs.Keywords.{number, flag_of, is_printable}
 use Rattle.soc_reader.specs.Table.{Value, nothing, word, count, flag, lengths, Item, entry, name, place_data, coordinate, shape_of, AreNumbers, AreLengths, Follows}
 use Rattle.soc_reader.specs.Grammar.{Comes, IsText}
 use Rattle.soc_reader.specs.Meaning.{new_module, new_test, with_module, with_test, change_at, change_found, at_module, at_test, test_says, module_says, chip_says, tells, says, chip_of}

@@ -12,3 +12,4 @@ pub mod TotalFacts
 pub mod SameGiven
 pub mod ChipsSaid
 pub mod OneAnswer
+pub mod EachText

@@ -1,5 +1,5 @@
 -- A text says one chip, or is refused at one line, or says a chip that is too large: only one of these, and in one way.
-use Rattle.std.proofs.Common.{◌≡◌, inl, inr, ℕ, ◌<◌, ◌⊎◌, List, [], ◌∷◌, ◌++◌, Option, None, Some, refl, sym, ◌∙◌, ap, subst, append_assoc, arith, Bool, true, false, nat_lt}
+use Rattle.std.proofs.Common.{◌≡◌, inl, inr, ℕ, ◌<◌, ◌⊎◌, List, Option, None, Some, refl, sym, ◌∙◌, ap, subst, arith, Bool, true, false, nat_lt}
 use Rattle.std.proofs.lemmas.Bool.Decides.{nat_tests}
 use Rattle.std.proofs.lemmas.Option.{same_Some}
 use Rattle.outside.specs.Words.{words_of}
@@ -8,73 +8,14 @@ use Rattle.soc_model.specs.declared.Which.TheVariants.{Modules, Tests, Chains, P
 use Rattle.soc_model.specs.declared.SocLimit.{SocLimit}
 use Rattle.soc_model.specs.Chips.{SocValue}
 use Rattle.soc_model.specs.Sizes.{passed, rank_of, IsFirstPassed}
-use Rattle.soc_reader.specs.Keywords.{Word}
-use Rattle.soc_reader.specs.Grammar.{IsText, InGrammar, Viable, StopsAt, RefusedAt}
+use Rattle.outside.specs.Grammars.{last_line}
+use Rattle.outside.proofs.Refusals.{not_refused, refused_once}
+use Rattle.soc_reader.specs.Grammar.{InGrammar}
 use Rattle.soc_reader.specs.Meaning.{chip_of, first_wrong}
 use Rattle.soc_reader.specs.ChipForm.{SaysModules, SaysChip}
-use Rattle.soc_reader.specs.Refusals.{HasWrongTotal, IsRefusedLine, IsTooLarge, last_line}
+use Rattle.soc_reader.specs.Refusals.{HasWrongTotal, IsRefusedLine, IsTooLarge}
 use Rattle.soc_reader.proofs.Viable.{one_text}
 use Rattle.soc_reader.proofs.ChipsSaid.{one_of_modules}
-
--- ---- words
-
--- a text's words are a list of the set, and no word of them is refused
-in_grammar-viable : (ws : List Word) → InGrammar ws → Viable ws
-in_grammar-viable ws g = ([], (g.0, subst (λ l. IsText g.0 l) (sym (append_nil ws)) g.1))
-  where
-    append_nil : (l : List Word) → l ++ [] ≡ l
-    append_nil [] = refl
-    append_nil (w ∷ l) = ap (λ l. w ∷ l) (append_nil l)
-
--- a front of what is viable is viable
-viable-front : (front more ws : List Word) → ws ≡ front ++ more → Viable ws → Viable front
-viable-front front more ws split v =
-    (more ++ v.0, (v.1.0, subst (λ l. IsText v.1.0 l) (ap (λ l. l ++ v.0) split ∙ append_assoc front more v.0) v.1.1))
-
-stops-no_viable : (ws : List Word) (line : ℕ) → StopsAt ws line → Viable ws → ⊥
-stops-no_viable ws line s v =
-    s.refused (viable-front (s.front ++ s.stop ∷ []) s.rest ws (s.words ∙ sym (append_assoc s.front (s.stop ∷ []) s.rest)) v)
-
--- of two fronts of a list, each with one more word: they are the same, or one with its word is a front of the other
-data Fronts (a b : List Word) (v w : Word) : Type 0 where
-  alike : a ≡ b → v ≡ w → Fronts a b v w
-  before : (more : List Word) → b ≡ (a ++ v ∷ []) ++ more → Fronts a b v w
-  behind : (more : List Word) → a ≡ (b ++ w ∷ []) ++ more → Fronts a b v w
-
-fronts : (a b : List Word) (v w : Word) (r s : List Word) → a ++ v ∷ r ≡ b ++ w ∷ s → Fronts a b v w
-fronts [] [] v w r s e = alike refl (cc)
-fronts [] (x ∷ b) v w r s e = before b (let first : x ≡ v = cc in ap (λ y. y ∷ b) first)
-fronts (x ∷ a) [] v w r s e = behind a (let first : x ≡ w = cc in ap (λ y. y ∷ a) first)
-fronts (x ∷ a) (y ∷ b) v w r s e = longer (fronts a b v w r s rest)
-  where
-    rest : a ++ v ∷ r ≡ b ++ w ∷ s
-    rest = cc
-
-    first : x ≡ y
-    first = cc
-
-    longer : Fronts a b v w → Fronts (x ∷ a) (y ∷ b) v w
-    longer (alike p q) = alike (ap (λ z. z ∷ a) first ∙ ap (λ l. y ∷ l) p) q
-    longer (before more p) = before more (ap (λ z. z ∷ b) (sym first) ∙ ap (λ l. x ∷ l) p)
-    longer (behind more p) = behind more (ap (λ z. z ∷ a) first ∙ ap (λ l. y ∷ l) p)
-
-one_stop : (ws : List Word) (m n : ℕ) → StopsAt ws m → StopsAt ws n → m ≡ n
-one_stop ws m n s t = by (fronts s.front t.front s.stop t.stop s.rest t.rest (sym s.words ∙ t.words))
-  where
-    by : Fronts s.front t.front s.stop t.stop → m ≡ n
-    by (alike p q) = s.here ∙ ap (λ (w : Word). w.1) q ∙ sym t.here
-    by (before more p) = absurd (s.refused (viable-front (s.front ++ s.stop ∷ []) more t.front p t.before))
-    by (behind more p) = absurd (t.refused (viable-front (t.front ++ t.stop ∷ []) more s.front p s.before))
-
-one_refused : (ws : List Word) (end m n : ℕ) → RefusedAt ws end m → RefusedAt ws end n → m ≡ n
-one_refused ws end m n (inl s) (inl t) = one_stop ws m n s t
-one_refused ws end m n (inl s) (inr e) = absurd (stops-no_viable ws m s e.0.viable)
-one_refused ws end m n (inr d) (inl t) = absurd (stops-no_viable ws n t d.0.viable)
-one_refused ws end m n (inr d) (inr e) = d.1 ∙ sym e.1
-
-refused-no_text : (ws : List Word) (end line : ℕ) → RefusedAt ws end line → InGrammar ws → ⊥
-refused-no_text ws end line (inl s) g = stops-no_viable ws line s (in_grammar-viable ws g)
-refused-no_text ws end line (inr e) g = e.0.refused g
 
 -- ---- totals
 
@@ -148,9 +89,9 @@ one_passed soc a b first second = by (order (rank_of a.which) (rank_of b.which))
 
 -- at most one line of a text is refused
 pub one_line : (bytes : List ℕ) (m n : ℕ) → IsRefusedLine bytes m → IsRefusedLine bytes n → m ≡ n
-one_line bytes m n (inl a) (inl b) = one_refused (words_of bytes) (last_line bytes) m n a b
-one_line bytes m n (inl a) (inr b) = absurd (refused-no_text (words_of bytes) (last_line bytes) m a (b.items, b.text))
-one_line bytes m n (inr a) (inl b) = absurd (refused-no_text (words_of bytes) (last_line bytes) n b (a.items, a.text))
+one_line bytes m n (inl a) (inl b) = refused_once InGrammar (words_of bytes) (last_line bytes) m n a b
+one_line bytes m n (inl a) (inr b) = absurd (not_refused InGrammar (words_of bytes) (last_line bytes) m (b.items, b.text) a)
+one_line bytes m n (inr a) (inl b) = absurd (not_refused InGrammar (words_of bytes) (last_line bytes) n (a.items, a.text) b)
 one_line bytes m n (inr a) (inr b) = one_total bytes m n a b
 
 -- a text passes at most one limit first, by one number
@@ -160,7 +101,7 @@ one_limit bytes a b this that =
 
 -- a text that says a chip, of whatever size, is refused at no line
 pub no_line-from_modules : (bytes : List ℕ) (soc : SocValue) (line : ℕ) → SaysModules bytes soc → IsRefusedLine bytes line → ⊥
-no_line-from_modules bytes soc line says (inl refused) = refused-no_text (words_of bytes) (last_line bytes) line refused (says.items, says.text)
+no_line-from_modules bytes soc line says (inl refused) = not_refused InGrammar (words_of bytes) (last_line bytes) line (says.items, says.text) refused
 no_line-from_modules bytes soc line says (inr wrong) = total-no_chip bytes line soc wrong says
 
 pub no_line-from_chip : (bytes : List ℕ) (soc : SocValue) (line : ℕ) → SaysChip bytes soc → IsRefusedLine bytes line → ⊥

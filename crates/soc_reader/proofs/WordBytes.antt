@@ -3,10 +3,10 @@ use Rattle.std.proofs.Common.{◌≡◌, ℕ, List, [], ◌∷◌, ◌++◌, Boo
 use Rattle.std.specs.List.{All, list_all, list_any}
 use Rattle.std.proofs.lemmas.Grind.{common_steps}
 use Rattle.std.proofs.lemmas.List.Elements.{All-nil, All-cons, All-append, All-head, All-tail}
-use Rattle.outside.specs.Words.{is_separator, is_hash, is_line_feed, uncommented, word_before, words_from, words_of, ends_word, same_letters}
+use Rattle.outside.specs.Words.{is_separator, is_hash, is_line_feed, uncommented, word_before, words_from, words_of, ends_word, same_letters, Word}
 use Rattle.soc_model.specs.SoundChips.{is_name_byte, IsName, is_keyword, keywords as spellings}
 use Rattle.soc_reader.specs.declared.keys.Key.{Key}
-use Rattle.soc_reader.specs.Keywords.{Word, keywords, named, key_of, is_printable_byte, is_printable, is_free_word, is_lengths_word}
+use Rattle.soc_reader.specs.Keywords.{keywords, named, key_of, is_printable_byte, is_printable, is_free_word, is_lengths_word}
 use Rattle.soc_reader.specs.Grammar.{IsFree}
 use Rattle.soc_reader.proofs.WordFacts.{both_true, not_true}
 

@@ -8,10 +8,6 @@ use Rattle.soc_model.specs.declared.TheConstants.{NUMBER_WORD_MOST}
 use Rattle.soc_reader.specs.declared.keys.Key.{Key}
 use Rattle.soc_reader.specs.declared.keys.Key.TheVariants.{SocName, TotalModules, Options, PowerFlag, XyFlag, Module, Level, Inputs, Outputs, Bidirs, Setup, ScanChains, TotalTests, Test, ScanUse, TamUse, Patterns, Power}
 
--- a word, and the line that it stands on
-abbrev pub Word : Type 0
-Word = List ℕ × ℕ
-
 -- Keywords are written in any case of their letters; a keyword may have two spellings.
 abbrev pub keywords : List (List ℕ × Key)
 keywords =

@@ -1,19 +1,16 @@
 -- Why texts are refused.
-use Rattle.std.specs.Prelude.{◌≡◌, ◌⊎◌, ℕ, ◌+◌, List, Some, count_by}
-use Rattle.outside.specs.Words.{words_of, is_line_feed}
+use Rattle.std.specs.Prelude.{◌≡◌, ◌⊎◌, ℕ, List, Some}
+use Rattle.outside.specs.Words.{words_of}
 use Rattle.soc_model.specs.declared.SocLimit.{SocLimit}
 use Rattle.soc_model.specs.Chips.{SocValue}
 use Rattle.soc_model.specs.Sizes.{IsFirstPassed}
 use Rattle.soc_reader.specs.declared.SocFault.{SocFault}
 use Rattle.soc_reader.specs.declared.SocFault.TheVariants.{Text, Limit, NoMemory}
 use Rattle.soc_reader.specs.Table.{Item}
-use Rattle.soc_reader.specs.Grammar.{IsText, RefusedAt}
+use Rattle.outside.specs.Grammars.{IsRefused}
+use Rattle.soc_reader.specs.Grammar.{IsText, InGrammar}
 use Rattle.soc_reader.specs.Meaning.{chip_of, first_wrong}
-use Rattle.soc_reader.specs.ChipForm.{SaysModules}
-
--- the line on which a text ends: 1 more than its line feeds
-abbrev pub last_line : List ℕ → ℕ
-last_line bytes = 1 + count_by is_line_feed bytes
+use Rattle.soc_reader.specs.ChipForm.{SaysModules, SaysChip}
 
 -- The words of the bytes are items, and the first of their totals that does not agree stands on this line.
 pub record HasWrongTotal (bytes : List ℕ) (line : ℕ) : Type 0 where
@@ -23,7 +20,7 @@ pub record HasWrongTotal (bytes : List ℕ) (line : ℕ) : Type 0 where
 
 -- The grammar or a total refuses the bytes, at this line.
 abbrev pub IsRefusedLine : List ℕ → ℕ → Type 0
-IsRefusedLine bytes line = RefusedAt (words_of bytes) (last_line bytes) line ⊎ HasWrongTotal bytes line
+IsRefusedLine bytes line = IsRefused InGrammar bytes line ⊎ HasWrongTotal bytes line
 
 -- The bytes say a chip that is too large: this is the first limit that it passes, with the number that passes it.
 pub record IsTooLarge (bytes : List ℕ) (limit : SocLimit) : Type 0 where
@@ -36,3 +33,7 @@ abbrev pub Refuses : List ℕ → SocFault → Type 0
 Refuses bytes (Text line) = IsRefusedLine bytes line
 Refuses bytes (Limit which value) = IsTooLarge bytes (record { which = which; value = value })
 Refuses bytes NoMemory = Unit {0}
+
+-- The bytes say a chip, or are refused at a line, or pass a limit.
+abbrev pub HasAnswer : List ℕ → Type 0
+HasAnswer bytes = ((soc : SocValue) × SaysChip bytes soc) ⊎ (((line : ℕ) × IsRefusedLine bytes line) ⊎ ((limit : SocLimit) × IsTooLarge bytes limit))

@@ -10,8 +10,8 @@ use Rattle.soc_reader.specs.declared.items.ReadItem.TheVariants.{Entry, Name, Pl
 use Rattle.soc_reader.specs.declared.items.Items.{Items}
 use Rattle.soc_reader.specs.declared.items.ReadPart.{ReadPart}
 use Rattle.soc_reader.specs.declared.items.ReadPart.TheVariants.{Between, Wants, Counted, Listing, WantsCoordinate, NameOrData}
-use Rattle.soc_reader.specs.declared.items.Stop.{Stop}
-use Rattle.soc_reader.specs.declared.items.Stop.TheVariants.{Refused, NoMemory}
+use Rattle.outside.specs.declared.reading.Stop.{Stop}
+use Rattle.outside.specs.declared.reading.Stop.TheVariants.{Refused, NoMemory}
 use Rattle.soc_reader.specs.Table.{Value, nothing, word, count, flag, lengths, Item, entry, name, place_data, coordinate}
 use Rattle.soc_reader.specs.Grammar.{open_after, after, has_xy, is_given, renames}
 use Rattle.soc_reader.specs.Marks.{is_marked}

@@ -7,10 +7,11 @@ ghost use Rattle.soc_reader.specs.Marks.{is_marked};
 ghost use Rattle.soc_reader.specs.Names.{name_in, is_other_name, KeepsNames};
 ghost use Rattle.soc_reader.specs.Views.{item_of, done_of, InStep};
 
-use crate::items::{Items, ReadItem, ReadValue, Stop};
+use crate::items::{Items, ReadItem, ReadValue};
 use crate::keys::{After, Given, Key, Subject};
 use crate::marks::{is_in, mark};
 use indexmap::{IndexMap, IndexSet};
+use outside::Stop;
 use std::alloc::{AllocFailed, Global};
 
 /// What is spoken of after an item.

@@ -87,21 +87,3 @@ pub enum ReadPart<'a> {
         name: &'a [u8],
     },
 }
-
-/// Why reading stopped.
-#[derive(Clone, Copy, PartialEq, Eq, Debug)]
-pub enum Stop {
-    /// No text of a chip goes on so.
-    Refused,
-    /// There was no memory.
-    NoMemory,
-}
-
-/// Why a text was not read as a chip of any size.
-#[derive(Clone, Copy, PartialEq, Eq, Debug)]
-pub enum TextFault {
-    /// The grammar or a total refuses it at this line.
-    Text { line: u64 },
-    /// There was no memory.
-    NoMemory,
-}

@@ -6,7 +6,7 @@ ghost use Rattle.soc_model.specs.declared.SocLimit.{SocLimit};
 ghost use Rattle.soc_model.specs.Chips.{SocValue, soc_value};
 ghost use Rattle.soc_model.specs.SoundChips.{IsSoundChip};
 ghost use Rattle.soc_reader.specs.ChipForm.{SaysChip};
-ghost use Rattle.soc_reader.specs.Refusals.{IsRefusedLine, IsTooLarge, Refuses};
+ghost use Rattle.soc_reader.specs.Refusals.{IsRefusedLine, IsTooLarge, Refuses, HasAnswer};
 
 mod build;
 mod collect;
@@ -18,7 +18,7 @@ mod reader;
 mod totals;
 mod whole;
 
-use items::TextFault;
+use outside::Unread;
 use soc_model::{Soc, Which, check_size};
 use std::alloc::Global;
 use thiserror::Error;
@@ -52,8 +52,8 @@ pub fn read_soc(alloc: Global, bytes: &[u8]) -> Result<Soc, SocFault>
 {
     let soc = match read_chip(alloc, bytes) {
         Ok(soc) => soc,
-        Err(TextFault::Text { line }) => return Err(SocFault::Text { line }),
-        Err(TextFault::NoMemory) => return Err(SocFault::NoMemory),
+        Err(Unread::Refused { line }) => return Err(SocFault::Text { line }),
+        Err(Unread::NoMemory) => return Err(SocFault::NoMemory),
     };
     match check_size(&soc) {
         Ok(()) => Ok(soc),
@@ -75,5 +75,7 @@ pub fn texts_have_one_answer()
     ensures limit_or_line { (bytes : List ℕ) (limit : SocLimit) (line : ℕ) → IsTooLarge bytes limit → IsRefusedLine bytes line → ⊥ }
 {}
 
-#[cfg(test)]
-mod tests;
+/// Each text has an answer: it says a chip, or is refused at a line, or passes a limit.
+pub fn each_text_has_an_answer()
+    ensures { (bytes : List ℕ) → HasAnswer bytes }
+{}

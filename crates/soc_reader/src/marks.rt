@@ -3,9 +3,9 @@ ghost use Rattle.std.specs.Prelude.{◌≡◌, ◌&&◌, nat_eq, OnOk, ◌||◌,
 ghost use Rattle.soc_reader.specs.Grammar.{same_subject, row};
 ghost use Rattle.soc_reader.specs.Marks.{is_marked};
 
-use crate::items::Stop;
 use crate::keys::{Given, Key, Subject};
 use indexmap::IndexSet;
+use outside::Stop;
 
 /// Whether this was given.
 pub fn is_in(marks: &IndexSet<Given>, given: Given) -> bool

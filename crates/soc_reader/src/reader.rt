@@ -8,13 +8,13 @@ ghost use Rattle.soc_reader.specs.Keywords.{number as number_in, is_lengths_word
 ghost use Rattle.soc_reader.specs.Names.{KeepsNames};
 
 use crate::collect::{may_give, may_name, push};
-use crate::items::{Items, ReadItem, ReadPart, ReadValue, Stop};
+use crate::items::{Items, ReadItem, ReadPart, ReadValue};
 use crate::keys::{After, Key, Shape, Subject};
 use crate::lexicon::{
     flag_of, is_coordinate, is_free_word, is_lengths_word, is_letter_word, is_printable, key_of,
     number_of,
 };
-use outside::Word;
+use outside::{Stop, Word};
 use std::alloc::Global;
 
 /// One more item.

@@ -1,53 +1,91 @@
 // Reads whole texts.
-ghost use Rattle.soc_reader.specs.Reads.{ItemsRead, ChipRead};
+ghost use Rattle.soc_reader.specs.Grammar.{InGrammar};
+ghost use Rattle.soc_reader.specs.Reads.{AreItems, ChipRead};
+ghost use Rattle.outside.specs.Grammars.{IsRead};
 
 use crate::build::build;
 use crate::collect::no_items;
-use crate::items::{Items, ReadPart, Stop, TextFault};
+use crate::items::{Items, ReadPart};
 use crate::reader::{close, step};
 use crate::totals::first_wrong;
-use outside::{Words, end_line};
+use outside::{Reader, Stop, Unread, Word, read_text};
 use soc_model::Soc;
 use std::alloc::Global;
 
-/// The items of a text.
-fn read_items<'a>(alloc: Global, bytes: &'a [u8]) -> Result<Items<'a>, TextFault>
-    ensures { ItemsRead bytes.now result }
-{
-    let mut items = no_items(alloc);
-    let mut part = ReadPart::Between;
-    let mut words = Words::new(bytes);
-    while let Some(word) = words.next() {
-        let line = word.line;
-        part = match step(alloc, &mut items, part, word) {
-            Ok(next) => next,
-            Err(Stop::Refused) => return Err(TextFault::Text { line }),
-            Err(Stop::NoMemory) => return Err(TextFault::NoMemory),
-        };
+/// What was read of a chip's text so far.
+#[derive(Drop)]
+struct ChipText<'a> {
+    alloc: Global,
+    items: Items<'a>,
+    part: ReadPart<'a>,
+}
+
+impl<'a> Reader<'a> for ChipText<'a> {
+    type Value = Items<'a>;
+
+    ghost use Rattle.std.specs.Prelude.{◌^◌};
+    ghost use Rattle.soc_reader.specs.Grammar.{InGrammar};
+    ghost use Rattle.soc_reader.specs.Reads.{HasRead, AreItems};
+
+    ghost whole = { InGrammar };
+
+    ghost most = { 2 ^ 64 };
+
+    ghost has_read = { HasRead };
+
+    ghost says = { AreItems };
+
+    fn step(self, word: Word<'a>) -> Result<ChipText<'a>, Stop> {
+        let ChipText {
+            alloc,
+            mut items,
+            part,
+        } = self;
+        match step(alloc, &mut items, part, word) {
+            Ok(part) => Ok(ChipText { alloc, items, part }),
+            Err(stop) => Err(stop),
+        }
     }
-    match close(alloc, &mut items, part) {
-        Ok(()) => Ok(items),
-        Err(Stop::Refused) => Err(TextFault::Text {
-            line: end_line(bytes),
-        }),
-        Err(Stop::NoMemory) => Err(TextFault::NoMemory),
+
+    fn end(self) -> Result<Items<'a>, Stop> {
+        let ChipText {
+            alloc,
+            mut items,
+            part,
+        } = self;
+        match close(alloc, &mut items, part) {
+            Ok(()) => Ok(items),
+            Err(stop) => Err(stop),
+        }
     }
 }
 
+/// The items of a text.
+fn read_items<'a>(alloc: Global, bytes: &'a [u8]) -> Result<Items<'a>, Unread>
+    ensures { IsRead InGrammar AreItems bytes.now result }
+{
+    let start = ChipText {
+        alloc,
+        items: no_items(alloc),
+        part: ReadPart::Between,
+    };
+    read_text(start, bytes)
+}
+
 /// The chip that a text says, of whatever size.
-pub fn read_chip(alloc: Global, bytes: &[u8]) -> Result<Soc, TextFault>
+pub fn read_chip(alloc: Global, bytes: &[u8]) -> Result<Soc, Unread>
     ensures { ChipRead bytes.now result }
 {
     let items = match read_items(alloc, bytes) {
         Ok(items) => items,
-        Err(fault) => return Err(fault),
+        Err(unread) => return Err(unread),
     };
     let soc = match build(alloc, items.list.as_slice()) {
         Ok(soc) => soc,
-        Err(_) => return Err(TextFault::NoMemory),
+        Err(_) => return Err(Unread::NoMemory),
     };
     match first_wrong(&soc, items.list.as_slice()) {
-        Some(line) => Err(TextFault::Text { line }),
+        Some(line) => Err(Unread::Refused { line }),
         None => Ok(soc),
     }
 }

@@ -11,7 +11,8 @@ use Rattle.soc_reader.proofs.OneAnswer.{one_line, one_limit, no_line-from_chip, 
 use Rattle.limits_text.specs.Answers.{read_as}
 use Rattle.limits_text.specs.Laws.{TextsHaveOneAnswer}
 use Rattle.plan_text.specs.Laws.{SayOnePlan, PlansAreNotRefused, RefusedOnce}
-use Rattle.plan_text.specs.Answers.{SaysPlan, last_line}
+use Rattle.outside.specs.Grammars.{last_line}
+use Rattle.plan_text.specs.Answers.{SaysPlan}
 use Rattle.soctest.specs.declared.FileKind.{FileKind}
 use Rattle.soctest.specs.declared.Status.{Status}
 use Rattle.soctest.specs.declared.Status.TheVariants.{Done, Refused, BadWords, ReadFault, TooLong, WriteFault, NoMemory}

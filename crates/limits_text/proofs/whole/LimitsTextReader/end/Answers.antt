@@ -1,0 +1,5 @@
+use Rattle.limits_text.proofs.Progress.{ends}
+use Rattle.limits_text.proofs.whole.LimitsTextReader.end.Goals as goal
+
+pub returns : goal.returns
+returns c = λ words few has. ends words c.args.self c.close.result few has c.close.ensures.items c.close.ensures.form

@@ -1,0 +1,9 @@
+use Rattle.limits_text.proofs.Progress.{goes_on, stops}
+use Rattle.limits_text.proofs.whole.LimitsTextReader.step.Goals as goal
+
+pub returns-in-Ok : goal.returns-in-Ok
+returns-in-Ok c = λ front few has.
+    goes_on front (c.args.word.bytes.now, c.args.word.line) c.args.self (record { alloc = c.args.self.alloc; items = c.step.new.items; part = c.in-Ok.part }) has c.in-Ok.ensures
+
+pub returns-in-Err : goal.returns-in-Err
+returns-in-Err c = λ front few has. stops front (c.args.word.bytes.now, c.args.word.line) c.args.self c.step.new.items c.in-Err.stop few has c.in-Err.ensures
