@@ -11,9 +11,12 @@ pub mod Naming
 pub mod Marking
 pub mod Stepping
 pub mod Pairing
+pub mod Laying
+pub mod Passing
+pub mod Sides
+pub mod Sorting
 pub mod SoundTests
 pub mod NamesApart
 pub mod Profiles
 pub mod Loads
 pub mod RoomSizes
-pub mod TestChips

@@ -4,6 +4,8 @@ pub mod Stages
 pub mod Jobs
 pub mod Placing
 pub mod Clashes
+pub mod Meetings
+pub mod Layout
 pub mod Order
 pub mod Named
 pub mod Power

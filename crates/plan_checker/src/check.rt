@@ -20,11 +20,12 @@ ghost use Rattle.plan_checker.specs.Room.{HasRoom};
 use crate::PlanFault;
 use crate::jobs::{Job, NO_JOB};
 use crate::lookups::module_count;
+use crate::meetings::{Begin, NO_BEGIN};
 use crate::verdict::check_rules;
 use bound_certificate::{BoundScratch, check_bound};
 use indexmap::{IndexMap, IndexSet};
 use outside::NoMemory;
-use plan_model::{Limits, Plan, faults_are_exact, good_plans_run_right};
+use plan_model::{Limits, Plan, WIRES_MOST, faults_are_exact, good_plans_run_right};
 use soc_model::{Soc, Test, TestId, live, module_at};
 use std::alloc::Global;
 use std::marker::Model;
@@ -43,6 +44,10 @@ pub(crate) struct Rooms {
     pub(crate) starts: IndexMap<TestId, u64>,
     /// The live tests as the plan places them, in the order of the chip.
     pub(crate) jobs: Vec<Job>,
+    /// Where they begin, by their starts.
+    pub(crate) begins: Vec<Begin>,
+    /// The latest ends of the tests that a pass over the begins has seen, for each bus or each module.
+    pub(crate) ends: Vec<u64>,
     /// Their names, in the same order.
     pub(crate) names: IndexSet<TestId>,
     /// For each of them the place of its profile in the limits.
@@ -61,6 +66,7 @@ pub struct Scratch {
 
 impl Model for Scratch {
     ghost use Rattle.std.specs.Prelude.{◌≡◌, ◌+◌, ◌≤◌, length};
+    ghost use Rattle.plan_model.specs.declared.TheConstants.{WIRES_MOST};
     ghost use Rattle.indexmap.specs.IndexMap.{index_map_len, spare as spare_places};
     ghost use Rattle.indexmap.specs.IndexSet.{keys, spare};
     ghost use Rattle.plan_checker.specs.Room.{RoomValue};
@@ -74,6 +80,7 @@ impl Model for Scratch {
     } };
 
     ghost invariant = { λ s. (length s.rooms.parents.items ≡ length s.rooms.marks.items) × (length s.rooms.profiles.items ≡ length s.rooms.jobs.items)
+        × (length s.rooms.begins.items ≡ length s.rooms.jobs.items) × (length s.rooms.ends.items ≡ length s.rooms.marks.items + WIRES_MOST + 1)
         × (length s.rooms.jobs.items ≤ index_map_len s.rooms.starts + spare_places s.rooms.starts) × (length s.rooms.jobs.items ≤ length (keys s.rooms.names) + spare s.rooms.names) };
 }
 
@@ -143,12 +150,17 @@ impl Scratch {
     ) -> Result<Scratch, NoMemory>
         ensures { IfOk result (λ room. (room.modules ≡ modules) × (pairs ≤ room.pairs) × (room.tests ≡ tests)) }
     {
+        let Some(slots) = modules.checked_add(WIRES_MOST as usize + 1) else {
+            return Err(NoMemory);
+        };
         let rooms = Rooms {
             marks: filled_room(alloc, 0, modules)?,
             parents: filled_room(alloc, 0, modules)?,
             wrappers: pair_room(alloc, pairs)?,
             starts: start_room(alloc, tests)?,
             jobs: filled_room(alloc, NO_JOB, tests)?,
+            begins: filled_room(alloc, NO_BEGIN, tests)?,
+            ends: filled_room(alloc, 0, slots)?,
             names: name_room(alloc, tests)?,
             profiles: filled_room(alloc, 0, tests)?,
         };

@@ -6,6 +6,7 @@ mod clashes;
 mod jobs;
 mod known;
 mod lookups;
+mod meetings;
 mod named;
 mod order;
 mod parents;
@@ -51,6 +52,3 @@ pub enum PlanFault {
     /// F13: a certificate that isn't accepted.
     Bound(BoundFault),
 }
-
-#[cfg(test)]
-mod tests;

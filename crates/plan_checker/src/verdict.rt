@@ -22,13 +22,16 @@ ghost use Rattle.plan_checker.specs.Placing.{IsPlacing};
 ghost use Rattle.plan_checker.specs.Stages.{KeptTo, IsVerdict};
 ghost use Rattle.plan_checker.specs.FaultValues.{fault_value};
 ghost use Rattle.plan_checker.specs.Marks.{AreBusesBy};
-ghost use Rattle.plan_checker.specs.Clashes.{AreParents, PlacesWithin};
+ghost use Rattle.plan_checker.specs.Clashes.{AreParents};
+ghost use Rattle.plan_checker.specs.Layout.{IsLayout};
+ghost use Rattle.plan_model.specs.declared.TheConstants.{WIRES_MOST};
 
 use crate::PlanFault;
 use crate::check::Rooms;
 use crate::clashes::{Apart, check_apart};
 use crate::jobs::{Job, Placing, fill_jobs};
 use crate::known::{check_cells, check_known};
+use crate::meetings::{Begin, fill_begins};
 use crate::named::fill_names;
 use crate::order::{check_before, check_cycles};
 use crate::parents::fill_parents;
@@ -58,15 +61,20 @@ fn check_buses(soc: &Soc, limits: &Limits, plan: &Plan, marks: &mut [usize]) -> 
 }
 
 /// Tests that may not meet: on one bus, of one module, of a module and its parent.
-fn check_meetings(parents: &[usize], jobs: &[Job]) -> Option<PlanFault>
-    requires { PlacesWithin (length parents.now) jobs.now }
+fn check_meetings(
+    parents: &[usize],
+    jobs: &[Job],
+    begins: &[Begin],
+    ends: &mut [u64],
+) -> Option<PlanFault>
+    requires { IsLayout parents.now jobs.now begins.now (length ends.old) }
     ensures { (soc : SocValue) (limits : LimitsValue) (plan : PlanValue) → jobs.now ≡ jobs_of soc plan → AreParents soc parents.now → KeptTo soc limits plan 7 → IsVerdict soc limits plan 10 result }
 {
-    match check_apart(parents, Apart::OneBus, jobs) {
+    match check_apart(parents, Apart::OneBus, jobs, begins, ends) {
         Some(fault) => Some(fault),
-        None => match check_apart(parents, Apart::OneModule, jobs) {
+        None => match check_apart(parents, Apart::OneModule, jobs, begins, ends) {
             Some(fault) => Some(fault),
-            None => check_apart(parents, Apart::ParentAndChild, jobs),
+            None => check_apart(parents, Apart::ParentAndChild, jobs, begins, ends),
         },
     }
 }
@@ -129,6 +137,8 @@ fn check_placed(
     from: &Placing<'_>,
     parents: &mut [usize],
     jobs: &mut [Job],
+    begins: &mut [Begin],
+    ends: &mut [u64],
     names: &mut IndexSet<TestId>,
     profiles: &mut [usize],
 ) -> Option<PlanFault>
@@ -137,6 +147,8 @@ fn check_placed(
     requires limits { IsSoundLimits (soc_value from.now.soc.now) (limits_value limits.now) }
     requires parents_fit { length parents.old ≡ length (soc_value from.now.soc.now).modules }
     requires jobs_fit { length jobs.old ≡ length (jobs_of (soc_value from.now.soc.now) (plan_value from.now.plan.now)) }
+    requires begins_fit { length begins.old ≡ length jobs.old }
+    requires ends_fit { length ends.old ≡ length parents.old + WIRES_MOST + 1 }
     requires names_fit { length jobs.old ≤ length (keys names.old) + spare names.old }
     requires profiles_fit { length profiles.old ≡ length jobs.old }
     ensures verdict { IsVerdict (soc_value from.now.soc.now) (limits_value limits.now) (plan_value from.now.plan.now) 13 result }
@@ -144,9 +156,10 @@ fn check_placed(
 {
     fill_parents(from.soc, parents);
     fill_jobs(from, jobs);
+    fill_begins(jobs, begins);
     fill_names(jobs, names);
     fill_profiles(limits, jobs, names, profiles);
-    match check_meetings(parents, jobs) {
+    match check_meetings(parents, jobs, begins, ends) {
         Some(fault) => Some(fault),
         None => check_ends(limits, from.plan, jobs, names, profiles),
     }
@@ -167,6 +180,8 @@ pub(crate) fn check_rules(
     requires pairs_fit { length (used_pairs (soc_value soc.now)) ≤ length (keys rooms.old.wrappers) + spare rooms.old.wrappers }
     requires starts_fit { length (live_ids (soc_value soc.now)) ≤ index_map_len rooms.old.starts + spare_places rooms.old.starts }
     requires jobs_fit { length rooms.old.jobs.items ≡ length (jobs_of (soc_value soc.now) (plan_value plan.now)) }
+    requires begins_fit { length rooms.old.begins.items ≡ length rooms.old.jobs.items }
+    requires ends_fit { length rooms.old.ends.items ≡ length rooms.old.marks.items + WIRES_MOST + 1 }
     requires names_fit { length rooms.old.jobs.items ≤ length (keys rooms.old.names) + spare rooms.old.names }
     requires profiles_fit { length rooms.old.profiles.items ≡ length rooms.old.jobs.items }
     ensures good { IfNone result (IsGood (soc_value soc.now) (limits_value limits.now) (plan_value plan.now)) }
@@ -177,6 +192,8 @@ pub(crate) fn check_rules(
     ensures marks_long { length rooms.new.marks.items ≡ length rooms.old.marks.items }
     ensures parents_long { length rooms.new.parents.items ≡ length rooms.old.parents.items }
     ensures jobs_long { length rooms.new.jobs.items ≡ length rooms.old.jobs.items }
+    ensures begins_long { length rooms.new.begins.items ≡ length rooms.old.begins.items }
+    ensures ends_long { length rooms.new.ends.items ≡ length rooms.old.ends.items }
     ensures profiles_long { length rooms.new.profiles.items ≡ length rooms.old.profiles.items }
 {
     let marks: &mut [usize] = &mut rooms.marks;
@@ -204,6 +221,8 @@ pub(crate) fn check_rules(
                     &from,
                     &mut rooms.parents,
                     &mut rooms.jobs,
+                    &mut rooms.begins,
+                    &mut rooms.ends,
                     &mut rooms.names,
                     &mut rooms.profiles,
                 )
