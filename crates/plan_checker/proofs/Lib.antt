@@ -4,7 +4,7 @@ pub mod Rooms
 pub mod Breaking
 pub mod Listing
 pub mod Filling
-pub mod Steps
+pub mod LeastPairs
 pub mod Lifting
 pub mod Ordering
 pub mod Naming
@@ -18,5 +18,7 @@ pub mod Sorting
 pub mod SoundTests
 pub mod NamesApart
 pub mod Profiles
+pub mod Balance
+pub mod Summing
 pub mod Loads
 pub mod RoomSizes

@@ -8,7 +8,9 @@ pub mod Meetings
 pub mod Layout
 pub mod Order
 pub mod Named
+pub mod Steps
 pub mod Power
+pub mod Events
 pub mod Wires
 pub mod Marks
 pub mod Pairs

@@ -1,6 +1,6 @@
 // The checker's room and its public call.
 
-ghost use Rattle.std.specs.Prelude.{◌≡◌, ℕ, ◌+◌, ◌≤◌, OnOk, IfOk, IfErr, IfSome, IsOk, length};
+ghost use Rattle.std.specs.Prelude.{◌≡◌, ℕ, ◌+◌, ◌≤◌, OnOk, IfOk, IfErr, IfSome, IsOk, length, vec_capacity};
 ghost use Rattle.std.specs.List.{All, filter};
 ghost use Rattle.soc_model.specs.declared.TestId.{TestId};
 ghost use Rattle.soc_model.specs.Chips.{soc_value, is_live, live_tests};
@@ -18,6 +18,7 @@ ghost use Rattle.plan_checker.specs.FaultValues.{fault_value};
 ghost use Rattle.plan_checker.specs.Room.{HasRoom};
 
 use crate::PlanFault;
+use crate::events::{EVENTS_EACH, Event};
 use crate::jobs::{Job, NO_JOB};
 use crate::lookups::module_count;
 use crate::meetings::{Begin, NO_BEGIN};
@@ -52,6 +53,8 @@ pub(crate) struct Rooms {
     pub(crate) names: IndexSet<TestId>,
     /// For each of them the place of its profile in the limits.
     pub(crate) profiles: Vec<usize>,
+    /// What they begin and end to draw, by cycles.
+    pub(crate) events: Vec<Event>,
 }
 
 /// Room for checking plans of a chip. Its model is the number of modules, of pairs of a module and a mode, and of live
@@ -65,7 +68,8 @@ pub struct Scratch {
 }
 
 impl Model for Scratch {
-    ghost use Rattle.std.specs.Prelude.{◌≡◌, ◌+◌, ◌≤◌, length};
+    ghost use Rattle.std.specs.Prelude.{◌≡◌, ◌+◌, ◌*◌, ◌≤◌, length, vec_capacity};
+    ghost use Rattle.plan_checker.specs.declared.events.TheConstants.{EVENTS_EACH};
     ghost use Rattle.plan_model.specs.declared.TheConstants.{WIRES_MOST};
     ghost use Rattle.indexmap.specs.IndexMap.{index_map_len, spare as spare_places};
     ghost use Rattle.indexmap.specs.IndexSet.{keys, spare};
@@ -81,6 +85,7 @@ impl Model for Scratch {
 
     ghost invariant = { λ s. (length s.rooms.parents.items ≡ length s.rooms.marks.items) × (length s.rooms.profiles.items ≡ length s.rooms.jobs.items)
         × (length s.rooms.begins.items ≡ length s.rooms.jobs.items) × (length s.rooms.ends.items ≡ length s.rooms.marks.items + WIRES_MOST + 1)
+        × (length s.rooms.jobs.items * EVENTS_EACH ≤ vec_capacity s.rooms.events)
         × (length s.rooms.jobs.items ≤ index_map_len s.rooms.starts + spare_places s.rooms.starts) × (length s.rooms.jobs.items ≤ length (keys s.rooms.names) + spare s.rooms.names) };
 }
 
@@ -139,6 +144,13 @@ fn start_room(alloc: Global, count: usize) -> Result<IndexMap<TestId, u64>, NoMe
     }
 }
 
+/// Room for so many events.
+fn event_room(alloc: Global, count: usize) -> Result<Vec<Event>, NoMemory>
+    ensures { IfOk result (λ room. count ≤ vec_capacity room) }
+{
+    Vec::with_capacity(alloc, count).map_err(|_| NoMemory)
+}
+
 impl Scratch {
     /// Room for so many modules, pairs of a module and a mode, and live tests.
     fn sized(
@@ -153,6 +165,9 @@ impl Scratch {
         let Some(slots) = modules.checked_add(WIRES_MOST as usize + 1) else {
             return Err(NoMemory);
         };
+        let Some(all_events) = tests.checked_mul(EVENTS_EACH) else {
+            return Err(NoMemory);
+        };
         let rooms = Rooms {
             marks: filled_room(alloc, 0, modules)?,
             parents: filled_room(alloc, 0, modules)?,
@@ -163,6 +178,7 @@ impl Scratch {
             ends: filled_room(alloc, 0, slots)?,
             names: name_room(alloc, tests)?,
             profiles: filled_room(alloc, 0, tests)?,
+            events: event_room(alloc, all_events)?,
         };
         Ok(Scratch { rooms, bound })
     }

@@ -3,6 +3,7 @@
 
 mod check;
 mod clashes;
+mod events;
 mod jobs;
 mod known;
 mod lookups;

@@ -2,7 +2,7 @@ use Rattle.std.proofs.Common.{refl, arith, inl, inr}
 use Rattle.std.proofs.lemmas.Bool.{cases_eq}
 use Rattle.std.proofs.lemmas.Option.{slice_get_within}
 use Rattle.plan_checker.specs.Clashes.{keeps_apart}
-use Rattle.plan_checker.proofs.Steps.{first_of_rows}
+use Rattle.plan_checker.proofs.LeastPairs.{first_of_rows}
 use Rattle.plan_checker.proofs.clashes.first_pair.Goals as goal
 
 pub returns-in-Some-clause-found : goal.returns-in-Some-clause-found

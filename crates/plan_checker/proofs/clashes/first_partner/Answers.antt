@@ -2,7 +2,7 @@ use Rattle.std.proofs.Common.{subst, arith, inl, inr}
 use Rattle.std.proofs.lemmas.Bool.{cases_eq}
 use Rattle.std.proofs.lemmas.Option.{slice_get_within}
 use Rattle.plan_checker.specs.Clashes.{keeps_apart, Clash}
-use Rattle.plan_checker.proofs.Steps.{clash_gives}
+use Rattle.plan_checker.proofs.LeastPairs.{clash_gives}
 use Rattle.plan_checker.proofs.clashes.first_partner.Goals as goal
 
 pub loop-second-preserved : goal.loop-second-preserved

@@ -18,7 +18,7 @@ pub returns-in-Some-clause-verdict : goal.returns-in-Some-clause-verdict
 returns-in-Some-clause-verdict c = c.in-Some.ensures (soc_value c.args.from.now.soc.now) (limits_value c.args.limits.now) (plan_value c.args.from.now.plan.now) c.fill_jobs.ensures c.fill_parents.ensures c.requires.kept
 
 pub returns-in-None-clause-verdict : goal.returns-in-None-clause-verdict
-returns-in-None-clause-verdict c = c.check_ends.ensures (soc_value c.args.from.now.soc.now) c.fill_jobs.ensures (c.in-None.ensures (soc_value c.args.from.now.soc.now) (limits_value c.args.limits.now) (plan_value c.args.from.now.plan.now) c.fill_jobs.ensures c.fill_parents.ensures c.requires.kept)
+returns-in-None-clause-verdict c = c.check_ends.ensures.verdict (soc_value c.args.from.now.soc.now) c.fill_jobs.ensures (c.in-None.ensures (soc_value c.args.from.now.soc.now) (limits_value c.args.limits.now) (plan_value c.args.from.now.plan.now) c.fill_jobs.ensures c.fill_parents.ensures c.requires.kept)
 
 pub fill_profiles-requires-clause-apart : goal.fill_profiles-requires-clause-apart
 fill_profiles-requires-clause-apart c = jobs_apart (soc_value c.args.from.now.soc.now) (plan_value c.args.from.now.plan.now) c.fill_jobs.new.jobs c.requires.placing.sound c.fill_jobs.ensures
