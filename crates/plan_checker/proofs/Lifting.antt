@@ -17,7 +17,7 @@ use Rattle.plan_checker.specs.declared.clashes.Found.{Found}
 use Rattle.plan_checker.specs.declared.clashes.Apart.{Apart}
 use Rattle.plan_checker.specs.declared.clashes.Apart.TheVariants as apart
 use Rattle.plan_checker.specs.Jobs.{job_of, jobs_of}
-use Rattle.plan_checker.specs.Clashes.{keeps_apart, Clash, IsBefore, IsLeast, IsBest, HasParentAt, AreParents, clash_fault, rule_for, PlacesWithin}
+use Rattle.plan_checker.specs.Clashes.{keeps_apart, Clash, IsBefore, IsLeast, IsBest, HasParentAt, AreParents, clash_fault, rule_for}
 use Rattle.plan_checker.proofs.Rooms.{map_at, at_map}
 
 -- what the code asks of two jobs is what the rule asks of the two tests
@@ -141,9 +141,3 @@ pub stage_none : (a : Apart) (soc : SocValue) (limits : LimitsValue) (plan : Pla
 stage_none apart.OneBus soc limits plan parents are best = none_clash (keeps_apart parents apart.OneBus) ShareBus (planned soc plan) (one_bus parents (planned soc plan)) best
 stage_none apart.OneModule soc limits plan parents are best = none_clash (keeps_apart parents apart.OneModule) ShareModule (planned soc plan) (one_module parents (planned soc plan)) best
 stage_none apart.ParentAndChild soc limits plan parents are best = none_clash (keeps_apart parents apart.ParentAndChild) (AreParentAndChild soc) (planned soc plan) (parent_and_child soc plan parents are) best
-
-pub places_in : (soc : SocValue) (plan : PlanValue) (jobs : List Job) (n : ℕ) → jobs ≡ jobs_of soc plan → n ≡ length soc.modules → PlacesWithin n jobs
-places_in soc plan jobs n same long i j at =
-    let t = at_map job_of (planned soc plan) i j (rw same at at) in
-    let within : (t.0).place < length soc.modules = place_within soc plan i t.0 t.1 in
-    rw (← t.2, long) within

@@ -1,5 +1,5 @@
 -- The jobs of a plan of a sound chip: their names, and that their powers leave room for sums.
-use Rattle.std.proofs.Common.{◌≡◌, ℕ, ◌+◌, ◌≤◌, ◌^◌, Some, List, [], ◌∷◌, length, map, refl, ap, ◌∙◌, sym, arith, inl, inr}
+use Rattle.std.proofs.Common.{◌≡◌, ℕ, zero, suc, ◌+◌, ◌≤◌, ◌^◌, Option, None, Some, List, [], ◌∷◌, length, map, refl, ap, ◌∙◌, sym, arith, inl, inr}
 use Rattle.std.specs.Prelude.{slice_get}
 use Rattle.std.specs.List.{flat_map, filter, sum_by}
 use Rattle.std.proofs.lemmas.List.Sums.{sum_by-cons}
@@ -11,14 +11,18 @@ use Rattle.soc_model.specs.declared.TestId.{TestId}
 use Rattle.soc_model.specs.Chips.{ModuleValue, SocValue, LiveTest, is_live, live_of, live_from, live_tests, id_of, same_test}
 use Rattle.soc_model.specs.SoundChips.{IsSoundChip}
 use Rattle.soc_model.proofs.Limits.{tests-le}
-use Rattle.plan_model.specs.Plans.{ProfileValue, LimitsValue, PlanValue, PlannedTest, planned, planned_test, of_first, power_of_id}
+use Rattle.plan_model.specs.Plans.{ProfileValue, LimitsValue, PlanValue, PlannedTest, planned, planned_test, of_first, step_power, power_of_id}
 use Rattle.plan_model.specs.Rules.{live_ids}
-use Rattle.plan_model.specs.SoundLimits.{IsSoundLimits, IsSoundProfile}
+use Rattle.plan_model.specs.declared.TheConstants.{STEPS_MOST}
+use Rattle.plan_model.specs.SoundLimits.{IsSoundLimits, IsSoundProfile, Grow}
 use Rattle.plan_model.proofs.PlannedTests.{Origin, origin}
 use Rattle.plan_checker.specs.declared.jobs.Job.{Job}
 use Rattle.plan_checker.specs.Jobs.{job_of, jobs_of, StartEarly}
 use Rattle.plan_checker.specs.Named.{names_of, AllApart}
 use Rattle.plan_checker.specs.Power.{AreProfiles, IsLoad}
+use Rattle.plan_checker.specs.Steps.{profile_place, steps_from, steps_of, HasSteps}
+use Rattle.plan_checker.proofs.Finding.{some_same}
+use Rattle.plan_checker.proofs.Profiles.{job_power}
 use Rattle.plan_checker.proofs.Filling.{jobs_length}
 use Rattle.plan_checker.proofs.Listing.{start_early}
 use Rattle.plan_checker.proofs.NamesApart.{live_ids_apart}
@@ -81,6 +85,7 @@ record JobOrigin (soc : SocValue) (plan : PlanValue) (i : ℕ) (j : Job) : Type 
   id_is : j.id ≡ id_of l
   power_is : j.power ≡ l.test.power
   start_is : j.start ≡ of_first (λ (s : TestId × ℕ). same_test s.0 (id_of l)) (λ s. s.1) 0 plan.starts
+  ends_later : j.start ≤ j.end
 
 job_origin : (soc : SocValue) (plan : PlanValue) (i : ℕ) (j : Job) → slice_get (jobs_of soc plan) i ≡ Some j → JobOrigin soc plan i j
 unfolding planned_test
@@ -93,28 +98,65 @@ job_origin soc plan i j at =
       id_is = sym (ap (λ (j : Job). j.id) t.2) ∙ sym (ap (λ (t : PlannedTest). t.id) o.is);
       power_is = sym (ap (λ (j : Job). j.power) t.2) ∙ sym (ap (λ (t : PlannedTest). t.power) o.is);
       start_is = sym (ap (λ (j : Job). j.start) t.2) ∙ sym (ap (λ (t : PlannedTest). t.start) o.is);
+      ends_later = rw (← t.2) (omega arith);
     }
 
-step_small : (soc : SocValue) (limits : LimitsValue) → IsSoundLimits soc limits → (k n : ℕ) (p : ProfileValue) (s : ℕ × ℕ) → slice_get limits.profiles k ≡ Some p → slice_get p.steps n ≡ Some s → s.0 ≤ 10 ^ 12
-step_small soc limits sound k n p s at there =
+-- what sound limits say of the steps of a test
+record Steps (steps : List (ℕ × ℕ)) : Type 0 where
+  few : length steps ≤ STEPS_MOST
+  grow : Grow 0 steps
+  small : (n : ℕ) (s : ℕ × ℕ) → slice_get steps n ≡ Some s → (s.0 ≤ 10 ^ 12) × (s.1 ≤ 10 ^ 9)
+
+sound_steps : (soc : SocValue) (limits : LimitsValue) (k own : ℕ) (o : Option ProfileValue) → IsSoundLimits soc limits → slice_get limits.profiles k ≡ o → (o ≡ None → own ≤ 10 ^ 9) → Steps (steps_from o own)
+sound_steps soc limits k own None sound at weak = record {
+  few = omega arith;
+  grow = (omega arith, tt);
+  small = λ n s there. own_step n s there;
+}
+  where
+    own_step : (n : ℕ) (s : ℕ × ℕ) → slice_get ((0, own) ∷ []) n ≡ Some s → (s.0 ≤ 10 ^ 12) × (s.1 ≤ 10 ^ 9)
+    own_step zero s there =
+        let same : (0, own) ≡ s = some_same there in
+        rw (← same) (omega arith, weak refl)
+    own_step (suc n) s there = absurd cc
+sound_steps soc limits k own (Some p) sound at weak =
     let profile : IsSoundProfile soc p = rw (get_or_from_slice_get limits.profiles k p p at) at (sound.profiles k p (slice_get_within limits.profiles k p at)) in
-    let small = rw (get_or_from_slice_get p.steps n s s there) at (profile.small n s (slice_get_within p.steps n s there)) in
-    omega (arith, small.0)
+    record {
+      few = profile.few_steps;
+      grow = profile.grows;
+      small = λ n s there.
+          let small = rw (get_or_from_slice_get p.steps n s s there) at (profile.small n s (slice_get_within p.steps n s there)) in
+          (omega (arith, small.0), omega (arith, small.1));
+    }
 
 as_weak : (limits : LimitsValue) (id id' : TestId) (own own' r most : ℕ) → id ≡ id' → own ≡ own' → power_of_id limits id' own' r ≤ most → power_of_id limits id own r ≤ most
 as_weak limits id id' own own' r most a b h = rw (a, b) h
+
+own_weak : (limits : LimitsValue) (j : Job) (most : ℕ) → power_of_id limits j.id j.power 0 ≤ most → slice_get limits.profiles (profile_place limits j.id) ≡ None → j.power ≤ most
+own_weak limits j most weak none =
+    let steps : steps_of limits j ≡ (0, j.power) ∷ [] = ap (λ o. steps_from o j.power) none in
+    let same : power_of_id limits j.id j.power 0 ≡ j.power = job_power limits j 0 ∙ ap (step_power 0 0) steps in
+    omega (arith, same)
+
+job_steps : (soc : SocValue) (limits : LimitsValue) (plan : PlanValue) (most i : ℕ) (j : Job) → IsSoundLimits soc limits → StartEarly plan.starts → limits.power ≡ Some most → slice_get (jobs_of soc plan) i ≡ Some j → HasSteps limits j
+job_steps soc limits plan most i j sound early limit at =
+    let o : JobOrigin soc plan i j = job_origin soc plan i j at in
+    let within = rw limit at (sound.within i o.l o.at 0) in
+    let few = rw limit at sound.power in
+    let weak : power_of_id limits j.id j.power 0 ≤ most = as_weak limits j.id (id_of o.l) j.power o.l.test.power 0 most o.id_is o.power_is within in
+    let s : Steps (steps_of limits j) = sound_steps soc limits (profile_place limits j.id) j.power (slice_get limits.profiles (profile_place limits j.id)) sound refl (λ none. let own : j.power ≤ most = own_weak limits j most weak none in omega (arith, own, few)) in
+    record {
+      early = omega (arith, o.start_is, start_early (id_of o.l) plan.starts early);
+      ends_later = o.ends_later;
+      few = s.few;
+      grow = s.grow;
+      small = s.small;
+    }
 
 pub load_is : (soc : SocValue) (limits : LimitsValue) (plan : PlanValue) (jobs : List Job) (profiles : List ℕ) (most : ℕ) → IsSoundChip soc → IsSoundLimits soc limits → StartEarly plan.starts → jobs ≡ jobs_of soc plan → AreProfiles limits jobs profiles → limits.power ≡ Some most → IsLoad limits jobs profiles most
 load_is soc limits plan jobs profiles most sound sound_limits early same places limit = record {
   places = places;
   few = omega (arith, ap length same, jobs_length soc plan, live_tests-le soc sound);
-  early = λ i j at.
-      let o : JobOrigin soc plan i j = job_origin soc plan i j (rw same at at) in
-      omega (arith, o.start_is, start_early (id_of o.l) plan.starts early);
-  small = step_small soc limits sound_limits;
-  weak = λ i j r at.
-      let o : JobOrigin soc plan i j = job_origin soc plan i j (rw same at at) in
-      let within = rw limit at (sound_limits.within i o.l o.at r) in
-      as_weak limits j.id (id_of o.l) j.power o.l.test.power r most o.id_is o.power_is within;
+  steps = λ i j at. job_steps soc limits plan most i j sound_limits early limit (rw same at at);
   limit = rw limit at sound_limits.power;
 }

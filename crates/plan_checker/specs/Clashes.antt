@@ -1,5 +1,5 @@
 -- Pairs of jobs that may not meet and do.
-use Rattle.std.specs.Prelude.{◌≡◌, ℕ, ◌<◌, ◌≤◌, ◌⊎◌, ◌&&◌, Bool, true, Option, Some, None, List, length, slice_get, slice_index, nat_eq, nat_le, if◌then◌else◌}
+use Rattle.std.specs.Prelude.{◌≡◌, ℕ, ◌<◌, ◌≤◌, ◌⊎◌, ◌&&◌, Bool, true, Option, Some, None, List, length, slice_get, slice_index, nat_eq}
 use Rattle.soc_model.specs.Chips.{SocValue, IsParent}
 use Rattle.soc_model.specs.declared.TestId.{TestId}
 use Rattle.plan_checker.specs.declared.PlanFault.{PlanFault}
@@ -46,10 +46,33 @@ abbrev pub IsBest : (Job → Job → Bool) → List Job → ℕ → ℕ → Opti
 IsBest r jobs i j None = (x y c : ℕ) → IsBefore x y i j → Clash r jobs x y c → ⊥
 IsBest r jobs i j (Some f) = IsLeast r jobs i j f
 
--- what was found before, or the pair with its cycle where that is earlier
-abbrev pub better_of : Option Found → ℕ → ℕ → ℕ → Option Found
-better_of None i j c = Some (record { first = i; second = j; cycle = c })
-better_of (Some f) i j c = if nat_le f.cycle c then Some f else Some (record { first = i; second = j; cycle = c })
+-- ---- the pairs at one cycle
+
+-- no test behind the one at a place meets it at the cycle
+abbrev pub HasNoPartner : (Job → Job → Bool) → List Job → (i c : ℕ) → Type 0
+HasNoPartner r jobs i c = (j : ℕ) → Clash r jobs i j c → ⊥
+
+-- the first test that does
+pub record IsFirstPartner (r : Job → Job → Bool) (jobs : List Job) (i c j : ℕ) : Type 0 where
+  pub clash : Clash r jobs i j c
+  pub first : (k : ℕ) → k < j → Clash r jobs i k c → ⊥
+
+-- the first pair at the cycle
+pub record IsFirstPair (r : Job → Job → Bool) (jobs : List Job) (c : ℕ) (f : Found) : Type 0 where
+  pub cycle_is : f.cycle ≡ c
+  pub clash : Clash r jobs f.first f.second c
+  pub first : (x y : ℕ) → IsBefore x y f.first f.second → Clash r jobs x y c → ⊥
+
+-- the least cycle of a clash
+pub record IsLeastCycle (r : Job → Job → Bool) (jobs : List Job) (c : ℕ) : Type 0 where
+  pub i : ℕ
+  pub j : ℕ
+  pub clash : Clash r jobs i j c
+  pub least : (x y d : ℕ) → Clash r jobs x y d → c ≤ d
+
+abbrev pub IsFirstCycle : (Job → Job → Bool) → List Job → Option ℕ → Type 0
+IsFirstCycle r jobs None = (x y c : ℕ) → Clash r jobs x y c → ⊥
+IsFirstCycle r jobs (Some c) = IsLeastCycle r jobs c
 
 -- for each module the place of its parent; where it has none, a number that is no place
 pub record HasParentAt (soc : SocValue) (parents : List ℕ) (p : ℕ) : Type 0 where
@@ -57,6 +80,7 @@ pub record HasParentAt (soc : SocValue) (parents : List ℕ) (p : ℕ) : Type 0 
   pub at : slice_get parents p ≡ Some q
   pub is : q < length soc.modules → IsParent soc.modules q p
   pub only : (r : ℕ) → IsParent soc.modules r p → r ≡ q
+  pub within : q ≤ length soc.modules
 
 abbrev pub AreParents : SocValue → List ℕ → Type 0
 AreParents soc parents = (p : ℕ) → p < length soc.modules → HasParentAt soc parents p
@@ -65,6 +89,10 @@ abbrev pub rule_for : Apart → Rule
 rule_for apart.OneBus = Wires
 rule_for apart.OneModule = Busy
 rule_for apart.ParentAndChild = Parents
+
+-- a test of a parent stands before each test of the child
+abbrev pub ParentsFirst : List ℕ → List Job → Type 0
+ParentsFirst parents jobs = (i j : ℕ) (a b : Job) → slice_get jobs i ≡ Some a → slice_get jobs j ≡ Some b → a.place ≡ slice_index parents b.place → i < j
 
 abbrev pub PlacesWithin : ℕ → List Job → Type 0
 PlacesWithin n jobs = (i : ℕ) (j : Job) → slice_get jobs i ≡ Some j → j.place < n

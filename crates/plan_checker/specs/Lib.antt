@@ -4,9 +4,13 @@ pub mod Stages
 pub mod Jobs
 pub mod Placing
 pub mod Clashes
+pub mod Meetings
+pub mod Layout
 pub mod Order
 pub mod Named
+pub mod Steps
 pub mod Power
+pub mod Events
 pub mod Wires
 pub mod Marks
 pub mod Pairs

@@ -1,6 +1,6 @@
 // The checker's room and its public call.
 
-ghost use Rattle.std.specs.Prelude.{◌≡◌, ℕ, ◌+◌, ◌≤◌, OnOk, IfOk, IfErr, IfSome, IsOk, length};
+ghost use Rattle.std.specs.Prelude.{◌≡◌, ℕ, ◌+◌, ◌≤◌, OnOk, IfOk, IfErr, IfSome, IsOk, length, vec_capacity};
 ghost use Rattle.std.specs.List.{All, filter};
 ghost use Rattle.soc_model.specs.declared.TestId.{TestId};
 ghost use Rattle.soc_model.specs.Chips.{soc_value, is_live, live_tests};
@@ -18,13 +18,15 @@ ghost use Rattle.plan_checker.specs.FaultValues.{fault_value};
 ghost use Rattle.plan_checker.specs.Room.{HasRoom};
 
 use crate::PlanFault;
+use crate::events::{EVENTS_EACH, Event};
 use crate::jobs::{Job, NO_JOB};
 use crate::lookups::module_count;
+use crate::meetings::{Begin, NO_BEGIN};
 use crate::verdict::check_rules;
 use bound_certificate::{BoundScratch, check_bound};
 use indexmap::{IndexMap, IndexSet};
 use outside::NoMemory;
-use plan_model::{Limits, Plan, faults_are_exact, good_plans_run_right};
+use plan_model::{Limits, Plan, WIRES_MOST, faults_are_exact, good_plans_run_right};
 use soc_model::{Soc, Test, TestId, live, module_at};
 use std::alloc::Global;
 use std::marker::Model;
@@ -43,10 +45,16 @@ pub(crate) struct Rooms {
     pub(crate) starts: IndexMap<TestId, u64>,
     /// The live tests as the plan places them, in the order of the chip.
     pub(crate) jobs: Vec<Job>,
+    /// Where they begin, by their starts.
+    pub(crate) begins: Vec<Begin>,
+    /// The latest ends of the tests that a pass over the begins has seen, for each bus or each module.
+    pub(crate) ends: Vec<u64>,
     /// Their names, in the same order.
     pub(crate) names: IndexSet<TestId>,
     /// For each of them the place of its profile in the limits.
     pub(crate) profiles: Vec<usize>,
+    /// What they begin and end to draw, by cycles.
+    pub(crate) events: Vec<Event>,
 }
 
 /// Room for checking plans of a chip. Its model is the number of modules, of pairs of a module and a mode, and of live
@@ -60,7 +68,9 @@ pub struct Scratch {
 }
 
 impl Model for Scratch {
-    ghost use Rattle.std.specs.Prelude.{◌≡◌, ◌+◌, ◌≤◌, length};
+    ghost use Rattle.std.specs.Prelude.{◌≡◌, ◌+◌, ◌*◌, ◌≤◌, length, vec_capacity};
+    ghost use Rattle.plan_checker.specs.declared.events.TheConstants.{EVENTS_EACH};
+    ghost use Rattle.plan_model.specs.declared.TheConstants.{WIRES_MOST};
     ghost use Rattle.indexmap.specs.IndexMap.{index_map_len, spare as spare_places};
     ghost use Rattle.indexmap.specs.IndexSet.{keys, spare};
     ghost use Rattle.plan_checker.specs.Room.{RoomValue};
@@ -74,6 +84,8 @@ impl Model for Scratch {
     } };
 
     ghost invariant = { λ s. (length s.rooms.parents.items ≡ length s.rooms.marks.items) × (length s.rooms.profiles.items ≡ length s.rooms.jobs.items)
+        × (length s.rooms.begins.items ≡ length s.rooms.jobs.items) × (length s.rooms.ends.items ≡ length s.rooms.marks.items + WIRES_MOST + 1)
+        × (length s.rooms.jobs.items * EVENTS_EACH ≤ vec_capacity s.rooms.events)
         × (length s.rooms.jobs.items ≤ index_map_len s.rooms.starts + spare_places s.rooms.starts) × (length s.rooms.jobs.items ≤ length (keys s.rooms.names) + spare s.rooms.names) };
 }
 
@@ -132,6 +144,13 @@ fn start_room(alloc: Global, count: usize) -> Result<IndexMap<TestId, u64>, NoMe
     }
 }
 
+/// Room for so many events.
+fn event_room(alloc: Global, count: usize) -> Result<Vec<Event>, NoMemory>
+    ensures { IfOk result (λ room. count ≤ vec_capacity room) }
+{
+    Vec::with_capacity(alloc, count).map_err(|_| NoMemory)
+}
+
 impl Scratch {
     /// Room for so many modules, pairs of a module and a mode, and live tests.
     fn sized(
@@ -143,14 +162,23 @@ impl Scratch {
     ) -> Result<Scratch, NoMemory>
         ensures { IfOk result (λ room. (room.modules ≡ modules) × (pairs ≤ room.pairs) × (room.tests ≡ tests)) }
     {
+        let Some(slots) = modules.checked_add(WIRES_MOST as usize + 1) else {
+            return Err(NoMemory);
+        };
+        let Some(all_events) = tests.checked_mul(EVENTS_EACH) else {
+            return Err(NoMemory);
+        };
         let rooms = Rooms {
             marks: filled_room(alloc, 0, modules)?,
             parents: filled_room(alloc, 0, modules)?,
             wrappers: pair_room(alloc, pairs)?,
             starts: start_room(alloc, tests)?,
             jobs: filled_room(alloc, NO_JOB, tests)?,
+            begins: filled_room(alloc, NO_BEGIN, tests)?,
+            ends: filled_room(alloc, 0, slots)?,
             names: name_room(alloc, tests)?,
             profiles: filled_room(alloc, 0, tests)?,
+            events: event_room(alloc, all_events)?,
         };
         Ok(Scratch { rooms, bound })
     }

@@ -1,7 +1,9 @@
-// The first pair of tests that may not meet and do.
+// The first pair of tests that may not meet and do: the least cycle first, then the least pair there.
 
-ghost use Rattle.std.specs.Prelude.{◌≡◌, ℕ, ◌+◌, ◌<◌, ◌≤◌, length, slice_index, IfSome, IfNone};
-ghost use Rattle.plan_checker.specs.Clashes.{keeps_apart, BothAt, IsBest, better_of, PlacesWithin, AreParents, rule_for, clash_fault};
+ghost use Rattle.std.specs.Prelude.{◌≡◌, ℕ, ◌<◌, length, slice_index, false, IsTrue, IfSome, IfNone};
+ghost use Rattle.plan_checker.specs.Clashes.{keeps_apart, BothAt, IsBest, HasNoPartner, IsFirstPartner, IsFirstPair, IsFirstCycle, PlacesWithin, AreParents, rule_for, clash_fault};
+ghost use Rattle.plan_checker.specs.Layout.{IsLayout};
+ghost use Rattle.plan_checker.specs.Power.{is_active_job};
 ghost use Rattle.soc_model.specs.Chips.{SocValue};
 ghost use Rattle.plan_model.specs.Plans.{PlanValue, LimitsValue};
 ghost use Rattle.plan_checker.specs.Jobs.{jobs_of};
@@ -9,6 +11,7 @@ ghost use Rattle.plan_checker.specs.Stages.{IsStage};
 
 use crate::PlanFault;
 use crate::jobs::Job;
+use crate::meetings::{Begin, Key, earlier, first_meeting};
 use soc_model::TestId;
 
 /// What keeps two tests apart: a bus that both use, a module that both test, or that one tests the parent of the other.
@@ -47,69 +50,101 @@ fn are_apart(parents: &[usize], apart: Apart, a: &Job, b: &Job) -> bool
     }
 }
 
-/// The first cycle at which both are active, where the rule keeps them apart.
-fn first_cycle(parents: &[usize], apart: Apart, a: &Job, b: &Job) -> Option<u64>
+/// Whether the job is active at the cycle.
+fn is_active(job: &Job, cycle: u64) -> bool
+    ensures { result ≡ is_active_job cycle job.now }
+{
+    job.start <= cycle && cycle < job.end
+}
+
+/// Whether the rule keeps the two tests apart and both are active at the cycle.
+fn meet_at(parents: &[usize], apart: Apart, a: &Job, b: &Job, cycle: u64) -> bool
     requires { b.now.place < length parents.now }
-    ensures both { IfSome result (λ c. BothAt (keeps_apart parents.now apart) a.now b.now c) }
-    ensures least { IfSome result (λ c. (d : ℕ) → BothAt (keeps_apart parents.now apart) a.now b.now d → c ≤ d) }
-    ensures none { IfNone result ((d : ℕ) → BothAt (keeps_apart parents.now apart) a.now b.now d → ⊥) }
+    ensures meet { IsTrue result → BothAt (keeps_apart parents.now apart) a.now b.now cycle }
+    ensures differ { result ≡ false → BothAt (keeps_apart parents.now apart) a.now b.now cycle → ⊥ }
 {
-    if !are_apart(parents, apart, a, b) {
-        return None;
-    }
-    let cycle = a.start.max(b.start);
-    if cycle < a.end && cycle < b.end {
-        return Some(cycle);
-    }
-    None
+    is_active(a, cycle) && is_active(b, cycle) && are_apart(parents, apart, a, b)
 }
 
-/// The better of what was found before and what two tests show.
-fn better(best: Option<Found>, first: usize, second: usize, cycle: u64) -> Option<Found>
-    ensures { result ≡ better_of best first second cycle }
-{
-    match best {
-        Some(found) if found.cycle <= cycle => best,
-        _ => Some(Found {
-            first,
-            second,
-            cycle,
-        }),
-    }
-}
-
-/// The pairs of one test with those behind it.
-fn row(
+/// The first test behind the one at a place that meets it at the cycle, though the rule keeps them apart.
+fn first_partner(
     parents: &[usize],
     apart: Apart,
     jobs: &[Job],
     first: usize,
-    best: Option<Found>,
-) -> Option<Found>
-    requires places { PlacesWithin (length parents.now) jobs.now }
+    cycle: u64,
+) -> Option<usize>
+    requires slots { PlacesWithin (length parents.now) jobs.now }
     requires within { first < length jobs.now }
-    requires before { IsBest (keeps_apart parents.now apart) jobs.now first (first + 1) best }
-    ensures { IsBest (keeps_apart parents.now apart) jobs.now (first + 1) 0 result }
+    ensures found { IfSome result (λ second. IsFirstPartner (keeps_apart parents.now apart) jobs.now first cycle second) }
+    ensures none { IfNone result (HasNoPartner (keeps_apart parents.now apart) jobs.now first cycle) }
 {
-    let mut best = best;
+    if !is_active(&jobs[first], cycle) {
+        return None;
+    }
     for second in first + 1..jobs.len() {
-        if let Some(cycle) = first_cycle(parents, apart, &jobs[first], &jobs[second]) {
-            best = better(best, first, second, cycle);
+        if meet_at(parents, apart, &jobs[first], &jobs[second], cycle) {
+            return Some(second);
         }
     }
-    best
+    None
+}
+
+/// The least pair of tests that meet at the cycle, though the rule keeps them apart.
+fn first_pair(parents: &[usize], apart: Apart, jobs: &[Job], cycle: u64) -> Option<Found>
+    requires { PlacesWithin (length parents.now) jobs.now }
+    ensures found { IfSome result (λ f. IsFirstPair (keeps_apart parents.now apart) jobs.now cycle f) }
+    ensures none { IfNone result ((i : ℕ) → HasNoPartner (keeps_apart parents.now apart) jobs.now i cycle) }
+{
+    for first in 0..jobs.len() {
+        if let Some(second) = first_partner(parents, apart, jobs, first, cycle) {
+            return Some(Found {
+                first,
+                second,
+                cycle,
+            });
+        }
+    }
+    None
+}
+
+/// The least cycle at which two tests meet that the rule keeps apart.
+fn least_cycle(
+    parents: &[usize],
+    apart: Apart,
+    jobs: &[Job],
+    begins: &[Begin],
+    ends: &mut [u64],
+) -> Option<u64>
+    requires { IsLayout parents.now jobs.now begins.now (length ends.old) }
+    ensures { IsFirstCycle (keeps_apart parents.now apart) jobs.now result }
+{
+    match apart {
+        Apart::OneBus => first_meeting(parents, jobs, begins, Key::Bus, Key::Bus, ends),
+        Apart::OneModule => first_meeting(parents, jobs, begins, Key::Place, Key::Place, ends),
+        Apart::ParentAndChild => {
+            let parent_first = first_meeting(parents, jobs, begins, Key::Place, Key::Parent, ends);
+            let child_first = first_meeting(parents, jobs, begins, Key::Parent, Key::Place, ends);
+            earlier(parent_first, child_first)
+        }
+    }
 }
 
 /// The least cycle at which two tests meet that the rule keeps apart, and the least pair there.
-pub(crate) fn first_clash(parents: &[usize], apart: Apart, jobs: &[Job]) -> Option<Found>
-    requires places { PlacesWithin (length parents.now) jobs.now }
+pub(crate) fn first_clash(
+    parents: &[usize],
+    apart: Apart,
+    jobs: &[Job],
+    begins: &[Begin],
+    ends: &mut [u64],
+) -> Option<Found>
+    requires { IsLayout parents.now jobs.now begins.now (length ends.old) }
     ensures { IsBest (keeps_apart parents.now apart) jobs.now (length jobs.now) 0 result }
 {
-    let mut best = None;
-    for first in 0..jobs.len() {
-        best = row(parents, apart, jobs, first, best);
+    match least_cycle(parents, apart, jobs, begins, ends) {
+        Some(cycle) => first_pair(parents, apart, jobs, cycle),
+        None => None,
     }
-    best
 }
 
 /// The fault of two tests that meet.
@@ -124,11 +159,17 @@ fn fault_of(apart: Apart, a: TestId, b: TestId, cycle: u64) -> PlanFault
 }
 
 /// Tests that may not meet, against the jobs of a plan and the parents of its chip.
-pub(crate) fn check_apart(parents: &[usize], apart: Apart, jobs: &[Job]) -> Option<PlanFault>
-    requires places { PlacesWithin (length parents.now) jobs.now }
+pub(crate) fn check_apart(
+    parents: &[usize],
+    apart: Apart,
+    jobs: &[Job],
+    begins: &[Begin],
+    ends: &mut [u64],
+) -> Option<PlanFault>
+    requires { IsLayout parents.now jobs.now begins.now (length ends.old) }
     ensures { (soc : SocValue) (limits : LimitsValue) (plan : PlanValue) → jobs.now ≡ jobs_of soc plan → AreParents soc parents.now → IsStage soc limits plan (rule_for apart) result }
 {
-    match first_clash(parents, apart, jobs) {
+    match first_clash(parents, apart, jobs, begins, ends) {
         Some(found) => Some(fault_of(
             apart,
             jobs[found.first].id,

@@ -3,9 +3,11 @@
 
 mod check;
 mod clashes;
+mod events;
 mod jobs;
 mod known;
 mod lookups;
+mod meetings;
 mod named;
 mod order;
 mod parents;
@@ -51,6 +53,3 @@ pub enum PlanFault {
     /// F13: a certificate that isn't accepted.
     Bound(BoundFault),
 }
-
-#[cfg(test)]
-mod tests;

@@ -13,6 +13,7 @@ fn parent_of(soc: &Soc, place: usize) -> usize
     requires { place < length (soc_value soc.now).modules }
     ensures is { result < length (soc_value soc.now).modules → IsParent (soc_value soc.now).modules result place }
     ensures only { (r : ℕ) → IsParent (soc_value soc.now).modules r place → r ≡ result }
+    ensures within { result ≤ length (soc_value soc.now).modules }
 {
     match parent(soc, place) {
         Some(found) => found,

@@ -1,6 +1,6 @@
 // The stages one after another, in the order of the rules.
 
-ghost use Rattle.std.specs.Prelude.{◌≡◌, ℕ, ◌+◌, ◌≤◌, length, map, IfSome, IfNone, Some};
+ghost use Rattle.std.specs.Prelude.{◌≡◌, ℕ, ◌+◌, ◌*◌, ◌≤◌, length, map, vec_capacity, IfSome, IfNone, Some};
 ghost use Rattle.std.specs.List.{Contains};
 ghost use Rattle.indexmap.specs.IndexMap.{index_map_len, spare as spare_places};
 ghost use Rattle.plan_model.specs.declared.Wrapper.{Wrapper};
@@ -22,13 +22,16 @@ ghost use Rattle.plan_checker.specs.Placing.{IsPlacing};
 ghost use Rattle.plan_checker.specs.Stages.{KeptTo, IsVerdict};
 ghost use Rattle.plan_checker.specs.FaultValues.{fault_value};
 ghost use Rattle.plan_checker.specs.Marks.{AreBusesBy};
-ghost use Rattle.plan_checker.specs.Clashes.{AreParents, PlacesWithin};
+ghost use Rattle.plan_checker.specs.Clashes.{AreParents};
+ghost use Rattle.plan_checker.specs.Layout.{IsLayout};
 
 use crate::PlanFault;
 use crate::check::Rooms;
 use crate::clashes::{Apart, check_apart};
+use crate::events::{EVENTS_EACH, Event};
 use crate::jobs::{Job, Placing, fill_jobs};
 use crate::known::{check_cells, check_known};
+use crate::meetings::{Begin, fill_begins};
 use crate::named::fill_names;
 use crate::order::{check_before, check_cycles};
 use crate::parents::fill_parents;
@@ -38,7 +41,7 @@ use crate::starts::check_starts;
 use crate::widths::check_widths;
 use crate::wrappers::check_wrappers;
 use indexmap::{IndexMap, IndexSet};
-use plan_model::{Limits, Plan};
+use plan_model::{Limits, Plan, WIRES_MOST};
 use soc_model::{Soc, TestId};
 
 /// The buses of the plan: their widths, the modules that it names, and their places.
@@ -58,15 +61,20 @@ fn check_buses(soc: &Soc, limits: &Limits, plan: &Plan, marks: &mut [usize]) -> 
 }
 
 /// Tests that may not meet: on one bus, of one module, of a module and its parent.
-fn check_meetings(parents: &[usize], jobs: &[Job]) -> Option<PlanFault>
-    requires { PlacesWithin (length parents.now) jobs.now }
+fn check_meetings(
+    parents: &[usize],
+    jobs: &[Job],
+    begins: &[Begin],
+    ends: &mut [u64],
+) -> Option<PlanFault>
+    requires { IsLayout parents.now jobs.now begins.now (length ends.old) }
     ensures { (soc : SocValue) (limits : LimitsValue) (plan : PlanValue) → jobs.now ≡ jobs_of soc plan → AreParents soc parents.now → KeptTo soc limits plan 7 → IsVerdict soc limits plan 10 result }
 {
-    match check_apart(parents, Apart::OneBus, jobs) {
+    match check_apart(parents, Apart::OneBus, jobs, begins, ends) {
         Some(fault) => Some(fault),
-        None => match check_apart(parents, Apart::OneModule, jobs) {
+        None => match check_apart(parents, Apart::OneModule, jobs, begins, ends) {
             Some(fault) => Some(fault),
-            None => check_apart(parents, Apart::ParentAndChild, jobs),
+            None => check_apart(parents, Apart::ParentAndChild, jobs, begins, ends),
         },
     }
 }
@@ -108,15 +116,18 @@ fn check_ends(
     jobs: &[Job],
     names: &IndexSet<TestId>,
     profiles: &[usize],
+    events: &mut Vec<Event>,
 ) -> Option<PlanFault>
     requires named { keys names.now ≡ names_of jobs.now }
     requires apart { AllApart (names_of jobs.now) }
     requires load { (most : ℕ) → limits.now.power ≡ Some most → IsLoad (limits_value limits.now) jobs.now profiles.now most }
-    ensures { (soc : SocValue) → jobs.now ≡ jobs_of soc (plan_value plan.now) → KeptTo soc (limits_value limits.now) (plan_value plan.now) 10 → IsVerdict soc (limits_value limits.now) (plan_value plan.now) 13 result }
+    requires space { length jobs.now * EVENTS_EACH ≤ vec_capacity events.old }
+    ensures verdict { (soc : SocValue) → jobs.now ≡ jobs_of soc (plan_value plan.now) → KeptTo soc (limits_value limits.now) (plan_value plan.now) 10 → IsVerdict soc (limits_value limits.now) (plan_value plan.now) 13 result }
+    ensures room { vec_capacity events.old ≤ vec_capacity events.new }
 {
     match check_before(&limits.before, jobs, names) {
         Some(fault) => Some(fault),
-        None => match check_power(limits, jobs, profiles) {
+        None => match check_power(limits, jobs, profiles, events) {
             Some(fault) => Some(fault),
             None => check_cycles(plan.cycles, jobs),
         },
@@ -129,26 +140,34 @@ fn check_placed(
     from: &Placing<'_>,
     parents: &mut [usize],
     jobs: &mut [Job],
+    begins: &mut [Begin],
+    ends: &mut [u64],
     names: &mut IndexSet<TestId>,
     profiles: &mut [usize],
+    events: &mut Vec<Event>,
 ) -> Option<PlanFault>
     requires placing { IsPlacing from.now.soc.now from.now.plan.now from.now.starts.now.entries (keys from.now.wrappers.now) from.now.buses.now }
     requires kept { KeptTo (soc_value from.now.soc.now) (limits_value limits.now) (plan_value from.now.plan.now) 7 }
     requires limits { IsSoundLimits (soc_value from.now.soc.now) (limits_value limits.now) }
     requires parents_fit { length parents.old ≡ length (soc_value from.now.soc.now).modules }
     requires jobs_fit { length jobs.old ≡ length (jobs_of (soc_value from.now.soc.now) (plan_value from.now.plan.now)) }
+    requires begins_fit { length begins.old ≡ length jobs.old }
+    requires ends_fit { length ends.old ≡ length parents.old + WIRES_MOST + 1 }
     requires names_fit { length jobs.old ≤ length (keys names.old) + spare names.old }
     requires profiles_fit { length profiles.old ≡ length jobs.old }
+    requires events_fit { length jobs.old * EVENTS_EACH ≤ vec_capacity events.old }
     ensures verdict { IsVerdict (soc_value from.now.soc.now) (limits_value limits.now) (plan_value from.now.plan.now) 13 result }
-    ensures space_left { length jobs.old ≤ length (keys names.new) + spare names.new }
+    ensures names_left { length jobs.old ≤ length (keys names.new) + spare names.new }
+    ensures events_left { vec_capacity events.old ≤ vec_capacity events.new }
 {
     fill_parents(from.soc, parents);
     fill_jobs(from, jobs);
+    fill_begins(jobs, begins);
     fill_names(jobs, names);
     fill_profiles(limits, jobs, names, profiles);
-    match check_meetings(parents, jobs) {
+    match check_meetings(parents, jobs, begins, ends) {
         Some(fault) => Some(fault),
-        None => check_ends(limits, from.plan, jobs, names, profiles),
+        None => check_ends(limits, from.plan, jobs, names, profiles, events),
     }
 }
 
@@ -167,16 +186,22 @@ pub(crate) fn check_rules(
     requires pairs_fit { length (used_pairs (soc_value soc.now)) ≤ length (keys rooms.old.wrappers) + spare rooms.old.wrappers }
     requires starts_fit { length (live_ids (soc_value soc.now)) ≤ index_map_len rooms.old.starts + spare_places rooms.old.starts }
     requires jobs_fit { length rooms.old.jobs.items ≡ length (jobs_of (soc_value soc.now) (plan_value plan.now)) }
+    requires begins_fit { length rooms.old.begins.items ≡ length rooms.old.jobs.items }
+    requires ends_fit { length rooms.old.ends.items ≡ length rooms.old.marks.items + WIRES_MOST + 1 }
     requires names_fit { length rooms.old.jobs.items ≤ length (keys rooms.old.names) + spare rooms.old.names }
     requires profiles_fit { length rooms.old.profiles.items ≡ length rooms.old.jobs.items }
+    requires events_fit { length rooms.old.jobs.items * EVENTS_EACH ≤ vec_capacity rooms.old.events }
     ensures good { IfNone result (IsGood (soc_value soc.now) (limits_value limits.now) (plan_value plan.now)) }
     ensures fault { IfSome result (λ f. IsFault (soc_value soc.now) (limits_value limits.now) (plan_value plan.now) (fault_value f)) }
     ensures pairs_left { length (used_pairs (soc_value soc.now)) ≤ length (keys rooms.new.wrappers) + spare rooms.new.wrappers }
     ensures starts_left { length (live_ids (soc_value soc.now)) ≤ index_map_len rooms.new.starts + spare_places rooms.new.starts }
     ensures names_left { length rooms.old.jobs.items ≤ length (keys rooms.new.names) + spare rooms.new.names }
+    ensures events_left { length rooms.old.jobs.items * EVENTS_EACH ≤ vec_capacity rooms.new.events }
     ensures marks_long { length rooms.new.marks.items ≡ length rooms.old.marks.items }
     ensures parents_long { length rooms.new.parents.items ≡ length rooms.old.parents.items }
     ensures jobs_long { length rooms.new.jobs.items ≡ length rooms.old.jobs.items }
+    ensures begins_long { length rooms.new.begins.items ≡ length rooms.old.begins.items }
+    ensures ends_long { length rooms.new.ends.items ≡ length rooms.old.ends.items }
     ensures profiles_long { length rooms.new.profiles.items ≡ length rooms.old.profiles.items }
 {
     let marks: &mut [usize] = &mut rooms.marks;
@@ -204,8 +229,11 @@ pub(crate) fn check_rules(
                     &from,
                     &mut rooms.parents,
                     &mut rooms.jobs,
+                    &mut rooms.begins,
+                    &mut rooms.ends,
                     &mut rooms.names,
                     &mut rooms.profiles,
+                    &mut rooms.events,
                 )
             }
         },

@@ -2,7 +2,7 @@ use Rattle.std.proofs.Common.{false, get_or}
 use Rattle.std.proofs.lemmas.Option.{slice_get_within, slice_get-get_or, get_or_from_slice_get}
 use Rattle.plan_model.specs.Views.{limits_value}
 use Rattle.plan_checker.specs.declared.jobs.Job.{Job}
-use Rattle.plan_checker.specs.Power.{profile_place}
+use Rattle.plan_checker.specs.Steps.{profile_place}
 use Rattle.plan_checker.proofs.power.profile_of.Goals as goal
 
 none : Job

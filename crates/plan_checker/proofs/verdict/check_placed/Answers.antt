@@ -1,7 +1,7 @@
 use Rattle.std.proofs.Common.{length, arith}
 use Rattle.soc_model.specs.Chips.{soc_value}
 use Rattle.plan_model.specs.Views.{limits_value, plan_value}
-use Rattle.plan_checker.proofs.Lifting.{places_in}
+use Rattle.plan_checker.proofs.Laying.{layout}
 use Rattle.plan_checker.proofs.Loads.{jobs_apart, load_is}
 use Rattle.plan_checker.proofs.verdict.check_placed.Goals as goal
 
@@ -9,7 +9,7 @@ pub fill_names-requires-clause-apart : goal.fill_names-requires-clause-apart
 fill_names-requires-clause-apart c = jobs_apart (soc_value c.args.from.now.soc.now) (plan_value c.args.from.now.plan.now) c.fill_jobs.new.jobs c.requires.placing.sound c.fill_jobs.ensures
 
 pub check_meetings-requires : goal.check_meetings-requires
-check_meetings-requires c = places_in (soc_value c.args.from.now.soc.now) (plan_value c.args.from.now.plan.now) c.fill_jobs.new.jobs (length c.fill_parents.new.parents) c.fill_jobs.ensures (omega (arith, c.fill_parents.auto.parents, c.requires.parents_fit))
+check_meetings-requires c = layout (soc_value c.args.from.now.soc.now) (limits_value c.args.limits.now) (plan_value c.args.from.now.plan.now) c.fill_parents.new.parents c.fill_jobs.new.jobs c.fill_begins.new.begins (length c.args.ends.now) c.requires.limits c.requires.kept c.fill_jobs.ensures c.fill_parents.ensures (omega (arith, c.fill_parents.auto.parents, c.requires.parents_fit)) c.fill_begins.ensures (omega (arith, c.fill_parents.auto.parents, c.requires.ends_fit))
 
 pub check_ends-requires-clause-load : goal.check_ends-requires-clause-load
 check_ends-requires-clause-load c = λ most limit. load_is (soc_value c.args.from.now.soc.now) (limits_value c.args.limits.now) (plan_value c.args.from.now.plan.now) c.fill_jobs.new.jobs c.fill_profiles.new.profiles most c.requires.placing.sound c.requires.limits (rw c.requires.placing.starts_are at c.requires.placing.early) c.fill_jobs.ensures c.fill_profiles.ensures limit
@@ -18,7 +18,7 @@ pub returns-in-Some-clause-verdict : goal.returns-in-Some-clause-verdict
 returns-in-Some-clause-verdict c = c.in-Some.ensures (soc_value c.args.from.now.soc.now) (limits_value c.args.limits.now) (plan_value c.args.from.now.plan.now) c.fill_jobs.ensures c.fill_parents.ensures c.requires.kept
 
 pub returns-in-None-clause-verdict : goal.returns-in-None-clause-verdict
-returns-in-None-clause-verdict c = c.check_ends.ensures (soc_value c.args.from.now.soc.now) c.fill_jobs.ensures (c.in-None.ensures (soc_value c.args.from.now.soc.now) (limits_value c.args.limits.now) (plan_value c.args.from.now.plan.now) c.fill_jobs.ensures c.fill_parents.ensures c.requires.kept)
+returns-in-None-clause-verdict c = c.check_ends.ensures.verdict (soc_value c.args.from.now.soc.now) c.fill_jobs.ensures (c.in-None.ensures (soc_value c.args.from.now.soc.now) (limits_value c.args.limits.now) (plan_value c.args.from.now.plan.now) c.fill_jobs.ensures c.fill_parents.ensures c.requires.kept)
 
 pub fill_profiles-requires-clause-apart : goal.fill_profiles-requires-clause-apart
 fill_profiles-requires-clause-apart c = jobs_apart (soc_value c.args.from.now.soc.now) (plan_value c.args.from.now.plan.now) c.fill_jobs.new.jobs c.requires.placing.sound c.fill_jobs.ensures
