@@ -6,6 +6,9 @@ pub mod PlacedOrders
 pub mod Exchanging
 pub mod LeastStarts
 pub mod CycleCounts
+pub mod Outside
+pub mod Missing
+pub mod Lateness
 pub mod Counting
 pub mod Walking
 pub mod Bests
@@ -14,5 +17,4 @@ pub mod Explorings
 pub mod Searching
 pub mod Estimates
 pub mod SearchSamples
-pub mod ExchangeSamples
 mod Rows

@@ -2,6 +2,7 @@ pub mod Orders
 pub mod Marks
 pub mod OrderCycles
 pub mod Walks
+pub mod Prefixes
 pub mod Found
 pub mod Late
 pub mod Progress

@@ -4,9 +4,11 @@
 
 mod ahead;
 mod exchanges;
+mod lists;
 mod order;
 mod order_laws;
 mod placing;
+mod prefix;
 mod search;
 mod starts;
 mod tries;
@@ -16,8 +18,3 @@ pub use ahead::Ahead;
 pub use order::first_order;
 pub use order_laws::{both_ends_are_estimates, orders_take_cycles, walks_have_all_orders};
 pub use search::{Found, Search};
-
-#[cfg(test)]
-mod exchange_tests;
-#[cfg(test)]
-mod search_tests;

@@ -1,5 +1,5 @@
 use Rattle.std.proofs.Common.{◌≡◌, take, vec_capacity}
-use Rattle.schedule_search.proofs.walk.copy_to.Given as goal
+use Rattle.schedule_search.proofs.lists.copy_to.Given as goal
 
 abbrev pub invariant-loop-item : goal.invariant-loop-item
 invariant-loop-item l = record {
