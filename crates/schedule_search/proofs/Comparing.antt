@@ -48,6 +48,9 @@ stays_to job a b e = not_before_to (cycles_of job a) (cycles_of job b) a b e
 pub stays_from : (job : JobValue) (a b : ℕ) → (cycles_of job a < cycles_of job b) ⊎ ((cycles_of job a ≡ cycles_of job b) × (b ≤ a)) → goes_before job a b ≡ false
 stays_from job a b e = not_before_from (cycles_of job a) (cycles_of job b) a b e
 
+pub stays_one : (job : JobValue) (a : ℕ) → goes_before job a a ≡ false
+stays_one job a = stays_from job a a (inr (refl, omega arith))
+
 -- never both ways
 pub goes_one_way : (job : JobValue) (a b : ℕ) → goes_before job a b ≡ true → goes_before job b a ≡ false
 goes_one_way job a b e = elim (goes_to job a b e) [
@@ -62,7 +65,7 @@ goes_on job a b c e f = elim (goes_to job a b e) [
 ]
 
 -- of two different tests
-other_way : (job : JobValue) (a b : ℕ) → goes_before job a b ≡ false → b < a → goes_before job b a ≡ true
+pub other_way : (job : JobValue) (a b : ℕ) → goes_before job a b ≡ false → b < a → goes_before job b a ≡ true
 other_way job a b e less = elim (stays_to job a b e) [
   | inl more ↦ goes_from job b a (inl more)
   | inr same ↦ goes_from job b a (inr (sym same.0, less))

@@ -1,8 +1,8 @@
 -- Whether a test may follow a prefix, and whether it is ready.
-use Rattle.std.proofs.Common.{◌≡◌, ℕ, ◌+◌, ◌<◌, Bool, true, false, not, true≢false, Some, List, [], ◌∷◌, length, get_or, take, map, refl, sym, ◌∙◌, ap, subst}
+use Rattle.std.proofs.Common.{◌≡◌, inl, inr, ℕ, ◌+◌, ◌<◌, Bool, true, false, not, true≢false, Some, List, [], ◌∷◌, length, get_or, take, map, refl, sym, ◌∙◌, ap, subst}
 use Rattle.std.specs.Prelude.{nat_eq, ◌||◌}
 use Rattle.std.specs.List.{All, Contains, list_all}
-use Rattle.std.proofs.lemmas.Bool.{eqb-true, eq-eqb, and_parts, and_from}
+use Rattle.std.proofs.lemmas.Bool.{cases_Bool, eqb-true, eq-eqb, and_parts, and_from}
 use Rattle.std.proofs.lemmas.List.{take_more}
 use Rattle.std.proofs.lemmas.List.Elements.{All-append, All-nil, All-cons, All-contains}
 use Rattle.std.proofs.lemmas.List.Sums.{AllPass-from_list_all, list_all-from_AllPass}
@@ -37,6 +37,9 @@ pub in_to : (tests : List ℕ) (test : ℕ) → is_in tests test ≡ true → Co
 in_to tests test is =
     let a = any_at (λ (other : ℕ). nat_eq other test) tests is in
     at_contains tests a.0 test (a.2 ∙ ap Some (eqb-true a.1 test a.3))
+
+pub not_in : (tests : List ℕ) (test : ℕ) → (Contains tests test → ⊥) → is_in tests test ≡ false
+not_in tests test new = elim (cases_Bool (is_in tests test)) [ inl yes' ↦ absurd (new (in_to tests test yes')) | inr no' ↦ no' ]
 
 pub not_true : (b : Bool) → not b ≡ true → b ≡ false
 not_true true e = absurd cc

@@ -15,6 +15,9 @@ pub mod Bests
 pub mod Stretches
 pub mod Explorings
 pub mod Searching
+pub mod WalkOrders
+pub mod WalkCounts
+pub mod Agreeing
 pub mod Estimates
 pub mod SearchSamples
 mod Rows

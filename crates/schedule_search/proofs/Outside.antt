@@ -79,7 +79,7 @@ drops_same p q x t without same = without t ∙ ap (λ b. p t && not b) (eq-eqb 
 some_is : (x y : ℕ) → Some x ≡ Some y → x ≡ y
 some_is x y e = cc
 
-from_all : (job : JobValue) (y : ℕ) (zs : List ℕ) (j t : ℕ) → slice_get zs j ≡ Some t → All (λ u. goes_before job y u ≡ true) zs → goes_before job y t ≡ true
+pub from_all : (job : JobValue) (y : ℕ) (zs : List ℕ) (j t : ℕ) → slice_get zs j ≡ Some t → All (λ u. goes_before job y u ≡ true) zs → goes_before job y t ≡ true
 from_all job y zs j t there all = subst (λ (n : ℕ). goes_before job y n ≡ true) (get_or_from_slice_get zs j t t there) (all j t (slice_get_within zs j t there))
 
 filter_without : (job : JobValue) (p q : ℕ → Bool) (x : ℕ) (xs : List ℕ) (k : ℕ) → IsWithout p q x → AreInOrder job xs → slice_get (filter p xs) k ≡ Some x → filter q xs ≡ remove (filter p xs) k
@@ -222,3 +222,9 @@ unplaced_outside job placed path rest is left = subst (AreUnplaced job placed) (
   where
     in_same : (test : ℕ) → is_in path test ≡ is_placed placed test
     in_same test = ap (λ (l : List ℕ). is_in l test) (sym is) ∙ in_placed placed test
+
+-- a test of the job that isn't in a prefix is outside
+pub outside_has : (job : JobValue) (path : List ℕ) (test : ℕ) → test < length job.tests → is_in path test ≡ false → (n : ℕ) × (slice_get (outside job path) n ≡ Some test)
+outside_has job path test inside new =
+    let k = first_has job (length job.tests) test inside in
+    in_filter (λ t. not (is_in path t)) (by_length job) k.0 test k.1 (ap not new)

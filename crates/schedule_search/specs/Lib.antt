@@ -3,6 +3,7 @@ pub mod Marks
 pub mod OrderCycles
 pub mod Walks
 pub mod Prefixes
+pub mod WalkSizes
 pub mod Found
 pub mod Late
 pub mod Progress

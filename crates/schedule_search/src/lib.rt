@@ -16,5 +16,8 @@ mod walk;
 
 pub use ahead::Ahead;
 pub use order::first_order;
-pub use order_laws::{both_ends_are_estimates, orders_take_cycles, walks_have_all_orders};
+pub use order_laws::{
+    both_ends_are_estimates, complete_searches_agree, orders_take_cycles, walks_are_in_order,
+    walks_are_short, walks_have_all_orders,
+};
 pub use search::{Found, Search};
