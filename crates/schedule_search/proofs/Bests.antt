@@ -14,14 +14,14 @@ use Rattle.resource_table.specs.Schedules.{TableValue, at_start, end_of, last_en
 use Rattle.resource_table.proofs.Placed.{each_front, each_last, each_take, not_placed, in_take}
 use Rattle.schedule_search.specs.Orders.{IsReady, IsTopological, GoesFirst, IsLongest, IsFirstOrder}
 use Rattle.schedule_search.specs.OrderCycles.{Takes, HasPlaced}
-use Rattle.schedule_search.specs.Walks.{goes_before, stands_before, by_length, IsShut, IsOpen, walk_from}
+use Rattle.schedule_search.specs.Walks.{goes_before, stands_before, IsShut, IsOpen, walk_from}
 use Rattle.schedule_search.specs.Late.{IsLateAt, AreInTime}
 use Rattle.schedule_search.specs.Progress.{AtMostFirst, NoneBefore}
 use Rattle.schedule_search.proofs.PlacedOrders.{placed_has, placed_not, first_topological}
 use Rattle.schedule_search.proofs.LeastStarts.{some_earliest}
 use Rattle.schedule_search.proofs.CycleCounts.{same_placed}
 use Rattle.schedule_search.proofs.Following.{in_placed, in_to}
-use Rattle.schedule_search.proofs.Comparing.{stays_from, later_stays, after_prefix, differ_here, in_order_now}
+use Rattle.schedule_search.proofs.Comparing.{stays_from, AreInOrder, in_order_at, later_stays, after_prefix, differ_here}
 use Rattle.schedule_search.proofs.Counting.{topological_long}
 use Rattle.schedule_search.proofs.Walking.{extends_in}
 
@@ -106,7 +106,7 @@ late_below t path end cycles sound has late rest c topological takes =
 -- ---- open prefixes
 
 -- a prefix isn't shut where each test outside is in time
-pub not_shut : (t : TableValue) (path : List ℕ) (end cycles : ℕ) → HasPlaced t path end → AreInTime t (length t.job.tests) cycles → AtMostFirst t.job cycles → IsShut t.job path → ⊥
+pub not_shut : (t : TableValue) (path : List ℕ) (end cycles : ℕ) → HasPlaced t path end → AreInTime t cycles → AtMostFirst t.job cycles → IsShut t.job path → ⊥
 not_shut t path end cycles has in_time most shut =
     let same : t.placed ≡ shut.placed = same_placed t.job t.placed shut.placed (has.in_order ∙ sym shut.in_order) has.list shut.list in
     let early = in_time shut.test shut.in_job (placed_not t.placed path shut.test has.in_order shut.outside) in
@@ -152,14 +152,14 @@ pub none_before_first : (job : JobValue) (first : List ℕ) → IsFirstOrder job
 none_before_first job first is rest topological = first_is_first job [] rest first topological.ready is.longest
 
 -- orders with a test that is tried later, where the best has an earlier one at its place
-pub none_before_later : (job : JobValue) (more : ℕ) (path best : List ℕ) (i j : ℕ) → i < j → j < length (by_length job) → Contains (walk_from job more (path ++ get_or (by_length job) i 0 ∷ [])) best → NoneBefore job (path ++ get_or (by_length job) j 0 ∷ []) best
-none_before_later job more path best i j less within there rest topological =
-    let s : ℕ = get_or (by_length job) i 0 in
-    let u : ℕ = get_or (by_length job) j 0 in
+pub none_before_later : (job : JobValue) (more : ℕ) (path best tests : List ℕ) (i j : ℕ) → AreInOrder job tests → i < j → j < length tests → Contains (walk_from job more (path ++ get_or tests i 0 ∷ [])) best → NoneBefore job (path ++ get_or tests j 0 ∷ []) best
+none_before_later job more path best tests i j order less within there rest topological =
+    let s : ℕ = get_or tests i 0 in
+    let u : ℕ = get_or tests j 0 in
     let e = extends_in job more (path ++ s ∷ []) best there in
     ap (stands_before job ((path ++ u ∷ []) ++ rest)) (e.1 ∙ append_assoc path (s ∷ []) e.0) ∙ ap (λ (l : List ℕ). stands_before job l (path ++ s ∷ e.0)) (append_assoc path (u ∷ []) rest)
-    ∙ after_prefix job path (u ∷ rest) (s ∷ e.0) ∙ differ_here job u s rest e.0 (λ same. true≢false (sym (in_order_now job i j 0 less within) ∙ ap (λ (n : ℕ). goes_before job s n) same ∙ ap (λ (n : ℕ). goes_before job n s) (sym same) ∙ later_stays job i j 0 less within))
-    ∙ later_stays job i j 0 less within
+    ∙ after_prefix job path (u ∷ rest) (s ∷ e.0) ∙ differ_here job u s rest e.0 (λ same. true≢false (sym (in_order_at job tests i j 0 order less within) ∙ ap (λ (n : ℕ). goes_before job s n) same ∙ ap (λ (n : ℕ). goes_before job n s) (sym same) ∙ later_stays job tests i j 0 order less within))
+    ∙ later_stays job tests i j 0 order less within
 
 pub none_before_more : (job : JobValue) (path best : List ℕ) (test : ℕ) → NoneBefore job path best → NoneBefore job (path ++ test ∷ []) best
 none_before_more job path best test before rest topological =

@@ -1,12 +1,12 @@
 -- Tests are compared by their cycles and places, and orders by the first place where they differ.
-use Rattle.std.proofs.Common.{◌≡◌, ◌⊎◌, inl, inr, ℕ, zero, suc, ◌<◌, ◌≤◌, true, false, List, [], ◌∷◌, ◌++◌, length, get_or, take, refl, sym, ap, arith}
-use Rattle.std.specs.Prelude.{nat_lt, nat_eq, ◌||◌, ◌&&◌}
+use Rattle.std.proofs.Common.{◌≡◌, ◌⊎◌, inl, inr, ℕ, zero, suc, ◌<◌, ◌≤◌, true, false, Some, List, [], ◌∷◌, ◌++◌, length, get_or, take, refl, sym, ap, arith}
+use Rattle.std.specs.Prelude.{nat_lt, nat_eq, slice_get, ◌||◌, ◌&&◌}
 use Rattle.std.specs.List.{All, insert}
 use Rattle.std.proofs.lemmas.Bool.{cases_Bool, cases_order, eq-eqb, ne_eqb}
 use Rattle.std.proofs.lemmas.Bool.Decides.{nat_tests}
 use Rattle.std.proofs.lemmas.List.Elements.{All-nil, All-cons, All-head, All-tail, All-weaker}
 use Rattle.resource_table.specs.Jobs.{JobValue, cycles_of}
-use Rattle.schedule_search.specs.Walks.{goes_before, stands_before, put_by_length, first_by_length, by_length}
+use Rattle.schedule_search.specs.Walks.{goes_before, stands_before, put_by_length, first_by_length}
 
 -- ---- two tests
 
@@ -48,6 +48,9 @@ stays_to job a b e = not_before_to (cycles_of job a) (cycles_of job b) a b e
 pub stays_from : (job : JobValue) (a b : ℕ) → (cycles_of job a < cycles_of job b) ⊎ ((cycles_of job a ≡ cycles_of job b) × (b ≤ a)) → goes_before job a b ≡ false
 stays_from job a b e = not_before_from (cycles_of job a) (cycles_of job b) a b e
 
+pub stays_one : (job : JobValue) (a : ℕ) → goes_before job a a ≡ false
+stays_one job a = stays_from job a a (inr (refl, omega arith))
+
 -- never both ways
 pub goes_one_way : (job : JobValue) (a b : ℕ) → goes_before job a b ≡ true → goes_before job b a ≡ false
 goes_one_way job a b e = elim (goes_to job a b e) [
@@ -62,7 +65,7 @@ goes_on job a b c e f = elim (goes_to job a b e) [
 ]
 
 -- of two different tests
-other_way : (job : JobValue) (a b : ℕ) → goes_before job a b ≡ false → b < a → goes_before job b a ≡ true
+pub other_way : (job : JobValue) (a b : ℕ) → goes_before job a b ≡ false → b < a → goes_before job b a ≡ true
 other_way job a b e less = elim (stays_to job a b e) [
   | inl more ↦ goes_from job b a (inl more)
   | inr same ↦ goes_from job b a (inr (sym same.0, less))
@@ -90,6 +93,29 @@ pub first_within : (job : JobValue) (count : ℕ) → All (λ t. t < count) (fir
 first_within job zero = All-nil (λ t. t < 0)
 first_within job (suc count) = put_all job (λ t. t < suc count) count (first_by_length job count) (omega arith) (All-weaker (λ t. t < count) (λ t. t < suc count) (λ t less. omega (arith, less)) (first_by_length job count) (first_within job count))
 
+put_has : (job : JobValue) (test a : ℕ) (tests : List ℕ) → (a ≡ test) ⊎ ((k : ℕ) × (slice_get tests k ≡ Some a)) → (k : ℕ) × (slice_get (put_by_length job test tests) k ≡ Some a)
+put_has job test a [] (inl same) = (0, ap Some (sym same))
+put_has job test a [] (inr there) = absurd (let e = there.1 in cc)
+put_has job test a (t ∷ tests) has = elim (cases_Bool (goes_before job test t)) [
+  | inl yes' ↦ elim has [ inl same ↦ (0, rw yes' (ap Some (sym same))) | inr there ↦ (suc there.0, rw yes' there.1) ]
+  | inr no' ↦ elim (first has) [
+    | inl here ↦ (0, rw no' here)
+    | inr later ↦ let r = put_has job test a tests later in (suc r.0, rw no' r.1)
+  ]
+]
+  where
+    first : (a ≡ test) ⊎ ((k : ℕ) × (slice_get (t ∷ tests) k ≡ Some a)) → (Some t ≡ Some a) ⊎ ((a ≡ test) ⊎ ((k : ℕ) × (slice_get tests k ≡ Some a)))
+    first (inl same) = inr (inl same)
+    first (inr (zero, e)) = inl e
+    first (inr (suc k, e)) = inr (inr (k, e))
+
+pub first_has : (job : JobValue) (count a : ℕ) → a < count → (k : ℕ) × (slice_get (first_by_length job count) k ≡ Some a)
+first_has job zero a less = absurd (omega (arith, less))
+first_has job (suc count) a less = put_has job count a (first_by_length job count) (elim (split a count less) [ inl same ↦ inl same | inr less' ↦ inr (first_has job count a less') ])
+  where
+    split : (a n : ℕ) → a < suc n → (a ≡ n) ⊎ (a < n)
+    split a n less = grind (arith, less)
+
 -- each goes before all that come after it
 abbrev pub AreInOrder : JobValue → List ℕ → Type 0
 AreInOrder job [] = Unit {0}
@@ -102,22 +128,19 @@ put_in_order job test (t ∷ tests) below order = elim (cases_Bool (goes_before 
   | inr no' ↦ rw no' (put_all job (λ u. goes_before job t u ≡ true) test tests (other_way job test t no' (All-head (λ t. t < test) t tests below)) order.0, put_in_order job test tests (All-tail (λ t. t < test) t tests below) order.1)
 ]
 
-first_in_order : (job : JobValue) (count : ℕ) → AreInOrder job (first_by_length job count)
+pub first_in_order : (job : JobValue) (count : ℕ) → AreInOrder job (first_by_length job count)
 first_in_order job zero = tt
 first_in_order job (suc count) = put_in_order job count (first_by_length job count) (first_within job count) (first_in_order job count)
 
-in_order_at : (job : JobValue) (tests : List ℕ) (i j d : ℕ) → AreInOrder job tests → i < j → j < length tests → goes_before job (get_or tests i d) (get_or tests j d) ≡ true
+pub in_order_at : (job : JobValue) (tests : List ℕ) (i j d : ℕ) → AreInOrder job tests → i < j → j < length tests → goes_before job (get_or tests i d) (get_or tests j d) ≡ true
 in_order_at job [] i j d order less within = absurd (omega (arith, within))
 in_order_at job (t ∷ tests) i zero d order less within = absurd (omega (arith, less))
 in_order_at job (t ∷ tests) zero (suc j) d order less within = order.0 j d (omega (arith, within))
 in_order_at job (t ∷ tests) (suc i) (suc j) d order less within = in_order_at job tests i j d order.1 (omega (arith, less)) (omega (arith, within))
 
-pub in_order_now : (job : JobValue) (i j d : ℕ) → i < j → j < length (by_length job) → goes_before job (get_or (by_length job) i d) (get_or (by_length job) j d) ≡ true
-in_order_now job i j d less within = in_order_at job (by_length job) i j d (first_in_order job (length job.tests)) less within
-
 -- a test that is tried later doesn't go before
-pub later_stays : (job : JobValue) (i j d : ℕ) → i < j → j < length (by_length job) → goes_before job (get_or (by_length job) j d) (get_or (by_length job) i d) ≡ false
-later_stays job i j d less within = goes_one_way job (get_or (by_length job) i d) (get_or (by_length job) j d) (in_order_at job (by_length job) i j d (first_in_order job (length job.tests)) less within)
+pub later_stays : (job : JobValue) (tests : List ℕ) (i j d : ℕ) → AreInOrder job tests → i < j → j < length tests → goes_before job (get_or tests j d) (get_or tests i d) ≡ false
+later_stays job tests i j d order less within = goes_one_way job (get_or tests i d) (get_or tests j d) (in_order_at job tests i j d order less within)
 
 -- ---- two orders
 

@@ -1,9 +1,12 @@
 -- What a walk has shown, step by step of the code.
-use Rattle.std.proofs.Common.{◌≡◌, inl, inr, ℕ, zero, suc, ◌+◌, ◌-◌, ◌<◌, ◌≤◌, ◌^◌, Bool, true, false, List, [], ◌∷◌, ◌++◌, length, get_or, take, map, max, refl, sym, ◌∙◌, ap, subst, arith, length-append}
-use Rattle.std.specs.List.{All, Contains}
-use Rattle.std.proofs.lemmas.Bool.{cases_lt}
+use Rattle.std.proofs.Common.{◌≡◌, inl, inr, ℕ, zero, suc, ◌+◌, ◌-◌, ◌<◌, ◌≤◌, ◌^◌, Bool, true, false, Some, List, [], ◌∷◌, ◌++◌, length, get_or, take, max, sym, ◌∙◌, ap, subst, arith, length-append}
+use Rattle.std.specs.List.{All, Contains, remove}
+use Rattle.std.proofs.lemmas.Option.{slice_get-get_or}
+use Rattle.std.specs.Prelude.{slice_get, nat_eq, if◌then◌else◌}
+use Rattle.std.proofs.lemmas.Bool.{cases_lt, cases_Bool, eqb-true}
 use Rattle.std.proofs.lemmas.List.{map-append, take_at}
 use Rattle.plan_model.specs.Rules.{Each}
+use Rattle.plan_model.proofs.Lists.{contains_at}
 use Rattle.resource_table.specs.declared.Placement.{Placement}
 use Rattle.resource_table.specs.Jobs.{JobValue, cycles_of, Precedes}
 use Rattle.resource_table.specs.Schedules.{TableValue, at_start, IsEarliest, MayPlace, IsSoundTable}
@@ -11,16 +14,19 @@ use Rattle.resource_table.proofs.Schedules.{last_push, next_list}
 use Rattle.schedule_search.specs.declared.walk.Progress.{Progress}
 use Rattle.schedule_search.specs.Orders.{IsReady, IsTopological}
 use Rattle.schedule_search.specs.OrderCycles.{Takes, HasPlaced}
-use Rattle.schedule_search.specs.Walks.{by_length, may_follow, walk_from, IsShut, IsOpen}
+use Rattle.schedule_search.specs.Walks.{may_follow, walk_from, IsShut, IsOpen}
 use Rattle.schedule_search.specs.Late.{IsLateAt, AreInTime}
-use Rattle.schedule_search.specs.Progress.{Stand, stand_of, AtMostFirst, IsBest, NoneBefore, IsKeptOrFewer, Explored}
+use Rattle.schedule_search.specs.Progress.{Stand, stand_of, AtMostFirst, IsBest, NoneBefore, IsKeptOrFewer, Explored, branch}
+use Rattle.schedule_search.specs.declared.prefix.Prefix.{Prefix}
+use Rattle.schedule_search.specs.Prefixes.{outside, IsAt}
+use Rattle.schedule_search.proofs.Outside.{outside_more, remove_past}
 use Rattle.schedule_search.proofs.PlacedOrders.{placed_has, placed_not}
 use Rattle.schedule_search.proofs.Following.{ready_from}
-use Rattle.schedule_search.proofs.Comparing.{first_within}
-use Rattle.schedule_search.proofs.Counting.{ready_few, topological_long, whole_topological}
-use Rattle.schedule_search.proofs.Walking.{Extends, tried, left, walk_all, walk_split, tried_follows, tried_passed, walk_extends, walk_head}
+use Rattle.schedule_search.proofs.Comparing.{AreInOrder}
+use Rattle.schedule_search.proofs.Counting.{topological_long, whole_topological}
+use Rattle.schedule_search.proofs.Walking.{Extends, tried, left, walk_all, walk_split, tried_branch, walk_extends, walk_head}
 use Rattle.schedule_search.proofs.Bests.{placed_ready, late_below, not_shut, open_more, none_before_later}
-use Rattle.schedule_search.proofs.Stretches.{refused_here, entered_here, fewer_here, kept_here, left_here, joined, stopped}
+use Rattle.schedule_search.proofs.Stretches.{refused_here, entered_here, fewer_here, kept_here, left_here, nothing_here, joined, stopped}
 
 -- ---- the best order
 
@@ -95,46 +101,47 @@ explored_left t job budget more path end p q same sound has late entered open_ g
 
 -- ---- the loop
 
-pub explored_entered : (t : TableValue) (job : JobValue) (budget more : ℕ) (path : List ℕ) (p q : Progress) → q ≡ record p { entered = p.entered + 1 } → IsOpen job path → p.refused ≡ false → (length path ≡ length job.tests → ⊥) → Explored job budget (tried job more path 0) (stand_of p) (stand_of q)
-explored_entered t job budget more path p q entered open_ going short =
+pub explored_entered : (job : JobValue) (budget more : ℕ) (path tests : List ℕ) (p q : Progress) → q ≡ record p { entered = p.entered + 1 } → IsOpen job path → p.refused ≡ false → (length path ≡ length job.tests → ⊥) → Explored job budget (tried job more path tests 0) (stand_of p) (stand_of q)
+explored_entered job budget more path tests p q entered open_ going short =
     subst (λ (x : Progress). Explored job budget (path ∷ []) (stand_of p) (stand_of x)) (sym entered)
     (entered_here job budget path (stand_of p) open_ going (λ topological. short (topological_long job path topological)))
 
-pub test_inside : (job : JobValue) (tests : List ℕ) (place test : ℕ) → tests ≡ by_length job → place < length tests → test ≡ get_or tests place test → test < length job.tests
-test_inside job tests place test is within at =
-    let all : get_or (by_length job) place test < length job.tests = first_within job (length job.tests) place test (omega (arith, ap length is, within)) in
-    let same : test ≡ get_or (by_length job) place test = at ∙ ap (λ (l : List ℕ). get_or l place test) is in
-    omega (arith, all, same)
+pub turn : (job : JobValue) (budget more : ℕ) (path tests : List ℕ) (place test : ℕ) (a b c : Stand) → place < length tests → test ≡ get_or tests place 0 → b.refused ≡ false
+    → Explored job budget (tried job more path tests place) a b → Explored job budget (branch job more path test) b c → Explored job budget (tried job more path tests (place + 1)) a c
+turn job budget more path tests place test a b c within at going one two =
+    subst (λ (ws : List (List ℕ)). Explored job budget ws a c) (sym (tried_branch job more path tests place within))
+    (joined job budget (tried job more path tests place) (branch job more path (get_or tests place 0)) a b c going one (subst (λ (n : ℕ). Explored job budget (branch job more path n) b c) at two))
 
-any_default : (xs : List ℕ) (k d e : ℕ) → k < length xs → get_or xs k d ≡ get_or xs k e
-any_default [] k d e less = absurd (omega (arith, less))
-any_default (x ∷ xs) zero d e less = refl
-any_default (x ∷ xs) (suc k) d e less = any_default xs k d e (omega (arith, less))
+-- a test that may not follow
+pub branch_passed : (job : JobValue) (budget more : ℕ) (path : List ℕ) (test : ℕ) (s : Stand) → may_follow job path test ≡ false → s.refused ≡ false → Explored job budget (branch job more path test) s s
+branch_passed job budget more path test s may going =
+    let none : branch job more path test ≡ [] = ap (λ b. if b then walk_from job more (path ++ test ∷ []) else []) may in
+    subst (λ (ws : List (List ℕ)). Explored job budget ws s s) (sym none) (nothing_here job budget s going)
 
-pub test_tried : (job : JobValue) (tests : List ℕ) (place test : ℕ) → tests ≡ by_length job → place < length tests → test ≡ get_or tests place test → test ≡ get_or (by_length job) place 0
-test_tried job tests place test is within at = at ∙ any_default tests place test 0 within ∙ ap (λ (l : List ℕ). get_or l place 0) is
+pub branch_followed : (job : JobValue) (budget tests : ℕ) (path pushed : List ℕ) (test : ℕ) (a b : Stand) → pushed ≡ path ++ test ∷ [] → may_follow job path test ≡ true → Explored job budget (walk_from job (tests - length pushed) pushed) a b → Explored job budget (branch job (tests - length path - 1) path test) a b
+branch_followed job budget tests path pushed test a b is may explored =
+    let some : branch job (tests - length path - 1) path test ≡ walk_from job (tests - length path - 1) (path ++ test ∷ []) = ap (λ b. if b then walk_from job (tests - length path - 1) (path ++ test ∷ []) else []) may in
+    let more : tests - length pushed ≡ tests - length path - 1 = omega (arith, ap length is, length-append path (test ∷ [])) in
+    subst (λ (ws : List (List ℕ)). Explored job budget ws a b) (sym some)
+    (subst (λ (n : ℕ). Explored job budget (walk_from job n (path ++ test ∷ [])) a b) more (subst (λ (l : List ℕ). Explored job budget (walk_from job (tests - length pushed) l) a b) is explored))
 
--- whether a test may follow, by the table
-pub follows : (t : TableValue) (job : JobValue) (path : List ℕ) (end test : ℕ) (b : Bool) → t.job ≡ job → HasPlaced t path end → b ≡ may_follow t.job (map (λ (p : Placement). p.test) t.placed) test → may_follow job path test ≡ b
-follows t job path end test b same has is = sym (is ∙ ap (λ (l : List ℕ). may_follow t.job l test) has.in_order ∙ ap (λ (j : JobValue). may_follow j path test) same)
+-- whose entries begin with the test, where there are any
+pub branch_best : (job : JobValue) (more : ℕ) (path : List ℕ) (test : ℕ) (a b : Stand) → IsKeptOrFewer (branch job more path test) a b → IsKeptOrFewer (walk_from job more (path ++ test ∷ [])) a b
+branch_best job more path test a b (inl same) = inl same
+branch_best job more path test a b (inr fewer) = elim (cases_Bool (may_follow job path test)) [
+  | inl yes' ↦ inr (fewer.0, subst (λ (ws : List (List ℕ)). Contains ws b.best) (ap (λ c. if c then walk_from job more (path ++ test ∷ []) else []) yes') fewer.1)
+  | inr no' ↦
+      let there : Contains [] b.best = subst (λ (ws : List (List ℕ)). Contains ws b.best) (ap (λ c. if c then walk_from job more (path ++ test ∷ []) else []) no') fewer.1 in
+      absurd (let k = contains_at [] b.best there in let e = k.1 in cc)
+]
 
-pub turn_passed : (job : JobValue) (budget more : ℕ) (path : List ℕ) (place test : ℕ) (a b : Stand) → place < length (by_length job) → test ≡ get_or (by_length job) place 0 → may_follow job path test ≡ false → Explored job budget (tried job more path place) a b → Explored job budget (tried job more path (place + 1)) a b
-turn_passed job budget more path place test a b within at may one =
-    subst (λ (ws : List (List ℕ)). Explored job budget ws a b) (sym (tried_passed job more path place within (ap (may_follow job path) (sym at) ∙ may))) one
-
-pub turn_followed : (job : JobValue) (budget more : ℕ) (path : List ℕ) (place test : ℕ) (a b c : Stand) → place < length (by_length job) → test ≡ get_or (by_length job) place 0 → may_follow job path test ≡ true → b.refused ≡ false
-    → Explored job budget (tried job more path place) a b → Explored job budget (walk_from job more (path ++ test ∷ [])) b c → Explored job budget (tried job more path (place + 1)) a c
-turn_followed job budget more path place test a b c within at may going one two =
-    subst (λ (ws : List (List ℕ)). Explored job budget ws a c) (sym (tried_follows job more path place within (ap (may_follow job path) (sym at) ∙ may)))
-    (joined job budget (tried job more path place) (walk_from job more (path ++ get_or (by_length job) place 0 ∷ [])) a b c going one (subst (λ (n : ℕ). Explored job budget (walk_from job more (path ++ n ∷ [])) b c) at two))
-
-pub walk_stopped : (job : JobValue) (budget more : ℕ) (path : List ℕ) (place : ℕ) (a b : Stand) → 0 < more → b.refused ≡ true → Explored job budget (tried job (more - 1) path place) a b → Explored job budget (walk_from job more path) a b
+pub walk_stopped : (job : JobValue) (budget more : ℕ) (path : List ℕ) (place : ℕ) (a b : Stand) → 0 < more → b.refused ≡ true → Explored job budget (tried job (more - 1) path (outside job path) place) a b → Explored job budget (walk_from job more path) a b
 walk_stopped job budget more path place a b some refused one =
-    subst (λ (ws : List (List ℕ)). Explored job budget ws a b) (sym (walk_split job more path place some)) (stopped job budget (tried job (more - 1) path place) (left job (more - 1) path place) a b refused one)
+    subst (λ (ws : List (List ℕ)). Explored job budget ws a b) (sym (walk_split job more path place some)) (stopped job budget (tried job (more - 1) path (outside job path) place) (left job (more - 1) path (outside job path) place) a b refused one)
 
-pub walk_ended : (job : JobValue) (budget more : ℕ) (path : List ℕ) (place : ℕ) (a b : Stand) → 0 < more → place ≡ length (by_length job) → Explored job budget (tried job (more - 1) path place) a b → Explored job budget (walk_from job more path) a b
+pub walk_ended : (job : JobValue) (budget more : ℕ) (path : List ℕ) (place : ℕ) (a b : Stand) → 0 < more → place ≡ length (outside job path) → Explored job budget (tried job (more - 1) path (outside job path) place) a b → Explored job budget (walk_from job more path) a b
 walk_ended job budget more path place a b some all one =
-    subst (λ (ws : List (List ℕ)). Explored job budget ws a b) (sym (walk_all job more path some)) (subst (λ (n : ℕ). Explored job budget (tried job (more - 1) path n) a b) all one)
+    subst (λ (ws : List (List ℕ)). Explored job budget ws a b) (sym (walk_all job more path some)) (subst (λ (n : ℕ). Explored job budget (tried job (more - 1) path (outside job path) n) a b) all one)
 
 -- ---- a test is placed
 
@@ -157,18 +164,18 @@ one_placed t t' path path' end end' test start has here grown pushed ends =
       ends = ends ∙ ap (λ (n : ℕ). max n (start + cycles_of t.job test)) has.ends ∙ sym (last_push t.job t.placed (at_start test start));
     })
 
-pub open_below : (t : TableValue) (job : JobValue) (path path' : List ℕ) (end tests cycles test : ℕ) → t.job ≡ job → HasPlaced t path end → AreInTime t tests cycles → tests ≡ length job.tests → AtMostFirst job cycles → IsOpen job path → path' ≡ path ++ test ∷ [] → IsOpen job path'
-open_below t job path path' end tests cycles test same has in_time all most open_ pushed =
-    let free : IsShut job path → ⊥ = λ shut. not_shut t path end cycles has (subst (λ (n : ℕ). AreInTime t n cycles) (all ∙ ap (λ (j : JobValue). length j.tests) (sym same)) in_time) (subst (λ (j : JobValue). AtMostFirst j cycles) (sym same) most) (subst (λ (j : JobValue). IsShut j path) (sym same) shut) in
+pub open_below : (t : TableValue) (job : JobValue) (path path' : List ℕ) (end cycles test : ℕ) → t.job ≡ job → HasPlaced t path end → AreInTime t cycles → AtMostFirst job cycles → IsOpen job path → path' ≡ path ++ test ∷ [] → IsOpen job path'
+open_below t job path path' end cycles test same has in_time most open_ pushed =
+    let free : IsShut job path → ⊥ = λ shut. not_shut t path end cycles has in_time (subst (λ (j : JobValue). AtMostFirst j cycles) (sym same) most) (subst (λ (j : JobValue). IsShut j path) (sym same) shut) in
     subst (IsOpen job) (sym pushed) (open_more job path test open_ free)
 
 -- the best doesn't stand behind orders that begin with a test that is tried later
-pub none_before_rest : (job : JobValue) (more : ℕ) (path : List ℕ) (place test : ℕ) (a b : Stand) → test ≡ get_or (by_length job) place 0
-    → ((later : ℕ) → place ≤ later → later < length (by_length job) → NoneBefore job (path ++ get_or (by_length job) later 0 ∷ []) a.best) → IsKeptOrFewer (walk_from job more (path ++ test ∷ [])) a b
-    → (later : ℕ) → place + 1 ≤ later → later < length (by_length job) → NoneBefore job (path ++ get_or (by_length job) later 0 ∷ []) b.best
-none_before_rest job more path place test a b at before (inl same) later from within = subst (NoneBefore job (path ++ get_or (by_length job) later 0 ∷ [])) (sym same.0) (before later (omega (arith, from)) within)
-none_before_rest job more path place test a b at before (inr fewer) later from within =
-    none_before_later job more path b.best place later (omega (arith, from)) within (subst (λ (n : ℕ). Contains (walk_from job more (path ++ n ∷ [])) b.best) at fewer.1)
+pub none_before_rest : (job : JobValue) (more : ℕ) (path tests : List ℕ) (place test : ℕ) (a b : Stand) → AreInOrder job tests → test ≡ get_or tests place 0
+    → ((later : ℕ) → place ≤ later → later < length tests → NoneBefore job (path ++ get_or tests later 0 ∷ []) a.best) → IsKeptOrFewer (walk_from job more (path ++ test ∷ [])) a b
+    → (later : ℕ) → place + 1 ≤ later → later < length tests → NoneBefore job (path ++ get_or tests later 0 ∷ []) b.best
+none_before_rest job more path tests place test a b order at before (inl same) later from within = subst (NoneBefore job (path ++ get_or tests later 0 ∷ [])) (sym same.0) (before later (omega (arith, from)) within)
+none_before_rest job more path tests place test a b order at before (inr fewer) later from within =
+    none_before_later job more path b.best tests place later order (omega (arith, from)) within (subst (λ (n : ℕ). Contains (walk_from job more (path ++ n ∷ [])) b.best) at fewer.1)
 
 -- ---- a turn of the loop
 
@@ -177,18 +184,31 @@ taken_back t u v n test start back grown before =
     back ∙ ap (λ (x : TableValue). (let r : TableValue = record { job = x.job; placed = take n x.placed } in r)) grown
     ∙ ap (λ (l : List Placement). (let r : TableValue = record { job = t.job; placed = l } in r)) (take_at t.placed (at_start test start ∷ []) n (sym before))
 
-pub popped : (all pushed before after : List ℕ) (x y : ℕ) → all ≡ pushed → pushed ≡ before ++ x ∷ [] → all ≡ after ++ y ∷ [] → after ≡ before
-popped all pushed before after x y e f h =
-    let long : length after ≡ length before = omega (arith, ap length (sym h ∙ e ∙ f), length-append after (y ∷ []), length-append before (x ∷ [])) in
-    sym (take_at after (y ∷ []) (length before) long) ∙ ap (take (length before)) (sym h ∙ e ∙ f) ∙ take_at before (x ∷ []) (length before) refl
+-- ---- the walk's own prefix
 
-pub child_explored : (job : JobValue) (budget tests : ℕ) (path pushed : List ℕ) (test : ℕ) (a b : Stand) → pushed ≡ path ++ test ∷ [] → Explored job budget (walk_from job (tests - length pushed) pushed) a b → Explored job budget (walk_from job (tests - length path - 1) (path ++ test ∷ [])) a b
-child_explored job budget tests path pushed test a b is explored =
-    let more : tests - length pushed ≡ tests - length path - 1 = omega (arith, ap length is, length-append path (test ∷ [])) in
-    subst (λ (n : ℕ). Explored job budget (walk_from job n (path ++ test ∷ [])) a b) more (subst (λ (l : List ℕ). Explored job budget (walk_from job (tests - length pushed) l) a b) is explored)
+pub first_at : (xs : List ℕ) (place test : ℕ) → place < length xs → test ≡ get_or xs place 0 → slice_get xs place ≡ Some test
+first_at xs place test within is = slice_get-get_or xs place 0 within ∙ ap Some (sym is)
 
-pub none_before_here : (job : JobValue) (path pushed best : List ℕ) (place test : ℕ) → test ≡ get_or (by_length job) place 0 → pushed ≡ path ++ test ∷ [] → NoneBefore job (path ++ get_or (by_length job) place 0 ∷ []) best → NoneBefore job pushed best
-none_before_here job path pushed best place test at is before = subst (λ (l : List ℕ). NoneBefore job l best) (sym (is ∙ ap (λ (n : ℕ). path ++ n ∷ []) at)) before
+-- at a test of those that are left
+pub at_next : (job : JobValue) (path now : List ℕ) (place test : ℕ) (p : Prefix) → IsAt job path (remove (outside job path) place) p → slice_get (outside job path) place ≡ Some test → now ≡ path → IsAt job now (outside job (now ++ test ∷ [])) p
+at_next job path now place test p at here same =
+    subst (λ (l : List ℕ). IsAt job l (outside job (l ++ test ∷ [])) p) (sym same) (subst (λ (l : List ℕ). IsAt job path l p) (sym (outside_more job path place test here)) at)
 
-pub path_short : (t : TableValue) (job : JobValue) (path : List ℕ) (end : ℕ) → t.job ≡ job → IsSoundTable t → HasPlaced t path end → (length path ≡ length job.tests → ⊥) → length path < length job.tests
-path_short t job path end same sound has apart = let few = ready_few job path (path_ready t job path end same sound has) in omega (arith, few, apart)
+pub at_back : (job : JobValue) (path now : List ℕ) (place test : ℕ) (p : Prefix) → IsAt job now (outside job (now ++ test ∷ [])) p → slice_get (outside job path) place ≡ Some test → now ≡ path → IsAt job path (remove (outside job path) place) p
+at_back job path now place test p at here same =
+    subst (λ (l : List ℕ). IsAt job path l p) (outside_more job path place test here) (subst (λ (l : List ℕ). IsAt job l (outside job (l ++ test ∷ [])) p) same at)
+
+-- its own tests, and those that are left
+pub at_own : (job : JobValue) (path rest : List ℕ) (p : Prefix) → IsAt job path rest p → rest ≡ outside job path → IsAt job p.tests.items (outside job p.tests.items) p
+at_own job path rest p at left = subst (λ (l : List ℕ). IsAt job l (outside job l) p) (sym at.tests_are) (subst (λ (l : List ℕ). IsAt job path l p) left at)
+
+pub at_all : (job : JobValue) (path : List ℕ) (place : ℕ) (p : Prefix) → IsAt job path (remove (outside job path) place) p → length (outside job path) ≤ place → IsAt job path (outside job path) p
+at_all job path place p at past = subst (λ (l : List ℕ). IsAt job path l p) (remove_past (outside job path) place past) at
+
+-- whether any are left
+pub none_left : (n : ℕ) (b : Bool) → b ≡ nat_eq n 0 → b ≡ true → n ≡ 0
+none_left n b is e = eqb-true n 0 (sym is ∙ e)
+
+pub some_left : (n : ℕ) (b : Bool) → b ≡ nat_eq n 0 → b ≡ false → 0 < n
+some_left zero b is e = absurd cc
+some_left (suc n) b is e = omega arith

@@ -1,8 +1,8 @@
 -- Whether a test may follow a prefix, and whether it is ready.
-use Rattle.std.proofs.Common.{◌≡◌, ℕ, ◌+◌, ◌<◌, Bool, true, false, not, true≢false, Some, List, [], ◌∷◌, length, get_or, take, map, refl, sym, ◌∙◌, ap, subst}
-use Rattle.std.specs.Prelude.{nat_eq, ◌||◌, ◌&&◌}
+use Rattle.std.proofs.Common.{◌≡◌, inl, inr, ℕ, ◌+◌, ◌<◌, Bool, true, false, not, true≢false, Some, List, [], ◌∷◌, length, get_or, take, map, refl, sym, ◌∙◌, ap, subst}
+use Rattle.std.specs.Prelude.{nat_eq, ◌||◌}
 use Rattle.std.specs.List.{All, Contains, list_all}
-use Rattle.std.proofs.lemmas.Bool.{eqb-true, eq-eqb, and_parts, and_from}
+use Rattle.std.proofs.lemmas.Bool.{cases_Bool, eqb-true, eq-eqb, and_parts, and_from}
 use Rattle.std.proofs.lemmas.List.{take_more}
 use Rattle.std.proofs.lemmas.List.Elements.{All-append, All-nil, All-cons, All-contains}
 use Rattle.std.proofs.lemmas.List.Sums.{AllPass-from_list_all, list_all-from_AllPass}
@@ -25,15 +25,8 @@ pub in_placed : (placed : List Placement) (test : ℕ) → is_in (map (λ (p : P
 in_placed [] test = refl
 in_placed (p ∷ placed) test = ap (λ b. nat_eq p.test test || b) (in_placed placed test)
 
-all_same : (p q : ℕ → Bool) (tests : List ℕ) → ((t : ℕ) → p t ≡ q t) → list_all p tests ≡ list_all q tests
-all_same p q [] same = refl
-all_same p q (t ∷ tests) same = ap (λ b. b && list_all p tests) (same t) ∙ ap (λ b. q t && b) (all_same p q tests same)
-
-pub follow_is : (job : JobValue) (placed : List Placement) (test : ℕ) (earlier : List ℕ) → earlier ≡ tests_before test job.before → (not (is_placed placed test) && list_all (is_placed placed) earlier) ≡ may_follow job (map (λ (p : Placement). p.test) placed) test
-follow_is job placed test earlier is =
-    ap (λ b. not b && list_all (is_placed placed) earlier) (sym (in_placed placed test))
-    ∙ ap (λ b. not (is_in (map (λ (p : Placement). p.test) placed) test) && b)
-    (all_same (is_placed placed) (is_in (map (λ (p : Placement). p.test) placed)) earlier (λ t. sym (in_placed placed t)) ∙ ap (list_all (is_in (map (λ (p : Placement). p.test) placed))) is)
+pub unplaced_in : (placed : List Placement) (tests : List ℕ) (test : ℕ) → map (λ (p : Placement). p.test) placed ≡ tests → is_in tests test ≡ false → is_placed placed test ≡ false
+unplaced_in placed tests test is new = sym (in_placed placed test) ∙ ap (λ (l : List ℕ). is_in l test) is ∙ new
 
 -- ---- ready tests
 
@@ -45,7 +38,10 @@ in_to tests test is =
     let a = any_at (λ (other : ℕ). nat_eq other test) tests is in
     at_contains tests a.0 test (a.2 ∙ ap Some (eqb-true a.1 test a.3))
 
-not_true : (b : Bool) → not b ≡ true → b ≡ false
+pub not_in : (tests : List ℕ) (test : ℕ) → (Contains tests test → ⊥) → is_in tests test ≡ false
+not_in tests test new = elim (cases_Bool (is_in tests test)) [ inl yes' ↦ absurd (new (in_to tests test yes')) | inr no' ↦ no' ]
+
+pub not_true : (b : Bool) → not b ≡ true → b ≡ false
 not_true true e = absurd cc
 not_true false e = refl
 

@@ -6,13 +6,18 @@ pub mod PlacedOrders
 pub mod Exchanging
 pub mod LeastStarts
 pub mod CycleCounts
+pub mod Outside
+pub mod Missing
+pub mod Lateness
 pub mod Counting
 pub mod Walking
 pub mod Bests
 pub mod Stretches
 pub mod Explorings
 pub mod Searching
+pub mod WalkOrders
+pub mod WalkCounts
+pub mod Agreeing
 pub mod Estimates
 pub mod SearchSamples
-pub mod ExchangeSamples
 mod Rows

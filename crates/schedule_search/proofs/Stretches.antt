@@ -80,6 +80,23 @@ module _ (job : JobValue) (budget : ℕ) where
     more = λ _. omega (arith, is);
   }
 
+  -- nothing was entered
+  pub nothing_here : (old : Stand) → old.refused ≡ false → Explored job budget [] old old
+  nothing_here old going = record {
+    done = 0;
+    some = omega arith;
+    no_better = All-nil (NoBetter job old);
+    best = inl (refl, refl);
+    entered = omega arith;
+    whole = λ _. refl;
+    spent = λ e. absurd (true≢false (sym e ∙ going));
+    entries = [];
+    in_walk = tt;
+    are_open = All-nil (IsOpen job);
+    counted = omega arith;
+    more = λ e. absurd (true≢false (sym e ∙ going));
+  }
+
   -- a prefix was entered that is no order
   pub entered_here : (prefix : List ℕ) (old : Stand) → IsOpen job prefix → old.refused ≡ false → (IsTopological job prefix → ⊥) → Explored job budget (prefix ∷ []) old (record old { entered = old.entered + 1 })
   entered_here prefix old open_ going part = record {

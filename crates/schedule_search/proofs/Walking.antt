@@ -1,69 +1,70 @@
 -- The walk over orders, step by step.
-use Rattle.std.proofs.Common.{◌≡◌, ◌⊎◌, inl, inr, ℕ, zero, suc, ◌+◌, ◌-◌, ◌<◌, ◌≤◌, Bool, true, false, cond, Some, List, [], ◌∷◌, ◌++◌, length, get_or, take, drop, refl, sym, ◌∙◌, ap, subst, arith, append_assoc}
+use Rattle.std.proofs.Common.{◌≡◌, ℕ, zero, suc, ◌+◌, ◌-◌, ◌<◌, ◌≤◌, Bool, true, false, cond, Some, List, [], ◌∷◌, ◌++◌, length, get_or, take, drop, refl, sym, ◌∙◌, ap, subst, arith, append_assoc}
 use Rattle.std.specs.Prelude.{slice_get}
 use Rattle.std.specs.List.{All, Contains, filter, flat_map}
-use Rattle.std.proofs.lemmas.Bool.{cases_Bool}
 use Rattle.std.proofs.lemmas.Grind.{flat_map-append}
-use Rattle.std.proofs.lemmas.List.{append-nil, take_more, take_all, take-append-drop}
-use Rattle.std.proofs.lemmas.List.Elements.{All-nil, All-cons, All-append, All-weaker, All-contains, filter-append}
+use Rattle.std.proofs.lemmas.List.{append-nil, take_all, take-append-drop}
+use Rattle.std.proofs.lemmas.List.Elements.{All-nil, All-cons, All-append, All-weaker, All-contains, filter-append, filter_more}
 use Rattle.std.proofs.lemmas.Option.{slice_get_within, get_or_from_slice_get}
 use Rattle.plan_model.specs.Rules.{Each}
 use Rattle.plan_model.proofs.Lists.{at_contains, contains_at, from_filter, from_flat_map, in_flat_map}
 use Rattle.resource_table.specs.Jobs.{JobValue}
 use Rattle.resource_table.proofs.Placed.{each_push, each_front, each_last}
 use Rattle.schedule_search.specs.Orders.{IsReady, IsTopological}
-use Rattle.schedule_search.specs.Walks.{goes_before, put_by_length, first_by_length, by_length, may_follow, walk_from, walk}
+use Rattle.schedule_search.specs.Walks.{by_length, may_follow, walk_from, walk}
 use Rattle.resource_table.proofs.Places.{in_filter}
+use Rattle.schedule_search.specs.Prefixes.{outside}
+use Rattle.schedule_search.specs.Progress.{branch}
+use Rattle.schedule_search.proofs.Outside.{may_outside}
 use Rattle.schedule_search.proofs.Following.{ready_from, ready_to}
-use Rattle.schedule_search.proofs.Comparing.{first_within}
+use Rattle.schedule_search.proofs.Comparing.{first_within, first_has}
 use Rattle.schedule_search.proofs.Counting.{ready_few, topological_long}
 
 -- what a walk tries below a prefix
 abbrev pub below : JobValue → ℕ → List ℕ → ℕ → List (List ℕ)
 below job more prefix test = walk_from job more (prefix ++ test ∷ [])
 
--- a prefix, and what is below it by the first tests in the order of trying
-abbrev pub tried : JobValue → ℕ → List ℕ → ℕ → List (List ℕ)
-tried job more prefix count = prefix ∷ flat_map (below job more prefix) (filter (may_follow job prefix) (take count (by_length job)))
+-- a prefix, and what is below it by the first of some tests
+abbrev pub tried : JobValue → ℕ → List ℕ → List ℕ → ℕ → List (List ℕ)
+tried job more prefix tests count = prefix ∷ flat_map (below job more prefix) (filter (may_follow job prefix) (take count tests))
 
 -- what is below it by the others
-abbrev pub left : JobValue → ℕ → List ℕ → ℕ → List (List ℕ)
-left job more prefix count = flat_map (below job more prefix) (filter (may_follow job prefix) (drop count (by_length job)))
+abbrev pub left : JobValue → ℕ → List ℕ → List ℕ → ℕ → List (List ℕ)
+left job more prefix tests count = flat_map (below job more prefix) (filter (may_follow job prefix) (drop count tests))
 
-walk-suc : (job : JobValue) (more : ℕ) (prefix : List ℕ) → walk_from job (suc more) prefix ≡ tried job more prefix (length (by_length job))
-walk-suc job more prefix = ap (λ l. prefix ∷ flat_map (below job more prefix) (filter (may_follow job prefix) l)) (sym (take_all (length (by_length job)) (by_length job) (omega arith)))
+walk-suc : (job : JobValue) (more : ℕ) (prefix : List ℕ) → walk_from job (suc more) prefix ≡ tried job more prefix (outside job prefix) (length (outside job prefix))
+walk-suc job more prefix =
+    ap (λ l. prefix ∷ flat_map (below job more prefix) l) (sym (may_outside job prefix))
+    ∙ ap (λ l. prefix ∷ flat_map (below job more prefix) (filter (may_follow job prefix) l)) (sym (take_all (length (outside job prefix)) (outside job prefix) (omega arith)))
 
-pub walk_all : (job : JobValue) (more : ℕ) (prefix : List ℕ) → 0 < more → walk_from job more prefix ≡ tried job (more - 1) prefix (length (by_length job))
+pub walk_all : (job : JobValue) (more : ℕ) (prefix : List ℕ) → 0 < more → walk_from job more prefix ≡ tried job (more - 1) prefix (outside job prefix) (length (outside job prefix))
 walk_all job zero prefix some = absurd (omega (arith, some))
 walk_all job (suc more) prefix some = let e : suc more - 1 ≡ more = omega arith in rw e (walk-suc job more prefix)
 
-tried-split : (job : JobValue) (more : ℕ) (prefix : List ℕ) (count : ℕ) → tried job more prefix (length (by_length job)) ≡ tried job more prefix count ++ left job more prefix count
-tried-split job more prefix count =
+tried-split : (job : JobValue) (more : ℕ) (prefix tests : List ℕ) (count : ℕ) → tried job more prefix tests (length tests) ≡ tried job more prefix tests count ++ left job more prefix tests count
+tried-split job more prefix tests count =
     let p = may_follow job prefix in
     let f = below job more prefix in
-    let whole : take (length (by_length job)) (by_length job) ≡ take count (by_length job) ++ drop count (by_length job) = take_all (length (by_length job)) (by_length job) (omega arith) ∙ sym (take-append-drop count (by_length job)) in
+    let whole : take (length tests) tests ≡ take count tests ++ drop count tests = take_all (length tests) tests (omega arith) ∙ sym (take-append-drop count tests) in
     ap (λ l. prefix ∷ flat_map f (filter p l)) whole
-    ∙ ap (λ l. prefix ∷ flat_map f l) (filter-append p (take count (by_length job)) (drop count (by_length job)))
-    ∙ ap (λ l. prefix ∷ l) (flat_map-append f (filter p (take count (by_length job))) (filter p (drop count (by_length job))))
+    ∙ ap (λ l. prefix ∷ flat_map f l) (filter-append p (take count tests) (drop count tests))
+    ∙ ap (λ l. prefix ∷ l) (flat_map-append f (filter p (take count tests)) (filter p (drop count tests)))
 
-pub walk_split : (job : JobValue) (more : ℕ) (prefix : List ℕ) (count : ℕ) → 0 < more → walk_from job more prefix ≡ tried job (more - 1) prefix count ++ left job (more - 1) prefix count
-walk_split job more prefix count some = walk_all job more prefix some ∙ tried-split job (more - 1) prefix count
+pub walk_split : (job : JobValue) (more : ℕ) (prefix : List ℕ) (count : ℕ) → 0 < more → walk_from job more prefix ≡ tried job (more - 1) prefix (outside job prefix) count ++ left job (more - 1) prefix (outside job prefix) count
+walk_split job more prefix count some = walk_all job more prefix some ∙ tried-split job (more - 1) prefix (outside job prefix) count
 
-filter-more : (p : ℕ → Bool) (tests : List ℕ) (count : ℕ) (b : Bool) → count < length tests → p (get_or tests count 0) ≡ b → filter p (take (count + 1) tests) ≡ filter p (take count tests) ++ cond b (get_or tests count 0 ∷ []) []
-filter-more p tests count b within is =
-    ap (filter p) (take_more tests count 0 within) ∙ filter-append p (take count tests) (get_or tests count 0 ∷ []) ∙ ap (λ c. filter p (take count tests) ++ cond c (get_or tests count 0 ∷ []) []) is
-
-pub tried_follows : (job : JobValue) (more : ℕ) (prefix : List ℕ) (count : ℕ) → count < length (by_length job) → may_follow job prefix (get_or (by_length job) count 0) ≡ true → tried job more prefix (count + 1) ≡ tried job more prefix count ++ below job more prefix (get_or (by_length job) count 0)
-tried_follows job more prefix count within may =
+-- one test more
+pub tried_branch : (job : JobValue) (more : ℕ) (prefix tests : List ℕ) (count : ℕ) → count < length tests → tried job more prefix tests (count + 1) ≡ tried job more prefix tests count ++ branch job more prefix (get_or tests count 0)
+tried_branch job more prefix tests count within =
     let p = may_follow job prefix in
     let f = below job more prefix in
-    let test : ℕ = get_or (by_length job) count 0 in
-    ap (λ l. prefix ∷ flat_map f l) (filter-more p (by_length job) count true within may)
-    ∙ ap (λ l. prefix ∷ l) (flat_map-append f (filter p (take count (by_length job))) (test ∷ []) ∙ ap (λ l. flat_map f (filter p (take count (by_length job))) ++ l) (append-nil (f test)))
-
-pub tried_passed : (job : JobValue) (more : ℕ) (prefix : List ℕ) (count : ℕ) → count < length (by_length job) → may_follow job prefix (get_or (by_length job) count 0) ≡ false → tried job more prefix (count + 1) ≡ tried job more prefix count
-tried_passed job more prefix count within may =
-    ap (λ l. prefix ∷ flat_map (below job more prefix) l) (filter-more (may_follow job prefix) (by_length job) count false within may ∙ append-nil (filter (may_follow job prefix) (take count (by_length job))))
+    let test : ℕ = get_or tests count 0 in
+    ap (λ l. prefix ∷ flat_map f l) (filter_more p tests count 0 within)
+    ∙ ap (λ l. prefix ∷ l) (flat_map-append f (filter p (take count tests)) (cond (p test) (test ∷ []) []) ∙ ap (λ l. flat_map f (filter p (take count tests)) ++ l) (one (p test)))
+  where
+    one : (b : Bool) → flat_map (below job more prefix) (cond b (get_or tests count 0 ∷ []) []) ≡ cond b (below job more prefix (get_or tests count 0)) []
+    one true = append-nil (below job more prefix (get_or tests count 0))
+    one false = refl
 
 -- ---- entries begin with their prefix
 
@@ -91,29 +92,6 @@ walk_head job zero prefix = ([], refl)
 walk_head job (suc more) prefix = (flat_map (below job more prefix) (filter (may_follow job prefix) (by_length job)), refl)
 
 -- ---- each topological order is an entry
-
-put_has : (job : JobValue) (test a : ℕ) (tests : List ℕ) → (a ≡ test) ⊎ ((k : ℕ) × (slice_get tests k ≡ Some a)) → (k : ℕ) × (slice_get (put_by_length job test tests) k ≡ Some a)
-put_has job test a [] (inl same) = (0, ap Some (sym same))
-put_has job test a [] (inr there) = absurd (let e = there.1 in cc)
-put_has job test a (t ∷ tests) has = elim (cases_Bool (goes_before job test t)) [
-  | inl yes' ↦ elim has [ inl same ↦ (0, rw yes' (ap Some (sym same))) | inr there ↦ (suc there.0, rw yes' there.1) ]
-  | inr no' ↦ elim (first has) [
-    | inl here ↦ (0, rw no' here)
-    | inr later ↦ let r = put_has job test a tests later in (suc r.0, rw no' r.1)
-  ]
-]
-  where
-    first : (a ≡ test) ⊎ ((k : ℕ) × (slice_get (t ∷ tests) k ≡ Some a)) → (Some t ≡ Some a) ⊎ ((a ≡ test) ⊎ ((k : ℕ) × (slice_get tests k ≡ Some a)))
-    first (inl same) = inr (inl same)
-    first (inr (zero, e)) = inl e
-    first (inr (suc k, e)) = inr (inr (k, e))
-
-first_has : (job : JobValue) (count a : ℕ) → a < count → (k : ℕ) × (slice_get (first_by_length job count) k ≡ Some a)
-first_has job zero a less = absurd (omega (arith, less))
-first_has job (suc count) a less = put_has job count a (first_by_length job count) (elim (split a count less) [ inl same ↦ inl same | inr less' ↦ inr (first_has job count a less') ])
-  where
-    split : (a n : ℕ) → a < suc n → (a ≡ n) ⊎ (a < n)
-    split a n less = grind (arith, less)
 
 here_ready : (job : JobValue) (prefix : List ℕ) (test : ℕ) (rest : List ℕ) → Each (IsReady job) (prefix ++ test ∷ rest) → IsReady job prefix test
 here_ready job prefix test rest ready = each_last (IsReady job) prefix test (each_front (IsReady job) (prefix ++ test ∷ []) rest (subst (Each (IsReady job)) (sym (append_assoc prefix (test ∷ []) rest)) ready))

@@ -6,11 +6,12 @@ use Rattle.resource_table.specs.Schedules.{TableValue}
 use Rattle.schedule_search.specs.declared.search.Room.{Room}
 use Rattle.schedule_search.specs.declared.tries.Tries.{Tries}
 use Rattle.schedule_search.specs.Orders.{IsFirstOrder}
+use Rattle.schedule_search.specs.Prefixes.{HasPrefixRoom}
 use Rattle.schedule_search.specs.Progress.{AreTries}
 
 -- room for so many tests
 pub record HasRoom (tests : ℕ) (room : Room) : Type 0 where
-  pub path : tests ≤ vec_capacity room.path
+  pub prefix : HasPrefixRoom tests room.prefix
   pub best : tests ≤ vec_capacity room.progress.best
   pub starts : tests ≤ vec_capacity room.starts
 

@@ -2,6 +2,8 @@ pub mod Orders
 pub mod Marks
 pub mod OrderCycles
 pub mod Walks
+pub mod Prefixes
+pub mod WalkSizes
 pub mod Found
 pub mod Late
 pub mod Progress

@@ -4,9 +4,11 @@
 
 mod ahead;
 mod exchanges;
+mod lists;
 mod order;
 mod order_laws;
 mod placing;
+mod prefix;
 mod search;
 mod starts;
 mod tries;
@@ -14,10 +16,8 @@ mod walk;
 
 pub use ahead::Ahead;
 pub use order::first_order;
-pub use order_laws::{both_ends_are_estimates, orders_take_cycles, walks_have_all_orders};
+pub use order_laws::{
+    both_ends_are_estimates, complete_searches_agree, orders_take_cycles, walks_are_in_order,
+    walks_are_short, walks_have_all_orders,
+};
 pub use search::{Found, Search};
-
-#[cfg(test)]
-mod exchange_tests;
-#[cfg(test)]
-mod search_tests;

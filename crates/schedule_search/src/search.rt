@@ -8,6 +8,7 @@ ghost use Rattle.schedule_search.specs.OrderCycles.{Takes};
 ghost use Rattle.schedule_search.specs.Exchanges.{NoExchangeHelps};
 ghost use Rattle.schedule_search.specs.Found.{IsFound};
 ghost use Rattle.schedule_search.specs.Kept.{HasRoom};
+ghost use Rattle.schedule_search.specs.Prefixes.{HasPrefixRoom};
 ghost use Rattle.schedule_search.specs.Progress.{AreTries, stand_of, IsBest};
 ghost use Rattle.schedule_search.specs.Estimates.{IsEstimate};
 ghost use Rattle.schedule_search.specs.SearchValues.{SearchValue};
@@ -16,11 +17,13 @@ ghost use Rattle.schedule_search.specs.Begun.{IsBegun, IsImproved, IsSearched};
 
 use crate::ahead::{Ahead, Estimate};
 use crate::exchanges::improve;
+use crate::lists::{copy_to, room_for};
 use crate::order::first_order;
 use crate::placing::order_cycles;
+use crate::prefix::Prefix;
 use crate::starts::list_starts;
 use crate::tries::{Tries, tries_of};
-use crate::walk::{Progress, copy_to, explore};
+use crate::walk::{Progress, explore};
 use outside::NoMemory;
 use resource_table::{Job, Table, TableOf};
 use std::alloc::Global;
@@ -33,7 +36,7 @@ const EXCHANGED_MOST: usize = 64;
 #[derive(Drop)]
 pub(crate) struct Room {
     /// A prefix of an order.
-    pub(crate) path: Vec<usize>,
+    pub(crate) prefix: Prefix,
     /// The best order.
     pub(crate) progress: Progress,
     /// The starts of the best order.
@@ -119,7 +122,7 @@ fn search_orders<J, E: Estimate<J>>(
     ahead: &E,
     table: &mut TableOf<J>,
     first: &[usize],
-    path: &mut Vec<usize>,
+    prefix: &mut Prefix,
     progress: &mut Progress,
 )
     requires job { table.old.job ≡ job_value job.now }
@@ -128,16 +131,16 @@ fn search_orders<J, E: Estimate<J>>(
     requires tries { AreTries (job_value job.now) tries.now }
     requires estimates { E.estimates ahead.now }
     requires first { IsFirstOrder (job_value job.now) first.now }
-    requires path_room { length (job_value job.now).tests ≤ vec_capacity path.old }
+    requires prefix_room { HasPrefixRoom (length (job_value job.now).tests) prefix.old }
     requires best_room { length (job_value job.now).tests ≤ vec_capacity progress.old.best }
     ensures found { IsSearched (job_value job.now) tries.now.budget (stand_of progress.new) }
     ensures table { table.new ≡ table.old }
-    ensures path_room { vec_capacity path.new ≡ vec_capacity path.old }
+    ensures prefix_room { HasPrefixRoom (length (job_value job.now).tests) prefix.new }
     ensures best_room { vec_capacity progress.new.best ≡ vec_capacity progress.old.best }
 {
     begin(job, table, first, progress);
-    path.clear();
-    explore(job, tries, ahead, table, path, progress, 0);
+    prefix.begin(job, tries);
+    explore(job, tries, ahead, table, prefix, progress, 0);
     improve_best(job, table, progress);
 }
 
@@ -167,17 +170,10 @@ fn search_all<J, E: Estimate<J>>(
         ahead,
         table,
         first,
-        &mut room.path,
+        &mut room.prefix,
         &mut room.progress,
     );
     list_starts(table, &room.progress.best, &mut room.starts);
-}
-
-/// Room for what is kept of so many tests.
-fn room_for<T>(alloc: Global, tests: usize) -> Result<Vec<T>, NoMemory>
-    ensures { IfOk result (λ room. tests ≤ vec_capacity room) }
-{
-    Vec::with_capacity(alloc, tests).map_err(|_| NoMemory)
 }
 
 /// Room for the best order of so many tests.
@@ -198,7 +194,7 @@ impl Room {
         ensures { IfOk result (HasRoom tests) }
     {
         Ok(Room {
-            path: room_for(alloc, tests)?,
+            prefix: Prefix::new(alloc, tests)?,
             progress: no_progress(alloc, tests)?,
             starts: room_for(alloc, tests)?,
         })

@@ -1,16 +1,15 @@
-// The order in which tests are tried, and whether a test may follow those that are placed.
+// The order in which tests are tried, and what each test waits for.
 ghost use Rattle.std.specs.Prelude.{◌≡◌, ℕ, ◌<◌, ◌≤◌, false, true, [], length, map, take, slice_index_or, IfOk, OnOk};
-ghost use Rattle.std.specs.List.{All, list_all};
-ghost use Rattle.resource_table.specs.declared.Placement.{Placement};
+ghost use Rattle.std.specs.List.{All};
 ghost use Rattle.resource_table.specs.Jobs.{job_value, IsSoundJob};
-ghost use Rattle.resource_table.specs.Schedules.{is_placed as is_placed_in};
-ghost use Rattle.resource_table.specs.Befores.{listed, AreListed};
-ghost use Rattle.schedule_search.specs.Walks.{goes_before as goes_before_of, put_by_length, by_length as by_length_of, may_follow as may_follow_in};
+ghost use Rattle.resource_table.specs.Befores.{listed};
+ghost use Rattle.schedule_search.specs.Walks.{goes_before as goes_before_of, put_by_length, by_length as by_length_of};
+ghost use Rattle.schedule_search.specs.Prefixes.{turned as turned_of, AreFollowers, AreMissing};
 ghost use Rattle.schedule_search.specs.Progress.{AreTries};
 
 use crate::order::cycles_at;
 use outside::NoMemory;
-use resource_table::{Before, Job, TableOf, all_before, earlier_than};
+use resource_table::{Before, Job, all_before};
 use std::alloc::Global;
 
 /// What the walk over the orders of a job goes by.
@@ -18,8 +17,10 @@ use std::alloc::Global;
 pub(crate) struct Tries {
     /// All tests, the longest first; of those that take the same cycles the one that stands first in the job.
     pub(crate) tests: Vec<usize>,
-    /// For each test those that precede it.
-    pub(crate) before: Vec<Before>,
+    /// For each test those that it precedes.
+    pub(crate) after: Vec<Before>,
+    /// For each test how many precedences it has.
+    pub(crate) missing: Vec<usize>,
     /// How many prefixes of orders may be entered.
     pub(crate) budget: u64,
 }
@@ -75,40 +76,50 @@ fn by_length(alloc: Global, job: &Job) -> Result<Vec<usize>, NoMemory>
     Ok(tests)
 }
 
+/// Pairs with their parts in each other's place.
+fn turned(alloc: Global, pairs: &[(usize, usize)]) -> Result<Vec<(usize, usize)>, NoMemory>
+    ensures { IfOk result (λ list. list.items ≡ map turned_of pairs.now) }
+{
+    let mut list = Vec::new(alloc);
+    for (first, second) in pairs {
+        if list.push((*second, *first)).is_err() {
+            return Err(NoMemory);
+        }
+    }
+    Ok(list)
+}
+
+/// For each test of a job those that it precedes.
+fn all_after(alloc: Global, job: &Job) -> Result<Vec<Before>, NoMemory>
+    requires { IsSoundJob (job_value job.now) }
+    ensures { IfOk result (λ lists. AreFollowers (job_value job.now) (map listed lists.items)) }
+{
+    let pairs = turned(alloc, &job.before)?;
+    all_before(alloc, job.tests.len(), &pairs)
+}
+
+/// For each test of a job how many precedences it has.
+fn count_before(alloc: Global, job: &Job) -> Result<Vec<usize>, NoMemory>
+    requires { IsSoundJob (job_value job.now) }
+    ensures { IfOk result (λ missing. AreMissing (job_value job.now) [] missing.items) }
+{
+    let mut missing = vec![in alloc; 0; job.tests.len()].map_err(|_| NoMemory)?;
+    for (_, later) in &job.before {
+        missing[*later] += 1;
+    }
+    Ok(missing)
+}
+
 /// What the walk over the orders of a job goes by. `NoMemory` where there is none.
 pub(crate) fn tries_of(alloc: Global, job: &Job, budget: u64) -> Result<Tries, NoMemory>
     requires { IsSoundJob (job_value job.now) }
     ensures tries { IfOk result (AreTries (job_value job.now)) }
     ensures budget { IfOk result (λ tries. tries.budget ≡ budget) }
 {
-    let tests = by_length(alloc, job)?;
-    let before = all_before(alloc, job.tests.len(), &job.before)?;
     Ok(Tries {
-        tests,
-        before,
+        tests: by_length(alloc, job)?,
+        after: all_after(alloc, job)?,
+        missing: count_before(alloc, job)?,
         budget,
     })
-}
-
-/// Whether all of these tests are placed.
-fn are_placed<J>(table: &TableOf<J>, tests: &[usize]) -> bool
-    requires { All (λ t. t < length table.now.job.tests) tests.now }
-    ensures { result ≡ list_all (is_placed_in table.now.placed) tests.now }
-{
-    for test in tests {
-        if !table.is_placed(*test) {
-            return false;
-        }
-    }
-    true
-}
-
-/// Whether a test isn't placed, and all that precede it are.
-pub(crate) fn may_follow<J>(table: &TableOf<J>, before: &[Before], test: usize) -> bool
-    requires sound { IsSoundJob table.now.job }
-    requires in_job { test < length table.now.job.tests }
-    requires listed { AreListed table.now.job (map listed before.now) }
-    ensures { result ≡ may_follow_in table.now.job (map (λ (p : Placement). p.test) table.now.placed) test }
-{
-    !table.is_placed(test) && are_placed(table, earlier_than(before, test))
 }

@@ -1,15 +1,18 @@
 // The walk over the orders of a job, depth first, within a budget of prefixes that are entered.
-ghost use Rattle.std.specs.Prelude.{◌≡◌, ℕ, ◌+◌, ◌-◌, ◌<◌, ◌≤◌, ◌⊎◌, true, false, length, map, vec_capacity};
-ghost use Rattle.resource_table.specs.Jobs.{job_value, cycles_of};
-ghost use Rattle.resource_table.specs.Schedules.{ready_at, is_placed, IsEarliest, IsSoundTable};
+ghost use Rattle.std.specs.Prelude.{◌≡◌, ℕ, ◌+◌, ◌-◌, ◌<◌, ◌≤◌, ◌++◌, ◌∷◌, [], true, false, length, vec_capacity};
+ghost use Rattle.resource_table.specs.Jobs.{job_value};
+ghost use Rattle.resource_table.specs.Schedules.{last_end, IsSoundTable};
 ghost use Rattle.schedule_search.specs.OrderCycles.{HasPlaced};
-ghost use Rattle.schedule_search.specs.Walks.{walk_from, IsOpen};
-ghost use Rattle.schedule_search.specs.Progress.{AreTries, stand_of, IsBest, NoneBefore, Explored};
-ghost use Rattle.schedule_search.specs.Late.{IsLateAt, AreInTime};
+ghost use Rattle.schedule_search.specs.Walks.{is_in, walk_from, IsOpen};
+ghost use Rattle.schedule_search.specs.Prefixes.{outside, HasPrefixRoom, IsAt};
+ghost use Rattle.schedule_search.specs.Progress.{AreTries, branch, stand_of, IsBest, NoneBefore, Explored};
+ghost use Rattle.schedule_search.specs.Late.{IsLateAt, AreInTime, AreUnplaced};
 
 use crate::ahead::Estimate;
+use crate::lists::copy_to;
 use crate::order::cycles_at;
-use crate::tries::{Tries, may_follow};
+use crate::prefix::Prefix;
+use crate::tries::Tries;
 use resource_table::{Job, TableOf, list_schedules_are_short};
 
 /// How far a walk has come.
@@ -23,18 +26,6 @@ pub(crate) struct Progress {
     pub(crate) entered: u64,
     /// Whether a prefix was refused.
     pub(crate) refused: bool,
-}
-
-/// Copies a list into one that has room for it.
-pub(crate) fn copy_to(to: &mut Vec<usize>, from: &[usize])
-    requires { length from.now ≤ vec_capacity to.old }
-    ensures items { to.new.items ≡ from.now }
-    ensures room { vec_capacity to.new ≡ vec_capacity to.old }
-{
-    to.clear();
-    for item in from {
-        to.push_reserved(*item);
-    }
 }
 
 /// Enters one prefix more, where the budget isn't spent; else notes the refusal.
@@ -64,29 +55,96 @@ fn offer(progress: &mut Progress, order: &[usize], cycles: u64)
     }
 }
 
-/// Whether a test that isn't placed ends, by its estimate, as late as so many cycles, or later.
-fn is_late<J, E: Estimate<J>>(ahead: &E, table: &TableOf<J>, tests: usize, cycles: u64) -> bool
+/// Whether one of some tests ends, by its estimate, as late as so many cycles, or later. The tests are those that aren't
+/// placed, longest first. Each starts at the end of the last placed test at the latest, and so the look ends at the first
+/// of them that is in time even then.
+fn is_late<J, E: Estimate<J>>(
+    job: &Job,
+    ahead: &E,
+    table: &TableOf<J>,
+    rest: &[usize],
+    end: u64,
+    cycles: u64,
+) -> bool
+    requires job { table.now.job ≡ job_value job.now }
     requires estimates { E.estimates ahead.now }
     requires sound { IsSoundTable table.now }
-    requires tests { tests ≡ length table.now.job.tests }
+    requires ends { end ≡ last_end table.now.job table.now.placed }
+    requires rest { AreUnplaced table.now.job table.now.placed rest.now }
     ensures late { result ≡ true → IsLateAt table.now cycles }
-    ensures in_time { result ≡ false → AreInTime table.now tests cycles }
+    ensures in_time { result ≡ false → AreInTime table.now cycles }
 {
-    for test in 0..tests {
-        if !table.is_placed(test) && ahead.ask(table, test) >= cycles {
+    let left = cycles.saturating_sub(end);
+    for test in rest {
+        if cycles_at(job, *test) < left {
+            return false;
+        }
+        if ahead.ask(table, *test) >= cycles {
             return true;
         }
     }
     false
 }
 
-/// Goes on with all orders that begin with the placed tests.
+/// Goes on with all orders that begin with the placed tests and then with one more, where it may follow them.
+#[cycle(explore)]
+fn follow<J, E: Estimate<J>>(
+    job: &Job,
+    tries: &Tries,
+    ahead: &E,
+    table: &mut TableOf<J>,
+    prefix: &mut Prefix,
+    progress: &mut Progress,
+    end: u64,
+    test: usize,
+)
+    requires job { table.old.job ≡ job_value job.now }
+    requires sound { IsSoundTable table.old }
+    requires tries { AreTries (job_value job.now) tries.now }
+    requires estimates { E.estimates ahead.now }
+    requires placed { HasPlaced table.old prefix.old.tests.items end }
+    requires in_job { test < length (job_value job.now).tests }
+    requires unplaced { is_in prefix.old.tests.items test ≡ false }
+    requires at { IsAt (job_value job.now) prefix.old.tests.items (outside (job_value job.now) (prefix.old.tests.items ++ test ∷ [])) prefix.old }
+    requires left { length (outside (job_value job.now) (prefix.old.tests.items ++ test ∷ [])) + length prefix.old.tests.items + 1 ≡ length (job_value job.now).tests }
+    requires best_room { length (job_value job.now).tests ≤ vec_capacity progress.old.best }
+    requires going { progress.old.refused ≡ false }
+    requires within { progress.old.entered ≤ tries.now.budget }
+    requires opened { IsOpen (job_value job.now) (prefix.old.tests.items ++ test ∷ []) }
+    requires best { IsBest (job_value job.now) (stand_of progress.old) }
+    requires none_before { NoneBefore (job_value job.now) (prefix.old.tests.items ++ test ∷ []) progress.old.best.items }
+    ensures table { table.new ≡ table.old }
+    ensures at { progress.new.refused ≡ false → IsAt (job_value job.now) prefix.old.tests.items (outside (job_value job.now) (prefix.old.tests.items ++ test ∷ [])) prefix.new }
+    ensures room { HasPrefixRoom (length (job_value job.now).tests) prefix.new }
+    ensures best_room { vec_capacity progress.new.best ≡ vec_capacity progress.old.best }
+    ensures within { progress.new.entered ≤ tries.now.budget }
+    ensures best { IsBest (job_value job.now) (stand_of progress.new) }
+    ensures explored { Explored (job_value job.now) tries.now.budget (branch (job_value job.now) (length (job_value job.now).tests - length prefix.old.tests.items - 1) prefix.old.tests.items test) (stand_of progress.old) (stand_of progress.new) }
+{
+    if prefix.waits(test) {
+        return;
+    }
+    list_schedules_are_short();
+    let start = table.earliest(test);
+    let next_end = end.max(start + cycles_at(job, test));
+    prefix.add(job, tries, test);
+    let mut frame = table.place(test, start);
+    explore(job, tries, ahead, frame.table(), prefix, progress, next_end);
+    frame.undo();
+    if !progress.refused {
+        prefix.take_back(job, tries);
+    }
+}
+
+/// Goes on with all orders that begin with the placed tests. Where a prefix was refused, the walk is over, and its own
+/// prefix is left as it is then.
+#[cycle(explore)]
 pub(crate) fn explore<J, E: Estimate<J>>(
     job: &Job,
     tries: &Tries,
     ahead: &E,
     table: &mut TableOf<J>,
-    path: &mut Vec<usize>,
+    prefix: &mut Prefix,
     progress: &mut Progress,
     end: u64,
 )
@@ -94,47 +152,40 @@ pub(crate) fn explore<J, E: Estimate<J>>(
     requires sound { IsSoundTable table.old }
     requires tries { AreTries (job_value job.now) tries.now }
     requires estimates { E.estimates ahead.now }
-    requires placed { HasPlaced table.old path.old.items end }
-    requires path_room { length (job_value job.now).tests ≤ vec_capacity path.old }
+    requires placed { HasPlaced table.old prefix.old.tests.items end }
+    requires at { IsAt (job_value job.now) prefix.old.tests.items (outside (job_value job.now) prefix.old.tests.items) prefix.old }
+    requires left { length (outside (job_value job.now) prefix.old.tests.items) + length prefix.old.tests.items ≡ length (job_value job.now).tests }
     requires best_room { length (job_value job.now).tests ≤ vec_capacity progress.old.best }
     requires going { progress.old.refused ≡ false }
     requires within { progress.old.entered ≤ tries.now.budget }
-    requires opened { IsOpen (job_value job.now) path.old.items }
+    requires opened { IsOpen (job_value job.now) prefix.old.tests.items }
     requires best { IsBest (job_value job.now) (stand_of progress.old) }
-    requires none_before { NoneBefore (job_value job.now) path.old.items progress.old.best.items }
+    requires none_before { NoneBefore (job_value job.now) prefix.old.tests.items progress.old.best.items }
     ensures table { table.new ≡ table.old }
-    ensures path { path.new.items ≡ path.old.items }
-    ensures path_room { vec_capacity path.new ≡ vec_capacity path.old }
+    ensures at { progress.new.refused ≡ false → IsAt (job_value job.now) prefix.old.tests.items (outside (job_value job.now) prefix.old.tests.items) prefix.new }
+    ensures room { HasPrefixRoom (length (job_value job.now).tests) prefix.new }
     ensures best_room { vec_capacity progress.new.best ≡ vec_capacity progress.old.best }
     ensures within { progress.new.entered ≤ tries.now.budget }
     ensures best { IsBest (job_value job.now) (stand_of progress.new) }
-    ensures explored { Explored (job_value job.now) tries.now.budget (walk_from (job_value job.now) (length (job_value job.now).tests - length path.old.items) path.old.items) (stand_of progress.old) (stand_of progress.new) }
+    ensures explored { Explored (job_value job.now) tries.now.budget (walk_from (job_value job.now) (length (job_value job.now).tests - length prefix.old.tests.items) prefix.old.tests.items) (stand_of progress.old) (stand_of progress.new) }
 {
     if !enter(progress, tries.budget) {
         return;
     }
-    if path.len() == job.tests.len() {
-        offer(progress, path, end);
+    if prefix.rest.is_empty() {
+        offer(progress, &prefix.tests, end);
         return;
     }
-    if is_late(ahead, table, job.tests.len(), progress.cycles) {
+    if is_late(job, ahead, table, &prefix.rest, end, progress.cycles) {
         return;
     }
-    list_schedules_are_short();
-    for place in 0..tries.tests.len() {
-        let test = tries.tests[place];
-        if !may_follow(table, &tries.before, test) {
-            continue;
-        }
-        let start = table.earliest(test);
-        let next_end = end.max(start + cycles_at(job, test));
-        path.push_reserved(test);
-        let mut frame = table.place(test, start);
-        explore(job, tries, ahead, frame.table(), path, progress, next_end);
-        frame.undo();
-        let _last = path.take_last();
+    let count = prefix.rest.len();
+    let mut test = prefix.take_first();
+    for place in 0..count {
+        follow(job, tries, ahead, table, prefix, progress, end, test);
         if progress.refused {
             return;
         }
+        test = prefix.next(place, test);
     }
 }

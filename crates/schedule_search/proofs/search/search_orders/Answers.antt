@@ -1,6 +1,9 @@
+use Rattle.std.proofs.Common.{ℕ, List, length, ap, arith}
 use Rattle.resource_table.specs.Jobs.{job_value}
 use Rattle.schedule_search.specs.Progress.{stand_of}
 use Rattle.schedule_search.proofs.PlacedOrders.{first_topological}
+use Rattle.schedule_search.specs.Prefixes.{outside}
+use Rattle.schedule_search.proofs.Outside.{outside_all}
 use Rattle.schedule_search.proofs.Searching.{begun_best, begun_behind, searched, explored_all}
 use Rattle.schedule_search.proofs.search.search_orders.Goals as goal
 
@@ -8,9 +11,15 @@ pub explore-requires-clause-best : goal.explore-requires-clause-best
 explore-requires-clause-best g c = begun_best (job_value c.args.job.now) c.args.first.now (stand_of c.begin.new.progress) c.requires.first (first_topological (job_value c.args.job.now) c.args.first.now c.requires.first) c.begin.ensures.begun
 
 pub explore-requires-clause-none_before : goal.explore-requires-clause-none_before
-explore-requires-clause-none_before g c = begun_behind (job_value c.args.job.now) c.args.first.now (stand_of c.begin.new.progress) c.clear.new.self.items c.requires.first c.begin.ensures.begun c.clear.ensures.items
+explore-requires-clause-none_before g c = begun_behind (job_value c.args.job.now) c.args.first.now (stand_of c.begin.new.progress) c.begin-2.new.self.tests.items c.requires.first c.begin.ensures.begun c.begin-2.ensures.tests
+
+pub explore-requires-clause-left : goal.explore-requires-clause-left
+explore-requires-clause-left g c =
+    let job = job_value c.args.job.now in
+    let tests = c.begin-2.ensures.tests in
+    omega (arith, outside_all job, ap (λ (l : List ℕ). length (outside job l)) tests, ap length tests)
 
 pub returns-clause-found : goal.returns-clause-found
 returns-clause-found g c =
     searched (job_value c.args.job.now) c.args.tries.now.budget c.args.first.now (stand_of c.begin.new.progress) (stand_of c.explore.new.progress) (stand_of c.improve_best.new.progress) c.begin.ensures.begun c.explore.ensures.best
-    (explored_all (job_value c.args.job.now) c.args.tries.now.budget c.clear.new.self.items (stand_of c.begin.new.progress) (stand_of c.explore.new.progress) c.clear.ensures.items c.explore.ensures.explored) c.improve_best.ensures.improved
+    (explored_all (job_value c.args.job.now) c.args.tries.now.budget c.begin-2.new.self.tests.items (stand_of c.begin.new.progress) (stand_of c.explore.new.progress) c.begin-2.ensures.tests c.explore.ensures.explored) c.improve_best.ensures.improved

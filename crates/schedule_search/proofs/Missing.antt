@@ -1,0 +1,254 @@
+-- How many precedences of a test come from outside a prefix.
+use Rattle.std.proofs.Common.{◌≡◌, inl, inr, ℕ, ◌+◌, ◌<◌, ◌≤◌, ◌^◌, Bool, true, false, not, true≢false, Some, List, [], ◌∷◌, ◌++◌, length, get_or, set, take, map, refl, sym, ◌∙◌, ap, subst, arith, length-take}
+use Rattle.std.specs.Prelude.{slice_get, slice_index_or, nat_eq, ◌||◌, ◌&&◌, if◌then◌else◌}
+use Rattle.std.specs.List.{All, Contains, list_all, sum_by}
+use Rattle.std.proofs.lemmas.Bool.{cases_Bool, cases_eq, eqb-true, eq-eqb, ne_eqb, and_from}
+use Rattle.std.proofs.lemmas.List.Sums.{sum_by-cons, sum_by_more, sum_by-take-le}
+use Rattle.std.proofs.lemmas.List.Elements.{All-contains}
+use Rattle.std.proofs.lemmas.Option.{slice_get-get_or}
+use Rattle.plan_model.proofs.Lists.{at_contains, contains_at, from_map}
+use Rattle.resource_table.specs.Jobs.{JobValue}
+use Rattle.resource_table.specs.Befores.{tests_before}
+use Rattle.resource_table.proofs.Befores.{before_from, set_at, set_other, set_length}
+use Rattle.schedule_search.specs.Walks.{is_in, may_follow}
+use Rattle.schedule_search.specs.Prefixes.{turned, tests_after, one_missing, missing_of, times_in, AreInRange, AreFollowers, AreMissing, AreLess}
+use Rattle.schedule_search.proofs.Predecessors.{at_place}
+use Rattle.schedule_search.proofs.Outside.{is_in_push}
+
+abbrev one_of : ℕ → ℕ → ℕ
+one_of t n = if nat_eq n t then 1 else 0
+
+-- ---- a test more in the prefix
+
+one_less : (path : List ℕ) (x t : ℕ) (p : ℕ × ℕ) → is_in path x ≡ false → nat_eq p.0 x ≡ true → one_missing (path ++ x ∷ []) t p + one_of t p.1 ≡ one_missing path t p
+one_less path x t p new here =
+    let same : p.0 ≡ x = eqb-true p.0 x here in
+    let old : is_in path p.0 ≡ false = ap (is_in path) same ∙ new in
+    let now : is_in (path ++ x ∷ []) p.0 ≡ true = is_in_push path x p.0 ∙ ap (λ b. b || nat_eq x p.0) old ∙ eq-eqb x p.0 (sym same) in
+    elim (cases_Bool (nat_eq p.1 t)) [
+      | inl yes' ↦ rw (yes', old, now) refl
+      | inr no' ↦ rw no' refl
+    ]
+
+none_less : (path : List ℕ) (x t : ℕ) (p : ℕ × ℕ) → nat_eq p.0 x ≡ false → one_missing (path ++ x ∷ []) t p ≡ one_missing path t p
+none_less path x t p apart =
+    let other : nat_eq x p.0 ≡ false = ne_eqb x p.0 (λ e. true≢false (sym (eq-eqb p.0 x (sym e)) ∙ apart)) in
+    let now : is_in (path ++ x ∷ []) p.0 ≡ is_in path p.0 = is_in_push path x p.0 ∙ ap (λ b. is_in path p.0 || b) other ∙ or_false (is_in path p.0) in
+    ap (λ b. if nat_eq p.1 t && not b then 1 else 0) now
+  where
+    or_false : (b : Bool) → (b || false) ≡ b
+    or_false true = refl
+    or_false false = refl
+
+missing-less : (path : List ℕ) (x t : ℕ) (pairs : List (ℕ × ℕ)) → is_in path x ≡ false → sum_by (one_missing (path ++ x ∷ []) t) pairs + times_in (tests_after x pairs) t ≡ sum_by (one_missing path t) pairs
+missing-less path x t [] new = refl
+missing-less path x t (p ∷ pairs) new =
+    let ih = missing-less path x t pairs new in
+    let a = sum_by-cons (one_missing (path ++ x ∷ []) t) p pairs in
+    let b = sum_by-cons (one_missing path t) p pairs in
+    elim (cases_Bool (nat_eq p.0 x)) [
+      | inl yes' ↦
+          let one = one_less path x t p new yes' in
+          let after : times_in (tests_after x (p ∷ pairs)) t ≡ one_of t p.1 + times_in (tests_after x pairs) t = rw yes' (sum_by-cons (one_of t) p.1 (tests_after x pairs)) in
+          omega (arith, ih, a, b, one, after)
+      | inr no' ↦
+          let one = none_less path x t p no' in
+          let after : times_in (tests_after x (p ∷ pairs)) t ≡ times_in (tests_after x pairs) t = rw no' refl in
+          omega (arith, ih, a, b, one, after)
+    ]
+
+missing_less : (job : JobValue) (path : List ℕ) (x t : ℕ) → is_in path x ≡ false → missing_of job (path ++ x ∷ []) t + times_in (tests_after x job.before) t ≡ missing_of job path t
+missing_less job path x t new = missing-less path x t job.before new
+
+pub missing_added : (job : JobValue) (path old new : List ℕ) (x : ℕ) (after : List ℕ) → AreMissing job path old → AreLess old new after → after ≡ tests_after x job.before → is_in path x ≡ false → AreMissing job (path ++ x ∷ []) new
+missing_added job path old new x after missing less is apart = record {
+  long = less.long ∙ missing.long;
+  are = λ t within. (
+      let one = less.are t (omega (arith, within, missing.long)) in
+      let two = missing.are t within in
+      let three = missing_less job path x t apart in
+      let four : times_in after t ≡ times_in (tests_after x job.before) t = ap (λ l. times_in l t) is in
+      omega (arith, one, two, three, four));
+}
+
+pub missing_taken : (job : JobValue) (path old new : List ℕ) (x : ℕ) (after : List ℕ) → AreMissing job (path ++ x ∷ []) old → AreLess new old after → after ≡ tests_after x job.before → is_in path x ≡ false → AreMissing job path new
+missing_taken job path old new x after missing less is apart = record {
+  long = sym less.long ∙ missing.long;
+  are = λ t within. (
+      let one = less.are t (omega (arith, within, missing.long, less.long)) in
+      let two = missing.are t within in
+      let three = missing_less job path x t apart in
+      let four : times_in after t ≡ times_in (tests_after x job.before) t = ap (λ l. times_in l t) is in
+      omega (arith, one, two, three, four));
+}
+
+-- no more than there are precedences
+at_most_one : (b : Bool) → (if b then 1 else 0) ≤ 1
+at_most_one true = omega arith
+at_most_one false = omega arith
+
+few : (path : List ℕ) (t : ℕ) (pairs : List (ℕ × ℕ)) → sum_by (one_missing path t) pairs ≤ length pairs
+few path t [] = omega arith
+few path t (p ∷ pairs) =
+    let ih = few path t pairs in
+    let a = sum_by-cons (one_missing path t) p pairs in
+    let b : one_missing path t p ≤ 1 = at_most_one (nat_eq p.1 t && not (is_in path p.0)) in
+    omega (arith, ih, a, b)
+
+-- ---- whether none is missing
+
+none-missing : (path : List ℕ) (t : ℕ) (pairs : List (ℕ × ℕ)) → sum_by (one_missing path t) pairs ≡ 0 → list_all (is_in path) (tests_before t pairs) ≡ true
+none-missing path t [] none = refl
+none-missing path t (p ∷ pairs) none =
+    let a = sum_by-cons (one_missing path t) p pairs in
+    let ih = none-missing path t pairs (omega (arith, a, none)) in
+    let here : one_missing path t p ≡ 0 = omega (arith, a, none) in
+    elim (cases_Bool (nat_eq p.1 t)) [
+      | inl yes' ↦ elim (cases_Bool (is_in path p.0)) [
+        | inl there ↦ rw (yes', there) ih
+        | inr out ↦ absurd (let e = rw (yes', out) at here in omega (arith, e))
+      ]
+      | inr no' ↦ rw no' ih
+    ]
+
+missing-none : (path : List ℕ) (t : ℕ) (pairs : List (ℕ × ℕ)) → list_all (is_in path) (tests_before t pairs) ≡ true → sum_by (one_missing path t) pairs ≡ 0
+missing-none path t [] all = refl
+missing-none path t (p ∷ pairs) all = elim (cases_Bool (nat_eq p.1 t)) [
+  | inl yes' ↦ elim (cases_Bool (is_in path p.0)) [
+    | inl there ↦
+        let ih = missing-none path t pairs (rw (yes', there) at all) in
+        let here : one_missing path t p ≡ 0 = rw (yes', there) refl in
+        omega (arith, ih, here, sum_by-cons (one_missing path t) p pairs)
+    | inr out ↦ absurd (true≢false (sym (rw (yes', out) at all)))
+  ]
+  | inr no' ↦
+      let ih = missing-none path t pairs (rw no' at all) in
+      let here : one_missing path t p ≡ 0 = rw no' refl in
+      omega (arith, ih, here, sum_by-cons (one_missing path t) p pairs)
+]
+
+follows_from : (job : JobValue) (path : List ℕ) (t : ℕ) → is_in path t ≡ false → missing_of job path t ≡ 0 → may_follow job path t ≡ true
+follows_from job path t new none = and_from (not (is_in path t)) (list_all (is_in path) (tests_before t job.before)) (ap not new) (none-missing path t job.before none)
+
+follows_not : (job : JobValue) (path : List ℕ) (t : ℕ) → (missing_of job path t ≡ 0 → ⊥) → may_follow job path t ≡ false
+follows_not job path t some = elim (cases_Bool (list_all (is_in path) (tests_before t job.before))) [
+  | inl all ↦ absurd (some (missing-none path t job.before all))
+  | inr not_all ↦ ap (λ b. not (is_in path t) && b) not_all ∙ none (not (is_in path t))
+]
+  where
+    none : (b : Bool) → (b && false) ≡ false
+    none true = refl
+    none false = refl
+
+-- as the code tells it
+some_or_none : (b w : Bool) → w ≡ not b → w ≡ true → b ≡ false
+some_or_none true w is e = cc
+some_or_none false w is e = refl
+
+none_or_some : (b w : Bool) → w ≡ not b → w ≡ false → b ≡ true
+none_or_some true w is e = refl
+none_or_some false w is e = cc
+
+pub waits_not : (job : JobValue) (path missing : List ℕ) (t : ℕ) (w : Bool) → AreMissing job path missing → t < length job.tests → w ≡ not (nat_eq (slice_index_or missing t 0) 0) → w ≡ true → may_follow job path t ≡ false
+waits_not job path missing t w are inside is waits = follows_not job path t (λ none. true≢false (sym (eq-eqb (slice_index_or missing t 0) 0 (are.are t inside ∙ none)) ∙ some_or_none (nat_eq (slice_index_or missing t 0) 0) w is waits))
+
+pub waits_then : (job : JobValue) (path missing : List ℕ) (t : ℕ) (w : Bool) → AreMissing job path missing → t < length job.tests → is_in path t ≡ false → w ≡ not (nat_eq (slice_index_or missing t 0) 0) → w ≡ false → may_follow job path t ≡ true
+waits_then job path missing t w are inside new is free = follows_from job path t new (sym (are.are t inside) ∙ eqb-true (slice_index_or missing t 0) 0 (none_or_some (nat_eq (slice_index_or missing t 0) 0) w is free))
+
+-- ---- counting down and up
+
+times_more : (places : List ℕ) (i n : ℕ) → i < length places → times_in (take (i + 1) places) n ≡ times_in (take i places) n + one_of n (get_or places i 0)
+times_more places i n within = sum_by_more (one_of n) places i 0 within
+
+one_here : (n m : ℕ) → m ≡ n → one_of n m ≡ 1
+one_here n m same = ap (λ b. if b then 1 else 0) (eq-eqb m n same)
+
+-- the count of a place that is still to come isn't 0
+pub some_left : (old now places : List ℕ) (i place : ℕ) → AreLess old now (take i places) → i < length places → place ≡ get_or places i 0 → place < length old → times_in places place ≤ slice_index_or old place 0 → 1 ≤ slice_index_or now place 0
+some_left old now places i place less within is inside enough =
+    let here = less.are place inside in
+    let more = times_more places i place within in
+    let one : one_of place (get_or places i 0) ≡ 1 = one_here place (get_or places i 0) (sym is) in
+    let most : times_in (take (i + 1) places) place ≤ times_in places place = sum_by-take-le (one_of place) places (i + 1) in
+    omega (arith, here, more, one, most, enough)
+
+pub more_fits : (old now places : List ℕ) (i place : ℕ) → AreLess now old (take i places) → i < length places → place ≡ get_or places i 0 → place < length now → slice_index_or old place 0 + times_in places place < 2 ^ 64 → slice_index_or now place 0 + 1 < 2 ^ 64
+more_fits old now places i place less within is inside small =
+    let here = less.are place inside in
+    let more = times_more places i place within in
+    let one : one_of place (get_or places i 0) ≡ 1 = one_here place (get_or places i 0) (sym is) in
+    let most : times_in (take (i + 1) places) place ≤ times_in places place = sum_by-take-le (one_of place) places (i + 1) in
+    omega (arith, here, more, one, most, small)
+
+-- ---- as the code has them
+
+-- the tests that a test precedes are tests of the job
+pub after_known : (job : JobValue) (lists : List (List ℕ)) (x n : ℕ) (after : List ℕ) → AreInRange job → AreFollowers job lists → x < length job.tests → after ≡ slice_index_or lists x [] → n ≡ length job.tests → All (λ t. t < n) after
+after_known job lists x n after in_range followers inside is long k d less =
+    let there : Contains (tests_after x job.before) (get_or after k d) = subst (λ (l : List ℕ). Contains l (get_or after k d)) (is ∙ followers.are x inside) (at_place after k d less) in
+    let pair : Contains (map turned job.before) (get_or after k d, x) = before_from (map turned job.before) (get_or after k d) x there in
+    let at = contains_at (map turned job.before) (get_or after k d, x) pair in
+    let f = from_map turned job.before at.0 (get_or after k d, x) at.1 in
+    let range = All-contains (λ (p : ℕ × ℕ). (p.0 < length job.tests) × (p.1 < length job.tests)) job.before f.0 in_range (at_contains job.before at.0 f.0 f.1) in
+    let second : (f.0).1 ≡ get_or after k d = ap (λ (p : ℕ × ℕ). p.0) f.2 in
+    omega (arith, range.1, second, long)
+
+pub enough_missing : (job : JobValue) (lists : List (List ℕ)) (path missing : List ℕ) (x n : ℕ) (after : List ℕ) → AreFollowers job lists → AreMissing job path missing → x < length job.tests → is_in path x ≡ false → after ≡ slice_index_or lists x [] → n < length missing → times_in after n ≤ slice_index_or missing n 0
+enough_missing job lists path missing x n after followers are inside new is within =
+    let one = are.are n (omega (arith, within, are.long)) in
+    let two = missing_less job path x n new in
+    let three : times_in after n ≡ times_in (tests_after x job.before) n = ap (λ l. times_in l n) (is ∙ followers.are x inside) in
+    omega (arith, one, two, three)
+
+pub small_missing : (job : JobValue) (lists : List (List ℕ)) (path missing : List ℕ) (x n : ℕ) (after : List ℕ) → AreFollowers job lists → AreMissing job (path ++ x ∷ []) missing → x < length job.tests → is_in path x ≡ false → after ≡ slice_index_or lists x [] → n < length missing → length job.before < 2 ^ 64
+    → slice_index_or missing n 0 + times_in after n < 2 ^ 64
+small_missing job lists path missing x n after followers are inside new is within small =
+    let one = are.are n (omega (arith, within, are.long)) in
+    let two = missing_less job path x n new in
+    let three : times_in after n ≡ times_in (tests_after x job.before) n = ap (λ l. times_in l n) (is ∙ followers.are x inside) in
+    let four = few path n job.before in
+    omega (arith, one, two, three, four, small)
+
+-- ---- the precedences, turned, and counted
+
+pub turned_range : (job : JobValue) (pairs : List (ℕ × ℕ)) (count : ℕ) → AreInRange job → pairs ≡ map turned job.before → count ≡ length job.tests → All (λ (p : ℕ × ℕ). (p.0 < count) × (p.1 < count)) pairs
+turned_range job pairs count in_range is long k d less =
+    let at : slice_get (map turned job.before) k ≡ Some (get_or pairs k d) = ap (λ (l : List (ℕ × ℕ)). slice_get l k) (sym is) ∙ slice_get-get_or pairs k d less in
+    let f = from_map turned job.before k (get_or pairs k d) at in
+    let range = All-contains (λ (p : ℕ × ℕ). (p.0 < length job.tests) × (p.1 < length job.tests)) job.before f.0 in_range (at_contains job.before k f.0 f.1) in
+    let first : (f.0).1 ≡ (get_or pairs k d).0 = ap (λ (p : ℕ × ℕ). p.0) f.2 in
+    let second : (f.0).0 ≡ (get_or pairs k d).1 = ap (λ (p : ℕ × ℕ). p.1) f.2 in
+    (omega (arith, range.1, first, long), omega (arith, range.0, second, long))
+
+-- so many precedences are counted
+pub record AreCounted (tests : ℕ) (pairs : List (ℕ × ℕ)) (missing : List ℕ) : Type 0 where
+  pub long : length missing ≡ tests
+  pub are : (test : ℕ) → test < tests → slice_index_or missing test 0 ≡ sum_by (one_missing [] test) pairs
+
+pub counted_more : (tests : ℕ) (pairs : List (ℕ × ℕ)) (missing : List ℕ) (i v : ℕ) → AreCounted tests (take i pairs) missing → i < length pairs → (get_or pairs i (0, 0)).1 < tests → v ≡ slice_index_or missing (get_or pairs i (0, 0)).1 0 → AreCounted tests (take (i + 1) pairs) (set missing (get_or pairs i (0, 0)).1 (v + 1))
+counted_more tests pairs missing i v counted within inside is = record {
+  long = set_length missing later (v + 1) ∙ counted.long;
+  are = λ t less. (
+      let old = counted.are t less in
+      let more = sum_by_more (one_missing [] t) pairs i (0, 0) within in
+      elim (cases_eq t later) [
+        | inl same ↦
+            let one : one_missing [] t (get_or pairs i (0, 0)) ≡ 1 = ap (λ b. if b && true then 1 else 0) (eq-eqb later t (sym same)) in
+            let new : slice_index_or (set missing later (v + 1)) t 0 ≡ v + 1 = set_at missing later t (v + 1) 0 (omega (arith, inside, counted.long)) same in
+            let here : slice_index_or missing t 0 ≡ v = ap (λ k. slice_index_or missing k 0) same ∙ sym is in
+            omega (arith, old, more, one, new, here)
+        | inr apart ↦
+            let none : one_missing [] t (get_or pairs i (0, 0)) ≡ 0 = ap (λ b. if b && true then 1 else 0) (ne_eqb later t (λ e. apart (sym e))) in
+            let new : slice_index_or (set missing later (v + 1)) t 0 ≡ slice_index_or missing t 0 = set_other missing later t (v + 1) 0 apart in
+            omega (arith, old, more, none, new)
+      ]);
+}
+  where
+    later : ℕ
+    later = (get_or pairs i (0, 0)).1
+
+pub counted_fits : (tests : ℕ) (pairs : List (ℕ × ℕ)) (missing : List ℕ) (i t : ℕ) → AreCounted tests (take i pairs) missing → i < length pairs → t < tests → length pairs < 2 ^ 64 → slice_index_or missing t 0 + 1 < 2 ^ 64
+counted_fits tests pairs missing i t counted within inside small =
+    let one = counted.are t inside in
+    let two = few [] t (take i pairs) in
+    omega (arith, one, two, small, within, length-take i pairs)
