@@ -1,68 +1,29 @@
 -- Where a test fits, by the resources of a table.
-use Rattle.std.proofs.Common.{◌≡◌, ℕ, zero, suc, ◌+◌, ◌-◌, ◌<◌, ◌≤◌, ◌^◌, inl, inr, Option, None, Some, List, [], ◌∷◌, length, map, arith, false, max, refl, sym, ap, subst}
+use Rattle.std.proofs.Common.{◌≡◌, ℕ, zero, suc, ◌+◌, ◌-◌, ◌<◌, ◌≤◌, ◌^◌, inl, inr, Option, None, Some, List, [], ◌∷◌, length, map, arith, false, refl, sym, ap, subst}
 use Rattle.std.specs.Prelude.{slice_get, nat_le, nat_lt, ◌&&◌, if◌then◌else◌, IfSome}
 use Rattle.std.specs.List.{All, flat_map}
 use Rattle.std.proofs.lemmas.Bool.{cases_lt, lt-leb, le-leb, lt-ltb, le-ltb, and_right}
 use Rattle.std.proofs.lemmas.List.Sums.{sum_by-cons, sum_by-append, get_or-le-sum_by}
-use Rattle.plan_model.specs.Plans.{step_power, greatest}
+use Rattle.plan_model.specs.Plans.{step_power}
 use Rattle.plan_model.specs.SoundLimits.{Grow}
-use Rattle.plan_model.proofs.Lists.{from_map, from_flat_map}
+use Rattle.plan_model.proofs.Lists.{from_flat_map}
 use Rattle.plan_model.proofs.Greatest.{le-greatest_at, greatest-least}
 use Rattle.resource_table.specs.declared.Placement.{Placement}
-use Rattle.resource_table.specs.declared.busy.Busy.{Busy}
 use Rattle.resource_table.specs.declared.power.Draw.{Draw}
 use Rattle.resource_table.specs.Jobs.{TestValue, JobValue, test_at, no_test, cycles_of, IsSoundJob}
-use Rattle.resource_table.specs.Schedules.{TableValue, needs_of, end_of, last_end, drawn, power_of, power_at, MeetsNone, StaysWithin, IsSoundTable}
-use Rattle.resource_table.specs.Resources.{busy_of, IsApart, step_end, draws_from, draws_of, load_of, StepsFit}
-use Rattle.resource_table.proofs.Places.{all_at, all_from}
+use Rattle.resource_table.specs.Schedules.{TableValue, end_of, last_end, drawn, power_of, power_at, StaysWithin, IsSoundTable}
+use Rattle.resource_table.specs.Resources.{step_end, draws_from, draws_of, load_of, StepsFit}
+use Rattle.resource_table.proofs.Places.{all_from}
 use Rattle.resource_table.proofs.Steps.{cycles_from_steps, steps_from_cycles, draws_before, draws_after, draws_at, step_end-le}
 
 -- every placed test lasts a cycle
 pub lasts_at : (t : TableValue) → IsSoundTable t → (i : ℕ) (p : Placement) → slice_get t.placed i ≡ Some p → 1 ≤ cycles_of t.job p.test
 lasts_at t sound i p at = (sound.job.tests p.test no_test (sound.placed i p at).in_job).lasts
 
--- ---- busy times
-
-pub apart_from_meets : (t : TableValue) (test start : ℕ) → IsSoundTable t → 1 ≤ cycles_of t.job test → MeetsNone t.job t.placed test start →
-    All (IsApart (needs_of (test_at t.job test)) (cycles_of t.job test) start) (map (busy_of t.job) t.placed)
-apart_from_meets t test start sound lasts meets = all_from (IsApart (needs_of (test_at t.job test)) (cycles_of t.job test) start) (map (busy_of t.job) t.placed) each
-  where
-    one : (i : ℕ) (p : Placement) → slice_get t.placed i ≡ Some p → IsApart (needs_of (test_at t.job test)) (cycles_of t.job test) start (busy_of t.job p)
-    one i p at clash = elim (cases_lt start (end_of t.job p)) [
-      | inr over ↦ inl over
-      | inl early ↦ elim (cases_lt p.start (start + cycles_of t.job test)) [
-        | inr late ↦ inr late
-        | inl meet ↦
-            let lasts' = lasts_at t sound i p at in
-            let c : ℕ = max p.start start in
-            absurd (meets i p c at clash (omega arith, omega arith) (omega arith, omega arith))
-      ]
-    ]
-
-    each : (i : ℕ) (b : Busy) → slice_get (map (busy_of t.job) t.placed) i ≡ Some b → IsApart (needs_of (test_at t.job test)) (cycles_of t.job test) start b
-    each i b at = let r = from_map (busy_of t.job) t.placed i b at in subst (IsApart (needs_of (test_at t.job test)) (cycles_of t.job test) start) r.2 (one i r.0 r.1)
-
 pub in_map : {X Y : Type 0} (f : X → Y) (xs : List X) (i : ℕ) (x : X) → slice_get xs i ≡ Some x → slice_get (map f xs) i ≡ Some (f x)
 in_map f [] i x at = absurd cc
 in_map f (y ∷ xs) zero x at = let same : y ≡ x = cc in ap (λ v. Some (f v)) same
 in_map f (y ∷ xs) (suc i) x at = in_map f xs i x at
-
-pub meets_from_apart : (t : TableValue) (test start : ℕ) → All (IsApart (needs_of (test_at t.job test)) (cycles_of t.job test) start) (map (busy_of t.job) t.placed) → MeetsNone t.job t.placed test start
-meets_from_apart t test start all i p c at clash active here =
-    let apart = all_at (IsApart (needs_of (test_at t.job test)) (cycles_of t.job test) start) (map (busy_of t.job) t.placed) i (busy_of t.job p) all (in_map (busy_of t.job) t.placed i p at) in
-    elim (apart clash) [ inl over ↦ omega (arith, active.0, active.1, here.0, here.1, over) | inr late ↦ omega (arith, active.0, active.1, here.0, here.1, late) ]
-
-pub last_of_times : (job : JobValue) (placed : List Placement) → greatest (map (λ (b : Busy). b.to) (map (busy_of job) placed)) ≡ last_end job placed
-last_of_times job [] = refl
-last_of_times job (p ∷ placed) = ap (max (end_of job p)) (last_of_times job placed)
-
-pub times_end : (job : JobValue) (placed : List Placement) → All (λ (b : Busy). b.to ≤ last_end job placed) (map (busy_of job) placed)
-times_end job placed = all_from (λ (b : Busy). b.to ≤ last_end job placed) (map (busy_of job) placed) each
-  where
-    each : (i : ℕ) (b : Busy) → slice_get (map (busy_of job) placed) i ≡ Some b → b.to ≤ last_end job placed
-    each i b at =
-        let r = from_map (busy_of job) placed i b at in
-        subst (λ (v : Busy). v.to ≤ last_end job placed) r.2 (le-greatest_at (end_of job) placed i r.0 r.1)
 
 -- ---- numbers
 

@@ -11,12 +11,10 @@ use Rattle.smallvec.specs.SmallVec.{SmallVec}
 use Rattle.soc_model.specs.declared.TheConstants.{POWER_MOST, NUMBER_WORD_MOST}
 use Rattle.resource_table.specs.declared.JobTest.{JobTest}
 use Rattle.resource_table.specs.declared.Placement.{Placement}
-use Rattle.resource_table.specs.declared.busy.Needs.{Needs}
-use Rattle.resource_table.specs.declared.busy.Busy.{Busy}
 use Rattle.resource_table.specs.declared.power.Draw.{Draw}
 use Rattle.resource_table.specs.Jobs.{TestValue, JobValue, test_value, test_at, no_test, cycles_of, IsSoundTest}
-use Rattle.resource_table.specs.Schedules.{needs_of, last_end, MeetsNone, StaysWithin}
-use Rattle.resource_table.specs.Resources.{IsApart, load_of, marks_of, StepsFit}
+use Rattle.resource_table.specs.Schedules.{last_end, StaysWithin}
+use Rattle.resource_table.specs.Resources.{load_of, marks_of, StepsFit}
 use Rattle.resource_table.specs.Kept.{IsKept}
 use Rattle.resource_table.specs.declared.points.Point.{Point}
 use Rattle.resource_table.specs.Profiles.{ArePoints, AreMarked, IsEndedProfile}
@@ -24,7 +22,7 @@ use Rattle.resource_table.proofs.Places.{all_at}
 use Rattle.resource_table.proofs.Loads.{load_over}
 use Rattle.resource_table.proofs.Profiles.{drawn_profile}
 use Rattle.resource_table.proofs.KeptMarks.{all_marked}
-use Rattle.resource_table.proofs.Fitting.{in_map, apart_from_meets, meets_from_apart, times_end, draws_ended, last_small, cycles_small, steps_from_within, within_from_steps}
+use Rattle.resource_table.proofs.Fitting.{in_map, draws_ended, last_small, cycles_small, steps_from_within, within_from_steps}
 
 -- a test that was read is the one of the job
 pub wanted_is : (tests : List JobTest) (test : ℕ) (r : JobTest) → test < length (map test_value tests) → r ≡ get_or tests test r → test_value r ≡ get_or (map test_value tests) test no_test
@@ -33,7 +31,7 @@ wanted_is tests test r inside is =
     let there : slice_get tests test ≡ Some r = slice_get-get_or tests test r lt ∙ ap Some (sym is) in
     sym (get_or_from_slice_get (map test_value tests) test (test_value r) no_test (in_map test_value tests test r there))
 
-module _ (job : JobValue) (trail : SmallVec Placement) (ends : Vec (Option ℕ)) (busy : Vec Busy) (draws : Vec Draw) (kept : IsKept job trail ends busy draws) (test : ℕ) (inside : test < length job.tests) (wanted : TestValue) (wanted_at : wanted ≡ test_at job test) where
+module _ (job : JobValue) (trail : SmallVec Placement) (ends : Vec (Option ℕ)) (lasts : Vec ℕ) (draws : Vec Draw) (kept : IsKept job trail ends lasts draws) (test : ℕ) (inside : test < length job.tests) (wanted : TestValue) (wanted_at : wanted ≡ test_at job test) where
   -- ---- numbers
 
   pub short_enough : (last : ℕ) → last ≡ last_end job trail.items → last + wanted.cycles ≤ 2 * 10 ^ 18
@@ -42,27 +40,6 @@ module _ (job : JobValue) (trail : SmallVec Placement) (ends : Vec (Option ℕ))
       let length' = cycles_small job test kept.sound.job inside in
       let same : wanted.cycles ≡ cycles_of job test = ap (λ (t : TestValue). t.cycles) wanted_at in
       omega arith
-
-  -- ---- busy times
-
-  pub times_ended : (times : List Busy) (last : ℕ) → times ≡ busy.items → last ≡ last_end job trail.items → All (λ (b : Busy). b.to ≤ last) times
-  times_ended times last times_is is =
-      subst (λ (v : ℕ). All (λ (b : Busy). b.to ≤ v) times) (sym is) (subst (λ (v : List Busy). All (λ (b : Busy). b.to ≤ last_end job trail.items) v) (sym (times_is ∙ kept.busy_are)) (times_end job trail.items))
-
-  pub apart_here : (start : ℕ) (needs : Needs) (times : List Busy) → needs ≡ needs_of wanted → times ≡ busy.items → MeetsNone job trail.items test start → All (IsApart needs wanted.cycles start) times
-  apart_here start needs times needs_is times_is meets =
-      let lasts = (kept.sound.job.tests test no_test inside).lasts in
-      let base = apart_from_meets (record { job = job; placed = trail.items }) test start kept.sound lasts meets in
-      subst (λ (n : Needs). All (IsApart n wanted.cycles start) times) (sym needs_is)
-      (subst (λ (w : TestValue). All (IsApart (needs_of w) w.cycles start) times) (sym wanted_at)
-      (subst (λ (v : List Busy). All (IsApart (needs_of (test_at job test)) (cycles_of job test) start) v) (sym (times_is ∙ kept.busy_are)) base))
-
-  pub meets_here : (start : ℕ) (needs : Needs) (times : List Busy) → needs ≡ needs_of wanted → times ≡ busy.items → All (IsApart needs wanted.cycles start) times → MeetsNone job trail.items test start
-  meets_here start needs times needs_is times_is all =
-      meets_from_apart (record { job = job; placed = trail.items }) test start
-      (subst (λ (v : List Busy). All (IsApart (needs_of (test_at job test)) (cycles_of job test) start) v) (times_is ∙ kept.busy_are)
-      (subst (λ (w : TestValue). All (IsApart (needs_of w) w.cycles start) times) wanted_at
-      (subst (λ (n : Needs). All (IsApart n wanted.cycles start) times) needs_is all)))
 
   -- ---- power
 

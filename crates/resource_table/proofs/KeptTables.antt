@@ -1,19 +1,22 @@
 -- What a table keeps, as tests are placed and taken back.
-use Rattle.std.proofs.Common.{◌≡◌, ℕ, zero, suc, replicate, ◌+◌, ◌-◌, ◌<◌, ◌≤◌, inl, inr, Option, None, Some, List, [], ◌∷◌, ◌++◌, length, get_or, set, take, map, arith, refl, sym, ap, ◌∙◌, subst, length-append, append_assoc, append-nil}
+use Rattle.std.proofs.Common.{◌≡◌, ℕ, zero, suc, replicate, ◌+◌, ◌-◌, ◌<◌, ◌≤◌, inl, inr, Option, None, Some, List, [], ◌∷◌, ◌++◌, length, get_or, set, take, map, max, arith, refl, sym, ap, ◌∙◌, subst, length-append, append_assoc, append-nil}
 use Rattle.std.specs.Prelude.{is_some, vec_capacity, IfSome}
 use Rattle.std.specs.List.{sum_by, flat_map}
 use Rattle.std.specs.Global.{Vec}
-use Rattle.std.proofs.lemmas.Bool.{cases_eq}
-use Rattle.std.proofs.lemmas.List.{take_at, length-set, get_or-set_same, get_or-set_other, map-append, length-map, length-replicate}
+use Rattle.std.proofs.lemmas.Bool.{cases_eq, cases_lt}
+use Rattle.std.proofs.Math.ListN.{get_or-append}
+use Rattle.std.proofs.Math.Seq.{get_or-append_seam}
+use Rattle.std.proofs.lemmas.List.{take_at, take_all, length-take, take-append-le, get_or-take, length-set, get_or-set_same, get_or-set_other, map-append, length-replicate}
 use Rattle.std.proofs.lemmas.List.Sums.{sum_by-cons, sum_by_push}
 use Rattle.smallvec.specs.SmallVec.{SmallVec}
+use Rattle.plan_model.specs.Plans.{greatest}
 use Rattle.plan_model.specs.Rules.{Each}
+use Rattle.plan_model.proofs.Greatest.{greatest_push}
 use Rattle.resource_table.specs.declared.Placement.{Placement}
-use Rattle.resource_table.specs.declared.busy.Busy.{Busy}
 use Rattle.resource_table.specs.declared.power.Draw.{Draw}
 use Rattle.resource_table.specs.Jobs.{TestValue, JobValue, IsSoundJob, test_value, test_at, no_test, cycles_of}
-use Rattle.resource_table.specs.Schedules.{at_start, end_of, is_placed, MayPlace, IsSoundTable}
-use Rattle.resource_table.specs.Resources.{load_of, busy_of, draws_from, draws_of, marks_of, end_in}
+use Rattle.resource_table.specs.Schedules.{at_start, end_of, last_end, is_placed, MayPlace, IsSoundTable}
+use Rattle.resource_table.specs.Resources.{load_of, draws_from, draws_of, marks_of, end_in}
 use Rattle.resource_table.specs.declared.JobTest.{JobTest}
 use Rattle.resource_table.specs.declared.points.Point.{Point}
 use Rattle.resource_table.specs.Profiles.{ArePoints}
@@ -24,9 +27,9 @@ use Rattle.resource_table.proofs.Placed.{each_push, each_front, each_last, sound
 
 -- ---- what a table answers
 
-pub kept_is_placed : (job : JobValue) (trail : SmallVec Placement) (ends : Vec (Option ℕ)) (busy : Vec Busy) (draws : Vec Draw) → IsKept job trail ends busy draws →
+pub kept_is_placed : (job : JobValue) (trail : SmallVec Placement) (ends : Vec (Option ℕ)) (lasts : Vec ℕ) (draws : Vec Draw) → IsKept job trail ends lasts draws →
     (test : ℕ) (r : Option ℕ) → test < length job.tests → r ≡ get_or ends.items test r → is_some r ≡ is_placed trail.items test
-kept_is_placed job trail ends busy draws kept test r lt is =
+kept_is_placed job trail ends lasts draws kept test r lt is =
     let long = kept.ends_long in
     let same : get_or ends.items test r ≡ get_or ends.items test None = same_item ends.items test r None (omega arith) in
     ap is_some (is ∙ same ∙ kept.ends_are test lt) ∙ end_is_some job trail.items test
@@ -77,16 +80,17 @@ get_or-none zero i = refl
 get_or-none (suc n) zero = refl
 get_or-none (suc n) (suc i) = get_or-none n i
 
-pub kept_new : (job : JobValue) (trail : SmallVec Placement) (ends : Vec (Option ℕ)) (busy : Vec Busy) (draws : Vec Draw) (tests steps : ℕ) → IsSoundJob job → tests ≡ length job.tests → steps ≡ sum_by (λ (t : TestValue). length t.steps) job.tests →
-    trail.items ≡ [] → tests ≤ trail.capacity → ends.items ≡ replicate tests None → busy.items ≡ [] → tests ≤ vec_capacity busy → draws.items ≡ [] → steps ≤ vec_capacity draws → IsKept job trail ends busy draws
-kept_new job trail ends busy draws tests steps sound tests_is steps_is trail_is trail_room ends_is busy_is busy_room draws_is draws_room = record {
+pub kept_new : (job : JobValue) (trail : SmallVec Placement) (ends : Vec (Option ℕ)) (lasts : Vec ℕ) (draws : Vec Draw) (tests steps : ℕ) → IsSoundJob job → tests ≡ length job.tests → steps ≡ sum_by (λ (t : TestValue). length t.steps) job.tests →
+    trail.items ≡ [] → tests ≤ trail.capacity → ends.items ≡ replicate tests None → lasts.items ≡ [] → tests ≤ vec_capacity lasts → draws.items ≡ [] → steps ≤ vec_capacity draws → IsKept job trail ends lasts draws
+kept_new job trail ends lasts draws tests steps sound tests_is steps_is trail_is trail_room ends_is lasts_is lasts_room draws_is draws_room = record {
   sound = record { job = sound; placed = subst (Each (λ earlier p. MayPlace job earlier p.test p.start)) (sym trail_is) (λ n p at. absurd cc) };
   ends_long = ap length ends_is ∙ length-replicate tests None ∙ tests_is;
   ends_are = (λ test lt. ap (λ (v : List (Option ℕ)). get_or v test None) ends_is ∙ get_or-none tests test ∙ ap (λ (v : List Placement). end_in job v test) (sym trail_is));
-  busy_are = busy_is ∙ ap (map (busy_of job)) (sym trail_is);
+  lasts_long = ap length lasts_is ∙ sym (ap length trail_is);
+  lasts_are = (λ i lt. absurd (let none = ap length trail_is in omega (arith, lt, none)));
   draws_are = draws_is ∙ ap (flat_map (draws_of job)) (sym trail_is);
   trail_room = omega arith;
-  busy_room = omega arith;
+  lasts_room = omega arith;
   draws_room = omega arith;
 }
 
@@ -114,18 +118,43 @@ steps_same (t ∷ tests) = omega (arith, sum_by-cons (λ (t : JobTest). length t
 
 -- ---- one more, one less
 
+-- the latest ends with one placed test more
+lasts_push : (job : JobValue) (placed : List Placement) (p : Placement) (lasts : List ℕ) → length lasts ≡ length placed → ((i : ℕ) → i < length placed → get_or lasts i 0 ≡ last_end job (take (i + 1) placed)) →
+    (i : ℕ) → i < length (placed ++ p ∷ []) → get_or (lasts ++ max (last_end job placed) (end_of job p) ∷ []) i 0 ≡ last_end job (take (i + 1) (placed ++ p ∷ []))
+lasts_push job placed p lasts long are i lt = elim (cases_lt i (length placed)) [
+  | inl old ↦ get_or-append lasts (max (last_end job placed) (end_of job p) ∷ []) 0 i (omega arith) ∙ are i old ∙ ap (last_end job) (sym (take-append-le (i + 1) placed (p ∷ []) (omega arith)))
+  | inr new ↦
+      let at : i ≡ length lasts = omega (arith, lt, new, long, length-append placed (p ∷ [])) in
+      ap (λ (n : ℕ). get_or (lasts ++ max (last_end job placed) (end_of job p) ∷ []) n 0) at ∙ get_or-append_seam lasts (max (last_end job placed) (end_of job p)) [] 0
+      ∙ sym (last_push job placed p) ∙ ap (last_end job) (sym (take_all (i + 1) (placed ++ p ∷ []) (omega (arith, length-append placed (p ∷ []), new))))
+]
+  where
+    last_push : (job : JobValue) (placed : List Placement) (p : Placement) → last_end job (placed ++ p ∷ []) ≡ max (last_end job placed) (end_of job p)
+    last_push job placed p = ap greatest (map-append (end_of job) placed (p ∷ [])) ∙ greatest_push (map (end_of job) placed) (end_of job p)
+
+-- the last of them is that of all placed tests
+pub last_kept : (job : JobValue) (trail : SmallVec Placement) (ends : Vec (Option ℕ)) (lasts : Vec ℕ) (draws : Vec Draw) → IsKept job trail ends lasts draws →
+    get_or lasts.items (length lasts.items - 1) 0 ≡ last_end job trail.items
+last_kept job trail ends lasts draws kept = go trail.items lasts.items kept.lasts_long kept.lasts_are
+  where
+    go : (placed : List Placement) (ls : List ℕ) → length ls ≡ length placed → ((i : ℕ) → i < length placed → get_or ls i 0 ≡ last_end job (take (i + 1) placed)) → get_or ls (length ls - 1) 0 ≡ last_end job placed
+    go [] [] long are = refl
+    go [] (l ∷ ls) long are = absurd (omega (arith, long))
+    go (p ∷ placed) ls long are =
+        are (length ls - 1) (omega (arith, long)) ∙ ap (last_end job) (take_all (length ls - 1 + 1) (p ∷ placed) (omega (arith, long)))
+
 pub flat_map_push : {X Y : Type 0} (f : X → List Y) (xs : List X) (x : X) → flat_map f (xs ++ x ∷ []) ≡ flat_map f xs ++ f x
 flat_map_push f [] x = append-nil (f x)
 flat_map_push f (y ∷ xs) x = ap (λ v. f y ++ v) (flat_map_push f xs x) ∙ sym (append_assoc (f y) (flat_map f xs) (f x))
 
-pub kept_push : (job : JobValue) (trail new_trail : SmallVec Placement) (ends new_ends : Vec (Option ℕ)) (busy new_busy : Vec Busy) (draws new_draws : Vec Draw) (test start : ℕ) →
-    IsKept job trail ends busy draws → MayPlace job trail.items test start →
+pub kept_push : (job : JobValue) (trail new_trail : SmallVec Placement) (ends new_ends : Vec (Option ℕ)) (lasts new_lasts : Vec ℕ) (draws new_draws : Vec Draw) (test start : ℕ) →
+    IsKept job trail ends lasts draws → MayPlace job trail.items test start →
     new_trail.items ≡ trail.items ++ at_start test start ∷ [] → new_trail.capacity ≡ trail.capacity →
     new_ends.items ≡ set ends.items test (Some (end_of job (at_start test start))) →
-    new_busy.items ≡ busy.items ++ busy_of job (at_start test start) ∷ [] → vec_capacity new_busy ≡ vec_capacity busy →
+    new_lasts.items ≡ lasts.items ++ max (last_end job trail.items) (end_of job (at_start test start)) ∷ [] → vec_capacity new_lasts ≡ vec_capacity lasts →
     new_draws.items ≡ draws.items ++ draws_of job (at_start test start) → vec_capacity new_draws ≡ vec_capacity draws →
-    IsKept job new_trail new_ends new_busy new_draws
-kept_push job trail new_trail ends new_ends busy new_busy draws new_draws test start kept may trail_is trail_cap ends_is busy_is busy_cap draws_is draws_cap =
+    IsKept job new_trail new_ends new_lasts new_draws
+kept_push job trail new_trail ends new_ends lasts new_lasts draws new_draws test start kept may trail_is trail_cap ends_is lasts_is lasts_cap draws_is draws_cap =
     let p : Placement = at_start test start in
     let long = kept.ends_long in
     record {
@@ -136,31 +165,33 @@ kept_push job trail new_trail ends new_ends busy new_busy draws new_draws test s
             | inl same ↦ subst (λ (v : ℕ). get_or (set ends.items test (Some (end_of job p))) v None ≡ end_in job (trail.items ++ p ∷ []) v) (sym same) (get_or-set_same ends.items test (Some (end_of job p)) None (let inside = may.in_job in omega arith) ∙ sym (end_new job trail.items p may.new))
             | inr apart ↦ get_or-set_other ends.items test other (Some (end_of job p)) None apart ∙ kept.ends_are other lt ∙ sym (end_other job trail.items p other (λ e. apart (sym e)))
           ])));
-      busy_are = busy_is ∙ ap (λ (v : List Busy). v ++ busy_of job p ∷ []) kept.busy_are ∙ sym (map-append (busy_of job) trail.items (p ∷ [])) ∙ ap (map (busy_of job)) (sym trail_is);
+      lasts_long = (let one = ap length lasts_is in let same = kept.lasts_long in omega (arith, one, length-append lasts.items (max (last_end job trail.items) (end_of job p) ∷ []), same, ap length trail_is, length-append trail.items (p ∷ [])));
+      lasts_are = (λ i lt. subst (λ (v : List ℕ). get_or v i 0 ≡ last_end job (take (i + 1) new_trail.items)) (sym lasts_is)
+          (subst (λ (v : List Placement). get_or (lasts.items ++ max (last_end job trail.items) (end_of job p) ∷ []) i 0 ≡ last_end job (take (i + 1) v)) (sym trail_is)
+          (lasts_push job trail.items p lasts.items kept.lasts_long kept.lasts_are i (let same = ap length trail_is in omega (arith, lt, same)))));
       draws_are = draws_is ∙ ap (λ (v : List Draw). v ++ draws_of job p) kept.draws_are ∙ sym (push_draws_of trail.items p) ∙ ap (flat_map (draws_of job)) (sym trail_is);
       trail_room = (let room = kept.trail_room in omega (arith, room, trail_cap));
-      busy_room = (let room = kept.busy_room in omega (arith, room, busy_cap));
+      lasts_room = (let room = kept.lasts_room in omega (arith, room, lasts_cap));
       draws_room = (let room = kept.draws_room in omega (arith, room, draws_cap));
     }
   where
     push_draws_of : (placed : List Placement) (p : Placement) → flat_map (draws_of job) (placed ++ p ∷ []) ≡ flat_map (draws_of job) placed ++ draws_of job p
     push_draws_of placed p = flat_map_push (draws_of job) placed p
 
-pub kept_pop : (job : JobValue) (trail new_trail : SmallVec Placement) (ends new_ends : Vec (Option ℕ)) (busy new_busy : Vec Busy) (draws new_draws : Vec Draw) (p : Placement) →
-    IsKept job trail ends busy draws →
+pub kept_pop : (job : JobValue) (trail new_trail : SmallVec Placement) (ends new_ends : Vec (Option ℕ)) (lasts new_lasts : Vec ℕ) (draws new_draws : Vec Draw) (p : Placement) →
+    IsKept job trail ends lasts draws →
     trail.items ≡ new_trail.items ++ p ∷ [] → new_trail.capacity ≡ trail.capacity →
     new_ends.items ≡ set ends.items p.test None →
-    new_busy.items ≡ take (length new_trail.items) busy.items → vec_capacity new_busy ≡ vec_capacity busy →
+    new_lasts.items ≡ take (length new_trail.items) lasts.items → vec_capacity new_lasts ≡ vec_capacity lasts →
     new_draws.items ≡ take (length draws.items - length (test_at job p.test).steps) draws.items → vec_capacity new_draws ≡ vec_capacity draws →
-    IsKept job new_trail new_ends new_busy new_draws
-kept_pop job trail new_trail ends new_ends busy new_busy draws new_draws p kept trail_is trail_cap ends_is busy_is busy_cap draws_is draws_cap =
+    IsKept job new_trail new_ends new_lasts new_draws
+kept_pop job trail new_trail ends new_ends lasts new_lasts draws new_draws p kept trail_is trail_cap ends_is lasts_is lasts_cap draws_is draws_cap =
     let placed : List Placement = new_trail.items in
     let P : List Placement → Placement → Type 0 = λ earlier q. MayPlace job earlier q.test q.start in
     let all : Each P (placed ++ p ∷ []) = subst (Each P) trail_is kept.sound.placed in
     let may : MayPlace job placed p.test p.start = each_last P placed p all in
     let long = kept.ends_long in
     let inside = may.in_job in
-    let times : busy.items ≡ map (busy_of job) placed ++ busy_of job p ∷ [] = kept.busy_are ∙ ap (map (busy_of job)) trail_is ∙ map-append (busy_of job) placed (p ∷ []) in
     let steps : draws.items ≡ flat_map (draws_of job) placed ++ draws_of job p = kept.draws_are ∙ ap (flat_map (draws_of job)) trail_is ∙ flat_map_push (draws_of job) placed p in
     let count = length-draws_from p.start (cycles_of job p.test) (test_at job p.test).steps in
     let total = length-append (flat_map (draws_of job) placed) (draws_of job p) in
@@ -172,28 +203,35 @@ kept_pop job trail new_trail ends new_ends busy new_busy draws new_draws p kept 
         | inl same ↦ subst (λ (v : ℕ). get_or (set ends.items p.test None) v None ≡ end_in job placed v) (sym same) (get_or-set_same ends.items p.test None None (omega arith) ∙ sym (end_none job placed p.test may.new))
         | inr apart ↦ get_or-set_other ends.items p.test other None None apart ∙ kept.ends_are other lt ∙ ap (λ (v : List Placement). end_in job v other) trail_is ∙ end_other job placed p other (λ e. apart (sym e))
       ]));
-      busy_are = busy_is ∙ ap (take (length placed)) times ∙ take_at (map (busy_of job) placed) (busy_of job p ∷ []) (length placed) (length-map placed (busy_of job));
+      lasts_long = (let one = ap length lasts_is in let same = kept.lasts_long in omega (arith, one, length-take (length placed) lasts.items, same, ap length trail_is, length-append placed (p ∷ [])));
+      lasts_are = (λ i lt. subst (λ (v : List ℕ). get_or v i 0 ≡ last_end job (take (i + 1) placed)) (sym lasts_is)
+          (get_or-take (length placed) lasts.items i 0 lt ∙ kept.lasts_are i (let same = ap length trail_is in omega (arith, lt, same, length-append placed (p ∷ []))) ∙ ap (λ (v : List Placement). last_end job (take (i + 1) v)) trail_is
+          ∙ ap (last_end job) (take-append-le (i + 1) placed (p ∷ []) (omega arith))));
       draws_are = draws_is ∙ ap (λ (n : ℕ). take n draws.items) front ∙ ap (take (length (flat_map (draws_of job) placed))) steps ∙ take_at (flat_map (draws_of job) placed) (draws_of job p) (length (flat_map (draws_of job) placed)) refl;
       trail_room = (let room = kept.trail_room in omega (arith, room, trail_cap));
-      busy_room = (let room = kept.busy_room in omega (arith, room, busy_cap));
+      lasts_room = (let room = kept.lasts_room in omega (arith, room, lasts_cap));
       draws_room = (let room = kept.draws_room in omega (arith, room, draws_cap));
     }
 
--- the last test is one of the job, and its draws are there
-pub last_inside : (job : JobValue) (trail : SmallVec Placement) (ends : Vec (Option ℕ)) (busy : Vec Busy) (draws : Vec Draw) → IsKept job trail ends busy draws →
-    (placed : List Placement) (p : Placement) → trail.items ≡ placed ++ p ∷ [] → p.test < length job.tests
-last_inside job trail ends busy draws kept placed p is =
+-- the last test was placed where it might be, it is one of the job, and its draws are there
+pub last_may : (job : JobValue) (trail : SmallVec Placement) (ends : Vec (Option ℕ)) (lasts : Vec ℕ) (draws : Vec Draw) → IsKept job trail ends lasts draws →
+    (placed : List Placement) (p : Placement) → trail.items ≡ placed ++ p ∷ [] → MayPlace job placed p.test p.start
+last_may job trail ends lasts draws kept placed p is =
     let P : List Placement → Placement → Type 0 = λ earlier q. MayPlace job earlier q.test q.start in
-    (each_last P placed p (subst (Each P) is kept.sound.placed)).in_job
+    each_last P placed p (subst (Each P) is kept.sound.placed)
+
+pub last_inside : (job : JobValue) (trail : SmallVec Placement) (ends : Vec (Option ℕ)) (lasts : Vec ℕ) (draws : Vec Draw) → IsKept job trail ends lasts draws →
+    (placed : List Placement) (p : Placement) → trail.items ≡ placed ++ p ∷ [] → p.test < length job.tests
+last_inside job trail ends lasts draws kept placed p is = (last_may job trail ends lasts draws kept placed p is).in_job
 
 -- the draws of the last test stand behind those of the others
-pub last_draws : (job : JobValue) (trail : SmallVec Placement) (ends : Vec (Option ℕ)) (busy : Vec Busy) (draws : Vec Draw) → IsKept job trail ends busy draws →
+pub last_draws : (job : JobValue) (trail : SmallVec Placement) (ends : Vec (Option ℕ)) (lasts : Vec ℕ) (draws : Vec Draw) → IsKept job trail ends lasts draws →
     (placed : List Placement) (p : Placement) → trail.items ≡ placed ++ p ∷ [] → draws.items ≡ flat_map (draws_of job) placed ++ draws_of job p
-last_draws job trail ends busy draws kept placed p is = kept.draws_are ∙ ap (flat_map (draws_of job)) is ∙ flat_map_push (draws_of job) placed p
+last_draws job trail ends lasts draws kept placed p is = kept.draws_are ∙ ap (flat_map (draws_of job)) is ∙ flat_map_push (draws_of job) placed p
 
-pub last_steps : (job : JobValue) (trail : SmallVec Placement) (ends : Vec (Option ℕ)) (busy : Vec Busy) (draws : Vec Draw) → IsKept job trail ends busy draws →
+pub last_steps : (job : JobValue) (trail : SmallVec Placement) (ends : Vec (Option ℕ)) (lasts : Vec ℕ) (draws : Vec Draw) → IsKept job trail ends lasts draws →
     (placed : List Placement) (p : Placement) → trail.items ≡ placed ++ p ∷ [] → (wanted : TestValue) → wanted ≡ test_at job p.test → length wanted.steps ≤ length draws.items
-last_steps job trail ends busy draws kept placed p is wanted wanted_at =
+last_steps job trail ends lasts draws kept placed p is wanted wanted_at =
     let steps : draws.items ≡ flat_map (draws_of job) placed ++ draws_of job p = kept.draws_are ∙ ap (flat_map (draws_of job)) is ∙ flat_map_push (draws_of job) placed p in
     let same : length wanted.steps ≡ length (test_at job p.test).steps = ap (λ (t : TestValue). length t.steps) wanted_at in
     let count = length-draws_from p.start (cycles_of job p.test) (test_at job p.test).steps in

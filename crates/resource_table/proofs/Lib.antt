@@ -1,10 +1,11 @@
 pub mod Places
 pub mod Loads
 pub mod Steps
-pub mod BusyTimes
+pub mod Spans
 pub mod Placed
 pub mod Fitting
 pub mod KeptTables
+pub mod BusyTimes
 pub mod KeptMarks
 pub mod KeptStarts
 pub mod Holes
@@ -14,5 +15,4 @@ pub mod Crowds
 pub mod Befores
 pub mod Ready
 pub mod Schedules
-pub mod Samples
 mod Rows

@@ -41,7 +41,7 @@ each_front {X} P xs ys each n y at =
 pub each_take : {X : Type 0} (P : List X → X → Type 0) (n : ℕ) (xs : List X) → Each P xs → Each P (take n xs)
 each_take P n xs each = each_front P (take n xs) (drop n xs) (subst (Each P) (sym (take-append-drop n xs)) each)
 
-at_last : {X : Type 0} (xs : List X) (x : X) → slice_get (xs ++ x ∷ []) (length xs) ≡ Some x
+pub at_last : {X : Type 0} (xs : List X) (x : X) → slice_get (xs ++ x ∷ []) (length xs) ≡ Some x
 at_last [] x = refl
 at_last (y ∷ xs) x = at_last xs x
 

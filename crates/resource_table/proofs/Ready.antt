@@ -10,7 +10,6 @@ use Rattle.plan_model.specs.Plans.{greatest}
 use Rattle.plan_model.proofs.Lists.{contains_at, at_contains, any_from, any_at, from_filter}
 use Rattle.plan_model.proofs.Greatest.{le-greatest_at, greatest-least}
 use Rattle.resource_table.specs.declared.Placement.{Placement}
-use Rattle.resource_table.specs.declared.busy.Busy.{Busy}
 use Rattle.resource_table.specs.declared.power.Draw.{Draw}
 use Rattle.resource_table.specs.Jobs.{JobValue, Precedes}
 use Rattle.resource_table.specs.Schedules.{end_of, last_end, precedes, ready_at, ComesAfter}
@@ -60,7 +59,7 @@ pub ready-least : (job : JobValue) (placed : List Placement) (test start : ℕ) 
 ready-least job placed test start after = greatest-least (end_of job) start (filter (λ (p : Placement). precedes job p.test test) placed)
     (λ i p at. let r = from_filter (λ (p : Placement). precedes job p.test test) placed i p at in after r.0 p r.1 (precedes_to job p.test test r.2))
 
-module _ (job : JobValue) (trail : SmallVec Placement) (ends : Vec (Option ℕ)) (busy : Vec Busy) (draws : Vec Draw) (kept : IsKept job trail ends busy draws) (test result : ℕ) where
+module _ (job : JobValue) (trail : SmallVec Placement) (ends : Vec (Option ℕ)) (lasts : Vec ℕ) (draws : Vec Draw) (kept : IsKept job trail ends lasts draws) (test result : ℕ) where
   -- the tests before a test are some of the job
   pub before_known : All (λ earlier. earlier < length ends.items) (tests_before test job.before)
   before_known =

@@ -1,9 +1,19 @@
 -- Worked rows: the definitions, computed.
-use Rattle.std.proofs.Common.{◌≡◌, ℕ, true, false, None, Some, List, [], ◌∷◌, map, refl}
+use Rattle.std.proofs.Common.{◌≡◌, ℕ, Option, true, false, None, Some, List, [], ◌∷◌, map, refl}
 use Rattle.resource_table.specs.declared.Placement.{Placement}
-use Rattle.resource_table.specs.Jobs.{TestValue}
+use Rattle.resource_table.specs.Jobs.{TestValue, JobValue}
 use Rattle.resource_table.specs.Schedules.{at_start, exclude, last_end, power_at, ready_at, is_placed}
-use Rattle.resource_table.proofs.Samples.{sample_test, sample_job}
+
+-- four self tests: the first draws less from cycle 4 on, and precedes the third, which is of a child of the second
+abbrev sample_test : ℕ → Option ℕ → ℕ → List (ℕ × ℕ) → TestValue
+sample_test place parent cycles steps = record { id = record { «module» = 1; test = 1 }; place = place; parent = parent; bus = None; cycles = cycles; steps = steps }
+
+abbrev sample_job : JobValue
+sample_job = record {
+  tests = sample_test 0 None 5 ((0, 3) ∷ (4, 2) ∷ []) ∷ sample_test 1 None 5 ((0, 4) ∷ []) ∷ sample_test 2 (Some 1) 3 ((0, 2) ∷ []) ∷ sample_test 3 None 2 ((0, 4) ∷ []) ∷ [];
+  before = (0, 2) ∷ [];
+  power = Some 6;
+}
 
 -- the first test draws 3 and from its cycle 4 on 2; the second starts there and draws 4
 abbrev two_placed : List Placement

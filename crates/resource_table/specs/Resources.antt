@@ -1,21 +1,10 @@
 -- What a table keeps of its placed tests, as it would be built from the list of them.
-use Rattle.std.specs.Prelude.{◌≡◌, ℕ, ◌+◌, ◌<◌, ◌≤◌, ◌⊎◌, true, ◌&&◌, min, nat_eq, nat_lt, nat_le, Option, None, Some, List, [], ◌∷◌, map, if◌then◌else◌}
+use Rattle.std.specs.Prelude.{ℕ, ◌+◌, ◌<◌, ◌≤◌, ◌&&◌, min, nat_eq, nat_lt, nat_le, Option, None, Some, List, [], ◌∷◌, map, if◌then◌else◌}
 use Rattle.std.specs.List.{sum_by}
 use Rattle.resource_table.specs.declared.Placement.{Placement}
-use Rattle.resource_table.specs.declared.busy.Needs.{Needs}
-use Rattle.resource_table.specs.declared.busy.Busy.{Busy}
 use Rattle.resource_table.specs.declared.power.Draw.{Draw}
 use Rattle.resource_table.specs.Jobs.{JobValue, test_at, cycles_of}
-use Rattle.resource_table.specs.Schedules.{needs_of, collide, end_of}
-
--- ---- busy times
-
-abbrev pub busy_of : JobValue → Placement → Busy
-busy_of job p = record { needs = needs_of (test_at job p.test); from = p.start; to = end_of job p }
-
--- a test of so many cycles from a start doesn't meet this busy time, where the two collide
-abbrev pub IsApart : Needs → (length start : ℕ) → Busy → Type 0
-IsApart needs length start b = collide b.needs needs ≡ true → (b.to ≤ start) ⊎ (start + length ≤ b.from)
+use Rattle.resource_table.specs.Schedules.{end_of}
 
 -- ---- power
 

@@ -4,7 +4,6 @@ use Rattle.std.specs.List.{sum_by, filter, list_any}
 use Rattle.plan_model.specs.Plans.{step_power, greatest}
 use Rattle.plan_model.specs.Rules.{Each}
 use Rattle.resource_table.specs.declared.Placement.{Placement}
-use Rattle.resource_table.specs.declared.busy.Needs.{Needs}
 use Rattle.resource_table.specs.Jobs.{TestValue, JobValue, test_at, cycles_of, Precedes, IsSoundJob}
 
 -- a job, and its placed tests in the order of placing
@@ -38,15 +37,9 @@ abbrev pub is_at : Option ℕ → ℕ → Bool
 is_at None place = false
 is_at (Some p) place = nat_eq p place
 
-abbrev pub needs_of : TestValue → Needs
-needs_of t = record { place = t.place; parent = t.parent; bus = t.bus }
-
 -- they go over one bus, are of one module, or of a module and its direct parent
-abbrev pub collide : Needs → Needs → Bool
-collide a b = (same_bus a.bus b.bus || nat_eq a.place b.place) || (is_at a.parent b.place || is_at b.parent a.place)
-
 abbrev pub exclude : TestValue → TestValue → Bool
-exclude t u = collide (needs_of t) (needs_of u)
+exclude t u = (same_bus t.bus u.bus || nat_eq t.place u.place) || (is_at t.parent u.place || is_at u.parent t.place)
 
 -- ---- power
 

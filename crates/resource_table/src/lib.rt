@@ -4,9 +4,9 @@
 // Times are in cycles, and power is in the unit of the limits. Only [`Table::new`] takes memory.
 #![tactic(auto)]
 
-mod busy;
 mod copies;
 mod earlier;
+mod empty_times;
 mod frame;
 mod laws;
 mod marks;
@@ -14,6 +14,7 @@ mod points;
 mod power;
 mod profile;
 mod table;
+mod timelines;
 
 pub use earlier::{Before, all_before, earlier_than};
 pub use frame::{Frame, FrameOf};
@@ -58,6 +59,3 @@ pub struct Placement {
     /// The cycle at which it starts.
     pub start: u64,
 }
-
-#[cfg(test)]
-mod tests;

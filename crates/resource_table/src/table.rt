@@ -6,12 +6,13 @@ ghost use Rattle.resource_table.specs.declared.Placement.{Placement};
 ghost use Rattle.resource_table.specs.Jobs.{TestValue, job_value, cycles_of, Precedes, IsSoundJob};
 ghost use Rattle.resource_table.specs.Schedules.{TableValue, at_start, end_of, last_end as last_end_of, ready_at, is_placed as is_placed_in, MeetsNone, StaysWithin, ComesAfter, Fits, IsEarliest, MayPlace, IsSoundTable};
 
-use crate::busy::{Busy, after_busy, last_end, needs_of};
 use crate::copies::copy_job;
 use crate::earlier::{Before, all_before, earlier_than};
+use crate::empty_times::empty_times;
 use crate::points::Point;
 use crate::power::{Draw, after_power, push_draws};
 use crate::profile::{add_drawn, take_drawn};
+use crate::timelines::{Span, Timelines, add_time, after_busy, remove_time};
 use crate::{Job, JobTest, Placement};
 use outside::NoMemory;
 use smallvec::SmallVec;
@@ -30,8 +31,10 @@ pub struct TableOf<J> {
     trail: SmallVec<Placement, 16>,
     /// For each test of the job its end, where it is placed.
     ends: Vec<Option<u64>>,
-    /// The busy times, one for each placed test.
-    busy: Vec<Busy>,
+    /// With each placed test, the end of the one up to it that ends last.
+    lasts: Vec<u64>,
+    /// When each bus and module is busy.
+    times: Timelines,
     /// The draws of the placed tests, step by step.
     draws: Vec<Draw>,
     /// Under a limit on power, the profile of the power that they take together.
@@ -52,10 +55,11 @@ impl<J> Model for TableOf<J> {
 
     ghost use Rattle.resource_table.specs.Befores.{listed, AreListed};
     ghost use Rattle.resource_table.specs.Kept.{IsKept, IsProfiled};
+    ghost use Rattle.resource_table.specs.BusyTimes.{AreTimes};
 
     ghost view = { λ t. record { job = job_value t.own; placed = t.trail.items } };
 
-    ghost invariant = { λ t. IsKept (job_value t.own) t.trail t.ends t.busy t.draws × AreListed (job_value t.own) (map listed t.before.items) × IsProfiled (job_value t.own) t.trail t.draws t.points };
+    ghost invariant = { λ t. IsKept (job_value t.own) t.trail t.ends t.lasts t.draws × AreListed (job_value t.own) (map listed t.before.items) × IsProfiled (job_value t.own) t.trail t.draws t.points × AreTimes (job_value t.own) t.trail.items t.times };
 }
 
 /// The end of a test, where it is placed and ends after `latest`; else `latest`.
@@ -79,6 +83,16 @@ fn latest_end(tests: &[usize], ends: &[Option<u64>]) -> u64
         latest = later_end(*test, ends, latest);
     }
     latest
+}
+
+/// The last of some ends, 0 where there is none.
+fn last_of(ends: &[u64]) -> u64
+    ensures { result ≡ slice_index_or ends.now (length ends.now - 1) 0 }
+{
+    match ends {
+        [.., last] => *last,
+        [] => 0,
+    }
 }
 
 /// The steps of the tests together.
@@ -110,10 +124,10 @@ fn new_trail(alloc: Global, tests: usize) -> Result<SmallVec<Placement, 16>, NoM
     Ok(trail)
 }
 
-/// Busy times with room for so many.
-fn new_busy(alloc: Global, tests: usize) -> Result<Vec<Busy>, NoMemory>
-    ensures items { IfOk result (λ busy. busy.items ≡ []) }
-    ensures room { IfOk result (λ busy. tests ≤ vec_capacity busy) }
+/// Ends with room for so many.
+fn new_lasts(alloc: Global, tests: usize) -> Result<Vec<u64>, NoMemory>
+    ensures items { IfOk result (λ lasts. lasts.items ≡ []) }
+    ensures room { IfOk result (λ lasts. tests ≤ vec_capacity lasts) }
 {
     Vec::with_capacity(alloc, tests).map_err(|_| NoMemory)
 }
@@ -151,7 +165,8 @@ impl<'a> TableOf<&'a Job> {
             job,
             trail: new_trail(alloc, tests)?,
             ends: no_ends(alloc, tests)?,
-            busy: new_busy(alloc, tests)?,
+            lasts: new_lasts(alloc, tests)?,
+            times: empty_times(alloc, &own.tests)?,
             draws: new_draws(alloc, steps)?,
             points: new_points(alloc, tests, steps)?,
             before: all_before(alloc, tests, &own.before)?,
@@ -208,7 +223,7 @@ impl<J> TableOf<J> {
         ensures least { (other : ℕ) → start ≤ other → MeetsNone self.now.job self.now.placed test other → result ≤ other }
     {
         let wanted = &self.own.tests[test];
-        after_busy(&self.busy, needs_of(wanted), wanted.length, start, last)
+        after_busy(&self.times, wanted, start, last)
     }
 
     /// A start from `start` on before which a test passes the limit on power; `start` where it stays within.
@@ -258,7 +273,7 @@ impl<J> TableOf<J> {
         ensures last { result ≡ last_end_of self.now.job self.now.placed }
         ensures sound { IsSoundTable self.now }
     {
-        last_end(&self.busy)
+        last_of(&self.lasts)
     }
 
     /// The least start at which a test fits beside the placed tests: at no cycle it meets a test of its bus, of its
@@ -298,6 +313,7 @@ impl<J> TableOf<J> {
         ensures sound { IsSoundTable self.new }
     {
         let before = self.trail.len();
+        let last = self.last();
         let wanted = &self.own.tests[test];
         let earlier = self.draws.len();
         push_draws(&mut self.draws, &wanted.power, start, wanted.length);
@@ -309,11 +325,8 @@ impl<J> TableOf<J> {
             start,
         );
         let to = start + wanted.length;
-        self.busy.push_reserved(Busy {
-            needs: needs_of(wanted),
-            from: start,
-            to,
-        });
+        add_time(&mut self.times, wanted, Span { from: start, to });
+        self.lasts.push_reserved(last.max(to));
         self.ends[test] = Some(to);
         self.trail.push_reserved(Placement { test, start });
         before
@@ -325,8 +338,12 @@ impl<J> TableOf<J> {
         ensures { self.new ≡ record self.old { placed = take (length self.old.placed - 1) self.old.placed } }
     {
         if let Some(last) = self.trail.pop() {
-            let steps = self.own.tests[last.test].power.len();
+            let gone = &self.own.tests[last.test];
+            let steps = gone.power.len();
             let count = self.draws.len() - steps;
+            let to = last.start + gone.length;
+            let from = last.start;
+            remove_time(&mut self.times, gone, Span { from, to });
             take_drawn(
                 self.own.power,
                 &mut self.points,
@@ -335,7 +352,7 @@ impl<J> TableOf<J> {
                 last.start,
             );
             self.draws.truncate(count);
-            self.busy.truncate(self.trail.len());
+            self.lasts.truncate(self.trail.len());
             self.ends[last.test] = None;
         }
     }

@@ -8,4 +8,4 @@ pub returns-clause-placed : goal.returns-clause-placed
 returns-clause-placed g c =
     let inside = subst (λ (t : TableValue). c.args.test < length t.job.tests) (sym c.self.view_is) c.requires.in_job in
     subst (λ (t : TableValue). c.is_some.result ≡ is_placed t.placed c.args.test) c.self.view_is
-    (c.is_some.ensures ∙ kept_is_placed (job_value c.self.inside.own) c.self.inside.trail c.self.inside.ends c.self.inside.busy c.self.inside.draws c.self.invariant.0 c.args.test c.index.result.now inside c.index.ensures)
+    (c.is_some.ensures ∙ kept_is_placed (job_value c.self.inside.own) c.self.inside.trail c.self.inside.ends c.self.inside.lasts c.self.inside.draws c.self.invariant.0 c.args.test c.index.result.now inside c.index.ensures)

@@ -1,16 +1,16 @@
-use Rattle.std.proofs.Common.{◌≡◌, ◌+◌, ◌∙◌, ◌++◌, ◌∷◌, [], ℕ, List, length, set, refl, sym, subst, ap, arith, Some, lit<, length-append}
-use Rattle.std.proofs.lemmas.List.{length-map}
+use Rattle.std.proofs.Common.{◌≡◌, ◌+◌, ◌∙◌, ◌++◌, ◌∷◌, [], ℕ, List, length, set, max, refl, sym, subst, ap, arith, Some, lit<, length-append}
 use Rattle.std.specs.Prelude.{IfSome}
 use Rattle.std.specs.List.{flat_map}
 use Rattle.resource_table.specs.declared.Placement.{Placement}
 use Rattle.std.specs.Vec.{with_item}
-use Rattle.resource_table.specs.declared.busy.Needs.{Needs}
-use Rattle.resource_table.specs.declared.busy.Busy.{Busy}
 use Rattle.resource_table.specs.declared.power.Draw.{Draw}
 use Rattle.resource_table.specs.Profiles.{ArePoints}
 use Rattle.resource_table.specs.Jobs.{TestValue, job_value, test_at, cycles_of}
-use Rattle.resource_table.specs.Schedules.{TableValue, at_start, needs_of, MayPlace}
-use Rattle.resource_table.specs.Resources.{busy_of, draws_from, draws_of, marks_of}
+use Rattle.resource_table.specs.Schedules.{TableValue, at_start, end_of, last_end, MayPlace}
+use Rattle.resource_table.specs.Resources.{draws_from, draws_of, marks_of}
+use Rattle.resource_table.specs.declared.timelines.Span.{Span}
+use Rattle.resource_table.specs.BusyTimes.{AreTimes, MayAdd, IsAdded}
+use Rattle.resource_table.proofs.BusyTimes.{may_add, times_more}
 use Rattle.resource_table.proofs.KeptTables.{kept_push, trail_has_room, draws_have_room, length-draws_from}
 use Rattle.resource_table.proofs.KeptMarks.{last_room, last_rising, last_within, before_last, after_push}
 use Rattle.resource_table.proofs.KeptStarts.{wanted_is}
@@ -30,9 +30,15 @@ pub push_reserved-requires : goal.push_reserved-requires
 push_reserved-requires g c =
     let may = subst (λ (t : TableValue). MayPlace t.job t.placed c.args.test c.args.start) (sym c.self.view_is) c.requires in
     let room = trail_has_room (job_value c.self.inside.own) c.self.inside.trail.items c.args.test c.args.start c.self.invariant.0.sound may in
-    let all = c.self.invariant.0.busy_room in
-    let taken = ap length c.self.invariant.0.busy_are ∙ length-map c.self.inside.trail.items (busy_of (job_value c.self.inside.own)) in
-    omega (arith, room, all, taken, c.self.inside.busy.ok.0)
+    let all = c.self.invariant.0.lasts_room in
+    let taken = c.self.invariant.0.lasts_long in
+    omega (arith, room, all, taken, c.self.inside.lasts.ok.0)
+
+pub add_time-requires : goal.add_time-requires
+add_time-requires g c =
+    let may = subst (λ (t : TableValue). MayPlace t.job t.placed c.args.test c.args.start) (sym c.self.view_is) c.requires in
+    let wanted = wanted_is c.self.inside.own.tests.items c.args.test c.index-wanted.result.now may.in_job c.index-wanted.ensures in
+    subst (MayAdd c.self.inside.times) (sym wanted) (may_add (job_value c.self.inside.own) c.self.inside.trail.items c.self.invariant.0.sound c.args.test c.args.start may c.self.inside.times c.self.invariant.3)
 
 pub push_reserved-requires-2 : goal.push_reserved-requires-2
 push_reserved-requires-2 g c =
@@ -52,12 +58,13 @@ invariant_of-self g c =
     ∙ ap (λ (t : TestValue). c.self.inside.draws.items ++ draws_from c.args.start t.cycles t.steps) wanted ∙ ap (λ (v : List Draw). v ++ draws_of job (at_start c.args.test c.args.start)) c.self.invariant.0.draws_are in
     let earlier : c.len-earlier.result ≡ length (flat_map (draws_of job) placed) = c.len-earlier.ensures ∙ c.self.inside.draws.ok.0 ∙ ap length c.self.invariant.0.draws_are in
     let old : IfSome job.power (λ _. ArePoints (flat_map (draws_of job) placed) (flat_map (marks_of job) placed) c.self.inside.points.items) = subst (λ (v : List Draw). IfSome job.power (λ _. ArePoints v (flat_map (marks_of job) placed) c.self.inside.points.items)) c.self.invariant.0.draws_are c.self.invariant.2.are in
-    let end : ℕ = c.args.start + c.index-wanted.result.now.length in (
-      kept_push (job_value c.self.inside.own) c.self.inside.trail c.push_reserved-2.new.self c.self.inside.ends (with_item c.self.inside.ends c.args.test (Some end)) c.self.inside.busy c.push_reserved.new.self c.self.inside.draws c.push_draws.new.draws c.args.test c.args.start
+    let end : ℕ = c.args.start + c.index-wanted.result.now.length in
+    let last : c.last-last.result ≡ last_end job placed = subst (λ (t : TableValue). c.last-last.result ≡ last_end t.job t.placed) (sym c.self.view_is) c.last-last.ensures.last in
+    let latest : c.max.result ≡ max (last_end job placed) (end_of job (at_start c.args.test c.args.start)) = c.max.ensures ∙ ap (λ (n : ℕ). max n end) last ∙ ap (λ (t : TestValue). max (last_end job placed) (c.args.start + t.cycles)) wanted in (
+      kept_push (job_value c.self.inside.own) c.self.inside.trail c.push_reserved-2.new.self c.self.inside.ends (with_item c.self.inside.ends c.args.test (Some end)) c.self.inside.lasts c.push_reserved.new.self c.self.inside.draws c.push_draws.new.draws c.args.test c.args.start
           c.self.invariant.0 may c.push_reserved-2.ensures.items c.push_reserved-2.ensures.capacity
           (ap (λ (t : TestValue). set c.self.inside.ends.items c.args.test (Some (c.args.start + t.cycles))) wanted)
-          (c.push_reserved.ensures.items ∙ ap (λ (n : Needs). c.self.inside.busy.items ++ (let b : Busy = record { needs = n; from = c.args.start; to = c.args.start + c.index-wanted.result.now.length } in b) ∷ []) c.needs_of.ensures
-          ∙ ap (λ (t : TestValue). c.self.inside.busy.items ++ (let b : Busy = record { needs = needs_of t; from = c.args.start; to = c.args.start + t.cycles } in b) ∷ []) wanted)
+          (c.push_reserved.ensures.items ∙ ap (λ (n : ℕ). c.self.inside.lasts.items ++ n ∷ []) latest)
           c.push_reserved.ensures.capacity
           (c.push_draws.ensures.items ∙ ap (λ (v : List (ℕ × ℕ)). c.self.inside.draws.items ++ draws_from c.args.start c.index-wanted.result.now.length v) c.deref.ensures.value
           ∙ ap (λ (t : TestValue). c.self.inside.draws.items ++ draws_from c.args.start t.cycles t.steps) wanted)
@@ -69,6 +76,9 @@ invariant_of-self g c =
             (after_push job placed (at_start c.args.test c.args.start) c.deref-2.result.now c.len-earlier.result draws earlier c.self.inside.points.items c.add_drawn.new.points.items c.self.invariant.0.sound old c.add_drawn.ensures.points));
         room = (let room = c.self.invariant.2.room in omega (arith, room, c.add_drawn.ensures.capacity));
       },
+      subst (λ (v : List Placement). AreTimes job v c.add_time.new.times) (sym c.push_reserved-2.ensures.items)
+          (times_more job placed c.self.invariant.0.sound c.args.test c.args.start may c.self.inside.times c.add_time.new.times c.self.invariant.3
+          (subst (λ (t : TestValue). IsAdded t (let s : Span = record { from = c.args.start; to = c.args.start + t.cycles } in s) c.self.inside.times c.add_time.new.times) wanted c.add_time.ensures)),
     )
 
 pub returns-clause-sound : goal.returns-clause-sound

@@ -1,0 +1,136 @@
+-- Times in the order of their starts, and timelines of them, with one time more or less.
+use Rattle.std.proofs.Common.{◌≡◌, ℕ, zero, suc, ◌+◌, ◌<◌, ◌≤◌, inl, inr, Option, None, Some, List, [], ◌∷◌, length, get_or, set, arith, refl, sym, ap, ◌∙◌, subst}
+use Rattle.std.specs.Prelude.{slice_get, vec_capacity}
+use Rattle.std.specs.List.{All, AllWithin, remove}
+use Rattle.std.specs.List.Sorted.{IsNonDecreasingBy}
+use Rattle.std.proofs.lemmas.Bool.{cases_lt}
+use Rattle.std.proofs.lemmas.List.{length-set}
+use Rattle.std.proofs.lemmas.Option.{slice_get-get_or, slice_get_within, get_or_from_slice_get}
+use Rattle.std.proofs.lemmas.List.Edits.{get_or-remove_below, get_or-remove_above, length-remove}
+use Rattle.resource_table.specs.declared.timelines.Span.{Span}
+use Rattle.resource_table.specs.declared.timelines.Timeline.{Timeline}
+use Rattle.resource_table.proofs.Places.{same_item}
+use Rattle.resource_table.specs.BusyTimes.{IsClear, IsPut, IsTaken, ArePut, AreTaken}
+
+-- what is read at a place stands there
+pub read_at : {X : Type 0} (xs : List X) (k : ℕ) (x : X) → k < length xs → x ≡ get_or xs k x → slice_get xs k ≡ Some x
+read_at xs k x lt is = slice_get-get_or xs k x lt ∙ ap Some (sym is)
+
+pub there_is : {X : Type 0} (xs : List X) (k : ℕ) → k < length xs → (x : X) × (slice_get xs k ≡ Some x)
+there_is [] k lt = absurd (omega (arith, lt))
+there_is (y ∷ xs) zero lt = (y, refl)
+there_is (y ∷ xs) (suc k) lt = there_is xs k (omega arith)
+
+pub set_here : {X : Type 0} (xs : List X) (k : ℕ) (x : X) → k < length xs → slice_get (set xs k x) k ≡ Some x
+set_here [] k x lt = absurd (omega (arith, lt))
+set_here (y ∷ xs) zero x lt = refl
+set_here (y ∷ xs) (suc k) x lt = set_here xs k x (omega arith)
+
+pub set_there : {X : Type 0} (xs : List X) (k j : ℕ) (x : X) → (k ≡ j → ⊥) → slice_get (set xs k x) j ≡ slice_get xs j
+set_there [] k j x apart = refl
+set_there (y ∷ xs) zero zero x apart = absurd (apart refl)
+set_there (y ∷ xs) zero (suc j) x apart = refl
+set_there (y ∷ xs) (suc k) zero x apart = refl
+set_there (y ∷ xs) (suc k) (suc j) x apart = set_there xs k j x (λ e. apart (ap suc e))
+
+some_same : (k j : ℕ) → (let a : Option ℕ = Some k in a) ≡ Some j → k ≡ j
+some_same k j e = cc
+
+-- what stands at one place is the same
+pub same_line : (lines : List Timeline) (place : Option ℕ) (at k : ℕ) (line other : Timeline) → place ≡ Some at → slice_get lines at ≡ Some line → place ≡ Some k → slice_get lines k ≡ Some other → other.spans.items ≡ line.spans.items
+same_line lines place at k line other is there is' there' =
+    let same : at ≡ k = some_same at k (sym is ∙ is') in
+    let here : slice_get lines k ≡ Some line = subst (λ (v : ℕ). slice_get lines v ≡ Some line) same there in
+    let both : (let a : Option Timeline = Some other in a) ≡ Some line = sym there' ∙ here in
+    let one : other ≡ line = cc in
+    ap (λ (v : Timeline). v.spans.items) one
+
+-- ---- one timeline of a list changes
+
+module _ (lines : List Timeline) (place : Option ℕ) (at : ℕ) (was : Timeline) (is : place ≡ Some at) (there : slice_get lines at ≡ Some was) (line : Timeline) where
+  other_line : (k : ℕ) (l : Timeline) → (place ≡ Some k → ⊥) → slice_get (set lines at line) k ≡ Some l → slice_get lines k ≡ Some l
+  other_line k l apart found = sym (set_there lines at k line (λ e. apart (is ∙ ap Some e))) ∙ found
+
+  this_line : (k : ℕ) (l : Timeline) → place ≡ Some k → slice_get (set lines at line) k ≡ Some l → (l ≡ line) × (slice_get lines k ≡ Some was)
+  this_line k l here found =
+      let same : at ≡ k = some_same at k (sym is ∙ here) in
+      let new : slice_get (set lines at line) k ≡ Some line = subst (λ (v : ℕ). slice_get (set lines at line) v ≡ Some line) same (set_here lines at line (slice_get_within lines at was there)) in
+      let both : (let a : Option Timeline = Some l in a) ≡ Some line = sym found ∙ new in
+      (cc, subst (λ (v : ℕ). slice_get lines v ≡ Some was) same there)
+
+  pub line_put : (span : Span) → IsPut span was.spans.items line.spans.items → vec_capacity line.spans ≡ vec_capacity was.spans → ArePut place span lines (set lines at line)
+  line_put span put room = record {
+    long = length-set lines at line;
+    others = other_line;
+    here = (λ k l here found. let r = this_line k l here found in
+        (was, r.1, subst (λ (v : Timeline). IsPut span was.spans.items v.spans.items) (sym r.0) put, ap (λ (v : Timeline). vec_capacity v.spans) r.0 ∙ room));
+  }
+
+  pub line_taken : (span : Span) → IsTaken span was.spans.items line.spans.items → vec_capacity line.spans ≡ vec_capacity was.spans → AreTaken place span lines (set lines at line)
+  line_taken span taken room = record {
+    long = length-set lines at line;
+    others = other_line;
+    here = (λ k l here found. let r = this_line k l here found in
+        (was, r.1, subst (λ (v : Timeline). IsTaken span was.spans.items v.spans.items) (sym r.0) taken, ap (λ (v : Timeline). vec_capacity v.spans) r.0 ∙ room));
+  }
+
+pub none_put : (lines : List Timeline) (place : Option ℕ) (span : Span) → place ≡ None → ArePut place span lines lines
+none_put lines place span none = record {
+  long = refl;
+  others = (λ k l apart found. found);
+  here = (λ k l here found. absurd (let never : (let a : Option ℕ = None in a) ≡ Some k = sym none ∙ here in cc));
+}
+
+pub none_taken : (lines : List Timeline) (place : Option ℕ) (span : Span) → place ≡ None → AreTaken place span lines lines
+none_taken lines place span none = record {
+  long = refl;
+  others = (λ k l apart found. found);
+  here = (λ k l here found. absurd (let never : (let a : Option ℕ = None in a) ≡ Some k = sym none ∙ here in cc));
+}
+
+-- ---- one time less
+
+pub ordered_remove : {X : Type 0} (n : X → ℕ) (xs : List X) (i : ℕ) → IsNonDecreasingBy n xs → i < length xs → IsNonDecreasingBy n (remove xs i)
+ordered_remove n xs i up lt a b d le less =
+    let long = length-remove xs i lt in
+    elim (cases_lt b i) [
+      | inl low ↦ omega (arith, up a b d le (omega arith), ap n (get_or-remove_below xs i d a (omega arith) lt), ap n (get_or-remove_below xs i d b low lt))
+      | inr high ↦ elim (cases_lt a i) [
+        | inl low ↦ omega (arith, up a (b + 1) d (omega arith) (omega arith), ap n (get_or-remove_below xs i d a low lt), ap n (get_or-remove_above xs i d b high lt))
+        | inr both ↦ omega (arith, up (a + 1) (b + 1) d (omega arith) (omega arith), ap n (get_or-remove_above xs i d a both lt), ap n (get_or-remove_above xs i d b high lt))
+      ]
+    ]
+
+-- a time that stands in the list stands behind those that start before it
+pub stands_behind : (spans : List Span) (span : Span) (place at : ℕ) → AllWithin (λ (s : Span). s.from < span.from) spans 0 place → slice_get spans at ≡ Some span → place ≤ at
+stands_behind spans span place at before there = elim (cases_lt at place) [
+  | inr behind ↦ behind
+  | inl early ↦ absurd (let same = ap (λ (s : Span). s.from) (get_or_from_slice_get spans at span span there) in omega (arith, same, before at span (omega arith) early))
+]
+
+-- a time that starts no earlier than one that stands no earlier, and ends as it does, is that one
+pub same_time : (spans : List Span) (span read : Span) (place at : ℕ) → IsNonDecreasingBy (λ (s : Span). s.from) spans → AllWithin (λ (s : Span). span.from ≤ s.from) spans place (length spans) →
+    place ≤ at → slice_get spans at ≡ Some span → read ≡ get_or spans place read → read.to ≡ span.to → slice_get spans place ≡ Some span
+same_time spans span read place at up late le there is end =
+    let within : at < length spans = slice_get_within spans at span there in
+    let here : slice_get spans place ≡ Some read = read_at spans place read (omega arith) is in
+    let last = ap (λ (s : Span). s.from) (get_or_from_slice_get spans at span read there) in
+    let first = ap (λ (s : Span). s.from) is in
+    let begin : read.from ≡ span.from = omega (arith, up place at read le within, late place read (omega arith) (omega arith), last, first) in
+    here ∙ ap Some (both read span begin end)
+  where
+    make : ℕ → ℕ → Span
+    make x y = record { from = x; to = y }
+
+    both : (a b : Span) → a.from ≡ b.from → a.to ≡ b.to → a ≡ b
+    both a b f t = ap (λ (v : ℕ). make v a.to) f ∙ ap (make b.from) t
+
+-- ---- the first start behind times that have ended
+
+-- a test that starts when some have ended, and ends as the next one starts, meets none
+pub clear_between : (spans : List Span) (length' next place : ℕ) (e : Span) → IsNonDecreasingBy (λ (s : Span). s.from) spans → AllWithin (λ (s : Span). s.to ≤ next) spans 0 place →
+    place < length spans → next + length' ≤ (get_or spans place e).from → All (IsClear length' next) spans
+clear_between spans length' next place e up ended within room k d lt = elim (cases_lt k place) [
+  | inl before ↦ inl (ended k d (omega arith) before)
+  | inr behind ↦ inr (omega (arith, room, up place k d behind lt, ap (λ (s : Span). s.from) (same_item spans place e d within)))
+]

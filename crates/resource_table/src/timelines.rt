@@ -1,0 +1,225 @@
+// Busy times, kept apart by what they take: a bus, a module, or the children of a module.
+ghost use Rattle.std.specs.Prelude.{◌≡◌, ℕ, ◌+◌, ◌^◌, ◌<◌, ◌≤◌, Option, None, Some, List, length as length_of, map, nat_lt, nat_le, slice_get, slice_index_or, vec_len, vec_capacity, IfOk};
+ghost use Rattle.std.specs.List.{All, AllWithin};
+ghost use Rattle.std.specs.List.Sorted.{IsNonDecreasingBy, IsPartitionPoint};
+ghost use Rattle.resource_table.specs.declared.timelines.Span.{Span};
+ghost use Rattle.resource_table.specs.declared.timelines.Timeline.{Timeline};
+ghost use Rattle.resource_table.specs.Jobs.{test_value};
+ghost use Rattle.resource_table.specs.BusyTimes.{IsClear, IsPut, IsTaken, AreFree, MayFill, ArePut, MayClear, AreTaken, IsFree, AreOrdered, MayAdd, IsAdded, MayRemove, IsRemoved};
+
+use crate::JobTest;
+
+/// A time from a cycle up to before another.
+#[derive(Clone, Copy)]
+pub struct Span {
+    /// The first cycle.
+    pub from: u64,
+    /// The first cycle after it.
+    pub to: u64,
+}
+
+/// The times at which one bus, one module, or the children of one module are busy, in the order of their starts.
+#[derive(Drop)]
+pub struct Timeline {
+    /// The times.
+    pub spans: Vec<Span>,
+}
+
+/// What a timeline is of.
+#[derive(Clone, Copy)]
+pub enum Kind {
+    /// Of a bus.
+    Bus,
+    /// Of a module: its own tests.
+    Own,
+    /// Of a module: the tests of its direct children.
+    Children,
+}
+
+/// The timelines of all buses and modules, each at the place of its bus or module.
+#[derive(Drop)]
+pub struct Timelines {
+    /// Those of the buses.
+    pub buses: Vec<Timeline>,
+    /// Those of the modules.
+    pub modules: Vec<Timeline>,
+    /// Those of the children of the modules.
+    pub children: Vec<Timeline>,
+}
+
+/// How many times start before a cycle.
+fn starts_before(spans: &[Span], cycle: u64) -> usize
+    requires { IsNonDecreasingBy (λ (s : Span). s.from) spans.now }
+    ensures bound { result ≤ length_of spans.now }
+    ensures parts { IsPartitionPoint (λ (s : Span). s.from < cycle) (λ (s : Span). cycle ≤ s.from) spans.now result }
+{
+    spans.partition_point(
+        |s: &Span| -> bool
+            ensures { result ≡ nat_lt s.now.from cycle }
+        { s.from < cycle },
+    )
+}
+
+/// How many times have ended by a cycle, where they end in the order of their starts.
+fn ended_by(spans: &[Span], cycle: u64) -> usize
+    requires { IsNonDecreasingBy (λ (s : Span). s.to) spans.now }
+    ensures bound { result ≤ length_of spans.now }
+    ensures parts { IsPartitionPoint (λ (s : Span). s.to ≤ cycle) (λ (s : Span). cycle < s.to) spans.now result }
+{
+    spans.partition_point(
+        |s: &Span| -> bool
+            ensures { result ≡ nat_le s.now.to cycle }
+        { s.to <= cycle },
+    )
+}
+
+/// Puts a time before those that start no earlier, in room that is there.
+fn put_span(spans: &mut Vec<Span>, span: Span)
+    requires room { vec_len spans.old < vec_capacity spans.old }
+    requires ordered { IsNonDecreasingBy (λ (s : Span). s.from) spans.old.items }
+    ensures put { IsPut span spans.old.items spans.new.items }
+    ensures capacity { vec_capacity spans.new ≡ vec_capacity spans.old }
+{
+    let place = starts_before(spans, span.from);
+    match spans.insert(place, span) {
+        Ok(()) => {}
+        Err(_) => unreachable!(),
+    }
+}
+
+/// Takes a time out that is there.
+fn take_span(spans: &mut Vec<Span>, span: Span)
+    requires ordered { IsNonDecreasingBy (λ (s : Span). s.from) spans.old.items }
+    requires there { (place : ℕ) × (slice_get spans.old.items place ≡ Some span) }
+    ensures taken { IsTaken span spans.old.items spans.new.items }
+    ensures capacity { vec_capacity spans.new ≡ vec_capacity spans.old }
+{
+    let mut place = starts_before(spans, span.from);
+    while spans[place].to != span.to {
+        place += 1;
+    }
+    spans.remove(place);
+}
+
+/// The least start from `start` on at which a test of so many cycles meets none of these times, of which the first ones,
+/// up to a place, have ended by `start`.
+fn after_spans(spans: &[Span], first: usize, length: u64, start: u64, last: u64) -> u64
+    requires start { start ≤ last }
+    requires last { last + length < 2 ^ 63 }
+    requires starts { IsNonDecreasingBy (λ (s : Span). s.from) spans.now }
+    requires ends { All (λ (s : Span). s.to ≤ last) spans.now }
+    requires within { first ≤ length_of spans.now }
+    requires ended { AllWithin (λ (s : Span). s.to ≤ start) spans.now 0 first }
+    ensures from { start ≤ result }
+    ensures most { result ≤ last }
+    ensures clear { All (IsClear length result) spans.now }
+    ensures least { (other : ℕ) → start ≤ other → All (IsClear length other) spans.now → result ≤ other }
+{
+    let mut next = start;
+    for place in first..spans.len() {
+        let span = spans[place];
+        if next + length <= span.from {
+            return next;
+        }
+        next = next.max(span.to);
+    }
+    next
+}
+
+/// The least start from `start` on at which a test of so many cycles meets nothing of the timeline at a place, where there
+/// is one. The times of a timeline don't overlap here.
+fn after_alone(lines: &[Timeline], place: Option<usize>, length: u64, start: u64, last: u64) -> u64
+    requires start { start ≤ last }
+    requires last { last + length < 2 ^ 63 }
+    requires starts { (k : ℕ) (line : Timeline) → slice_get lines.now k ≡ Some line → IsNonDecreasingBy (λ (s : Span). s.from) line.spans.items }
+    requires turns { (k : ℕ) (line : Timeline) → slice_get lines.now k ≡ Some line → IsNonDecreasingBy (λ (s : Span). s.to) line.spans.items }
+    requires ends { (k : ℕ) (line : Timeline) → slice_get lines.now k ≡ Some line → All (λ (s : Span). s.to ≤ last) line.spans.items }
+    ensures from { start ≤ result }
+    ensures most { result ≤ last }
+    ensures clear { AreFree lines.now place length result }
+    ensures least { (other : ℕ) → start ≤ other → AreFree lines.now place length other → result ≤ other }
+{
+    let Some(at) = place else {
+        return start;
+    };
+    let Some(line) = lines.get(at) else {
+        return start;
+    };
+    let first = ended_by(&line.spans, start);
+    after_spans(&line.spans, first, length, start, last)
+}
+
+/// The least start from `start` on at which a test of so many cycles meets nothing of the timeline at a place, where there
+/// is one. The times of a timeline may overlap here.
+fn after_together(lines: &[Timeline], place: usize, length: u64, start: u64, last: u64) -> u64
+    requires start { start ≤ last }
+    requires last { last + length < 2 ^ 63 }
+    requires starts { (k : ℕ) (line : Timeline) → slice_get lines.now k ≡ Some line → IsNonDecreasingBy (λ (s : Span). s.from) line.spans.items }
+    requires ends { (k : ℕ) (line : Timeline) → slice_get lines.now k ≡ Some line → All (λ (s : Span). s.to ≤ last) line.spans.items }
+    ensures from { start ≤ result }
+    ensures most { result ≤ last }
+    ensures clear { AreFree lines.now (Some place) length result }
+    ensures least { (other : ℕ) → start ≤ other → AreFree lines.now (Some place) length other → result ≤ other }
+{
+    let Some(line) = lines.get(place) else {
+        return start;
+    };
+    after_spans(&line.spans, 0, length, start, last)
+}
+
+/// Adds a time to the timeline at a place, where there is one, in room that is there.
+fn fill(lines: &mut Vec<Timeline>, place: Option<usize>, span: Span)
+    requires { MayFill place lines.old.items }
+    ensures { ArePut place span lines.old.items lines.new.items }
+{
+    if let Some(at) = place {
+        put_span(&mut lines[at].spans, span);
+    }
+}
+
+/// Takes a time out of the timeline at a place, where there is one.
+fn clear(lines: &mut Vec<Timeline>, place: Option<usize>, span: Span)
+    requires { MayClear place span lines.old.items }
+    ensures { AreTaken place span lines.old.items lines.new.items }
+{
+    if let Some(at) = place {
+        take_span(&mut lines[at].spans, span);
+    }
+}
+
+/// Adds the time of a test, in room that is there.
+pub fn add_time(times: &mut Timelines, test: &JobTest, span: Span)
+    requires { MayAdd times.old (test_value test.now) }
+    ensures { IsAdded (test_value test.now) span times.old times.new }
+{
+    fill(&mut times.buses, test.bus, span);
+    fill(&mut times.modules, Some(test.place), span);
+    fill(&mut times.children, test.parent, span);
+}
+
+/// Takes the time of a test out.
+pub fn remove_time(times: &mut Timelines, test: &JobTest, span: Span)
+    requires { MayRemove times.old (test_value test.now) span }
+    ensures { IsRemoved (test_value test.now) span times.old times.new }
+{
+    clear(&mut times.buses, test.bus, span);
+    clear(&mut times.modules, Some(test.place), span);
+    clear(&mut times.children, test.parent, span);
+}
+
+/// A start from `start` on before which a test meets a placed one that it may not meet; `start` where it meets none.
+pub fn after_busy(times: &Timelines, test: &JobTest, start: u64, last: u64) -> u64
+    requires start { start ≤ last }
+    requires last { last + test.now.length < 2 ^ 63 }
+    requires times { AreOrdered times.now last }
+    ensures from { start ≤ result }
+    ensures most { result ≤ last }
+    ensures free { result ≡ start → IsFree times.now (test_value test.now) start }
+    ensures least { (other : ℕ) → start ≤ other → IsFree times.now (test_value test.now) other → result ≤ other }
+{
+    let length = test.length;
+    let bus = after_alone(&times.buses, test.bus, length, start, last);
+    let own = after_alone(&times.modules, Some(test.place), length, bus, last);
+    let parent = after_alone(&times.modules, test.parent, length, own, last);
+    after_together(&times.children, test.place, length, parent, last)
+}
