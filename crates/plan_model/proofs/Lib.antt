@@ -26,5 +26,6 @@ pub mod ChainLengths
 pub mod CertificatesAreBounds
 pub mod GoodWithoutLimits
 pub mod SoundChips
+pub mod ShortTests
 pub mod CellsOnce
 pub mod GoodPlansRunRight

@@ -9,7 +9,7 @@ mod wrapping;
 
 pub use laws::{
     certificates_are_bounds, faults_are_exact, good_plans_run_right, good_without_limits,
-    law_of_one_test, lower_times_are_least,
+    law_of_one_test, lower_times_are_least, tests_are_short,
 };
 pub use places::{bus_of, lists_module, wrapper_of};
 use soc_model::TestId;
