@@ -24,6 +24,8 @@ pub mod ScanMarks
 pub mod ProperByCounts
 pub mod ChainLengths
 pub mod CertificatesAreBounds
+pub mod Deciding
+pub mod FaultsAreShown
 pub mod GoodWithoutLimits
 pub mod SoundChips
 pub mod ShortTests

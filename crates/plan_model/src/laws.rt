@@ -1,5 +1,5 @@
 // The laws over the definitions. Each is the contract of a function that does nothing: a caller learns it by the call.
-ghost use Rattle.std.specs.Prelude.{◌≡◌, ℕ, ◌≤◌, Some, List, length, sum, true, false, slice_get};
+ghost use Rattle.std.specs.Prelude.{◌≡◌, ◌⊎◌, ℕ, ◌≤◌, Some, List, length, sum, true, false, slice_get};
 ghost use Rattle.soc_model.specs.declared.Test.{Test};
 ghost use Rattle.soc_model.specs.declared.TheConstants.{WORK_MOST};
 ghost use Rattle.soc_model.specs.Chips.{ModuleValue, SocValue, LiveTest, live_tests};
@@ -13,8 +13,8 @@ ghost use Rattle.plan_model.specs.Right.{IsAt, IsRight};
 ghost use Rattle.plan_model.specs.Rules.{Each, HasWrapper, HasProperCells, IsGood, IsGoodAlone, IsBound, used_pairs};
 ghost use Rattle.plan_model.specs.SoundLimits.{IsSoundLimits};
 ghost use Rattle.plan_model.specs.Bounds.{lower_time};
-ghost use Rattle.plan_model.specs.Certificates.{IsAccepted, IsElementary};
-ghost use Rattle.plan_model.specs.Faults.{FaultValue, IsFault, IsFaultless};
+ghost use Rattle.plan_model.specs.Certificates.{CertificateFault, IsAccepted, IsElementary};
+ghost use Rattle.plan_model.specs.Faults.{FaultValue, BoundFault, IsFault, IsFaultless};
 
 /// A chain runs right through the operations of its test, for any contents and any bits at first.
 pub fn law_of_one_test()
@@ -55,8 +55,11 @@ pub fn certificates_are_bounds()
     ensures elementary { (soc : SocValue) (limits : LimitsValue) (n : ℕ) → 1 ≤ limits.wires → IsElementary soc limits n → IsBound soc limits n }
 {}
 
-/// A plan has at most one fault, and none where it is good and its certificate is accepted.
+/// A plan has exactly one fault, or none where it is good and its certificate is accepted. A good plan has no fault but that
+/// of its certificate.
 pub fn faults_are_exact()
     ensures one { (soc : SocValue) (limits : LimitsValue) (plan : PlanValue) (f g : FaultValue) → IsFault soc limits plan f → IsFault soc limits plan g → f ≡ g }
     ensures none { (soc : SocValue) (limits : LimitsValue) (plan : PlanValue) (f : FaultValue) → IsFault soc limits plan f → IsFaultless soc limits plan → ⊥ }
+    ensures some { (soc : SocValue) (limits : LimitsValue) (plan : PlanValue) → IsFaultless soc limits plan ⊎ ((f : FaultValue) × IsFault soc limits plan f) }
+    ensures of_bound { (soc : SocValue) (limits : LimitsValue) (plan : PlanValue) (f : FaultValue) → IsGood soc limits plan → IsFault soc limits plan f → (fault : CertificateFault) × (f ≡ BoundFault fault) }
 {}
