@@ -29,5 +29,6 @@ pub mod FaultsAreShown
 pub mod GoodWithoutLimits
 pub mod SoundChips
 pub mod ShortTests
+pub mod ByDivision
 pub mod CellsOnce
 pub mod GoodPlansRunRight
