@@ -10,12 +10,13 @@ use Rattle.plan_model.specs.Cells.{Cell}
 use Rattle.plan_model.specs.Plans.{PlannedTest}
 use Rattle.plan_model.specs.Runs.{Content, chain_at, next_bits}
 use Rattle.bit_machine.specs.Chips.{chain_holds, holds}
-use Rattle.bit_machine.specs.Paths.{path_bits, path_stimulus, path_response, answer_by, turn_value, moment_operation, moment_behind, IsPath, IsMoment}
+use Rattle.bit_machine.specs.Paths.{path_bits, path_stimulus, path_response, answer_by, IsPath}
+use Rattle.plan_model.specs.Moments.{turn_value, moment_operation, moment_behind, IsMoment}
 use Rattle.bit_machine.specs.Lanes.{lane_bits, IsSound, IsWired, IsLane, IsAnswer}
 use Rattle.bit_machine.specs.declared.path.Path.{Path}
 use Rattle.bit_machine.specs.declared.lane.Lane.{Lane}
-use Rattle.bit_machine.specs.declared.moments.Moment.{Moment}
-use Rattle.bit_machine.specs.declared.moments.Turn.{Turn}
+use Rattle.plan_model.specs.declared.moments.Moment.{Moment}
+use Rattle.plan_model.specs.declared.moments.Turn.{Turn}
 
 -- ---- an item of a list
 

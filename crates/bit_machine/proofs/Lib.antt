@@ -6,7 +6,6 @@ pub mod Steps
 pub mod LayoutsMade
 pub mod SessionSteps
 pub mod MadeBits
-pub mod ByDivision
 pub mod Rings
 pub mod PathBits
 pub mod LaneSteps

@@ -16,11 +16,10 @@ use Rattle.plan_model.specs.Cells.{Cell, IsProper, in_length, out_length, chain_
 use Rattle.plan_model.specs.Operations.{SelfTest, ops_of}
 use Rattle.plan_model.specs.Plans.{WrapperValue, PlanValue, LimitsValue, PlannedTest, planned, planned_test, chains_of, operations_of, greatest}
 use Rattle.plan_model.specs.Runs.{Content, chain_at, first_state}
-use Rattle.plan_model.specs.Rules.{IsGood, IsGoodAlone, Proper, bare_limits}
+use Rattle.plan_model.specs.Rules.{IsGood, IsGoodAlone, Wrappers, Proper, bare_limits}
 use Rattle.plan_model.specs.Views.{bus_value, wrapper_value, chain_value}
-use Rattle.plan_model.proofs.ChainLengths.{lengths_within, time_within}
 use Rattle.plan_model.proofs.Lists.{from_map, from_filter}
-use Rattle.plan_model.proofs.OperationCounts.{ops_length}
+use Rattle.plan_model.proofs.ShortTests.{short_test, planned_operations}
 use Rattle.plan_model.proofs.PlannedTests.{IsLive, live_at, Wrapped, wrapped}
 use Rattle.plan_model.specs.declared.Bus.{Bus}
 use Rattle.bit_machine.specs.Chips.{made_content, wires_of, at_first}
@@ -37,43 +36,7 @@ use Rattle.bit_machine.proofs.WholeChip.{chip_view}
 use Rattle.bit_machine.proofs.PlacedLanes.{widths_are}
 use Rattle.bit_machine.specs.Machines.{FitLanes}
 
--- ---- no live test takes more cycles than its part of the work
-
-tam_short : (m : ModuleValue) (t : Test) (w : Wrapper) → 1 ≤ t.patterns → t.tam ≡ true → w.scan ≡ t.scan → IsProper m w.scan (map chain_value w.chains.items) → length (operations_of m t (chain_cells m t.scan (map chain_value w.chains.items))) ≤ test_work m t
-tam_short m t w live tam mode proper =
-    let proper' = rw mode at proper in
-    let fits = lengths_within m t.scan w.chains.items proper' in
-    let si : ℕ = greatest (map in_length (chain_cells m t.scan (map chain_value w.chains.items))) in
-    let so : ℕ = greatest (map out_length (chain_cells m t.scan (map chain_value w.chains.items))) in
-    let size : ℕ = 1 + (m.inputs + m.bidirs) + (m.outputs + m.bidirs) + 2 * sum m.chains in
-    let long : length (ops_of m.setup si so t.patterns) ≡ m.setup + (1 + max si so) * t.patterns + min si so = ops_length m.setup si so t.patterns live in
-    let short : m.setup + (1 + max si so) * t.patterns + min si so ≤ t.patterns * size + m.setup = time_within m.setup si so t.patterns size (t.patterns * size + m.setup) live (omega (arith, fits.0, fits.1)) (omega arith) in
-    rw tam (omega (arith, long, short))
-
-self_short : (m : ModuleValue) (t : Test) (chains : List (List Cell)) → t.tam ≡ false → length (operations_of m t chains) ≤ test_work m t
-self_short m t chains self = rw self (omega (arith, length-replicate t.patterns SelfTest))
-
-short_test : (soc : SocValue) (limits : LimitsValue) (plan : PlanValue) (ws : List Wrapper) → plan.wrappers ≡ map wrapper_value ws → IsGood soc limits plan → (i : ℕ) (l : LiveTest) → slice_get (live_tests soc) i ≡ Some l → length (operations_of l.core l.test (chains_of plan l.core l.test)) ≤ test_work l.core l.test
-short_test soc limits plan ws are good i l at = go (cases_Bool l.test.tam) where
-  o : IsLive soc.modules 0 l
-  o = live_at soc.modules 0 i l at
-
-  some : 1 ≤ l.test.patterns
-  some = let f = from_filter is_live l.core.tests o.n l.test o.test_at in live_patterns l.test f.2
-
-  go : (l.test.tam ≡ true) ⊎ (l.test.tam ≡ false) → length (operations_of l.core l.test (chains_of plan l.core l.test)) ≤ test_work l.core l.test
-  go (inr self) = self_short l.core l.test (chains_of plan l.core l.test) self
-  go (inl tam) =
-      let w : Wrapped plan l.core l.test = wrapped soc limits plan good o.up o.n l.core l.test o.module_at o.test_at tam in
-      let from = from_map wrapper_value ws w.n w.w (subst (λ (v : List WrapperValue). slice_get v w.n ≡ Some w.w) are w.at) in
-      let cells : IsProper l.core (w.w).scan (w.w).chains = good Proper w.n w.w w.at o.up l.core o.module_at (sym w.module_is) in
-      let short = tam_short l.core l.test from.0 some tam (ap (λ (v : WrapperValue). v.scan) from.2 ∙ w.scan_is) (subst (λ (v : WrapperValue). IsProper l.core v.scan v.chains) (sym from.2) cells) in
-      let chains = w.chains_are ∙ ap (λ (v : WrapperValue). chain_cells l.core l.test.scan v.chains) (sym from.2) in
-      subst (λ (v : List (List Cell)). length (operations_of l.core l.test v) ≤ test_work l.core l.test) (sym chains) short
-
-planned_operations : (plan : PlanValue) (l : LiveTest) → (planned_test plan l.place l.core l.test).operations ≡ operations_of l.core l.test (chains_of plan l.core l.test)
-unfolding planned_test
-planned_operations plan l = refl
+-- ---- the operations of all tests together are within the work
 
 room_of : (plan : PlanValue) (ls : List LiveTest) → ((i : ℕ) (l : LiveTest) → slice_get ls i ≡ Some l → length (operations_of l.core l.test (chains_of plan l.core l.test)) ≤ test_work l.core l.test) →
     to_come (map (λ (l : LiveTest). planned_test plan l.place l.core l.test) ls) 0 ≤ sum_by (λ (l : LiveTest). test_work l.core l.test) ls
@@ -86,10 +49,10 @@ room_of plan (l ∷ ls) short =
     let b = sum_by-cons (λ (l : LiveTest). test_work l.core l.test) l ls in
     omega (arith, rest, here, same, a, b)
 
-room_at_first : (soc : SocValue) (limits : LimitsValue) (plan : PlanValue) (ws : List Wrapper) → plan.wrappers ≡ map wrapper_value ws → IsSoundChip soc → IsGood soc limits plan → to_come (planned soc plan) 0 ≤ 10 ^ 18
+room_at_first : (soc : SocValue) (limits : LimitsValue) (plan : PlanValue) → IsSoundChip soc → IsGood soc limits plan → to_come (planned soc plan) 0 ≤ 10 ^ 18
 unfolding planned
-room_at_first soc limits plan ws are sound good =
-    let part = room_of plan (live_tests soc) (short_test soc limits plan ws are good) in
+room_at_first soc limits plan sound good =
+    let part = room_of plan (live_tests soc) (λ i l at. short_test soc plan i l (good Wrappers).1 (good Proper) at) in
     let all : work soc ≤ 10 ^ 18 = work-le soc sound.size in
     omega arith
 
@@ -102,15 +65,15 @@ pub new_fit : (soc : SocValue) (plan : PlanValue) (seed n : ℕ) (lanes : List L
 new_fit soc plan seed n lanes good wide are =
     lanes_fit (made_content soc seed) (planned soc plan) lanes n (new_lanes (made_content soc seed) (planned soc plan) lanes are) (subst (AreOnWires (planned soc plan)) (sym wide) (good_wires soc (bare_limits plan) plan good (made_content soc seed)))
 
-pub new_chip : (soc : SocValue) (plan : PlanValue) (seed n : ℕ) (ws : List Wrapper) (lanes : List Lane) (m : Machine) → plan.wrappers ≡ map wrapper_value ws → IsSoundChip soc → IsGoodAlone soc plan → n ≡ wires_of plan → AreNewLanes (made_content soc seed) (planned soc plan) lanes →
+pub new_chip : (soc : SocValue) (plan : PlanValue) (seed n : ℕ) (lanes : List Lane) (m : Machine) → IsSoundChip soc → IsGoodAlone soc plan → n ≡ wires_of plan → AreNewLanes (made_content soc seed) (planned soc plan) lanes →
     m.cycle ≡ 0 → length m.users.items ≡ n → ((content : Content) (tests : List PlannedTest) → AreLanes content tests lanes → AreOnWires tests n → IsMachine content tests m) → IsChip soc plan seed m 0 0
-new_chip soc plan seed n ws lanes m wrappers sound good wide are start users machine = record {
+new_chip soc plan seed n lanes m sound good wide are start users machine = record {
   sound = sound;
   good = good;
   machine = machine (made_content soc seed) (planned soc plan) (new_lanes (made_content soc seed) (planned soc plan) lanes are) (subst (AreOnWires (planned soc plan)) (sym wide) (good_wires soc (bare_limits plan) plan good (made_content soc seed)));
   wires = users ∙ wide;
   few = omega arith;
-  room = let first = room_at_first soc (bare_limits plan) plan ws wrappers sound good in rw start (omega (arith, first));
+  room = let first = room_at_first soc (bare_limits plan) plan sound good in rw start (omega (arith, first));
 }
 
 some_lane : (ls : List Lane) (i : ℕ) → i < length ls → (l : Lane) × (slice_get ls i ≡ Some l)

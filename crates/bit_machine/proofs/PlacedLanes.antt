@@ -29,7 +29,8 @@ use Rattle.plan_model.proofs.Greatest.{le-greatest, le-greatest_at}
 use Rattle.plan_model.proofs.Lists.{from_filter, in_append_left, in_append_right}
 use Rattle.plan_model.proofs.PlannedTests.{IsLive, live_at, of_first_is, Wrapped, wrapped}
 use Rattle.bit_machine.specs.Chips.{made_content, made_stimulus, made_response, of_live}
-use Rattle.bit_machine.specs.Paths.{ArePhases, path_stimulus, path_response, phase_ops}
+use Rattle.bit_machine.specs.Paths.{path_stimulus, path_response}
+use Rattle.plan_model.specs.Moments.{ArePhases, phase_ops}
 use Rattle.bit_machine.specs.Lanes.{IsWired, IsNewLane}
 use Rattle.bit_machine.specs.Building.{IsNewPath, AreNewPaths}
 use Rattle.bit_machine.specs.Placed.{IsSelfLane, IsWiredLane}

@@ -16,7 +16,8 @@ use Rattle.plan_model.proofs.LawOfOneTest.{reverse_is}
 use Rattle.plan_model.proofs.LoadsAndReads.{begun_at, at_start_plus, chain_is}
 use Rattle.plan_model.proofs.TestsInGoodPlans.{Uses, uses_is}
 use Rattle.bit_machine.specs.Chips.{IsCompared, expected}
-use Rattle.bit_machine.specs.Paths.{phase_ops, moment_behind, answer_by}
+use Rattle.bit_machine.specs.Paths.{answer_by}
+use Rattle.plan_model.specs.Moments.{phase_ops, moment_behind}
 use Rattle.bit_machine.specs.Lanes.{lane_bits, IsBusy, IsWired, IsLane, IsAnswer}
 use Rattle.bit_machine.specs.Machines.{lanes_state, IsMachine, IsSomeMachine, IsUser, HasWire, HasNoUser}
 use Rattle.bit_machine.specs.declared.lane.Lane.{Lane}

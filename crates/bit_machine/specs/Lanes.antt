@@ -6,9 +6,10 @@ use Rattle.plan_model.specs.Plans.{PlannedTest, end_of}
 use Rattle.plan_model.specs.Runs.{Content, chain_at}
 use Rattle.bit_machine.specs.declared.path.Path.{Path}
 use Rattle.bit_machine.specs.declared.lane.Lane.{Lane}
-use Rattle.bit_machine.specs.declared.moments.Moment.{Moment}
+use Rattle.plan_model.specs.declared.moments.Moment.{Moment}
 use Rattle.bit_machine.specs.Chips.{holds}
-use Rattle.bit_machine.specs.Paths.{path_bits, path_stimulus, path_response, phase_ops, moment_behind, answer_by, ArePhases, IsRing, IsPath, IsMoment}
+use Rattle.bit_machine.specs.Paths.{path_bits, path_stimulus, path_response, answer_by, IsRing, IsPath}
+use Rattle.plan_model.specs.Moments.{phase_ops, moment_behind, ArePhases, IsMoment}
 
 -- the bits of the chains
 abbrev pub lane_bits : Lane → List (List Bool)

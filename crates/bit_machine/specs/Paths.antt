@@ -1,4 +1,4 @@
--- How the machine of a whole chip keeps what it steps: made bits, the operations of a test by division, chains as rings.
+-- How the machine of a whole chip keeps what it steps: made bits, and chains as rings.
 use Rattle.std.specs.Prelude.{◌≡◌, ℕ, ◌+◌, ◌*◌, ◌%◌, ◌^◌, ◌<◌, ◌≤◌, ◌⊎◌, Bool, true, false, max, Option, Some, None, List, ◌++◌, length, take, drop, get_or, slice_get, slice_index, nat_lt, option_map, if◌then◌else◌}
 use Rattle.plan_model.specs.Cells.{Cell, In, is_loaded, is_read, in_length, out_length}
 use Rattle.plan_model.specs.Operations.{Operation, Setup, Shift, Capture, ops_of}
@@ -6,60 +6,12 @@ use Rattle.plan_model.specs.Runs.{wanted}
 use Rattle.plan_model.specs.OneTest.{from_end}
 use Rattle.bit_machine.specs.Sessions.{response_place}
 use Rattle.bit_machine.specs.Chips.{has_odd_square, stimulus_place}
-use Rattle.bit_machine.specs.declared.moments.Turn.{Turn}
-use Rattle.bit_machine.specs.declared.moments.Moment.{Moment}
-use Rattle.bit_machine.specs.declared.moments.Moment.TheVariants as moment
-use Rattle.bit_machine.specs.declared.moments.Phases.{Phases}
 use Rattle.bit_machine.specs.declared.ring.Ring.{Ring}
 use Rattle.bit_machine.specs.declared.path.Path.{Path}
 
 -- a made bit, where `base` stands for the seed and the places of the module and of the test
 unfoldable pub made_from : (base k n s : ℕ) → Bool
 made_from base k n s = has_odd_square ((base + 101 * k + 7 * n + 3 * (n * k) + s) % 997)
-
--- ---- what a test does at a cycle
-
--- the operations of a test with these phases
-abbrev pub phase_ops : Phases → List Operation
-phase_ops p = ops_of p.setup p.si p.so p.patterns
-
--- the capture that is some Shifts away
-abbrev pub turn_value : Turn → ℕ × ℕ
-turn_value t = (t.shifts, t.pattern)
-
-abbrev pub moment_operation : Moment → Operation
-moment_operation moment.Setup = Setup
-moment_operation (moment.Shift a b) = Shift
-moment_operation (moment.Capture k) = Capture k
-
--- the next capture, where it lies ahead of Shifts alone, and the one before
-abbrev pub moment_ahead : Moment → Option (ℕ × ℕ)
-moment_ahead moment.Setup = None
-moment_ahead (moment.Shift a b) = option_map turn_value a
-moment_ahead (moment.Capture k) = None
-
-abbrev pub moment_behind : Moment → Option (ℕ × ℕ)
-moment_behind moment.Setup = None
-moment_behind (moment.Shift a b) = option_map turn_value b
-moment_behind (moment.Capture k) = None
-
--- the bit that a chain wants so many Shifts before a capture
-abbrev pub wanted_by : (stimulus : ℕ → Cell → Bool) → List Cell → Option (ℕ × ℕ) → Bool
-wanted_by stimulus cells None = false
-wanted_by stimulus cells (Some a) = if nat_lt a.0 (in_length cells) then stimulus a.1 (get_or cells a.0 (In 0)) else false
-
--- The moment is operation `n`: it wants what lies ahead, and behind it is the capture that is read, if there is one.
-pub record IsMoment (p : Phases) (n : ℕ) (m : Moment) : Type 0 where
-  pub operation : slice_get (phase_ops p) n ≡ Some (moment_operation m)
-  pub wants : (stimulus : ℕ → Cell → Bool) (cells : List Cell) → wanted stimulus cells (drop n (phase_ops p)) ≡ wanted_by stimulus cells (moment_ahead m)
-  pub behind : (s k : ℕ) → moment_behind m ≡ Some (s, k) → (q : ℕ) × (slice_get (phase_ops p) q ≡ Some (Capture k)) × (n ≡ q + 1 + s)
-  pub every : (s k q : ℕ) → slice_get (phase_ops p) q ≡ Some (Capture k) → n ≡ q + 1 + s → s < p.so → moment_behind m ≡ Some (s, k)
-
--- phases whose lengths fit in a machine's numbers
-pub record ArePhases (p : Phases) : Type 0 where
-  pub some : 1 ≤ p.patterns
-  pub few : p.patterns ≤ 10 ^ 18
-  pub fit : p.setup + (1 + max p.si p.so) + (p.si + p.so) ≤ 10 ^ 19
 
 -- ---- chains
 

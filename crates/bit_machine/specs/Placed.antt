@@ -10,7 +10,7 @@ use Rattle.plan_model.specs.Cells.{scan_lengths, chain_cells}
 use Rattle.plan_model.specs.Plans.{PlanValue, PlannedTest, planned_test, widths, bus_place, si_of, so_of, chains_of, operations_of}
 use Rattle.bit_machine.specs.declared.lane.Lane.{Lane}
 use Rattle.bit_machine.specs.Building.{AreNewPaths}
-use Rattle.bit_machine.specs.Paths.{ArePhases}
+use Rattle.plan_model.specs.Moments.{ArePhases}
 
 -- the lane of a self test
 pub record IsSelfLane (test : Test) (start : ℕ) (l : Lane) : Type 0 where

@@ -3,11 +3,11 @@ ghost use Rattle.std.specs.Prelude.{◌≡◌, ℕ, ◌-◌, ◌<◌, ◌≤◌,
 ghost use Rattle.plan_model.specs.Plans.{PlannedTest};
 ghost use Rattle.plan_model.specs.Runs.{Content, wanted, next_bits, last_bit, chain_at};
 ghost use Rattle.bit_machine.specs.Chips.{holds};
-ghost use Rattle.bit_machine.specs.Paths.{IsMoment};
+ghost use Rattle.plan_model.specs.Moments.{IsMoment};
 ghost use Rattle.bit_machine.specs.Lanes.{lane_on, lane_bits, capture_answer, IsReady, IsBusy, IsLane, IsAnswer};
 
-use crate::moments::{Moment, Phases};
 use crate::path::Path;
+use plan_model::{Moment, Phases};
 
 /// A live test as its plan places it, with the bits of its chains. A self test has none.
 #[derive(Drop)]

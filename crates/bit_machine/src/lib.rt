@@ -13,7 +13,6 @@ mod laws;
 mod layout;
 mod machine;
 mod made;
-mod moments;
 mod path;
 mod placing;
 mod ring;

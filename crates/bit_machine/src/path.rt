@@ -3,11 +3,12 @@ ghost use Rattle.std.specs.Prelude.{◌≡◌, ℕ, ◌<◌, ◌≤◌, Some, Li
 ghost use Rattle.plan_model.specs.Cells.{Cell};
 ghost use Rattle.plan_model.specs.Runs.{captured, next_bits, last_bit};
 ghost use Rattle.bit_machine.specs.Chips.{chain_holds};
-ghost use Rattle.bit_machine.specs.Paths.{turn_value, moment_operation, path_stimulus, path_response, wanted_by, answer_by, path_bits, IsRing, IsPath};
+ghost use Rattle.bit_machine.specs.Paths.{path_stimulus, path_response, answer_by, path_bits, IsRing, IsPath};
+ghost use Rattle.plan_model.specs.Moments.{turn_value, moment_operation, wanted_by};
 
 use crate::made::made;
-use crate::moments::{Moment, Turn};
 use crate::ring::Ring;
+use plan_model::{Moment, Turn};
 
 /// The bits of a chain, and for each cell that is loaded and each that is read the number of its bit in a stimulus and in
 /// a response, both from wire in on.

@@ -20,9 +20,8 @@ use crate::building::paths_of;
 use crate::lane::Lane;
 use crate::layout::Layout;
 use crate::made::base_of;
-use crate::moments::Phases;
 use outside::{NoMemory, push};
-use plan_model::{Bus, Plan, Wrapper, bus_of, lengths, tam_duration, wrapper_of};
+use plan_model::{Bus, Phases, Plan, Wrapper, bus_of, lengths, tam_duration, wrapper_of};
 use soc_model::{Module, Soc, Test, TestId, live, module_at};
 use std::alloc::Global;
 

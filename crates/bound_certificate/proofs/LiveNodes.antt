@@ -18,6 +18,7 @@ use Rattle.plan_model.specs.Certificates.{is_called, lower_of_id}
 use Rattle.plan_model.proofs.Lists.{from_map, from_filter}
 use Rattle.plan_model.proofs.PlannedTests.{IsLive, live_at, of_first_is}
 use Rattle.plan_model.proofs.CertificatesAreBounds.{same_test_is, is_same_test}
+use Rattle.plan_model.proofs.ShortTests.{live_patterns}
 use Rattle.bound_rules.specs.Sizes.{sizes_of, least_chain, IsFitting}
 use Rattle.bound_rules.proofs.Works.{time_by-le, tam_time_is, self_time_is}
 use Rattle.bound_rules.proofs.Modules.{fitting_sizes, time_by_sizes, work_by_sizes, module_size-le_work}
@@ -27,16 +28,6 @@ use Rattle.bound_certificate.proofs.LiveIds.{ids_differ}
 use Rattle.bound_certificate.proofs.Links.{ids_same}
 
 -- ---- lower times of live tests
-
-pub live_patterns : (l : LiveTest) (soc : SocValue) (i : ℕ) → slice_get (live_tests soc) i ≡ Some l → 1 ≤ l.test.patterns
-live_patterns l soc i at =
-    let o : IsLive soc.modules 0 l = live_at soc.modules 0 i l at in
-    let f = from_filter is_live l.core.tests o.n l.test o.test_at in
-    some l.test.patterns f.2
-  where
-    some : (p : ℕ) → is_live (record l.test { patterns = p }) ≡ true → 1 ≤ p
-    some zero e = absurd cc
-    some (suc p) e = omega arith
 
 lower_some : (m : ModuleValue) (t : Test) (w : ℕ) → 1 ≤ t.patterns → 1 ≤ lower_time m t w
 lower_some m t w live = elim (cases_Bool t.tam) [
@@ -140,7 +131,7 @@ pub nodes_found : (soc : SocValue) (limits : LimitsValue) (nodes : List NodeValu
 nodes_found soc limits nodes sound some same linked = record {
   ids = ids_same nodes (live_nodes soc limits.wires) same ∙ live_ids_are soc limits.wires;
   times = λ i n at. (let b = behind soc limits.wires nodes same i n at in sym b.time ∙ sym (lower_is soc limits.wires sound i b.l b.at) ∙ ap (lower_of_id soc limits.wires) b.id);
-  some_time = λ i n at. (let b = behind soc limits.wires nodes same i n at in omega (arith, b.time, lower_some b.l.core b.l.test limits.wires (live_patterns b.l soc i b.at)));
-  short = λ i n at. (let b = behind soc limits.wires nodes same i n at in omega (arith, b.time, lower_small b.l.core b.l.test limits.wires some (live_patterns b.l soc i b.at) (live_work-le_live soc sound i b.l b.at)));
+  some_time = λ i n at. (let b = behind soc limits.wires nodes same i n at in omega (arith, b.time, lower_some b.l.core b.l.test limits.wires (live_patterns soc i b.l b.at)));
+  short = λ i n at. (let b = behind soc limits.wires nodes same i n at in omega (arith, b.time, lower_small b.l.core b.l.test limits.wires some (live_patterns soc i b.l b.at) (live_work-le_live soc sound i b.l b.at)));
   linked = linked;
 }

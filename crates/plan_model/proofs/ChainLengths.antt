@@ -50,7 +50,7 @@ flops_value : (lengths : List ℕ) (chains : List ChainPlan) → sum_by (slice_i
 flops_value lengths [] = refl
 flops_value lengths (c ∷ cs) = sum_by-append (slice_index lengths) c.scans.items (all_scans (map chain_value cs)) ∙ ap (λ v. flops_in lengths c + v) (flops_value lengths cs) ∙ sym (sum_by-cons (flops_in lengths) c cs)
 
-mode_flops : (m : ModuleValue) (scan : Bool) → sum (scan_lengths m scan) ≤ sum m.chains
+pub mode_flops : (m : ModuleValue) (scan : Bool) → sum (scan_lengths m scan) ≤ sum m.chains
 mode_flops m true = omega arith
 mode_flops m false = omega arith
 

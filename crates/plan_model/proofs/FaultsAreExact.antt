@@ -48,7 +48,7 @@ KeepsRuleOf soc limits plan (PowerFault c sum) = Keeps soc limits plan Power
 KeepsRuleOf soc limits plan (CyclesFault right) = Keeps soc limits plan Cycles
 KeepsRuleOf soc limits plan (BoundFault fault) = IsAccepted soc limits plan.bound
 
-shows_breaks : (soc : SocValue) (limits : LimitsValue) (plan : PlanValue) (f : FaultValue) → Shows soc limits plan f → KeepsRuleOf soc limits plan f → ⊥
+pub shows_breaks : (soc : SocValue) (limits : LimitsValue) (plan : PlanValue) (f : FaultValue) → Shows soc limits plan f → KeepsRuleOf soc limits plan f → ⊥
 shows_breaks soc limits plan (WidthFault bus) s k = s.1.breaks (k bus s.0 s.1.there)
 shows_breaks soc limits plan (UnknownModuleFault m) s k = s.1.breaks (k s.0 m s.1.there)
 shows_breaks soc limits plan (ModulePlaceFault m) s k = first_of_breaks _ _ _ _ _ _ m s k.0 k.1

@@ -24,7 +24,11 @@ pub mod ScanMarks
 pub mod ProperByCounts
 pub mod ChainLengths
 pub mod CertificatesAreBounds
+pub mod Deciding
+pub mod FaultsAreShown
 pub mod GoodWithoutLimits
 pub mod SoundChips
+pub mod ShortTests
+pub mod ByDivision
 pub mod CellsOnce
 pub mod GoodPlansRunRight

@@ -13,7 +13,7 @@ use Rattle.plan_model.specs.Cells.{Cell, is_loaded, is_read, ChainValue, in_cell
 use Rattle.plan_model.specs.Listing.{times, listed_times}
 use Rattle.plan_model.proofs.LowerTimes.{Counts, count_cells, if_so, loaded_counts, read_counts}
 use Rattle.plan_model.proofs.Sums.{item-le-sum_by}
-use Rattle.plan_model.proofs.ProperFromCounts.{all_ins, all_outs, all_scans, proper_from_counts, dealt_cells}
+use Rattle.plan_model.proofs.ProperFromCounts.{all_ins, all_outs, all_scans, ListsOnce, proper_from_counts, dealt_cells}
 
 -- ---- from the code's lists to the values
 
@@ -90,21 +90,35 @@ ends_are p a b k m scan cs proper =
     let flop = sum_by-IsPermutation (slice_index (scan_lengths m scan)) (range_with_len 0 (length (scan_lengths m scan))) (all_scans cs) proper.scans in
     omega (arith, one, two, same, dealt, flop)
 
-pub proper_is_counted : (m : ModuleValue) (scan : Bool) (chains : List ChainPlan) → IsProper m scan (map chain_value chains) → IsCounted m scan chains
-proper_is_counted m scan chains proper = record {
-  ins = omega (arith, ins_value chains, ends_are is_loaded true false loaded_counts m scan (map chain_value chains) proper);
-  outs = omega (arith, outs_value chains, ends_are is_read false true read_counts m scan (map chain_value chains) proper);
-  below = sym (below_value (length (scan_lengths m scan)) chains) ∙ within_all (length (scan_lengths m scan)) (all_scans (map chain_value chains)) (λ i x at. within i x at);
-  once = λ c less. sym (times_value c chains) ∙ sum_by-IsPermutation (λ x. cond (eqb x c) 1 0) (range_with_len 0 (length (scan_lengths m scan))) (all_scans (map chain_value chains)) proper.scans ∙ times_range 0 (length (scan_lengths m scan)) c (omega arith) (omega arith);
+-- the counts of the chains of a proper wrapper
+pub proper_ins : (m : ModuleValue) (scan : Bool) (cs : List ChainValue) → IsProper m scan cs → all_ins cs ≡ m.inputs + m.bidirs
+proper_ins m scan cs proper = omega (arith, ends_are is_loaded true false loaded_counts m scan cs proper)
+
+pub proper_outs : (m : ModuleValue) (scan : Bool) (cs : List ChainValue) → IsProper m scan cs → all_outs cs ≡ m.outputs + m.bidirs
+proper_outs m scan cs proper = omega (arith, ends_are is_read false true read_counts m scan cs proper)
+
+pub proper_lists : (m : ModuleValue) (scan : Bool) (cs : List ChainValue) → IsProper m scan cs → ListsOnce (length (scan_lengths m scan)) (all_scans cs)
+proper_lists m scan cs proper = record {
+  once = λ c less. same c ∙ times_range 0 (length (scan_lengths m scan)) c (omega arith) (omega arith);
+  within = λ i x at. elim (cases_lt x (length (scan_lengths m scan))) [
+    | inl less ↦ less
+    | inr past ↦
+        let here : cond {A = ℕ} (eqb x x) 1 0 ≡ 1 = rw (eq-eqb x x refl) refl in
+        let seen : cond {A = ℕ} (eqb x x) 1 0 ≤ times x (all_scans cs) = item-le-sum_by (λ y. cond (eqb y x) 1 0) (all_scans cs) i x at in
+        let none : times x (range_with_len 0 (length (scan_lengths m scan))) ≡ 0 = times_past 0 (length (scan_lengths m scan)) x (omega arith) in
+        absurd (omega (arith, here, seen, none, same x))
+  ];
 }
   where
-    within : (i x : ℕ) → slice_get (all_scans (map chain_value chains)) i ≡ Some x → x < length (scan_lengths m scan)
-    within i x at = elim (cases_lt x (length (scan_lengths m scan))) [
-      | inl less ↦ less
-      | inr past ↦
-          let here : cond {A = ℕ} (eqb x x) 1 0 ≡ 1 = rw (eq-eqb x x refl) refl in
-          let seen : cond {A = ℕ} (eqb x x) 1 0 ≤ times x (all_scans (map chain_value chains)) = item-le-sum_by (λ y. cond (eqb y x) 1 0) (all_scans (map chain_value chains)) i x at in
-          let same : times x (all_scans (map chain_value chains)) ≡ times x (range_with_len 0 (length (scan_lengths m scan))) = sum_by-IsPermutation (λ y. cond (eqb y x) 1 0) (range_with_len 0 (length (scan_lengths m scan))) (all_scans (map chain_value chains)) proper.scans in
-          let none : times x (range_with_len 0 (length (scan_lengths m scan))) ≡ 0 = times_past 0 (length (scan_lengths m scan)) x (omega arith) in
-          absurd (omega arith)
-    ]
+    same : (c : ℕ) → times c (all_scans cs) ≡ times c (range_with_len 0 (length (scan_lengths m scan)))
+    same c = sum_by-IsPermutation (λ y. cond (eqb y c) 1 0) (range_with_len 0 (length (scan_lengths m scan))) (all_scans cs) proper.scans
+
+pub proper_is_counted : (m : ModuleValue) (scan : Bool) (chains : List ChainPlan) → IsProper m scan (map chain_value chains) → IsCounted m scan chains
+proper_is_counted m scan chains proper =
+    let lists : ListsOnce (length (scan_lengths m scan)) (all_scans (map chain_value chains)) = proper_lists m scan (map chain_value chains) proper in
+    record {
+      ins = sym (ins_value chains) ∙ proper_ins m scan (map chain_value chains) proper;
+      outs = sym (outs_value chains) ∙ proper_outs m scan (map chain_value chains) proper;
+      below = sym (below_value (length (scan_lengths m scan)) chains) ∙ within_all (length (scan_lengths m scan)) (all_scans (map chain_value chains)) lists.within;
+      once = λ c less. sym (times_value c chains) ∙ lists.once c less;
+    }

@@ -4,6 +4,7 @@ pub mod Plans
 pub mod Views
 pub mod Runs
 pub mod OneTest
+pub mod Moments
 pub mod Right
 pub mod Rules
 pub mod Bounds

@@ -3,14 +3,16 @@
 #![tactic(auto)]
 
 mod laws;
+mod moments;
 mod places;
 mod times;
 mod wrapping;
 
 pub use laws::{
     certificates_are_bounds, faults_are_exact, good_plans_run_right, good_without_limits,
-    law_of_one_test, lower_times_are_least,
+    law_of_one_test, lower_times_are_least, tests_are_short,
 };
+pub use moments::{Moment, Phases, Turn};
 pub use places::{bus_of, lists_module, wrapper_of};
 use soc_model::TestId;
 pub use times::closed_time;

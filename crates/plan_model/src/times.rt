@@ -9,6 +9,7 @@ pub fn closed_time(setup: u64, si: u64, so: u64, p: u64) -> u64
     requires patterns { 1 ≤ p }
     requires bounded { setup + (1 + max si so) * p + min si so ≤ 10 ^ 18 }
     ensures small { result ≤ 10 ^ 18 }
+    ensures formula { result ≡ setup + (1 + max si so) * p + min si so }
     ensures time { result ≡ length (ops_of setup si so p) }
 {
     setup + (1 + si.max(so)) * p + si.min(so)

@@ -22,14 +22,12 @@ use Rattle.plan_model.specs.Plans.{BusValue, WrapperValue, PlanValue, ProfileVal
 use Rattle.plan_model.specs.Rules.{Each, HasWrapper, HasProperCells, used_pairs, live_ids}
 use Rattle.plan_model.specs.SoundLimits.{Grow, IsSoundProfile, IsSoundLimits}
 use Rattle.plan_model.specs.Views.{wrapper_value, chain_value}
-use Rattle.plan_model.proofs.ChainLengths.{lengths_within, time_within}
 use Rattle.plan_model.proofs.GoodPlansRunRight.{planned_some}
 use Rattle.plan_model.proofs.Lists.{from_map, from_filter, in_flat_map, at_contains}
-use Rattle.plan_model.proofs.OperationCounts.{ops_length}
-use Rattle.plan_model.proofs.PlannedTests.{IsLive, live_at, Wrapped, wrapped_by}
+use Rattle.plan_model.proofs.PlannedTests.{IsLive, live_at}
+use Rattle.plan_model.proofs.ShortTests.{live_patterns, short_test}
 use Rattle.resource_table.specs.Jobs.{TestValue, IsSoundTest, IsSoundJob}
 use Rattle.resource_table.proofs.Steps.{step_late}
-use Rattle.bound_certificate.proofs.LiveNodes.{live_patterns}
 use Rattle.planner.specs.Jobs.{settled_parts, steps_of, test_of, job_of}
 use Rattle.planner.proofs.JobPrecedences.{no_id, places_in_range, acyclic_job}
 
@@ -38,35 +36,6 @@ use Rattle.planner.proofs.JobPrecedences.{no_id, places_in_range, acyclic_job}
 some_cycle : (plan : PlanValue) (l : LiveTest) → 1 ≤ l.test.patterns → 1 ≤ length (operations_of l.core l.test (chains_of plan l.core l.test))
 unfolding planned_test
 some_cycle plan l live = planned_some plan l.place l.core l.test live
-
-tam_short : (m : ModuleValue) (t : Test) (w : Wrapper) → 1 ≤ t.patterns → t.tam ≡ true → w.scan ≡ t.scan → IsProper m w.scan (map chain_value w.chains.items) → length (operations_of m t (chain_cells m t.scan (map chain_value w.chains.items))) ≤ test_work m t
-tam_short m t w live tam mode proper =
-    let proper' = rw mode at proper in
-    let fits = lengths_within m t.scan w.chains.items proper' in
-    let si : ℕ = greatest (map in_length (chain_cells m t.scan (map chain_value w.chains.items))) in
-    let so : ℕ = greatest (map out_length (chain_cells m t.scan (map chain_value w.chains.items))) in
-    let size : ℕ = 1 + (m.inputs + m.bidirs) + (m.outputs + m.bidirs) + 2 * sum m.chains in
-    let long : length (ops_of m.setup si so t.patterns) ≡ m.setup + (1 + max si so) * t.patterns + min si so = ops_length m.setup si so t.patterns live in
-    let short : m.setup + (1 + max si so) * t.patterns + min si so ≤ t.patterns * size + m.setup = time_within m.setup si so t.patterns size (t.patterns * size + m.setup) live (omega (arith, fits.0, fits.1)) (omega arith) in
-    rw tam (omega (arith, long, short))
-
-self_short : (m : ModuleValue) (t : Test) (chains : List (List Cell)) → t.tam ≡ false → length (operations_of m t chains) ≤ test_work m t
-self_short m t chains self = rw self (omega (arith, length-replicate t.patterns SelfTest))
-
--- no live test takes more cycles than its part of the work
-short_test : (soc : SocValue) (buses : List BusValue) (ws : List Wrapper) → Each (HasWrapper (settled_parts buses (map wrapper_value ws))) (used_pairs soc) → Each (HasProperCells soc) (map wrapper_value ws) → (i : ℕ) (l : LiveTest) → slice_get (live_tests soc) i ≡ Some l
-    → length (operations_of l.core l.test (chains_of (settled_parts buses (map wrapper_value ws)) l.core l.test)) ≤ test_work l.core l.test
-short_test soc buses ws have proper i l at = elim (cases_Bool l.test.tam) [
-  | inl tam ↦
-      let o : IsLive soc.modules 0 l = live_at soc.modules 0 i l at in
-      let w : Wrapped (settled_parts buses (map wrapper_value ws)) l.core l.test = wrapped_by soc (settled_parts buses (map wrapper_value ws)) have o.up o.n l.core l.test o.module_at o.test_at tam in
-      let from = from_map wrapper_value ws w.n w.w w.at in
-      let cells : IsProper l.core (w.w).scan (w.w).chains = proper w.n w.w w.at o.up l.core o.module_at (sym w.module_is) in
-      let short = tam_short l.core l.test from.0 (live_patterns l soc i at) tam (ap (λ (v : WrapperValue). v.scan) from.2 ∙ w.scan_is) (subst (λ (v : WrapperValue). IsProper l.core v.scan v.chains) (sym from.2) cells) in
-      let chains = w.chains_are ∙ ap (λ (v : WrapperValue). chain_cells l.core l.test.scan v.chains) (sym from.2) in
-      subst (λ (v : List (List Cell)). length (operations_of l.core l.test v) ≤ test_work l.core l.test) (sym chains) short
-  | inr self ↦ self_short l.core l.test (chains_of (settled_parts buses (map wrapper_value ws)) l.core l.test) self
-]
 
 sum_short : (f : LiveTest → TestValue) (g : LiveTest → ℕ) (ls : List LiveTest) → ((i : ℕ) (l : LiveTest) → slice_get ls i ≡ Some l → (f l).cycles ≤ g l) → sum_by (λ (t : TestValue). t.cycles) (map f ls) ≤ sum_by g ls
 sum_short f g [] h = omega arith
@@ -144,7 +113,7 @@ job_sound soc limits buses ws sound limited have proper =
           let t : TestValue = get_or (map (test_of soc limits plan) (live_tests soc)) k d in
           let from = from_map (test_of soc limits plan) (live_tests soc) k t (slice_get-get_or (map (test_of soc limits plan) (live_tests soc)) k d less) in
           subst (λ (v : TestValue). IsSoundTest limits.power v) from.2 (sound_test k from.0 from.1);
-      short = let part = sum_short (test_of soc limits plan) (λ (l : LiveTest). test_work l.core l.test) (live_tests soc) (λ i l at. short_test soc buses ws have proper i l at) in omega (arith, part, work-le soc sound.size);
+      short = let part = sum_short (test_of soc limits plan) (λ (l : LiveTest). test_work l.core l.test) (live_tests soc) (λ i l at. short_test soc plan i l have proper at) in omega (arith, part, work-le soc sound.size);
       in_range = places_in_range soc limits plan;
       acyclic = ((λ (i : ℕ). limited.acyclic.0 (slice_index_or (live_ids soc) i no_id)), λ i j before. acyclic_job soc limits plan limited.acyclic.0 limited.acyclic.1 i j before);
     }
@@ -153,7 +122,7 @@ job_sound soc limits buses ws sound limited have proper =
     sound_test k l at =
         let are : AreSteps (steps_of limits (id_of l) l.test.power) (λ r. power_of_id limits (id_of l) l.test.power r) = steps_in soc limits.profiles limited.profiles (id_of l) l.test.power (live_power soc sound k l at) in
         record {
-          lasts = some_cycle (settled_parts buses (map wrapper_value ws)) l (live_patterns l soc k at);
+          lasts = some_cycle (settled_parts buses (map wrapper_value ws)) l (live_patterns soc k l at);
           some_step = are.some_step;
           few_steps = are.few_steps;
           begins = are.begins;

@@ -15,4 +15,4 @@ pub returns-in-Err-clause-follows : goal.returns-in-Err-clause-follows
 returns-in-Err-clause-follows g c = not_all _ _ _ (λ chip bounds value. done_with (chart_text chip value)) _ _ _ _ c.in-Err.ensures.loads
 
 pub print_chart-requires-clause-good : goal.print_chart-requires-clause-good
-print_chart-requires-clause-good g c = c.good_without_limits.ensures (soc_value c.in-Ok.all.soc) (limits_value c.in-Ok.all.limits) (plan_value c.in-Ok.all.plan) c.in-Ok.ensures.accepted.0
+print_chart-requires-clause-good g c = c.good_without_limits.ensures.alone (soc_value c.in-Ok.all.soc) (limits_value c.in-Ok.all.limits) (plan_value c.in-Ok.all.plan) c.in-Ok.ensures.accepted.0

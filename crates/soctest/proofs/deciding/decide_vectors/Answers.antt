@@ -1,5 +1,3 @@
-use Rattle.std.proofs.Common.{arith}
-use Rattle.plan_model.proofs.PowerAndAreaBounds.{widths_fit}
 use Rattle.bit_machine.specs.Chips.{made_content}
 use Rattle.tester_vectors.specs.VectorText.{vector_text}
 use Rattle.soc_model.specs.Chips.{soc_value}
@@ -18,8 +16,7 @@ pub returns-in-Err-clause-follows : goal.returns-in-Err-clause-follows
 returns-in-Err-clause-follows g c = not_all _ _ _ (λ chip bounds value. Unless (run_refusal value) (done_with (vector_text chip value (made_content chip c.args.seed)))) _ _ _ _ c.in-Err.ensures.loads
 
 pub answer_vectors-requires-clause-good : goal.answer_vectors-requires-clause-good
-answer_vectors-requires-clause-good g c = c.good_without_limits.ensures (soc_value c.in-Ok.all.soc) (limits_value c.in-Ok.all.limits) (plan_value c.in-Ok.all.plan) c.in-Ok.ensures.accepted.0
+answer_vectors-requires-clause-good g c = c.good_without_limits.ensures.alone (soc_value c.in-Ok.all.soc) (limits_value c.in-Ok.all.limits) (plan_value c.in-Ok.all.plan) c.in-Ok.ensures.accepted.0
 
 pub answer_vectors-requires-clause-narrow : goal.answer_vectors-requires-clause-narrow
-answer_vectors-requires-clause-narrow g c =
-    omega (arith, widths_fit (soc_value c.in-Ok.all.soc) (limits_value c.in-Ok.all.limits) (plan_value c.in-Ok.all.plan) c.in-Ok.ensures.accepted.0, c.in-Ok.ensures.limits.few_wires)
+answer_vectors-requires-clause-narrow g c = c.good_without_limits.ensures.narrow (soc_value c.in-Ok.all.soc) (limits_value c.in-Ok.all.limits) (plan_value c.in-Ok.all.plan) c.in-Ok.ensures.limits c.in-Ok.ensures.accepted.0

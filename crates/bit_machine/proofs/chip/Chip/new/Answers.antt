@@ -13,12 +13,12 @@ new-machine-requires c = new_fit (soc_value c.args.soc.now) (plan_value c.args.p
 
 pub invariant_of-result : goal.invariant_of-result
 invariant_of-result c =
-    new_chip (soc_value c.args.soc.now) (plan_value c.args.plan.now) c.args.seed (length c.in_ok-users.users.items) c.args.plan.now.wrappers.items c.in_ok-lanes.lanes.items c.new-machine.result refl c.requires.sound c.requires.good (wide_as_plan c.args.plan.now.buses.items c.deref.result.now (plan_value c.args.plan.now) (length c.in_ok-users.users.items) c.in-Some.wires refl c.deref.ensures.value c.in_ok-users.ensures (c.in-Some.ensures)) c.in_ok-lanes.ensures
+    new_chip (soc_value c.args.soc.now) (plan_value c.args.plan.now) c.args.seed (length c.in_ok-users.users.items) c.in_ok-lanes.lanes.items c.new-machine.result c.requires.sound c.requires.good (wide_as_plan c.args.plan.now.buses.items c.deref.result.now (plan_value c.args.plan.now) (length c.in_ok-users.users.items) c.in-Some.wires refl c.deref.ensures.value c.in_ok-users.ensures (c.in-Some.ensures)) c.in_ok-lanes.ensures
     c.new-machine.ensures.cycle c.new-machine.ensures.long c.new-machine.ensures.machine
 
 pub returns : goal.returns
 returns c =
-    let chip = new_chip (soc_value c.args.soc.now) (plan_value c.args.plan.now) c.args.seed (length c.in_ok-users.users.items) c.args.plan.now.wrappers.items c.in_ok-lanes.lanes.items c.new-machine.result refl c.requires.sound c.requires.good (wide_as_plan c.args.plan.now.buses.items c.deref.result.now (plan_value c.args.plan.now) (length c.in_ok-users.users.items) c.in-Some.wires refl c.deref.ensures.value c.in_ok-users.ensures (c.in-Some.ensures)) c.in_ok-lanes.ensures
+    let chip = new_chip (soc_value c.args.soc.now) (plan_value c.args.plan.now) c.args.seed (length c.in_ok-users.users.items) c.in_ok-lanes.lanes.items c.new-machine.result c.requires.sound c.requires.good (wide_as_plan c.args.plan.now.buses.items c.deref.result.now (plan_value c.args.plan.now) (length c.in_ok-users.users.items) c.in-Some.wires refl c.deref.ensures.value c.in_ok-users.ensures (c.in-Some.ensures)) c.in_ok-lanes.ensures
     c.new-machine.ensures.cycle c.new-machine.ensures.long c.new-machine.ensures.machine in
     first_value (soc_value c.args.soc.now) (plan_value c.args.plan.now) c.args.seed c.new-machine.result c.new-machine.ensures.cycle
     (new_state (made_content (soc_value c.args.soc.now) c.args.seed) (planned (soc_value c.args.soc.now) (plan_value c.args.plan.now)) c.in_ok-lanes.lanes.items c.new-machine.result chip.machine (ap (λ (v : Vec Lane). v.items) c.new-machine.ensures.lanes) c.in_ok-lanes.ensures)

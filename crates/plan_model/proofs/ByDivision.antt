@@ -11,10 +11,10 @@ use Rattle.plan_model.specs.Runs.{wanted}
 use Rattle.plan_model.proofs.OperationBlocks.{captures, capture_place, capture_at, capture_found, IsCaptured}
 use Rattle.plan_model.proofs.OperationCounts.{ops_length}
 use Rattle.plan_model.proofs.ChainShifts.{at_head, ahead_is}
-use Rattle.bit_machine.specs.Paths.{IsMoment, phase_ops, wanted_by, turn_value}
-use Rattle.bit_machine.specs.declared.moments.Phases.{Phases}
-use Rattle.bit_machine.specs.declared.moments.Turn.{Turn}
-use Rattle.bit_machine.specs.declared.moments.Moment.TheVariants as moment
+use Rattle.plan_model.specs.Moments.{IsMoment, phase_ops, wanted_by, turn_value}
+use Rattle.plan_model.specs.declared.moments.Phases.{Phases}
+use Rattle.plan_model.specs.declared.moments.Turn.{Turn}
+use Rattle.plan_model.specs.declared.moments.Moment.TheVariants as moment
 
 ops_split : (setup si so p : ℕ) → ops_of setup si so p ≡ replicate setup Setup ++ (replicate si Shift ++ captures (max si so) so p 1 p)
 unfolding ops_of

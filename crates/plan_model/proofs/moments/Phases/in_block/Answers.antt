@@ -1,6 +1,6 @@
 use Rattle.std.proofs.Common.{arith}
-use Rattle.bit_machine.proofs.ByDivision.{capture_at_division, shift_at_division, block_fits}
-use Rattle.bit_machine.proofs.moments.Phases.in_block.Goals as goal
+use Rattle.plan_model.proofs.ByDivision.{capture_at_division, shift_at_division, block_fits}
+use Rattle.plan_model.proofs.moments.Phases.in_block.Goals as goal
 
 pub overflow_add-result : goal.overflow_add-result
 overflow_add-result c =

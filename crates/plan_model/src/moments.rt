@@ -1,6 +1,7 @@
-// What a test does at a cycle, by division.
+// What a test over the wires does at a cycle, by division: its cycles are the setup, the Shifts before the first capture, and
+// then one block after another of a capture and the Shifts after it.
 ghost use Rattle.std.specs.Prelude.{◌≡◌, ◌+◌, ◌^◌, ◌<◌, ◌≤◌, suc, Some, None, cond, length, nat_lt, option_map};
-ghost use Rattle.bit_machine.specs.Paths.{phase_ops, turn_value, moment_ahead, moment_behind, IsMoment, ArePhases};
+ghost use Rattle.plan_model.specs.Moments.{phase_ops, turn_value, moment_ahead, moment_behind, IsMoment, ArePhases};
 
 /// A capture that lies some Shifts ahead, or behind.
 #[derive(Clone, Copy, PartialEq, Eq, Debug)]
@@ -49,17 +50,23 @@ impl Moment {
     }
 }
 
-/// The phases of a test over the wires, in cycles: Setups, Shifts before the first capture, Shifts behind the last one.
+/// The phases of a test over the wires (Iyengar, Chakrabarty and Marinissen 2002). Between two captures lie as many Shifts as
+/// the longer one of `si` and `so`.
 #[derive(Clone, Copy, Drop)]
 pub struct Phases {
+    /// The cycles at rest before the first Shift.
     pub setup: u64,
+    /// The Shifts before the first capture: the length of the longest scan-in path, in cells.
     pub si: u64,
+    /// The Shifts after the last capture: the length of the longest scan-out path, in cells.
     pub so: u64,
+    /// The patterns, at least one.
     pub patterns: u64,
 }
 
 impl Phases {
-    /// What the test does so many cycles after its start.
+    /// What the test does so many cycles after its start, counted from 0, and how many Shifts lie between this cycle and the
+    /// captures ahead and behind.
     pub fn at(&self, cycle: u64) -> Moment
         requires phases { ArePhases self.now }
         requires active { cycle < length (phase_ops self.now) }
