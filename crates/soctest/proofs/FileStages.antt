@@ -14,7 +14,7 @@ use Rattle.soctest.specs.declared.Verdict.TheVariants.{Answered, CannotRead, NoM
 use Rattle.soctest.specs.Commands.{CommandValue}
 use Rattle.soctest.specs.Texts.{bad_words_line, too_long_line}
 use Rattle.soctest.specs.Readings.{most_of, IsRead}
-use Rattle.soctest.specs.Procedures.{Procedure, Read, Unless, Answer, nothing, done_with}
+use Rattle.soctest.specs.Procedures.{Procedure, Read, Unless, Answer, nothing, with_bytes, done_with}
 use Rattle.soctest.specs.Answers.{Stage, Answers}
 use Rattle.soctest.specs.Decides.{MayFail, IsUnread, IsUnreadOf, Follows, Decides, Gives, GivesUnless, GivesText, Refuses}
 use Rattle.soctest.specs.Ends.{MayAnswer, Ends}
@@ -103,6 +103,23 @@ refused file Says Refused' name next held before after bytes line (Answered stat
   go None told = tt
   go (Some files) told =
       rw (told, d.0, d.1) (within_case _ _ (nat_lt (most_of file) (length bytes)) (le-ltb (most_of file) (length bytes) within) (inr (refl, why)))
+
+-- a file whose bytes aren't there, whatever they are to say
+pub without_bytes : {V : Type 0} (file : FileKind) (Says : List ℕ → V → Type 0) (Refused' : List ℕ → List ℕ → Type 0) (name : List ℕ) (held : Option Files) (before after : ℕ) (verdict : Verdict) →
+    Follows (with_bytes file name) held before after verdict → Follows (Read file Says Refused' name (λ v. nothing)) held before after verdict
+without_bytes file Says Refused' name None before after (Answered status text) d = (d.0, tt)
+without_bytes {V} file Says Refused' name (Some files) before after (Answered status text) d = (d.0, stage (get files name) d.1) where
+  stage : (held : Option (List ℕ)) → Stage file (λ (bytes value : List ℕ). bytes ≡ value) (λ bytes line. ⊥) (λ value. Answers nothing files) held status text.items → Stage file Says Refused' (λ v. Answers nothing files) held status text.items
+  stage None a = a
+  stage (Some bytes) a = go (nat_lt (most_of file) (length bytes)) a where
+    go : (long : Bool) → MatchBool long ((status ≡ TooLong) × (text.items ≡ too_long_line file)) (((v : List ℕ) × (bytes ≡ v) × ⊥) ⊎ ((status ≡ Refused) × ⊥)) →
+        MatchBool long ((status ≡ TooLong) × (text.items ≡ too_long_line file)) (((v : V) × Says bytes v × ⊥) ⊎ ((status ≡ Refused) × Refused' bytes text.items))
+    go true a = a
+    go false (inl a) = absurd a.2
+    go false (inr a) = absurd a.1
+without_bytes file Says Refused' name held before after (CannotRead missed) (inl here) = inl here
+without_bytes file Says Refused' name held before after (CannotRead missed) (inr later) = absurd later.2
+without_bytes file Says Refused' name held before after OutOfMemory d = tt
 
 -- ---- what comes next where there is no value
 

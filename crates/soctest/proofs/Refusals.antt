@@ -4,7 +4,9 @@ use Rattle.std.specs.Prelude.{IsTrue}
 use Rattle.std.specs.Global.{Vec}
 use Rattle.outside.specs.declared.NoMemory.{NoMemory as MemoryFault}
 use Rattle.outside.specs.Held.{Files, WhereTold}
+use Rattle.soc_model.specs.declared.Soc.{Soc as SocModel}
 use Rattle.soc_model.specs.Chips.{SocValue}
+use Rattle.plan_model.specs.declared.Limits.{Limits as LimitsModel}
 use Rattle.plan_model.specs.declared.Plan.{Plan as PlanModel}
 use Rattle.plan_model.specs.Plans.{LimitsValue, PlanValue}
 use Rattle.plan_model.specs.Faults.{FaultValue, IsFault, IsFaultless}
@@ -26,8 +28,21 @@ use Rattle.soctest.specs.declared.Verdict.TheVariants.{Answered, CannotRead, NoM
 use Rattle.soctest.specs.Texts.{is_line, chip_line, chip_limit_line, limits_line, unknown_test_line, cycle_line, test_power_line, plan_line, fault_line}
 use Rattle.soctest.specs.Readings.{most_of, RefusesChip, SaysLimits, RefusesLimits, SaysAccepted, RefusesPlan}
 use Rattle.soctest.specs.Procedures.{nothing, with_chip, with_limits, with_accepted}
-use Rattle.soctest.specs.Decides.{Follows, RefusesSoc, RefusesBounds, RefusesValue, AnswersCheck, GivesText, LoadsAccepted}
-use Rattle.soctest.proofs.FileStages.{refused, read_from}
+use Rattle.soctest.specs.Decides.{Follows, RefusesSoc, RefusesBounds, RefusesValue, AnswersCheck, GivesText, LoadsBytes, LoadsChip, LoadsLimits, LoadsAccepted}
+use Rattle.soctest.proofs.FileStages.{without_bytes, refused, read_from}
+
+-- ---- files whose bytes aren't there
+
+pub chip_unread : (name : List ℕ) (held : Option Files) (before after : ℕ) (verdict : Verdict) (result : Result SocModel Verdict) → LoadsBytes Soc name held before after (Err verdict) → result ≡ Err verdict → LoadsChip name held before after result
+chip_unread name held before after verdict result none is = rw is (without_bytes Soc SaysChip RefusesChip name held before after verdict none)
+
+pub limits_unread : (chip : SocValue) (name : List ℕ) (held : Option Files) (before after : ℕ) (verdict : Verdict) (result : Result LimitsModel Verdict) → LoadsBytes Limits name held before after (Err verdict) → result ≡ Err verdict → LoadsLimits chip name held before after result
+limits_unread chip name held before after verdict result none is = rw is (without_bytes Limits (SaysLimits chip) (RefusesLimits chip) name held before after verdict none)
+
+pub plan_unread : (chip : SocValue) (bounds : LimitsValue) (name : List ℕ) (held : Option Files) (before after : ℕ) (verdict : Verdict) (result : Result PlanModel Verdict) → LoadsBytes Plan name held before after (Err verdict) → result ≡ Err verdict → LoadsAccepted chip bounds name held before after result
+plan_unread chip bounds name held before after verdict result none is = rw is (without_bytes Plan (SaysAccepted chip bounds) (RefusesPlan chip bounds) name held before after verdict none)
+
+-- ---- texts that are refused
 
 pub soc_refused : (name bytes : List ℕ) (held : Option Files) (before after : ℕ) (fault : SocFault) (verdict : Verdict) →
     WhereTold held name (λ o. o ≡ Some bytes) → length bytes ≤ most_of Soc → Refuses bytes fault → RefusesSoc fault verdict → Follows (with_chip name (λ chip. nothing)) held before after verdict

@@ -1,9 +1,9 @@
 -- How a command ends, decided before anything is written.
-use Rattle.std.specs.Prelude.{◌≡◌, ℕ, ◌⊎◌, List, Option, None, Some, Result, Ok, Err, IfSome, IsTrue}
+use Rattle.std.specs.Prelude.{◌≡◌, ℕ, ◌≤◌, ◌⊎◌, length, List, Option, None, Some, Result, Ok, Err, IfSome, IsTrue}
 use Rattle.std.specs.FinMap.{get}
 use Rattle.std.specs.Global.{Vec}
 use Rattle.outside.specs.declared.NoMemory.{NoMemory as MemoryFault}
-use Rattle.outside.specs.Held.{Files, Rose, IsMissing}
+use Rattle.outside.specs.Held.{Files, Rose, IsMissing, WhereTold}
 use Rattle.soc_model.specs.declared.Soc.{Soc as SocModel}
 use Rattle.soc_model.specs.Chips.{SocValue, soc_value}
 use Rattle.plan_model.specs.declared.Limits.{Limits as LimitsModel}
@@ -28,8 +28,8 @@ use Rattle.soctest.specs.declared.loading.Both.{Both}
 use Rattle.soctest.specs.declared.loading.Accepted.{Accepted}
 use Rattle.soctest.specs.Commands.{CommandValue}
 use Rattle.soctest.specs.Texts.{is_line, bad_words_line, chip_line, chip_limit_line, limits_line, unknown_test_line, cycle_line, test_power_line, plan_line, fault_line}
-use Rattle.soctest.specs.Readings.{IsRead, SaysLimits, SaysAccepted}
-use Rattle.soctest.specs.Procedures.{Procedure, Read, Unless, Answer, nothing, with_chip, with_limits, with_accepted, with_both, with_all, procedure_of}
+use Rattle.soctest.specs.Readings.{most_of, IsRead, SaysLimits, SaysAccepted}
+use Rattle.soctest.specs.Procedures.{Procedure, Read, Unless, Answer, nothing, with_bytes, with_chip, with_limits, with_accepted, with_both, with_all, procedure_of}
 use Rattle.soctest.specs.Answers.{Answers}
 
 -- a status of a command that is decided before anything is written, and its text: one line, but for an answer
@@ -87,6 +87,11 @@ Decides None held before after verdict = Gives BadWords bad_words_line verdict
 Decides (Some command) held before after verdict = Follows (procedure_of command) held before after verdict
 
 -- ---- files that are loaded
+
+-- the bytes of a file within its limit, where the shelf tells, or a verdict without them
+abbrev pub LoadsBytes : FileKind → (name : List ℕ) → Option Files → ℕ → ℕ → Result (Vec ℕ) Verdict → Type 0
+LoadsBytes file name held before after (Ok bytes) = WhereTold held name (λ o. o ≡ Some bytes.items) × (length bytes.items ≤ most_of file)
+LoadsBytes file name held before after (Err verdict) = Follows (with_bytes file name) held before after verdict
 
 -- a chip that was read from what the shelf tells, or a verdict without one
 abbrev pub LoadsChip : (soc : List ℕ) → Option Files → ℕ → ℕ → Result SocModel Verdict → Type 0

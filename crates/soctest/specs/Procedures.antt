@@ -45,6 +45,10 @@ run_refusal value = if nat_lt RUN_MOST (wire_cycles value) then Some (run_line (
 
 -- ---- what commands have in common
 
+-- a file whose bytes are taken, whatever they are
+abbrev pub with_bytes : FileKind → (name : List ℕ) → Procedure
+with_bytes file name = Read file (λ bytes value. bytes ≡ value) (λ bytes line. ⊥) name (λ value. nothing)
+
 abbrev pub with_chip : (soc : List ℕ) → (SocValue → Procedure) → Procedure
 with_chip soc next = Read Soc SaysChip RefusesChip soc next
 

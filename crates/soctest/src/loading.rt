@@ -7,7 +7,8 @@ ghost use Rattle.plan_model.specs.Views.{limits_value, plan_value};
 ghost use Rattle.plan_model.specs.SoundLimits.{IsSoundLimits};
 ghost use Rattle.plan_text.specs.Grammar.{AreSmallStarts};
 ghost use Rattle.soctest.specs.declared.Status.TheVariants.{Refused};
-ghost use Rattle.soctest.specs.Decides.{Gives, GivesText, LoadsChip, LoadsLimits, LoadsAccepted, LoadsBoth, LoadsAll, RefusesSoc, RefusesBounds, RefusesValue, AnswersCheck};
+ghost use Rattle.soctest.specs.Readings.{most_of as most_bytes};
+ghost use Rattle.soctest.specs.Decides.{Gives, GivesText, LoadsBytes, LoadsChip, LoadsLimits, LoadsAccepted, LoadsBoth, LoadsAll, RefusesSoc, RefusesBounds, RefusesValue, AnswersCheck};
 
 use crate::lines::{
     chip_limit_line, chip_line, cycle_line, fault_line, limits_line, plan_line, test_power_line,
@@ -79,6 +80,36 @@ fn refused_chip(alloc: Global, fault: SocFault) -> Verdict
     }
 }
 
+/// The greatest length of a file of this kind, in bytes.
+fn most_of(file: FileKind) -> u64
+    ensures { result ≡ most_bytes file }
+{
+    match file {
+        FileKind::Soc | FileKind::Limits => FILE_MOST,
+        FileKind::Plan => PLAN_FILE_MOST,
+    }
+}
+
+/// Loads the bytes of a file, else how the command ends: the file is too long, it can't be read, or there is no memory.
+fn load_file<H: Shelf>(
+    alloc: Global,
+    file: FileKind,
+    name: &str,
+    shelf: &mut H,
+) -> Result<Vec<u8>, Verdict>
+    ensures held_stays { H.held shelf.new ≡ H.held shelf.old }
+    ensures faults_never_fall { H.faults shelf.old ≤ H.faults shelf.new }
+    ensures loads { LoadsBytes file name.now (H.held shelf.old) (H.faults shelf.old) (H.faults shelf.new) result }
+{
+    let mut bytes = Vec::new(alloc);
+    match shelf.load(name, most_of(file), &mut bytes) {
+        Loaded::Whole => Ok(bytes),
+        Loaded::TooLong => Err(answered(alloc, Status::TooLong, too_long_line(file))),
+        Loaded::Failed => Err(Verdict::CannotRead { file }),
+        Loaded::NoMemory => Err(Verdict::NoMemory),
+    }
+}
+
 /// Loads and reads a chip, else how the command ends.
 pub(crate) fn load_chip<H: Shelf>(alloc: Global, name: &str, shelf: &mut H) -> Result<Soc, Verdict>
     ensures held_stays { H.held shelf.new ≡ H.held shelf.old }
@@ -86,17 +117,10 @@ pub(crate) fn load_chip<H: Shelf>(alloc: Global, name: &str, shelf: &mut H) -> R
     ensures sound { IfOk result (λ soc. IsSoundChip (soc_value soc)) }
     ensures loads { LoadsChip name.now (H.held shelf.old) (H.faults shelf.old) (H.faults shelf.new) result }
 {
-    let mut bytes = Vec::new(alloc);
-    match shelf.load(name, FILE_MOST, &mut bytes) {
-        Loaded::Whole => match read_soc(alloc, bytes.as_slice()) {
-            Ok(soc) => Ok(soc),
-            Err(fault) => Err(refused_chip(alloc, fault)),
-        },
-        Loaded::TooLong => Err(answered(alloc, Status::TooLong, too_long_line(FileKind::Soc))),
-        Loaded::Failed => Err(Verdict::CannotRead {
-            file: FileKind::Soc,
-        }),
-        Loaded::NoMemory => Err(Verdict::NoMemory),
+    let bytes = load_file(alloc, FileKind::Soc, name, shelf)?;
+    match read_soc(alloc, bytes.as_slice()) {
+        Ok(soc) => Ok(soc),
+        Err(fault) => Err(refused_chip(alloc, fault)),
     }
 }
 
@@ -125,17 +149,10 @@ pub(crate) fn load_limits<H: Shelf>(
     ensures sound { IfOk result (λ limits. IsSoundLimits (soc_value soc.now) (limits_value limits)) }
     ensures loads { LoadsLimits (soc_value soc.now) name.now (H.held shelf.old) (H.faults shelf.old) (H.faults shelf.new) result }
 {
-    let mut bytes = Vec::new(alloc);
-    match shelf.load(name, FILE_MOST, &mut bytes) {
-        Loaded::Whole => match read_limits(alloc, bytes.as_slice(), soc) {
-            Ok(limits) => Ok(limits),
-            Err(fault) => Err(refused_limits(alloc, fault)),
-        },
-        Loaded::TooLong => Err(answered(alloc, Status::TooLong, too_long_line(FileKind::Limits))),
-        Loaded::Failed => Err(Verdict::CannotRead {
-            file: FileKind::Limits,
-        }),
-        Loaded::NoMemory => Err(Verdict::NoMemory),
+    let bytes = load_file(alloc, FileKind::Limits, name, shelf)?;
+    match read_limits(alloc, bytes.as_slice(), soc) {
+        Ok(limits) => Ok(limits),
+        Err(fault) => Err(refused_limits(alloc, fault)),
     }
 }
 
@@ -180,17 +197,10 @@ pub(crate) fn load_accepted_plan<H: Shelf>(
     ensures accepted { IfOk result (λ plan. IsFaultless (soc_value soc.now) (limits_value limits.now) (plan_value plan)) }
     ensures loads { LoadsAccepted (soc_value soc.now) (limits_value limits.now) name.now (H.held shelf.old) (H.faults shelf.old) (H.faults shelf.new) result }
 {
-    let mut bytes = Vec::new(alloc);
-    match shelf.load(name, PLAN_FILE_MOST, &mut bytes) {
-        Loaded::Whole => match read_plan(alloc, bytes.as_slice()) {
-            Ok(plan) => checked(alloc, soc, limits, plan),
-            Err(fault) => Err(refused_plan(alloc, fault)),
-        },
-        Loaded::TooLong => Err(answered(alloc, Status::TooLong, too_long_line(FileKind::Plan))),
-        Loaded::Failed => Err(Verdict::CannotRead {
-            file: FileKind::Plan,
-        }),
-        Loaded::NoMemory => Err(Verdict::NoMemory),
+    let bytes = load_file(alloc, FileKind::Plan, name, shelf)?;
+    match read_plan(alloc, bytes.as_slice()) {
+        Ok(plan) => checked(alloc, soc, limits, plan),
+        Err(fault) => Err(refused_plan(alloc, fault)),
     }
 }
 

@@ -1,12 +1,13 @@
-use Rattle.std.proofs.Common.{◌≤◌, length, refl, arith}
-use Rattle.soctest.specs.declared.FileKind.TheVariants.{Soc}
-use Rattle.soctest.specs.Readings.{most_of}
-use Rattle.soctest.proofs.Refusals.{soc_refused}
+use Rattle.std.proofs.Common.{rules, ◌≡◌, Err}
+use Rattle.soctest.proofs.Refusals.{soc_refused, chip_unread}
 use Rattle.soctest.proofs.loading.load_chip.Goals as goal
 
-pub returns-in-Whole-clause-loads : goal.returns-in-Whole-clause-loads
-returns-in-Whole-clause-loads g c =
-    let same = rw c.as_slice.ensures.value at c.as_slice.ensures.len in
-    let within : length c.load.new.into.items ≤ most_of Soc = omega (arith, c.in-Whole.ensures.within_limit refl, same) in
+pub returns-in_err-bytes-clause-loads : goal.returns-in_err-bytes-clause-loads
+returns-in_err-bytes-clause-loads g c =
+    let is : c.from_residual.result ≡ Err c.in_err-bytes.field-0.0 = search rules in
+    chip_unread _ _ _ _ c.in_err-bytes.field-0.0 _ c.in_err-bytes.ensures.loads is
+
+pub returns-clause-loads : goal.returns-clause-loads
+returns-clause-loads g c =
     let why = rw c.as_slice.ensures.value at c.in-Err.ensures.refused in
-    soc_refused _ c.load.new.into.items _ _ _ c.in-Err.fault _ (c.in-Whole.ensures.whole refl) within why c.refused_chip.ensures
+    soc_refused _ c.in_ok-bytes.bytes.items _ _ _ c.in-Err.fault _ c.in_ok-bytes.ensures.loads.0 c.in_ok-bytes.ensures.loads.1 why c.refused_chip.ensures
