@@ -7,7 +7,8 @@ use Rattle.outside.proofs.WordLemmas.{first_word}
 use Rattle.soc_model.specs.declared.TestId.{TestId}
 use Rattle.soc_model.specs.declared.TheConstants.{NUMBER_WORD_MOST}
 use Rattle.limits_text.specs.Items.{NamesTest, ArePairs}
-use Rattle.limits_text.specs.Texts.{field, test_fields, number_line, before_line, step_fields}
+use Rattle.outside.specs.Decimal.{spaced_number}
+use Rattle.limits_text.specs.Texts.{test_fields, number_line, before_line, step_fields}
 use Rattle.limits_text.proofs.WordFacts.{number-decimal}
 
 -- a number that is a number word
@@ -21,7 +22,7 @@ pub record IsSmallTest (id : TestId) : Type 0 where
 fits : (n : ℕ) → IsSmall n → n < 2 ^ 64
 fits n small = omega arith
 
-pub field_words : (line n : ℕ) (rest : List ℕ) → IsSmall n → IsEnd rest → words_left line (field n ++ rest) ≡ (decimal n, line) ∷ words_left line rest
+pub field_words : (line n : ℕ) (rest : List ℕ) → IsSmall n → IsEnd rest → words_left line (spaced_number n ++ rest) ≡ (decimal n, line) ∷ words_left line rest
 field_words line n rest small end = first_word line (decimal n) rest (decimal_nonempty n (fits n small)) (decimal_in_word n (fits n small)) end
 
 abbrev pub test_words : ℕ → TestId → List Word
@@ -32,15 +33,15 @@ names_test line id small = (number-decimal id.«module» small.module_small, num
 
 pub test_fields_words : (line : ℕ) (id : TestId) (rest : List ℕ) → IsSmallTest id → IsEnd rest → words_left line (test_fields id ++ rest) ≡ test_words line id ++ words_left line rest
 test_fields_words line id rest small end =
-    ap (words_left line) (append_assoc (field id.«module») (field id.test) rest)
-    ∙ field_words line id.«module» (field id.test ++ rest) small.module_small refl
+    ap (words_left line) (append_assoc (spaced_number id.«module») (spaced_number id.test) rest)
+    ∙ field_words line id.«module» (spaced_number id.test ++ rest) small.module_small refl
     ∙ ap (λ l. (decimal id.«module», line) ∷ l) (field_words line id.test rest small.test_small end)
 
 -- a line of a word and a number
 pub number_line_words : (line n : ℕ) (word rest : List ℕ) → 0 < length word → AllInWord word → IsSmall n → words_left line (number_line word n ++ rest) ≡ (word, line) ∷ (decimal n, line) ∷ words_left (line + 1) rest
 number_line_words line n word rest some all small =
-    ap (words_left line) (append_assoc (word ++ field n) (10 ∷ []) rest ∙ append_assoc word (field n) (10 ∷ rest))
-    ∙ first_word line word (field n ++ 10 ∷ rest) some all refl
+    ap (words_left line) (append_assoc (word ++ spaced_number n) (10 ∷ []) rest ∙ append_assoc word (spaced_number n) (10 ∷ rest))
+    ∙ first_word line word (spaced_number n ++ 10 ∷ rest) some all refl
     ∙ ap (λ l. (word, line) ∷ l) (field_words line n (10 ∷ rest) small refl)
 
 abbrev pub before_words : ℕ → TestId × TestId → List Word
@@ -71,8 +72,8 @@ pairs_are line (s ∷ steps) small =
 pub step_fields_words : (line : ℕ) (steps : List (ℕ × ℕ)) (rest : List ℕ) → AreSmall steps → IsEnd rest → words_left line (step_fields steps ++ rest) ≡ pair_words line steps ++ words_left line rest
 step_fields_words line [] rest small end = refl
 step_fields_words line (s ∷ steps) rest small end =
-    ap (words_left line) (append_assoc (field s.0 ++ field s.1) (step_fields steps) rest ∙ append_assoc (field s.0) (field s.1) (step_fields steps ++ rest))
-    ∙ field_words line s.0 (field s.1 ++ (step_fields steps ++ rest)) small.0 refl
+    ap (words_left line) (append_assoc (spaced_number s.0 ++ spaced_number s.1) (step_fields steps) rest ∙ append_assoc (spaced_number s.0) (spaced_number s.1) (step_fields steps ++ rest))
+    ∙ field_words line s.0 (spaced_number s.1 ++ (step_fields steps ++ rest)) small.0 refl
     ∙ ap (λ l. (decimal s.0, line) ∷ l) (field_words line s.1 (step_fields steps ++ rest) small.1 (ends steps)
     ∙ ap (λ l. (decimal s.1, line) ∷ l) (step_fields_words line steps rest small.2 end))
   where

@@ -1,19 +1,16 @@
 -- The text that is printed of limits.
-use Rattle.std.specs.Prelude.{ℕ, List, [], ◌∷◌, ◌++◌, Option, None, Some, codes, decimal}
+use Rattle.std.specs.Prelude.{ℕ, List, [], ◌∷◌, ◌++◌, Option, None, Some, codes}
 use Rattle.std.specs.List.{flat_map}
+use Rattle.outside.specs.Decimal.{spaced_number}
 use Rattle.soc_model.specs.declared.TestId.{TestId}
 use Rattle.plan_model.specs.Plans.{ProfileValue, LimitsValue}
 
--- a space and a number
-abbrev pub field : ℕ → List ℕ
-field n = 32 ∷ decimal n
-
 abbrev pub test_fields : TestId → List ℕ
-test_fields id = field id.«module» ++ field id.test
+test_fields id = spaced_number id.«module» ++ spaced_number id.test
 
 -- a word and a number on a line
 abbrev pub number_line : List ℕ → ℕ → List ℕ
-number_line word n = word ++ field n ++ 10 ∷ []
+number_line word n = word ++ spaced_number n ++ 10 ∷ []
 
 abbrev pub power_lines : Option ℕ → List ℕ
 power_lines None = []
@@ -23,7 +20,7 @@ abbrev pub before_line : TestId × TestId → List ℕ
 before_line p = codes "Before" ++ test_fields p.0 ++ test_fields p.1 ++ 10 ∷ []
 
 abbrev pub step_fields : List (ℕ × ℕ) → List ℕ
-step_fields steps = flat_map (λ (s : ℕ × ℕ). field s.0 ++ field s.1) steps
+step_fields steps = flat_map (λ (s : ℕ × ℕ). spaced_number s.0 ++ spaced_number s.1) steps
 
 abbrev pub profile_line : ProfileValue → List ℕ
 profile_line p = codes "Profile" ++ test_fields p.test ++ step_fields p.steps ++ 10 ∷ []

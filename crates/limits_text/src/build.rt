@@ -6,7 +6,7 @@ ghost use Rattle.limits_text.specs.Views.{item_of};
 
 use crate::BUDGET;
 use crate::items::{Amount, Item};
-use outside::NoMemory;
+use outside::{NoMemory, push};
 use plan_model::{Limits, Profile};
 use std::alloc::Global;
 
@@ -34,14 +34,10 @@ fn tell(limits: &mut Limits, item: Item) -> Result<(), NoMemory>
             Amount::Budget => limits.budget = value,
         },
         Item::Precedence { first, second, .. } => {
-            if limits.before.push((first, second)).is_err() {
-                return Err(NoMemory);
-            }
+            push(&mut limits.before, (first, second))?;
         }
         Item::Steps { test, steps, .. } => {
-            if limits.profiles.push(Profile { test, steps }).is_err() {
-                return Err(NoMemory);
-            }
+            push(&mut limits.profiles, Profile { test, steps })?;
         }
     }
     Ok(())

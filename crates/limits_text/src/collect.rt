@@ -80,10 +80,8 @@ fn mark(tests: &mut IndexSet<TestId>, test: TestId) -> Result<(), Stop>
     ensures ok { OnOk result ((id : TestId) → list_any (same_test id) tests.new.keys ≡ (same_test id test || list_any (same_test id) tests.old.keys)) }
     ensures memory { OnErr result (result ≡ Err Stop.NoMemory) }
 {
-    match tests.insert(test) {
-        Ok(_) => Ok(()),
-        Err(_) => Err(Stop::NoMemory),
-    }
+    tests.insert(test)?;
+    Ok(())
 }
 
 /// Marks the test of an item that is a profile.
@@ -92,10 +90,7 @@ fn mark_item(tests: &mut IndexSet<TestId>, item: &Item) -> Result<(), Stop>
     ensures memory { OnErr result (result ≡ Err Stop.NoMemory) }
 {
     match item {
-        Item::Steps { test, .. } => match mark(tests, *test) {
-            Ok(()) => Ok(()),
-            Err(_) => Err(Stop::NoMemory),
-        },
+        Item::Steps { test, .. } => mark(tests, *test),
         _ => Ok(()),
     }
 }
@@ -108,12 +103,7 @@ pub fn push(items: &mut Items, item: Item) -> Result<(), Stop>
     ensures form { items.new.second ≡ items.old.second }
     ensures memory { OnErr result (result ≡ Err Stop.NoMemory) }
 {
-    match mark_item(&mut items.profiled, &item) {
-        Ok(()) => {}
-        Err(_) => return Err(Stop::NoMemory),
-    }
-    match items.list.push(item) {
-        Ok(()) => Ok(()),
-        Err(_) => Err(Stop::NoMemory),
-    }
+    mark_item(&mut items.profiled, &item)?;
+    items.list.push(item)?;
+    Ok(())
 }

@@ -11,7 +11,7 @@ ghost use Rattle.limits_text.specs.Cycles.{place_among, pair_if, pairs_among, Ar
 
 use crate::graph::first_cycle;
 use indexmap::IndexMap;
-use outside::NoMemory;
+use outside::{NoMemory, push};
 use plan_model::Limits;
 use soc_model::{Soc, TestId};
 use std::alloc::Global;
@@ -22,9 +22,7 @@ fn ids_of(alloc: Global, tests: &[(TestId, u64)]) -> Result<Vec<TestId>, NoMemor
 {
     let mut ids = Vec::new(alloc);
     for (test, _) in tests {
-        if ids.push(*test).is_err() {
-            return Err(NoMemory);
-        }
+        push(&mut ids, *test)?;
     }
     Ok(ids)
 }
@@ -40,10 +38,8 @@ fn give_place(
     if places.contains_key(&test) {
         return Ok(());
     }
-    match places.insert(test, place) {
-        Ok(_) => Ok(()),
-        Err(_) => Err(NoMemory),
-    }
+    places.insert(test, place)?;
+    Ok(())
 }
 
 /// The place of each test.
@@ -73,10 +69,7 @@ fn push_pair(
     ensures { OnOk result (pairs.new.items ≡ pairs.old.items ++ pair_if first second) }
 {
     match (first, second) {
-        (Some(first), Some(second)) => match pairs.push((first, second)) {
-            Ok(()) => Ok(()),
-            Err(_) => Err(NoMemory),
-        },
+        (Some(first), Some(second)) => push(pairs, (first, second)),
         _ => Ok(()),
     }
 }
@@ -108,9 +101,7 @@ fn tests_at(alloc: Global, ids: &[TestId], places: &[usize]) -> Result<Vec<TestI
 {
     let mut tests = Vec::new(alloc);
     for place in places {
-        if tests.push(ids[*place]).is_err() {
-            return Err(NoMemory);
-        }
+        push(&mut tests, ids[*place])?;
     }
     Ok(tests)
 }

@@ -5,7 +5,7 @@ ghost use Rattle.limits_text.specs.Cycles.{IsFirstCycle, HasRank};
 ghost use Rattle.limits_text.specs.Orders.{after as tests_after, held, copies, Counts, IsKept, GoesOn, IsTaking, AreMarked, least_before as least_of, ComesAgain, IsBack};
 ghost use Rattle.limits_text.specs.Views.{tests_of};
 
-use outside::NoMemory;
+use outside::{NoMemory, push};
 use std::alloc::Global;
 
 /// The tests that come after a test.
@@ -20,9 +20,7 @@ fn repeated(alloc: Global, count: usize, number: usize) -> Result<Vec<usize>, No
 {
     let mut counts = Vec::new(alloc);
     for _ in 0..count {
-        if counts.push(number).is_err() {
-            return Err(NoMemory);
-        }
+        push(&mut counts, number)?;
     }
     Ok(counts)
 }
@@ -52,9 +50,7 @@ fn none_after(alloc: Global, count: usize) -> Result<Vec<After>, NoMemory>
     let mut lists = Vec::new(alloc);
     for _ in 0..count {
         let tests = Vec::new(alloc);
-        if lists.push(After { tests }).is_err() {
-            return Err(NoMemory);
-        }
+        push(&mut lists, After { tests })?;
     }
     Ok(lists)
 }
@@ -67,9 +63,7 @@ fn all_after(alloc: Global, count: usize, pairs: &[(usize, usize)]) -> Result<Ve
 {
     let mut lists = none_after(alloc, count)?;
     for (first, second) in pairs {
-        if lists[*first].tests.push(*second).is_err() {
-            return Err(NoMemory);
-        }
+        push(&mut lists[*first].tests, *second)?;
     }
     Ok(lists)
 }
@@ -82,10 +76,7 @@ fn take_free(order: &mut Vec<usize>, test: usize, left: usize) -> Result<(), NoM
     if left > 0 {
         return Ok(());
     }
-    match order.push(test) {
-        Ok(()) => Ok(()),
-        Err(_) => Err(NoMemory),
-    }
+    push(order, test)
 }
 
 /// The tests that nothing holds back, in their order.
@@ -166,9 +157,7 @@ fn unmarked(alloc: Global, count: usize) -> Result<Vec<bool>, NoMemory>
 {
     let mut gone = Vec::new(alloc);
     for _ in 0..count {
-        if gone.push(false).is_err() {
-            return Err(NoMemory);
-        }
+        push(&mut gone, false)?;
     }
     Ok(gone)
 }
@@ -222,14 +211,10 @@ fn walk_on(alloc: Global, next: &[usize], start: usize) -> Result<(Vec<usize>, u
     let mut test = start;
     loop {
         if let Some(meets) = place_of(walk.as_slice(), test) {
-            return match walk.push(test) {
-                Ok(()) => Ok((walk, meets)),
-                Err(_) => Err(NoMemory),
-            };
+            push(&mut walk, test)?;
+            return Ok((walk, meets));
         }
-        if walk.push(test).is_err() {
-            return Err(NoMemory);
-        }
+        push(&mut walk, test)?;
         test = next[test];
     }
 }
@@ -243,9 +228,7 @@ fn back_to(alloc: Global, walk: &[usize], meets: usize) -> Result<Vec<usize>, No
     let last = walk.len() - 1;
     let mut cycle = Vec::new(alloc);
     for back in 0..last - meets {
-        if cycle.push(walk[last - back]).is_err() {
-            return Err(NoMemory);
-        }
+        push(&mut cycle, walk[last - back])?;
     }
     Ok(cycle)
 }

@@ -6,28 +6,19 @@ ghost use Rattle.soc_model.specs.Chips.{SocValue};
 ghost use Rattle.soc_model.specs.SoundChips.{IsSoundChip};
 ghost use Rattle.plan_model.specs.SoundLimits.{IsSoundLimits};
 ghost use Rattle.limits_text.specs.Answers.{AreReadLimits};
-ghost use Rattle.limits_text.specs.Texts.{field, test_fields, number_line, power_lines, before_line, step_fields, profile_line, form_of as form_number_of, limits_text};
+ghost use Rattle.limits_text.specs.Texts.{test_fields, number_line, power_lines, before_line, step_fields, profile_line, form_of as form_number_of, limits_text};
 
-use outside::{NoMemory, extend, push_number};
+use outside::{NoMemory, extend, push_spaced};
 use plan_model::{Limits, Profile};
 use soc_model::TestId;
 use std::alloc::Global;
-
-/// Adds a space and a number.
-fn push_field(to: &mut Vec<u8>, number: u64) -> Result<(), NoMemory>
-    ensures { OnOk result (to.new.items ≡ to.old.items ++ field number) }
-{
-    extend(to, b" ")?;
-    push_number(to, u128::from(number))?;
-    Ok(())
-}
 
 /// Adds a word and a number on a line.
 fn push_line(to: &mut Vec<u8>, word: &[u8], number: u64) -> Result<(), NoMemory>
     ensures { OnOk result (to.new.items ≡ to.old.items ++ number_line word.now number) }
 {
     extend(to, word)?;
-    push_field(to, number)?;
+    push_spaced(to, number)?;
     extend(to, b"\n")?;
     Ok(())
 }
@@ -36,8 +27,8 @@ fn push_line(to: &mut Vec<u8>, word: &[u8], number: u64) -> Result<(), NoMemory>
 fn push_test(to: &mut Vec<u8>, test: TestId) -> Result<(), NoMemory>
     ensures { OnOk result (to.new.items ≡ to.old.items ++ test_fields test) }
 {
-    push_field(to, test.module)?;
-    push_field(to, test.test)?;
+    push_spaced(to, test.module)?;
+    push_spaced(to, test.test)?;
     Ok(())
 }
 
@@ -76,8 +67,8 @@ fn push_steps(to: &mut Vec<u8>, steps: &[(u64, u64)]) -> Result<(), NoMemory>
     ensures { OnOk result (to.new.items ≡ to.old.items ++ step_fields steps.now) }
 {
     for (from, power) in steps {
-        push_field(to, *from)?;
-        push_field(to, *power)?;
+        push_spaced(to, *from)?;
+        push_spaced(to, *power)?;
     }
     Ok(())
 }

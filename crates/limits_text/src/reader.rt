@@ -200,9 +200,7 @@ fn step_power(
     if power > POWER_MOST {
         return Err(Stop::Refused);
     }
-    if steps.push((from, power)).is_err() {
-        return Err(Stop::NoMemory);
-    }
+    steps.push((from, power))?;
     Ok(Part::StepsFor { line, test, steps })
 }
 

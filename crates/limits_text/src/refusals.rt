@@ -6,7 +6,7 @@ ghost use Rattle.limits_text.specs.Meaning.{is_known as is_in_chip, unknown_line
 ghost use Rattle.limits_text.specs.Views.{item_of};
 
 use crate::items::Item;
-use outside::NoMemory;
+use outside::{NoMemory, push};
 use plan_model::{Limits, Profile};
 use soc_model::{Module, Soc, Test, TestId, find_test, live};
 use std::alloc::Global;
@@ -91,9 +91,7 @@ fn push_live(tests: &mut Vec<(TestId, u64)>, module: &Module) -> Result<(), NoMe
                 module: module.number,
                 test: test.number,
             };
-            if tests.push((id, test.power)).is_err() {
-                return Err(NoMemory);
-            }
+            push(tests, (id, test.power))?;
         }
     }
     Ok(())

@@ -13,8 +13,8 @@ mod steps;
 mod tokens;
 
 pub use laws::{
-    each_text_has_an_answer, plans_are_answered, plans_are_not_refused, printed_plans_are_answered, printed_plans_are_read,
-    refused_once, say_one_plan,
+    each_text_has_an_answer, plans_are_answered, plans_are_not_refused, printed_plans_are_answered,
+    printed_plans_are_read, refused_once, say_one_plan,
 };
 pub use printing::print_plan;
 pub use reading::read_plan;

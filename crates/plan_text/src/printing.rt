@@ -1,5 +1,5 @@
 // Prints a plan, line by line.
-ghost use Rattle.std.specs.Prelude.{◌≡◌, ◌++◌, ◌∷◌, true, map, OnOk, IfOk, decimal};
+ghost use Rattle.std.specs.Prelude.{◌≡◌, ◌++◌, ◌∷◌, true, map, OnOk, IfOk};
 ghost use Rattle.plan_model.specs.Views.{bus_value, chain_value, wrapper_value, bound_value, why_value, plan_value};
 ghost use Rattle.plan_text.specs.declared.tokens.Token.TheVariants.{Number};
 ghost use Rattle.std.specs.List.{flat_map};
@@ -8,18 +8,10 @@ ghost use Rattle.plan_text.specs.PlanLines.{spaced, listed_text, line_text, text
 ghost use Rattle.plan_text.specs.Grammar.{IsInRange};
 ghost use Rattle.plan_text.specs.Answers.{SaysPlan};
 
-use outside::{NoMemory, extend, push_number};
+use outside::{NoMemory, extend, push_spaced};
 use plan_model::{Bound, Bus, ChainPlan, Plan, Why, Wrapper};
 use soc_model::TestId;
 use std::alloc::Global;
-
-/// A number with a space before it.
-fn push_spaced(to: &mut Vec<u8>, n: u64) -> Result<(), NoMemory>
-    ensures { OnOk result (to.new.items ≡ to.old.items ++ (32 ∷ decimal n)) }
-{
-    extend(to, b" ")?;
-    push_number(to, u128::from(n))
-}
 
 /// Numbers, each with a space before it.
 fn push_numbers(to: &mut Vec<u8>, numbers: &[u64]) -> Result<(), NoMemory>

@@ -27,60 +27,48 @@ fn push_bus(draft: &mut Draft, bus: Bus) -> Result<(), Stop>
     ensures ok { OnOk result (draft_value draft.new ≡ with_bus (draft_value draft.old) (bus_value bus)) }
     ensures err { OnErr result (result ≡ Err Stop.NoMemory) }
 {
-    match draft.buses.push(bus) {
-        Ok(()) => Ok(()),
-        Err(_) => Err(Stop::NoMemory),
-    }
+    draft.buses.push(bus)?;
+    Ok(())
 }
 
 fn push_wrapper(draft: &mut Draft, wrapper: Wrapper) -> Result<(), Stop>
     ensures ok { OnOk result (draft_value draft.new ≡ with_wrapper (draft_value draft.old) (wrapper_value wrapper)) }
     ensures err { OnErr result (result ≡ Err Stop.NoMemory) }
 {
-    match draft.wrappers.push(wrapper) {
-        Ok(()) => Ok(()),
-        Err(_) => Err(Stop::NoMemory),
-    }
+    draft.wrappers.push(wrapper)?;
+    Ok(())
 }
 
 fn push_start(draft: &mut Draft, test: TestId, start: u64) -> Result<(), Stop>
     ensures ok { OnOk result (draft_value draft.new ≡ with_start (draft_value draft.old) test start) }
     ensures err { OnErr result (result ≡ Err Stop.NoMemory) }
 {
-    match draft.starts.push((test, start)) {
-        Ok(()) => Ok(()),
-        Err(_) => Err(Stop::NoMemory),
-    }
+    draft.starts.push((test, start))?;
+    Ok(())
 }
 
 fn push_chain(wrapper: &mut Wrapper, chain: ChainPlan) -> Result<(), Stop>
     ensures ok { OnOk result (wrapper_value wrapper.new ≡ with_chain (wrapper_value wrapper.old) (chain_value chain)) }
     ensures err { OnErr result (result ≡ Err Stop.NoMemory) }
 {
-    match wrapper.chains.push(chain) {
-        Ok(()) => Ok(()),
-        Err(_) => Err(Stop::NoMemory),
-    }
+    wrapper.chains.push(chain)?;
+    Ok(())
 }
 
 fn push_module(bus: &mut Bus, module: u64) -> Result<(), Stop>
     ensures ok { OnOk result (bus_value bus.new ≡ with_module (bus_value bus.old) «module») }
     ensures err { OnErr result (result ≡ Err Stop.NoMemory) }
 {
-    match bus.modules.push(module) {
-        Ok(()) => Ok(()),
-        Err(_) => Err(Stop::NoMemory),
-    }
+    bus.modules.push(module)?;
+    Ok(())
 }
 
 fn push_scan(chain: &mut ChainPlan, scan: u64) -> Result<(), Stop>
     ensures ok { OnOk result (chain_value chain.new ≡ with_scan (chain_value chain.old) scan) }
     ensures err { OnErr result (result ≡ Err Stop.NoMemory) }
 {
-    match chain.scans.push(scan) {
-        Ok(()) => Ok(()),
-        Err(_) => Err(Stop::NoMemory),
-    }
+    chain.scans.push(scan)?;
+    Ok(())
 }
 
 /// What a keyword begins, where a section is not over.
@@ -293,17 +281,17 @@ fn step_number(alloc: Global, draft: &mut Draft, part: Part, n: u64) -> Result<P
             cycles,
             mut tests,
             module,
-        } => match tests.push(TestId { module, test: n }) {
-            Ok(()) => Ok(Part::InTests { cycles, tests }),
-            Err(_) => Err(Stop::NoMemory),
-        },
+        } => {
+            tests.push(TestId { module, test: n })?;
+            Ok(Part::InTests { cycles, tests })
+        }
         Part::InForced {
             cycles,
             mut modules,
-        } => match modules.push(n) {
-            Ok(()) => Ok(Part::InForced { cycles, modules }),
-            Err(_) => Err(Stop::NoMemory),
-        },
+        } => {
+            modules.push(n)?;
+            Ok(Part::InForced { cycles, modules })
+        }
         Part::WantsPlan
         | Part::WantsCyclesWord
         | Part::AfterCycles

@@ -59,30 +59,45 @@ size_or_limit soc = by (passed soc Modules) (passed soc Tests) (passed soc Chain
 
     by : (m t c p w : Option ℕ) → passed soc Modules ≡ m → passed soc Tests ≡ t → passed soc Chains ≡ c → passed soc Power ≡ p → passed soc Work ≡ w → IsWithinSize soc ⊎ ((limit : SocLimit) × IsFirstPassed soc limit)
     by (Some n) t c p w em et ec ep ew =
-        inr (limit Modules n, record {
-          passes = em;
-          earlier = by_rank none 0 (λ less. absurd (omega arith)) (λ less. absurd (omega arith)) (λ less. absurd (omega arith)) (λ less. absurd (omega arith)) (λ less. absurd (omega arith));
-        })
+        inr (
+          limit Modules n,
+          record {
+            passes = em;
+            earlier = by_rank none 0 (λ less. absurd (omega arith)) (λ less. absurd (omega arith)) (λ less. absurd (omega arith)) (λ less. absurd (omega arith)) (λ less. absurd (omega arith));
+          },
+        )
     by None (Some n) c p w em et ec ep ew =
-        inr (limit Tests n, record {
-          passes = et;
-          earlier = by_rank none 1 (λ less. em) (λ less. absurd (omega arith)) (λ less. absurd (omega arith)) (λ less. absurd (omega arith)) (λ less. absurd (omega arith));
-        })
+        inr (
+          limit Tests n,
+          record {
+            passes = et;
+            earlier = by_rank none 1 (λ less. em) (λ less. absurd (omega arith)) (λ less. absurd (omega arith)) (λ less. absurd (omega arith)) (λ less. absurd (omega arith));
+          },
+        )
     by None None (Some n) p w em et ec ep ew =
-        inr (limit Chains n, record {
-          passes = ec;
-          earlier = by_rank none 2 (λ less. em) (λ less. et) (λ less. absurd (omega arith)) (λ less. absurd (omega arith)) (λ less. absurd (omega arith));
-        })
+        inr (
+          limit Chains n,
+          record {
+            passes = ec;
+            earlier = by_rank none 2 (λ less. em) (λ less. et) (λ less. absurd (omega arith)) (λ less. absurd (omega arith)) (λ less. absurd (omega arith));
+          },
+        )
     by None None None (Some n) w em et ec ep ew =
-        inr (limit Power n, record {
-          passes = ep;
-          earlier = by_rank none 3 (λ less. em) (λ less. et) (λ less. ec) (λ less. absurd (omega arith)) (λ less. absurd (omega arith));
-        })
+        inr (
+          limit Power n,
+          record {
+            passes = ep;
+            earlier = by_rank none 3 (λ less. em) (λ less. et) (λ less. ec) (λ less. absurd (omega arith)) (λ less. absurd (omega arith));
+          },
+        )
     by None None None None (Some n) em et ec ep ew =
-        inr (limit Work n, record {
-          passes = ew;
-          earlier = by_rank none 4 (λ less. em) (λ less. et) (λ less. ec) (λ less. ep) (λ less. absurd (omega arith));
-        })
+        inr (
+          limit Work n,
+          record {
+            passes = ew;
+            earlier = by_rank none 4 (λ less. em) (λ less. et) (λ less. ec) (λ less. ep) (λ less. absurd (omega arith));
+          },
+        )
     by None None None None None em et ec ep ew = inl (λ which. each which)
       where
         each : (which : Which) → passed soc which ≡ None

@@ -10,7 +10,7 @@ ghost use Rattle.soc_reader.specs.Meaning.{test_says, module_says, chip_says, sa
 use crate::items::{ReadItem, ReadValue};
 use crate::keys::{Key, Subject};
 use indexmap::IndexSet;
-use outside::NoMemory;
+use outside::{NoMemory, copied, push};
 use soc_model::{Module, PutFault, Soc, Test, place_of};
 use std::alloc::Global;
 
@@ -96,23 +96,8 @@ fn add_test(tests: &mut Vec<Test>, numbers: &mut TestNumbers, number: u64) -> Re
     if numbers.set.contains(&number) {
         return Ok(());
     }
-    if numbers.set.insert(number).is_err() {
-        return Err(NoMemory);
-    }
-    match tests.push(new_test(number)) {
-        Ok(()) => Ok(()),
-        Err(_) => Err(NoMemory),
-    }
-}
-
-/// A copy of lengths.
-fn copied_lengths(alloc: Global, from: &[u64]) -> Result<Vec<u64>, NoMemory>
-    ensures { IfOk result (λ v. v.items ≡ from.now) }
-{
-    match Vec::from_slice(alloc, from) {
-        Ok(v) => Ok(v),
-        Err(_) => Err(NoMemory),
-    }
+    numbers.set.insert(number)?;
+    push(tests, new_test(number))
 }
 
 /// What a keyword and a value say of a module.
@@ -134,7 +119,7 @@ fn give_module(
         (Key::Bidirs, ReadValue::Count { number, .. }) => found.bidirs = *number,
         (Key::Setup, ReadValue::Count { number, .. }) => found.setup = *number,
         (Key::ScanChains, ReadValue::Lengths(lengths)) => {
-            found.chains = copied_lengths(alloc, lengths.as_slice())?;
+            found.chains = copied(alloc, lengths.as_slice())?;
         }
         (Key::Test, ReadValue::Count { number, .. }) => {
             return add_test(&mut found.tests, numbers, *number);
@@ -169,20 +154,7 @@ fn add_module(alloc: Global, draft: &mut Draft, number: u64) -> Result<(), NoMem
     let none = TestNumbers {
         set: IndexSet::new(alloc),
     };
-    match draft.numbers.push(none) {
-        Ok(()) => Ok(()),
-        Err(_) => Err(NoMemory),
-    }
-}
-
-/// A copy of a name.
-fn copied_name(alloc: Global, from: &[u8]) -> Result<Vec<u8>, NoMemory>
-    ensures { IfOk result (λ v. v.items ≡ from.now) }
-{
-    match Vec::from_slice(alloc, from) {
-        Ok(v) => Ok(v),
-        Err(_) => Err(NoMemory),
-    }
+    push(&mut draft.numbers, none)
 }
 
 /// What a keyword and a value say of the chip.
@@ -197,7 +169,7 @@ fn give_chip(
     ensures indexed { OnOk result (IsIndexed draft.new) }
 {
     match (key, value) {
-        (Key::SocName, ReadValue::Word(name)) => draft.soc.name = copied_name(alloc, name)?,
+        (Key::SocName, ReadValue::Word(name)) => draft.soc.name = copied(alloc, name)?,
         (Key::PowerFlag, ReadValue::Flag(b)) => draft.soc.power_flag = *b,
         (Key::XyFlag, ReadValue::Flag(b)) => draft.soc.xy_flag = *b,
         (Key::Module, ReadValue::Count { number, .. }) => return add_module(alloc, draft, *number),
@@ -231,7 +203,7 @@ fn tell(
             }
         },
         ReadItem::Name { name, .. } => {
-            found.name = copied_name(alloc, name)?;
+            found.name = copied(alloc, name)?;
             Ok(())
         }
         ReadItem::PlaceData | ReadItem::Coordinate => Ok(()),

@@ -96,18 +96,11 @@ fn mark_item(given: &mut IndexSet<Given>, item: &ReadItem<'_>) -> Result<(), Sto
 {
     match item {
         ReadItem::Entry { subject, key, .. } => {
-            if mark(
-                given,
-                Given {
-                    subject: *subject,
-                    key: *key,
-                },
-            )
-            .is_err()
-            {
-                return Err(Stop::NoMemory);
-            }
-            Ok(())
+            let given_now = Given {
+                subject: *subject,
+                key: *key,
+            };
+            mark(given, given_now)
         }
         _ => Ok(()),
     }
@@ -120,10 +113,10 @@ fn note_name<'a>(names: &mut IndexMap<u64, &'a [u8]>, item: &ReadItem<'a>) -> Re
     ensures memory { OnErr result (result ≡ Err Stop.NoMemory) }
 {
     match item {
-        ReadItem::Name { module, name } => match names.insert(*module, *name) {
-            Ok(_) => Ok(()),
-            Err(_) => Err(Stop::NoMemory),
-        },
+        ReadItem::Name { module, name } => {
+            names.insert(*module, *name)?;
+            Ok(())
+        }
         _ => Ok(()),
     }
 }
@@ -139,23 +132,13 @@ pub fn push<'a>(items: &mut Items<'a>, item: ReadItem<'a>) -> Result<(), Stop>
     let opened = opened_by(&item, items.opened);
     let after = after_item(&item);
     let xy = gives_xy(&item) || items.xy;
-    match note_name(&mut items.names, &item) {
-        Ok(()) => {}
-        Err(_) => return Err(Stop::NoMemory),
-    }
-    match mark_item(&mut items.given, &item) {
-        Ok(()) => {}
-        Err(_) => return Err(Stop::NoMemory),
-    }
-    match items.list.push(item) {
-        Ok(()) => {
-            items.opened = opened;
-            items.after = after;
-            items.xy = xy;
-            Ok(())
-        }
-        Err(_) => Err(Stop::NoMemory),
-    }
+    note_name(&mut items.names, &item)?;
+    mark_item(&mut items.given, &item)?;
+    items.list.push(item)?;
+    items.opened = opened;
+    items.after = after;
+    items.xy = xy;
+    Ok(())
 }
 
 /// Whether a keyword may be given again: then it goes on with that module or test.

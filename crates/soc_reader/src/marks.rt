@@ -1,5 +1,5 @@
 // What was given, found by its subject and keyword.
-ghost use Rattle.std.specs.Prelude.{◌≡◌, ◌&&◌, nat_eq, OnOk, ◌||◌, true};
+ghost use Rattle.std.specs.Prelude.{◌≡◌, ◌&&◌, nat_eq, OnOk, OnErr, ◌||◌, true};
 ghost use Rattle.soc_reader.specs.Grammar.{same_subject, row};
 ghost use Rattle.soc_reader.specs.Marks.{is_marked};
 
@@ -16,10 +16,9 @@ pub fn is_in(marks: &IndexSet<Given>, given: Given) -> bool
 
 /// Notes that this was given.
 pub fn mark(marks: &mut IndexSet<Given>, given: Given) -> Result<(), Stop>
-    ensures { OnOk result ((s : Subject) (k : Key) → is_marked s k marks.new.keys ≡ ((same_subject s given.subject && nat_eq (row k) (row given.key)) || is_marked s k marks.old.keys)) }
+    ensures ok { OnOk result ((s : Subject) (k : Key) → is_marked s k marks.new.keys ≡ ((same_subject s given.subject && nat_eq (row k) (row given.key)) || is_marked s k marks.old.keys)) }
+    ensures memory { OnErr result (result ≡ Err Stop.NoMemory) }
 {
-    match marks.insert(given) {
-        Ok(_) => Ok(()),
-        Err(_) => Err(Stop::NoMemory),
-    }
+    marks.insert(given)?;
+    Ok(())
 }

@@ -282,9 +282,7 @@ fn step_length<'a>(
     let Some(length) = number_of(word) else {
         return Err(Stop::Refused);
     };
-    if read.push(length).is_err() {
-        return Err(Stop::NoMemory);
-    }
+    read.push(length)?;
     go_on_listing(items, subject, key, read, left)
 }
 
