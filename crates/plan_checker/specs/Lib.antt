@@ -6,6 +6,7 @@ pub mod Placing
 pub mod Clashes
 pub mod Meetings
 pub mod Layout
+pub mod Lengths
 pub mod Order
 pub mod Named
 pub mod Steps

@@ -37,19 +37,26 @@ use std::marker::Model;
 pub(crate) struct Rooms {
     /// For each module the place of its bus.
     pub(crate) marks: Vec<usize>,
-    /// For each module the place of its parent.
-    pub(crate) parents: Vec<usize>,
     /// The pairs of a module and a mode that have a wrapper, in the order of the plan.
     pub(crate) wrappers: IndexSet<(u64, bool)>,
     /// The start of each test, in the order of the plan.
     pub(crate) starts: IndexMap<TestId, u64>,
+    /// What the placed tests fill.
+    pub(crate) placed: PlacedRooms,
+}
+
+/// What the tests fill once their buses, wrappers and starts have passed.
+#[derive(Drop)]
+pub(crate) struct PlacedRooms {
+    /// For each module the place of its parent.
+    pub(crate) parents: Vec<usize>,
     /// The live tests as the plan places them, in the order of the chip.
     pub(crate) jobs: Vec<Job>,
     /// Where they begin, by their starts.
     pub(crate) begins: Vec<Begin>,
     /// The latest ends of the tests that a pass over the begins has seen, for each bus or each module.
     pub(crate) ends: Vec<u64>,
-    /// Their names, in the same order.
+    /// Their names, in the order of the jobs.
     pub(crate) names: IndexSet<TestId>,
     /// For each of them the place of its profile in the limits.
     pub(crate) profiles: Vec<usize>,
@@ -80,13 +87,13 @@ impl Model for Scratch {
     ghost view = { λ s. record {
       modules = length s.rooms.marks.items;
       pairs = length (keys s.rooms.wrappers) + spare s.rooms.wrappers;
-      tests = length s.rooms.jobs.items;
+      tests = length s.rooms.placed.jobs.items;
     } };
 
-    ghost invariant = { λ s. (length s.rooms.parents.items ≡ length s.rooms.marks.items) × (length s.rooms.profiles.items ≡ length s.rooms.jobs.items)
-        × (length s.rooms.begins.items ≡ length s.rooms.jobs.items) × (length s.rooms.ends.items ≡ length s.rooms.marks.items + WIRES_MOST + 1)
-        × (length s.rooms.jobs.items * EVENTS_EACH ≤ vec_capacity s.rooms.events)
-        × (length s.rooms.jobs.items ≤ index_map_len s.rooms.starts + spare_places s.rooms.starts) × (length s.rooms.jobs.items ≤ length (keys s.rooms.names) + spare s.rooms.names) };
+    ghost invariant = { λ s. (length s.rooms.placed.parents.items ≡ length s.rooms.marks.items) × (length s.rooms.placed.profiles.items ≡ length s.rooms.placed.jobs.items)
+        × (length s.rooms.placed.begins.items ≡ length s.rooms.placed.jobs.items) × (length s.rooms.placed.ends.items ≡ length s.rooms.marks.items + WIRES_MOST + 1)
+        × (length s.rooms.placed.jobs.items * EVENTS_EACH ≤ vec_capacity s.rooms.placed.events)
+        × (length s.rooms.placed.jobs.items ≤ index_map_len s.rooms.starts + spare_places s.rooms.starts) × (length s.rooms.placed.jobs.items ≤ length (keys s.rooms.placed.names) + spare s.rooms.placed.names) };
 }
 
 /// The number of live tests of a list.
@@ -168,17 +175,20 @@ impl Scratch {
         let Some(all_events) = tests.checked_mul(EVENTS_EACH) else {
             return Err(NoMemory);
         };
-        let rooms = Rooms {
-            marks: filled_room(alloc, 0, modules)?,
+        let placed = PlacedRooms {
             parents: filled_room(alloc, 0, modules)?,
-            wrappers: pair_room(alloc, pairs)?,
-            starts: start_room(alloc, tests)?,
             jobs: filled_room(alloc, NO_JOB, tests)?,
             begins: filled_room(alloc, NO_BEGIN, tests)?,
             ends: filled_room(alloc, 0, slots)?,
             names: name_room(alloc, tests)?,
             profiles: filled_room(alloc, 0, tests)?,
             events: event_room(alloc, all_events)?,
+        };
+        let rooms = Rooms {
+            marks: filled_room(alloc, 0, modules)?,
+            wrappers: pair_room(alloc, pairs)?,
+            starts: start_room(alloc, tests)?,
+            placed,
         };
         Ok(Scratch { rooms, bound })
     }

@@ -24,9 +24,10 @@ ghost use Rattle.plan_checker.specs.FaultValues.{fault_value};
 ghost use Rattle.plan_checker.specs.Marks.{AreBusesBy};
 ghost use Rattle.plan_checker.specs.Clashes.{AreParents};
 ghost use Rattle.plan_checker.specs.Layout.{IsLayout};
+ghost use Rattle.plan_checker.specs.Lengths.{AreAsLong};
 
 use crate::PlanFault;
-use crate::check::Rooms;
+use crate::check::{PlacedRooms, Rooms};
 use crate::clashes::{Apart, check_apart};
 use crate::events::{EVENTS_EACH, Event};
 use crate::jobs::{Job, Placing, fill_jobs};
@@ -135,39 +136,41 @@ fn check_ends(
 }
 
 /// The tests as the plan places them, once its buses, wrappers and starts have passed.
-fn check_placed(
-    limits: &Limits,
-    from: &Placing<'_>,
-    parents: &mut [usize],
-    jobs: &mut [Job],
-    begins: &mut [Begin],
-    ends: &mut [u64],
-    names: &mut IndexSet<TestId>,
-    profiles: &mut [usize],
-    events: &mut Vec<Event>,
-) -> Option<PlanFault>
+fn check_placed(limits: &Limits, from: &Placing<'_>, rooms: &mut PlacedRooms) -> Option<PlanFault>
     requires placing { IsPlacing from.now.soc.now from.now.plan.now from.now.starts.now.entries (keys from.now.wrappers.now) from.now.buses.now }
     requires kept { KeptTo (soc_value from.now.soc.now) (limits_value limits.now) (plan_value from.now.plan.now) 7 }
     requires limits { IsSoundLimits (soc_value from.now.soc.now) (limits_value limits.now) }
-    requires parents_fit { length parents.old ≡ length (soc_value from.now.soc.now).modules }
-    requires jobs_fit { length jobs.old ≡ length (jobs_of (soc_value from.now.soc.now) (plan_value from.now.plan.now)) }
-    requires begins_fit { length begins.old ≡ length jobs.old }
-    requires ends_fit { length ends.old ≡ length parents.old + WIRES_MOST + 1 }
-    requires names_fit { length jobs.old ≤ length (keys names.old) + spare names.old }
-    requires profiles_fit { length profiles.old ≡ length jobs.old }
-    requires events_fit { length jobs.old * EVENTS_EACH ≤ vec_capacity events.old }
+    requires parents_fit { length rooms.old.parents.items ≡ length (soc_value from.now.soc.now).modules }
+    requires jobs_fit { length rooms.old.jobs.items ≡ length (jobs_of (soc_value from.now.soc.now) (plan_value from.now.plan.now)) }
+    requires begins_fit { length rooms.old.begins.items ≡ length rooms.old.jobs.items }
+    requires ends_fit { length rooms.old.ends.items ≡ length rooms.old.parents.items + WIRES_MOST + 1 }
+    requires names_fit { length rooms.old.jobs.items ≤ length (keys rooms.old.names) + spare rooms.old.names }
+    requires profiles_fit { length rooms.old.profiles.items ≡ length rooms.old.jobs.items }
+    requires events_fit { length rooms.old.jobs.items * EVENTS_EACH ≤ vec_capacity rooms.old.events }
     ensures verdict { IsVerdict (soc_value from.now.soc.now) (limits_value limits.now) (plan_value from.now.plan.now) 13 result }
-    ensures names_left { length jobs.old ≤ length (keys names.new) + spare names.new }
-    ensures events_left { vec_capacity events.old ≤ vec_capacity events.new }
+    ensures long { AreAsLong rooms.old rooms.new }
+    ensures names_left { length rooms.old.jobs.items ≤ length (keys rooms.new.names) + spare rooms.new.names }
+    ensures events_left { vec_capacity rooms.old.events ≤ vec_capacity rooms.new.events }
 {
+    let parents: &mut [usize] = &mut rooms.parents;
+    let jobs: &mut [Job] = &mut rooms.jobs;
+    let begins: &mut [Begin] = &mut rooms.begins;
+    let profiles: &mut [usize] = &mut rooms.profiles;
     fill_parents(from.soc, parents);
     fill_jobs(from, jobs);
     fill_begins(jobs, begins);
-    fill_names(jobs, names);
-    fill_profiles(limits, jobs, names, profiles);
-    match check_meetings(parents, jobs, begins, ends) {
+    fill_names(jobs, &mut rooms.names);
+    fill_profiles(limits, jobs, &rooms.names, profiles);
+    match check_meetings(parents, jobs, begins, &mut rooms.ends) {
         Some(fault) => Some(fault),
-        None => check_ends(limits, from.plan, jobs, names, profiles, events),
+        None => check_ends(
+            limits,
+            from.plan,
+            jobs,
+            &rooms.names,
+            profiles,
+            &mut rooms.events,
+        ),
     }
 }
 
@@ -182,27 +185,23 @@ pub(crate) fn check_rules(
     requires limits { IsSoundLimits (soc_value soc.now) (limits_value limits.now) }
     requires early { StartEarly plan.now.starts.items }
     requires marks_fit { length rooms.old.marks.items ≡ length (soc_value soc.now).modules }
-    requires parents_fit { length rooms.old.parents.items ≡ length (soc_value soc.now).modules }
+    requires parents_fit { length rooms.old.placed.parents.items ≡ length (soc_value soc.now).modules }
     requires pairs_fit { length (used_pairs (soc_value soc.now)) ≤ length (keys rooms.old.wrappers) + spare rooms.old.wrappers }
     requires starts_fit { length (live_ids (soc_value soc.now)) ≤ index_map_len rooms.old.starts + spare_places rooms.old.starts }
-    requires jobs_fit { length rooms.old.jobs.items ≡ length (jobs_of (soc_value soc.now) (plan_value plan.now)) }
-    requires begins_fit { length rooms.old.begins.items ≡ length rooms.old.jobs.items }
-    requires ends_fit { length rooms.old.ends.items ≡ length rooms.old.marks.items + WIRES_MOST + 1 }
-    requires names_fit { length rooms.old.jobs.items ≤ length (keys rooms.old.names) + spare rooms.old.names }
-    requires profiles_fit { length rooms.old.profiles.items ≡ length rooms.old.jobs.items }
-    requires events_fit { length rooms.old.jobs.items * EVENTS_EACH ≤ vec_capacity rooms.old.events }
+    requires jobs_fit { length rooms.old.placed.jobs.items ≡ length (jobs_of (soc_value soc.now) (plan_value plan.now)) }
+    requires begins_fit { length rooms.old.placed.begins.items ≡ length rooms.old.placed.jobs.items }
+    requires ends_fit { length rooms.old.placed.ends.items ≡ length rooms.old.marks.items + WIRES_MOST + 1 }
+    requires names_fit { length rooms.old.placed.jobs.items ≤ length (keys rooms.old.placed.names) + spare rooms.old.placed.names }
+    requires profiles_fit { length rooms.old.placed.profiles.items ≡ length rooms.old.placed.jobs.items }
+    requires events_fit { length rooms.old.placed.jobs.items * EVENTS_EACH ≤ vec_capacity rooms.old.placed.events }
     ensures good { IfNone result (IsGood (soc_value soc.now) (limits_value limits.now) (plan_value plan.now)) }
     ensures fault { IfSome result (λ f. IsFault (soc_value soc.now) (limits_value limits.now) (plan_value plan.now) (fault_value f)) }
     ensures pairs_left { length (used_pairs (soc_value soc.now)) ≤ length (keys rooms.new.wrappers) + spare rooms.new.wrappers }
     ensures starts_left { length (live_ids (soc_value soc.now)) ≤ index_map_len rooms.new.starts + spare_places rooms.new.starts }
-    ensures names_left { length rooms.old.jobs.items ≤ length (keys rooms.new.names) + spare rooms.new.names }
-    ensures events_left { length rooms.old.jobs.items * EVENTS_EACH ≤ vec_capacity rooms.new.events }
+    ensures names_left { length rooms.old.placed.jobs.items ≤ length (keys rooms.new.placed.names) + spare rooms.new.placed.names }
+    ensures events_left { length rooms.old.placed.jobs.items * EVENTS_EACH ≤ vec_capacity rooms.new.placed.events }
     ensures marks_long { length rooms.new.marks.items ≡ length rooms.old.marks.items }
-    ensures parents_long { length rooms.new.parents.items ≡ length rooms.old.parents.items }
-    ensures jobs_long { length rooms.new.jobs.items ≡ length rooms.old.jobs.items }
-    ensures begins_long { length rooms.new.begins.items ≡ length rooms.old.begins.items }
-    ensures ends_long { length rooms.new.ends.items ≡ length rooms.old.ends.items }
-    ensures profiles_long { length rooms.new.profiles.items ≡ length rooms.old.profiles.items }
+    ensures long { AreAsLong rooms.old.placed rooms.new.placed }
 {
     let marks: &mut [usize] = &mut rooms.marks;
     match check_buses(soc, limits, plan, marks) {
@@ -224,17 +223,7 @@ pub(crate) fn check_rules(
                     wrappers: &rooms.wrappers,
                     buses: marks,
                 };
-                check_placed(
-                    limits,
-                    &from,
-                    &mut rooms.parents,
-                    &mut rooms.jobs,
-                    &mut rooms.begins,
-                    &mut rooms.ends,
-                    &mut rooms.names,
-                    &mut rooms.profiles,
-                    &mut rooms.events,
-                )
+                check_placed(limits, &from, &mut rooms.placed)
             }
         },
     }

@@ -1,4 +1,4 @@
-use Rattle.std.proofs.Common.{length, arith}
+use Rattle.std.proofs.Common.{◌≡◌, ◌∙◌, ap, length, arith}
 use Rattle.soc_model.specs.Chips.{soc_value}
 use Rattle.plan_model.specs.Views.{limits_value, plan_value}
 use Rattle.plan_checker.proofs.Laying.{layout}
@@ -9,7 +9,9 @@ pub fill_names-requires-clause-apart : goal.fill_names-requires-clause-apart
 fill_names-requires-clause-apart c = jobs_apart (soc_value c.args.from.now.soc.now) (plan_value c.args.from.now.plan.now) c.fill_jobs.new.jobs c.requires.placing.sound c.fill_jobs.ensures
 
 pub check_meetings-requires : goal.check_meetings-requires
-check_meetings-requires c = layout (soc_value c.args.from.now.soc.now) (limits_value c.args.limits.now) (plan_value c.args.from.now.plan.now) c.fill_parents.new.parents c.fill_jobs.new.jobs c.fill_begins.new.begins (length c.args.ends.now) c.requires.limits c.requires.kept c.fill_jobs.ensures c.fill_parents.ensures (omega (arith, c.fill_parents.auto.parents, c.requires.parents_fit)) c.fill_begins.ensures (omega (arith, c.fill_parents.auto.parents, c.requires.ends_fit))
+check_meetings-requires c =
+    let parents : length c.fill_parents.new.parents ≡ length c.args.rooms.now.parents.items = c.fill_parents.auto.parents ∙ ap length c.deref_mut-parents.ensures.value in
+    layout (soc_value c.args.from.now.soc.now) (limits_value c.args.limits.now) (plan_value c.args.from.now.plan.now) c.fill_parents.new.parents c.fill_jobs.new.jobs c.fill_begins.new.begins (length c.deref_mut.result.now) c.requires.limits c.requires.kept c.fill_jobs.ensures c.fill_parents.ensures (parents ∙ c.requires.parents_fit) c.fill_begins.ensures (omega (arith, parents, ap length c.deref_mut.ensures.value, c.requires.ends_fit))
 
 pub check_ends-requires-clause-load : goal.check_ends-requires-clause-load
 check_ends-requires-clause-load c = λ most limit. load_is (soc_value c.args.from.now.soc.now) (limits_value c.args.limits.now) (plan_value c.args.from.now.plan.now) c.fill_jobs.new.jobs c.fill_profiles.new.profiles most c.requires.placing.sound c.requires.limits (rw c.requires.placing.starts_are at c.requires.placing.early) c.fill_jobs.ensures c.fill_profiles.ensures limit
