@@ -1,5 +1,5 @@
 -- Tests are taken one by one, each the longest that may be taken next.
-use Rattle.std.proofs.Common.{◌≡◌, ◌⊎◌, inl, inr, ℕ, suc, zero, ◌+◌, ◌<◌, ◌≤◌, Bool, true, false, Some, List, [], ◌∷◌, ◌++◌, length, get_or, refl, sym, ◌∙◌, ap, subst, arith, length-append}
+use Rattle.std.proofs.Common.{◌≡◌, inl, inr, ℕ, suc, ◌<◌, true, false, Some, List, [], ◌∷◌, ◌++◌, length, get_or, sym, ◌∙◌, ap, subst, arith, length-append}
 use Rattle.std.specs.Prelude.{slice_get, slice_index_or}
 use Rattle.std.specs.List.{All, remove}
 use Rattle.std.proofs.lemmas.Bool.{cases_Bool, cases_order}
@@ -9,8 +9,8 @@ use Rattle.resource_table.specs.Jobs.{JobValue, cycles_of, IsSoundJob}
 use Rattle.resource_table.proofs.Placed.{each_push}
 use Rattle.schedule_search.specs.declared.prefix.Prefix.{Prefix}
 use Rattle.schedule_search.specs.Orders.{IsReady, GoesFirst, IsLongest, IsFirstOrder}
-use Rattle.schedule_search.specs.Walks.{goes_before, is_in, may_follow}
-use Rattle.schedule_search.specs.Prefixes.{outside, missing_of, AreMissing, IsAt}
+use Rattle.schedule_search.specs.Walks.{goes_before, is_in}
+use Rattle.schedule_search.specs.Prefixes.{outside, AreMissing, IsAt}
 use Rattle.schedule_search.specs.Firsts.{AllWait, IsFirstFree, IsUnderWay}
 use Rattle.schedule_search.proofs.Comparing.{goes_to, in_order_at}
 use Rattle.schedule_search.proofs.Following.{ready_from, ready_to, in_to, not_in}

@@ -1,4 +1,3 @@
-use Rattle.std.proofs.Common.{sym, ap, subst, length}
 use Rattle.resource_table.specs.Jobs.{job_value}
 use Rattle.schedule_search.proofs.Taking.{none_taken, rest_known, all_taken}
 use Rattle.schedule_search.proofs.order.first_by.Goals as goal

@@ -1,4 +1,4 @@
-use Rattle.std.proofs.Common.{◌≡◌, ◌∙◌, ℕ, ◌++◌, ◌∷◌, [], List, subst}
+use Rattle.std.proofs.Common.{◌∙◌, ℕ, ◌++◌, ◌∷◌, [], List, subst}
 use Rattle.resource_table.specs.Jobs.{job_value}
 use Rattle.schedule_search.specs.Prefixes.{IsAt}
 use Rattle.schedule_search.proofs.Predecessors.{any_default}
