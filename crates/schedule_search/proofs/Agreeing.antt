@@ -1,5 +1,5 @@
 -- Complete searches of a job find the same.
-use Rattle.std.proofs.Common.{◌≡◌, ◌⊎◌, inl, inr, ℕ, ◌<◌, ◌≤◌, true, false, true≢false, List, [], ◌∷◌, length, map, refl, sym, ◌∙◌, ap, subst, arith}
+use Rattle.std.proofs.Common.{◌≡◌, inl, inr, ℕ, true, false, true≢false, List, [], ◌∷◌, length, map, refl, sym, ◌∙◌, ap, subst, arith}
 use Rattle.std.proofs.lemmas.Bool.{cases_order, eq-eqb}
 use Rattle.resource_table.specs.declared.Placement.{Placement}
 use Rattle.resource_table.specs.Jobs.{JobValue}

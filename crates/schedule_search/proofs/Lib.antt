@@ -1,5 +1,4 @@
 pub mod Predecessors
-pub mod Marking
 pub mod Comparing
 pub mod Following
 pub mod PlacedOrders
@@ -16,6 +15,7 @@ pub mod Stretches
 pub mod Explorings
 pub mod Searching
 pub mod WalkOrders
+pub mod Taking
 pub mod WalkCounts
 pub mod Agreeing
 pub mod Estimates

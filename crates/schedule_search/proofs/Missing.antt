@@ -127,7 +127,7 @@ missing-none path t (p ∷ pairs) all = elim (cases_Bool (nat_eq p.1 t)) [
       omega (arith, ih, here, sum_by-cons (one_missing path t) p pairs)
 ]
 
-follows_from : (job : JobValue) (path : List ℕ) (t : ℕ) → is_in path t ≡ false → missing_of job path t ≡ 0 → may_follow job path t ≡ true
+pub follows_from : (job : JobValue) (path : List ℕ) (t : ℕ) → is_in path t ≡ false → missing_of job path t ≡ 0 → may_follow job path t ≡ true
 follows_from job path t new none = and_from (not (is_in path t)) (list_all (is_in path) (tests_before t job.before)) (ap not new) (none-missing path t job.before none)
 
 follows_not : (job : JobValue) (path : List ℕ) (t : ℕ) → (missing_of job path t ≡ 0 → ⊥) → may_follow job path t ≡ false
@@ -139,6 +139,13 @@ follows_not job path t some = elim (cases_Bool (list_all (is_in path) (tests_bef
     none : (b : Bool) → (b && false) ≡ false
     none true = refl
     none false = refl
+
+pub follows_none : (job : JobValue) (path : List ℕ) (t : ℕ) → may_follow job path t ≡ true → missing_of job path t ≡ 0
+follows_none job path t may = missing-none path t job.before (second (not (is_in path t)) (list_all (is_in path) (tests_before t job.before)) may)
+  where
+    second : (a b : Bool) → (a && b) ≡ true → b ≡ true
+    second true b e = e
+    second false b e = absurd cc
 
 -- as the code tells it
 some_or_none : (b w : Bool) → w ≡ not b → w ≡ true → b ≡ false

@@ -1,10 +1,9 @@
 -- The jobs that the crate's tests search.
-use Rattle.std.proofs.Common.{◌≡◌, ℕ, ◌<◌, ◌≤◌, ◌^◌, None, Some, List, [], ◌∷◌, length, map, refl, ap, ◌∙◌, arith}
+use Rattle.std.proofs.Common.{ℕ, ◌<◌, ◌≤◌, ◌^◌, None, Some, List, [], ◌∷◌, length, refl, arith}
 use Rattle.std.specs.List.{All, sum_by}
 use Rattle.std.proofs.lemmas.List.Elements.{All-nil, All-cons}
 use Rattle.soc_model.specs.declared.TheConstants.{POWER_MOST, NUMBER_WORD_MOST}
-use Rattle.resource_table.specs.declared.JobTest.{JobTest}
-use Rattle.resource_table.specs.Jobs.{TestValue, JobValue, test_value, IsSoundTest, IsSoundJob}
+use Rattle.resource_table.specs.Jobs.{TestValue, JobValue, IsSoundTest, IsSoundJob}
 
 abbrev pub self_test_of : (place cycles power : ℕ) → TestValue
 self_test_of place cycles power = record { id = record { «module» = 1; test = 1 }; place = place; parent = None; bus = None; cycles = cycles; steps = (0, power) ∷ [] }
@@ -38,40 +37,11 @@ free_sound tests most all short = record {
   acyclic = ((λ n. 0), (λ a b there. absurd (omega (arith, there.1))));
 }
 
-abbrev pub two_tests : List TestValue
-two_tests = self_test_of 0 5 3 ∷ self_test_of 1 5 4 ∷ []
-
-pub pair_sound : IsSoundJob (free_job two_tests 6)
-pair_sound = free_sound two_tests 6
-    (All-cons (IsSoundTest (Some 6)) (self_test_of 0 5 3) (self_test_of 1 5 4 ∷ []) (one_step 6 0 5 3 (omega arith) (omega arith) (omega arith))
-    (All-cons (IsSoundTest (Some 6)) (self_test_of 1 5 4) [] (one_step 6 1 5 4 (omega arith) (omega arith) (omega arith)) (All-nil (IsSoundTest (Some 6))))) (omega arith)
-
-abbrev pub unequal_tests : List TestValue
-unequal_tests = self_test_of 0 5 3 ∷ self_test_of 1 7 3 ∷ []
-
-pub unequal_sound : IsSoundJob (free_job unequal_tests 6)
-unequal_sound = free_sound unequal_tests 6
-    (All-cons (IsSoundTest (Some 6)) (self_test_of 0 5 3) (self_test_of 1 7 3 ∷ []) (one_step 6 0 5 3 (omega arith) (omega arith) (omega arith))
-    (All-cons (IsSoundTest (Some 6)) (self_test_of 1 7 3) [] (one_step 6 1 7 3 (omega arith) (omega arith) (omega arith)) (All-nil (IsSoundTest (Some 6))))) (omega arith)
-
-abbrev P : TestValue → Type 0
-P = IsSoundTest (Some 2)
+-- two self tests under a limit of 6
+pub two_sound : (a b p q : ℕ) → 1 ≤ a → a ≤ 9 → 1 ≤ b → b ≤ 9 → p ≤ 6 → q ≤ 6 → IsSoundJob (free_job (self_test_of 0 a p ∷ self_test_of 1 b q ∷ []) 6)
+two_sound a b p q one nine one' nine' six six' = free_sound (self_test_of 0 a p ∷ self_test_of 1 b q ∷ []) 6
+    (All-cons (IsSoundTest (Some 6)) (self_test_of 0 a p) (self_test_of 1 b q ∷ []) (one_step 6 0 a p one six (omega (arith, six)))
+    (All-cons (IsSoundTest (Some 6)) (self_test_of 1 b q) [] (one_step 6 1 b q one' six' (omega (arith, six'))) (All-nil (IsSoundTest (Some 6))))) (omega (arith, nine, nine'))
 
 abbrev pub five_tests : List TestValue
 five_tests = self_test_of 0 3 1 ∷ self_test_of 1 3 1 ∷ self_test_of 2 2 1 ∷ self_test_of 3 2 1 ∷ self_test_of 4 2 1 ∷ []
-
-pub five_sound : IsSoundJob (free_job five_tests 2)
-five_sound = free_sound five_tests 2
-    (All-cons P (self_test_of 0 3 1) (self_test_of 1 3 1 ∷ self_test_of 2 2 1 ∷ self_test_of 3 2 1 ∷ self_test_of 4 2 1 ∷ []) (one_step 2 0 3 1 (omega arith) (omega arith) (omega arith))
-    (All-cons P (self_test_of 1 3 1) (self_test_of 2 2 1 ∷ self_test_of 3 2 1 ∷ self_test_of 4 2 1 ∷ []) (one_step 2 1 3 1 (omega arith) (omega arith) (omega arith))
-    (All-cons P (self_test_of 2 2 1) (self_test_of 3 2 1 ∷ self_test_of 4 2 1 ∷ []) (one_step 2 2 2 1 (omega arith) (omega arith) (omega arith))
-    (All-cons P (self_test_of 3 2 1) (self_test_of 4 2 1 ∷ []) (one_step 2 3 2 1 (omega arith) (omega arith) (omega arith))
-    (All-cons P (self_test_of 4 2 1) [] (one_step 2 4 2 1 (omega arith) (omega arith) (omega arith)) (All-nil P)))))) (omega arith)
-
-pub five_are : (a b c d e : JobTest) → test_value a ≡ self_test_of 0 3 1 → test_value b ≡ self_test_of 1 3 1 → test_value c ≡ self_test_of 2 2 1 → test_value d ≡ self_test_of 3 2 1 → test_value e ≡ self_test_of 4 2 1 → map test_value (a ∷ b ∷ c ∷ d ∷ e ∷ []) ≡ five_tests
-five_are a b c d e one two three four five =
-    ap (λ (t : TestValue). t ∷ test_value b ∷ test_value c ∷ test_value d ∷ test_value e ∷ []) one
-    ∙ ap (λ (t : TestValue). self_test_of 0 3 1 ∷ t ∷ test_value c ∷ test_value d ∷ test_value e ∷ []) two
-    ∙ ap (λ (t : TestValue). self_test_of 0 3 1 ∷ self_test_of 1 3 1 ∷ t ∷ test_value d ∷ test_value e ∷ []) three
-    ∙ ap (λ (t : TestValue). self_test_of 0 3 1 ∷ self_test_of 1 3 1 ∷ self_test_of 2 2 1 ∷ t ∷ test_value e ∷ []) four
-    ∙ ap (λ (t : TestValue). self_test_of 0 3 1 ∷ self_test_of 1 3 1 ∷ self_test_of 2 2 1 ∷ self_test_of 3 2 1 ∷ t ∷ []) five

@@ -1,5 +1,5 @@
 -- How many entries a walk has.
-use Rattle.std.proofs.Common.{◌≡◌, inl, inr, ℕ, zero, suc, ◌+◌, ◌-◌, ◌*◌, ◌<◌, ◌≤◌, Bool, true, false, true≢false, Some, List, [], ◌∷◌, ◌++◌, length, refl, sym, ◌∙◌, ap, subst, arith, length-append, mul-suc}
+use Rattle.std.proofs.Common.{◌≡◌, inl, inr, ℕ, zero, suc, ◌+◌, ◌-◌, ◌*◌, ◌≤◌, Bool, true, Some, List, [], ◌∷◌, ◌++◌, length, refl, ◌∙◌, ap, arith, length-append, mul-suc}
 use Rattle.std.specs.Prelude.{slice_get}
 use Rattle.std.specs.List.{filter, flat_map}
 use Rattle.std.proofs.Math.Nat.{mul_assoc, mul-add, mul_comm, mul-le-mul_right}
@@ -61,8 +61,8 @@ walk_few job (suc more) prefix left =
     let is : filter (may_follow job prefix) (outside job prefix) ≡ tests = may_outside job prefix in
     let few : length tests ≤ suc more = omega (arith, filter_few (may_follow job prefix) (outside job prefix), ap length is, left) in
     let all : length (flat_map (below job more prefix) tests) ≤ length tests * prefixes more = flat_few (below job more prefix) (prefixes more) tests (λ k t at.
-        let f = from_filter (may_follow job prefix) (outside job prefix) k t (ap (λ (l : List ℕ). slice_get l k) is ∙ at) in
-        walk_few job more (prefix ++ t ∷ []) (omega (arith, outside_less job prefix f.0 t f.1, left))) in
+    let f = from_filter (may_follow job prefix) (outside job prefix) k t (ap (λ (l : List ℕ). slice_get l k) is ∙ at) in
+    walk_few job more (prefix ++ t ∷ []) (omega (arith, outside_less job prefix f.0 t f.1, left))) in
     let most : length tests * prefixes more ≤ suc more * prefixes more = mul-le-mul_right (prefixes more) few in
     omega (arith, all, most, prefixes_more more)
 

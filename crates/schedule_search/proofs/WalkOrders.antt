@@ -1,11 +1,11 @@
 -- The entries of a walk: in which order they stand, and that they are the beginnings of orders.
-use Rattle.std.proofs.Common.{◌≡◌, ◌⊎◌, inl, inr, ℕ, zero, suc, ◌+◌, ◌<◌, ◌≤◌, Bool, true, false, true≢false, Some, List, [], ◌∷◌, ◌++◌, length, get_or, refl, sym, ◌∙◌, ap, subst, arith, append_assoc, length-append}
+use Rattle.std.proofs.Common.{◌≡◌, ◌⊎◌, inl, inr, ℕ, zero, suc, ◌<◌, true, false, true≢false, Some, List, [], ◌∷◌, ◌++◌, length, get_or, refl, sym, ◌∙◌, ap, subst, arith, append_assoc, length-append}
 use Rattle.std.specs.Prelude.{slice_get}
-use Rattle.std.specs.List.{All, Contains, filter, flat_map}
-use Rattle.std.proofs.lemmas.Bool.{cases_Bool, cases_eq, cases_order}
+use Rattle.std.specs.List.{Contains, filter, flat_map}
+use Rattle.std.proofs.lemmas.Bool.{cases_Bool, cases_order}
 use Rattle.std.proofs.lemmas.List.{append-nil}
 use Rattle.std.proofs.lemmas.List.Elements.{All-contains}
-use Rattle.std.proofs.lemmas.Option.{slice_get_within, get_or_from_slice_get}
+use Rattle.std.proofs.lemmas.Option.{slice_get_within}
 use Rattle.plan_model.specs.Rules.{Each}
 use Rattle.plan_model.proofs.Lists.{contains_at, at_contains, from_append, from_flat_map}
 use Rattle.resource_table.specs.Jobs.{JobValue, Precedes, IsSoundJob}
@@ -16,7 +16,7 @@ use Rattle.schedule_search.specs.Orders.{IsReady, IsTopological}
 use Rattle.schedule_search.specs.Walks.{goes_before, stands_before, by_length, is_in, may_follow, walk_from, walk}
 use Rattle.schedule_search.specs.WalkSizes.{ComesBefore}
 use Rattle.schedule_search.specs.Prefixes.{outside}
-use Rattle.schedule_search.proofs.Comparing.{AreInOrder, first_in_order, same_stays, other_way, stays_one, after_prefix, differ_here}
+use Rattle.schedule_search.proofs.Comparing.{AreInOrder, first_in_order, same_stays, stays_one, after_prefix, differ_here}
 use Rattle.schedule_search.proofs.Following.{in_from, in_to, not_in}
 use Rattle.schedule_search.proofs.Outside.{order_filter, outside_at, outside_has, outside_less, from_all}
 use Rattle.schedule_search.proofs.Walking.{below, extends_in, in_walk_ready}
@@ -59,12 +59,13 @@ branches_ordered job more prefix (t ∷ tests) order each =
 
 walk_ordered : (job : JobValue) (more : ℕ) (prefix : List ℕ) → AreOrdered job (walk_from job more prefix)
 walk_ordered job zero prefix = (λ k b at. absurd cc, tt)
-walk_ordered job (suc more) prefix =
-    (λ k b at.
-    let f = from_flat_map (below job more prefix) (filter (may_follow job prefix) (by_length job)) k b at in
-    let e = extends_in job more (prefix ++ f.1 ∷ []) b (there_in (below job more prefix f.1) f.2 b f.4) in
-    inl (f.1, e.0, e.1 ∙ append_assoc prefix (f.1 ∷ []) e.0),
-    branches_ordered job more prefix (filter (may_follow job prefix) (by_length job)) (order_filter job (may_follow job prefix) (by_length job) (first_in_order job (length job.tests))) (λ t. walk_ordered job more (prefix ++ t ∷ [])))
+walk_ordered job (suc more) prefix = (
+  λ k b at.
+      let f = from_flat_map (below job more prefix) (filter (may_follow job prefix) (by_length job)) k b at in
+      let e = extends_in job more (prefix ++ f.1 ∷ []) b (there_in (below job more prefix f.1) f.2 b f.4) in
+      inl (f.1, e.0, e.1 ∙ append_assoc prefix (f.1 ∷ []) e.0),
+  branches_ordered job more prefix (filter (may_follow job prefix) (by_length job)) (order_filter job (may_follow job prefix) (by_length job) (first_in_order job (length job.tests))) (λ t. walk_ordered job more (prefix ++ t ∷ [])),
+)
 
 pub walk_in_order : (job : JobValue) (i j : ℕ) (a b : List ℕ) → i < j → slice_get (walk job) i ≡ Some a → slice_get (walk job) j ≡ Some b → ComesBefore job a b
 walk_in_order job i j a b less at at' = ordered_at job (walk job) i j a b (walk_ordered job (length job.tests) []) less at at'
@@ -106,11 +107,14 @@ some_out path (x ∷ xs) = elim (cases_Bool (is_in path x)) [
 pub ready_below : (job : JobValue) (path : List ℕ) → IsSoundJob job → (rank : ℕ → ℕ) → ((a b : ℕ) → Precedes job a b → rank a < rank b) → (bound test : ℕ) → rank test < bound → test < length job.tests → is_in path test ≡ false → (t : ℕ) × IsReady job path t
 ready_below job path sound rank grows zero test low inside out = absurd (omega (arith, low))
 ready_below job path sound rank grows (suc bound) test low inside out = elim (some_out path (tests_before test job.before)) [
-  | inl all ↦ (test, record {
-    in_job = inside;
-    new = λ there. true≢false (sym (in_from path test there) ∙ out);
-    after = λ earlier before. in_to path earlier (all earlier (before_has job.before earlier test before));
-  })
+  | inl all ↦ (
+    test,
+    record {
+      in_job = inside;
+      new = λ there. true≢false (sym (in_from path test there) ∙ out);
+      after = λ earlier before. in_to path earlier (all earlier (before_has job.before earlier test before));
+    },
+  )
   | inr some ↦
       let before : Precedes job some.0 test = before_from job.before some.0 test some.1 in
       let lower = grows some.0 test before in
@@ -123,13 +127,16 @@ first_of [] n long = absurd (omega (arith, long))
 first_of (x ∷ xs) n long = refl
 
 extended : (job : JobValue) (left : ℕ) (entry : List ℕ) → IsSoundJob job → length (outside job entry) ≡ left → Each (IsReady job) entry → (rest : List ℕ) × IsTopological job (entry ++ rest)
-extended job zero entry sound none ready = ([], subst (IsTopological job) (sym (append-nil entry)) (record {
-  ready = ready;
-  whole = λ test inside. elim (cases_Bool (is_in entry test)) [
-    | inl yes' ↦ in_to entry test yes'
-    | inr out ↦ absurd (let at = outside_has job entry test inside out in omega (arith, slice_get_within (outside job entry) at.0 test at.1, none))
-  ];
-}))
+extended job zero entry sound none ready = (
+  [],
+  subst (IsTopological job) (sym (append-nil entry)) (record {
+    ready = ready;
+    whole = λ test inside. elim (cases_Bool (is_in entry test)) [
+      | inl yes' ↦ in_to entry test yes'
+      | inr out ↦ absurd (let at = outside_has job entry test inside out in omega (arith, slice_get_within (outside job entry) at.0 test at.1, none))
+    ];
+  }),
+)
 extended job (suc left) entry sound some ready =
     let x : ℕ = get_or (outside job entry) 0 0 in
     let out = outside_at job entry 0 x (first_of (outside job entry) left some) in

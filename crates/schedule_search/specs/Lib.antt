@@ -1,5 +1,5 @@
 pub mod Orders
-pub mod Marks
+pub mod Firsts
 pub mod OrderCycles
 pub mod Walks
 pub mod Prefixes

@@ -21,3 +21,6 @@ pub use order_laws::{
     walks_are_short, walks_have_all_orders,
 };
 pub use search::{Found, Search};
+
+#[cfg(test)]
+mod tests;

@@ -4,6 +4,7 @@ ghost use Rattle.std.specs.List.{All, remove};
 ghost use Rattle.resource_table.specs.Jobs.{JobValue, job_value};
 ghost use Rattle.schedule_search.specs.Walks.{is_in};
 ghost use Rattle.schedule_search.specs.Prefixes.{outside as outside_of, times_in, AreLess, AreInRange, HasPrefixRoom, IsAt, EndsNew};
+ghost use Rattle.schedule_search.specs.Firsts.{IsFirstFree, IsUnderWay};
 ghost use Rattle.schedule_search.specs.Progress.{AreTries};
 
 use crate::lists::{copy_to, room_for};
@@ -90,6 +91,19 @@ impl Prefix {
     {
         self.tests.push_reserved(test);
         count_down(&mut self.missing, earlier_than(&tries.after, test));
+    }
+
+    /// Appends the test at a place of those that are left.
+    pub(crate) fn take(&mut self, job: &Job, tries: &Tries, place: usize)
+        requires tries { AreTries (job_value job.now) tries.now }
+        requires in_range { AreInRange (job_value job.now) }
+        requires way { IsUnderWay (job_value job.now) self.old }
+        requires free { IsFirstFree self.old.rest.items self.old.missing.items place }
+        ensures way { IsUnderWay (job_value job.now) self.new }
+        ensures fewer { length self.new.rest.items < length self.old.rest.items }
+    {
+        let test = self.rest.remove(place);
+        self.add(job, tries, test);
     }
 
     /// Takes the last test back; it isn't left yet.

@@ -18,7 +18,7 @@ ghost use Rattle.schedule_search.specs.Begun.{IsBegun, IsImproved, IsSearched};
 use crate::ahead::{Ahead, Estimate};
 use crate::exchanges::improve;
 use crate::lists::{copy_to, room_for};
-use crate::order::first_order;
+use crate::order::first_by;
 use crate::placing::order_cycles;
 use crate::prefix::Prefix;
 use crate::starts::list_starts;
@@ -230,14 +230,14 @@ impl<'a, F: Fn(&Table<'_>, usize) -> u64> Search<'a, F> {
         requires { IsSoundJob (job_value job.now) }
         ensures { IfOk result (λ s. s ≡ record { job = job_value job.now; budget = budget; ahead = ahead }) }
     {
-        let tests = job.tests.len();
+        let tries = tries_of(alloc, job, budget)?;
         Ok(Search {
             job,
             table: Table::new(alloc, job)?,
             ahead,
-            tries: tries_of(alloc, job, budget)?,
-            first: first_order(alloc, job)?,
-            room: Room::new(alloc, tests)?,
+            first: first_by(alloc, job, &tries)?,
+            tries,
+            room: Room::new(alloc, job.tests.len())?,
         })
     }
 
