@@ -2,6 +2,7 @@ pub mod Places
 pub mod Loads
 pub mod Steps
 pub mod Spans
+pub mod Rewinding
 pub mod Placed
 pub mod Fitting
 pub mod KeptTables
@@ -15,4 +16,5 @@ pub mod Crowds
 pub mod Befores
 pub mod Ready
 pub mod Schedules
+pub mod Bounds
 mod Rows

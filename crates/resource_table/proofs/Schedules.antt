@@ -5,10 +5,10 @@ use Rattle.std.specs.List.{All, sum_by}
 use Rattle.std.proofs.lemmas.Bool.{cases_Bool, cases_order, eqb-true, leb-true, ltb-true, le-ltb, and_parts, and_right}
 use Rattle.std.proofs.lemmas.List.{take_all, take_more}
 use Rattle.std.proofs.lemmas.List.Elements.{All-head, All-tail}
-use Rattle.std.proofs.lemmas.List.Sums.{sum_by-cons, sum_by_push}
+use Rattle.std.proofs.lemmas.List.Sums.{sum_by-cons, sum_by_push, sum_by-append}
 use Rattle.std.proofs.lemmas.Option.{slice_get_within, slice_get-get_or}
 use Rattle.plan_model.specs.Plans.{step_power}
-use Rattle.plan_model.proofs.Lists.{any_at, from_append}
+use Rattle.plan_model.proofs.Lists.{any_at, from_append, in_append_left}
 use Rattle.plan_model.proofs.Greatest.{le-greatest_at}
 use Rattle.resource_table.specs.declared.Placement.{Placement}
 use Rattle.resource_table.specs.Jobs.{TestValue, JobValue, test_at, no_test, cycles_of, Precedes, IsSoundJob}
@@ -103,6 +103,18 @@ power_over job [] c over = refl
 power_over job (p ∷ placed) c over =
     let none : drawn job c p ≡ 0 = rw (le-ltb c (end_of job p) (over 0 p refl), and_right (nat_le p.start c) false refl) refl in
     omega (arith, sum_by-cons (drawn job c) p placed, none, power_over job placed c (λ i q at. over (suc i) q at))
+
+if_fewer : (o : Option ℕ) (a b : ℕ) → a ≤ b → IfSome o (λ most. b ≤ most) → IfSome o (λ most. a ≤ most)
+if_fewer None a b le h = tt
+if_fewer (Some most) a b le h = omega (arith, le, h)
+
+-- what fits beside more tests fits beside fewer
+pub fits_fewer : (job : JobValue) (placed more : List Placement) (test start : ℕ) → Fits job (placed ++ more) test start → Fits job placed test start
+fits_fewer job placed more test start fits = record {
+  apart = λ n p c at. fits.apart n p c (in_append_left placed more n p at);
+  power = λ c active. if_fewer job.power (power_at job placed c + power_of job test (c - start)) (power_at job (placed ++ more) c + power_of job test (c - start)) (omega (arith, sum_by-append (drawn job c) placed more)) (fits.power c active);
+  after = λ n p at. fits.after n p (in_append_left placed more n p at);
+}
 
 -- a test fits after all others
 pub fits_at_last : (job : JobValue) (placed : List Placement) (test : ℕ) → IsSoundJob job → test < length job.tests → Fits job placed test (last_end job placed)

@@ -1,13 +1,15 @@
 -- What a table keeps: its resources are those that would be built from its placed tests, and there is room for all.
-use Rattle.std.specs.Prelude.{◌≡◌, ℕ, ◌<◌, ◌+◌, ◌≤◌, Option, None, take, length, slice_index_or, vec_capacity, IfSome}
+use Rattle.std.specs.Prelude.{◌≡◌, ℕ, ◌<◌, ◌+◌, ◌≤◌, Option, None, List, [], take, length, slice_index_or, vec_capacity, IfSome}
 use Rattle.std.specs.List.{sum_by, flat_map}
 use Rattle.std.specs.Global.{Vec}
 use Rattle.smallvec.specs.SmallVec.{SmallVec}
 use Rattle.resource_table.specs.declared.Placement.{Placement}
 use Rattle.resource_table.specs.declared.power.Draw.{Draw}
 use Rattle.resource_table.specs.declared.points.Point.{Point}
+use Rattle.resource_table.specs.declared.history.History.{History}
+use Rattle.resource_table.specs.Histories.{past_of, IsHistory}
 use Rattle.resource_table.specs.Jobs.{TestValue, JobValue}
-use Rattle.resource_table.specs.Schedules.{last_end, IsSoundTable}
+use Rattle.resource_table.specs.Schedules.{last_end, Fits, IsSoundTable}
 use Rattle.resource_table.specs.Resources.{draws_of, marks_of, end_in}
 use Rattle.resource_table.specs.Profiles.{ArePoints}
 
@@ -27,3 +29,16 @@ pub record IsKept (job : JobValue) (trail : SmallVec Placement) (ends : Vec (Opt
 pub record IsProfiled (job : JobValue) (trail : SmallVec Placement) (draws : Vec Draw) (points : Vec Point) : Type 0 where
   pub are : IfSome job.power (λ _. ArePoints draws.items (flat_map (marks_of job) trail.items) points.items)
   pub room : length job.tests + sum_by (λ (t : TestValue). length t.steps) job.tests ≤ vec_capacity points
+
+-- each test fits at no start before its bound
+abbrev pub AreBounds : JobValue → List Placement → List ℕ → Type 0
+AreBounds job placed bounds = (test start : ℕ) → test < length job.tests → Fits job placed test start → slice_index_or bounds test 0 ≤ start
+
+-- bounds beside the placed tests, and those that there were before each was placed
+pub record IsBounded (job : JobValue) (placed : List Placement) (bounds : History) : Type 0 where
+  pub history : IsHistory bounds
+  pub long : length bounds.values.items ≡ length job.tests
+  pub now : AreBounds job placed bounds.values.items
+  pub levels : length (past_of bounds) ≡ length placed
+  pub past : (i : ℕ) → i < length placed → AreBounds job (take i placed) (slice_index_or (past_of bounds) i [])
+  pub room : length job.tests ≤ vec_capacity bounds.marks

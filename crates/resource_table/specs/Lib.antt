@@ -4,5 +4,6 @@ pub mod Resources
 pub mod BusyTimes
 pub mod Profiles
 pub mod Befores
+pub mod Histories
 pub mod Kept
 pub mod Lent

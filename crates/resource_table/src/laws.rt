@@ -3,7 +3,7 @@ ghost use Rattle.std.specs.Prelude.{◌≡◌, ℕ, ◌+◌, ◌^◌, ◌<◌, �
 ghost use Rattle.std.specs.List.{sum_by};
 ghost use Rattle.resource_table.specs.declared.Placement.{Placement};
 ghost use Rattle.resource_table.specs.Jobs.{TestValue, JobValue, test_at, cycles_of, Precedes, IsSoundJob};
-ghost use Rattle.resource_table.specs.Schedules.{TableValue, at_start, exclude, end_of, last_end, IsActive, power_at, is_placed, IsEarliest, MayPlace, IsSoundTable, IsListSchedule};
+ghost use Rattle.resource_table.specs.Schedules.{TableValue, at_start, exclude, end_of, last_end, IsActive, power_at, is_placed, IsEarliest, MayPlace, Fits, IsSoundTable, IsListSchedule};
 
 /// The placed tests of a sound table keep the rules together: no test is placed twice, tests that exclude each other are
 /// never active at one cycle, the power stays within the limit at each cycle, and a test that precedes another has ended
@@ -25,4 +25,11 @@ pub fn list_schedules_are_short()
     ensures front { (job : JobValue) (placed rest : List Placement) → IsListSchedule job (placed ++ rest) → IsListSchedule job placed }
     ensures short { (t : TableValue) → IsSoundTable t → IsListSchedule t.job t.placed → last_end t.job t.placed ≤ sum_by (λ (x : TestValue). x.cycles) t.job.tests }
     ensures fits { (t : TableValue) (test start : ℕ) → IsSoundTable t → IsListSchedule t.job t.placed → test < length t.job.tests → is_placed t.placed test ≡ false → IsEarliest t.job t.placed test start → start + cycles_of t.job test ≤ 10 ^ 18 }
+{}
+
+/// The least start of a test only rises as tests are placed, since what fits beside more tests fits beside fewer; and it is
+/// the end of the test that ends last at the latest.
+pub fn starts_only_rise()
+    ensures fewer { (job : JobValue) (placed more : List Placement) (test start : ℕ) → Fits job (placed ++ more) test start → Fits job placed test start }
+    ensures at_last { (job : JobValue) (placed : List Placement) (test : ℕ) → IsSoundJob job → test < length job.tests → Fits job placed test (last_end job placed) }
 {}

@@ -8,6 +8,7 @@ mod copies;
 mod earlier;
 mod empty_times;
 mod frame;
+mod history;
 mod laws;
 mod marks;
 mod points;
@@ -18,7 +19,7 @@ mod timelines;
 
 pub use earlier::{Before, all_before, earlier_than};
 pub use frame::{Frame, FrameOf};
-pub use laws::{list_schedules_are_short, sound_tables_keep_the_rules};
+pub use laws::{list_schedules_are_short, sound_tables_keep_the_rules, starts_only_rise};
 use soc_model::TestId;
 pub use table::{Table, TableOf};
 

@@ -9,6 +9,7 @@ ghost use Rattle.resource_table.specs.Schedules.{TableValue, at_start, end_of, l
 use crate::copies::copy_job;
 use crate::earlier::{Before, all_before, earlier_than};
 use crate::empty_times::empty_times;
+use crate::history::{History, back, mark, new_history, raise};
 use crate::points::Point;
 use crate::power::{Draw, after_power, push_draws};
 use crate::profile::{add_drawn, take_drawn};
@@ -35,6 +36,8 @@ pub struct TableOf<J> {
     lasts: Vec<u64>,
     /// When each bus and module is busy.
     times: Timelines,
+    /// For each test of the job a cycle before which it fits at no start, with what is noted of it.
+    bounds: History,
     /// The draws of the placed tests, step by step.
     draws: Vec<Draw>,
     /// Under a limit on power, the profile of the power that they take together.
@@ -42,6 +45,9 @@ pub struct TableOf<J> {
     /// For each test of the job those that precede it.
     before: Vec<Before>,
 }
+
+/// How many notes there is room for, for each test of the job.
+const NOTES: usize = 32;
 
 /// A table of placed tests of a job.
 pub type Table<'a> = TableOf<&'a Job>;
@@ -54,12 +60,12 @@ impl<J> Model for TableOf<J> {
     ghost Value = { TableValue };
 
     ghost use Rattle.resource_table.specs.Befores.{listed, AreListed};
-    ghost use Rattle.resource_table.specs.Kept.{IsKept, IsProfiled};
+    ghost use Rattle.resource_table.specs.Kept.{IsKept, IsProfiled, IsBounded};
     ghost use Rattle.resource_table.specs.BusyTimes.{AreTimes};
 
     ghost view = { λ t. record { job = job_value t.own; placed = t.trail.items } };
 
-    ghost invariant = { λ t. IsKept (job_value t.own) t.trail t.ends t.lasts t.draws × AreListed (job_value t.own) (map listed t.before.items) × IsProfiled (job_value t.own) t.trail t.draws t.points × AreTimes (job_value t.own) t.trail.items t.times };
+    ghost invariant = { λ t. IsKept (job_value t.own) t.trail t.ends t.lasts t.draws × AreListed (job_value t.own) (map listed t.before.items) × IsProfiled (job_value t.own) t.trail t.draws t.points × AreTimes (job_value t.own) t.trail.items t.times × IsBounded (job_value t.own) t.trail.items t.bounds };
 }
 
 /// The end of a test, where it is placed and ends after `latest`; else `latest`.
@@ -167,6 +173,7 @@ impl<'a> TableOf<&'a Job> {
             ends: no_ends(alloc, tests)?,
             lasts: new_lasts(alloc, tests)?,
             times: empty_times(alloc, &own.tests)?,
+            bounds: new_history(alloc, tests, tests, tests.saturating_mul(NOTES))?,
             draws: new_draws(alloc, steps)?,
             points: new_points(alloc, tests, steps)?,
             before: all_before(alloc, tests, &own.before)?,
@@ -276,6 +283,16 @@ impl<J> TableOf<J> {
         last_of(&self.lasts)
     }
 
+    /// A start before which a test doesn't fit, and at which the placed tests that precede it have ended.
+    fn begin(&self, test: usize) -> u64
+        requires in_job { test < length self.now.job.tests }
+        ensures after { ComesAfter self.now.job self.now.placed test result }
+        ensures most { result ≤ last_end_of self.now.job self.now.placed }
+        ensures least { (other : ℕ) → Fits self.now.job self.now.placed test other → result ≤ other }
+    {
+        self.ready(test).max(self.bounds.values[test])
+    }
+
     /// The least start at which a test fits beside the placed tests: at no cycle it meets a test of its bus, of its
     /// module, of that one's direct parent or of a direct child, the power stays within the limit, and the placed tests
     /// that precede it have ended. It is the end of the last placed test at the latest.
@@ -286,7 +303,7 @@ impl<J> TableOf<J> {
         ensures sound { IsSoundTable self.now }
     {
         let last = self.last();
-        let mut start = self.ready(test);
+        let mut start = self.begin(test);
         'starts: loop {
             let next = self.next_start(test, start, last);
             if next == start {
@@ -303,6 +320,18 @@ impl<J> TableOf<J> {
         ensures sound { IsSoundTable self.now }
     {
         self.earliest(test) + self.own.tests[test].length
+    }
+
+    /// Notes the least start at which a test fits, so that it is found sooner beside more placed tests. What is placed stays
+    /// as it was. Notes are taken back with the placement under which they were made; where there is no room, nothing is
+    /// noted.
+    pub fn note(&mut self, test: usize)
+        requires in_job { test < length self.old.job.tests }
+        ensures same { self.new ≡ self.old }
+        ensures sound { IsSoundTable self.new }
+    {
+        let start = self.earliest(test);
+        raise(&mut self.bounds, test, start);
     }
 
     /// Appends a placement, and answers how many there were.
@@ -327,6 +356,7 @@ impl<J> TableOf<J> {
         let to = start + wanted.length;
         add_time(&mut self.times, wanted, Span { from: start, to });
         self.lasts.push_reserved(last.max(to));
+        mark(&mut self.bounds);
         self.ends[test] = Some(to);
         self.trail.push_reserved(Placement { test, start });
         before
@@ -353,6 +383,7 @@ impl<J> TableOf<J> {
             );
             self.draws.truncate(count);
             self.lasts.truncate(self.trail.len());
+            back(&mut self.bounds);
             self.ends[last.test] = None;
         }
     }

@@ -6,6 +6,7 @@ use Rattle.resource_table.specs.Jobs.{IsSoundJob, TestValue, test_value, job_val
 use Rattle.resource_table.specs.declared.Placement.{Placement}
 use Rattle.resource_table.specs.BusyTimes.{AreTimes, AreEmptyTimes}
 use Rattle.resource_table.proofs.BusyTimes.{times_new}
+use Rattle.resource_table.proofs.Bounds.{bounded_new}
 use Rattle.resource_table.proofs.Befores.{listed_new}
 use Rattle.resource_table.proofs.KeptTables.{kept_new, profiled_new, steps_same}
 use Rattle.resource_table.proofs.KeptStarts.{steps_counted}
@@ -29,4 +30,5 @@ invariant_of-result c =
       profiled_new (job_value c.in_ok-own.own) c.in_ok-new_trail.field-0 c.in_ok-new_draws.field-0 c.in_ok-new_points.field-0 c.len-tests.result c.count_steps-steps.result tests steps c.in_ok-new_trail.ensures.items c.in_ok-new_draws.ensures.items c.in_ok-new_points.ensures.items c.in_ok-new_points.ensures.room,
       subst (λ (v : List Placement). AreTimes (job_value c.in_ok-own.own) v c.in_ok-empty_times.field-0) (sym c.in_ok-new_trail.ensures.items)
           (times_new (job_value c.in_ok-own.own) c.in_ok-empty_times.field-0 (subst (λ (v : List JobTest). AreEmptyTimes (map test_value v) c.in_ok-empty_times.field-0) c.deref-2.ensures.value c.in_ok-empty_times.ensures)),
+      bounded_new (job_value c.in_ok-own.own) c.in_ok-new_trail.field-0.items c.in_ok-new_history.field-0 c.len-tests.result c.in_ok-new_trail.ensures.items tests c.in_ok-new_history.ensures.values c.in_ok-new_history.ensures.marks c.in_ok-new_history.ensures.history c.in_ok-new_history.ensures.room,
     )

@@ -1,12 +1,11 @@
 use Rattle.std.proofs.Common.{arith}
-use Rattle.resource_table.proofs.Ready.{ready-least}
 use Rattle.resource_table.proofs.table.TableOf.earliest.Goals as goal
 
 pub starts-init : goal.starts-init
 starts-init g c = record {
-  after = c.ready-start.ensures.after;
-  most = (let most = c.ready-start.ensures.most in let last = c.last-last.ensures.last in omega (arith, most, last));
-  least = (λ other fits. let least = ready-least c.args.self.now.job c.args.self.now.placed c.args.test other fits.after in let is = c.ready-start.ensures.ready in omega (arith, least, is));
+  after = c.begin-start.ensures.after;
+  most = (let most = c.begin-start.ensures.most in let last = c.last-last.ensures.last in omega (arith, most, last));
+  least = c.begin-start.ensures.least;
 }
 
 pub starts-preserved : goal.starts-preserved

@@ -11,6 +11,8 @@ use Rattle.resource_table.specs.Jobs.{TestValue, job_value, test_value, test_at,
 use Rattle.resource_table.specs.declared.timelines.Span.{Span}
 use Rattle.resource_table.specs.BusyTimes.{AreTimes, MayRemove, IsRemoved}
 use Rattle.resource_table.proofs.BusyTimes.{may_remove, times_less}
+use Rattle.resource_table.specs.Histories.{at_change}
+use Rattle.resource_table.proofs.Bounds.{bounded_pop}
 use Rattle.resource_table.proofs.KeptTables.{kept_pop, last_may, last_inside, last_steps, last_draws, length-draws_from}
 use Rattle.resource_table.proofs.KeptMarks.{last_rising, before_pop, after_pop}
 use Rattle.resource_table.proofs.KeptStarts.{wanted_is}
@@ -63,7 +65,15 @@ invariant_of-self g c =
       },
       times_less job placed c.in-Some.last inside c.self.inside.times c.remove_time.new.times (subst (λ (v : List Placement). AreTimes job v c.self.inside.times) c.in-Some.ensures.items c.self.invariant.3)
           (subst (λ (t : TestValue). IsRemoved t (let s : Span = record { from = c.in-Some.last.start; to = c.in-Some.last.start + t.cycles } in s) c.self.inside.times c.remove_time.new.times) wanted c.remove_time.ensures),
+      bounded_pop job placed c.self.inside.trail.items c.in-Some.last c.self.inside.bounds c.back.new.history c.in-Some.ensures.items c.self.invariant.4 c.back.ensures.history c.back.ensures.long c.back.ensures.past c.back.ensures.room,
     )
+
+pub back-requires-clause-history : goal.back-requires-clause-history
+back-requires-clause-history g c = c.self.invariant.4.history
+
+pub back-requires-clause-marked : goal.back-requires-clause-marked
+back-requires-clause-marked g c =
+    omega (arith, c.self.invariant.4.levels, length-map c.self.inside.bounds.marks.items (at_change c.self.inside.bounds), ap length c.in-Some.ensures.items, length-append c.pop.new.self.items (c.in-Some.last ∷ []))
 
 pub take_drawn-requires-clause-rising : goal.take_drawn-requires-clause-rising
 take_drawn-requires-clause-rising g c =

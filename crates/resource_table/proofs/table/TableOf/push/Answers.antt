@@ -11,6 +11,7 @@ use Rattle.resource_table.specs.Resources.{draws_from, draws_of, marks_of}
 use Rattle.resource_table.specs.declared.timelines.Span.{Span}
 use Rattle.resource_table.specs.BusyTimes.{AreTimes, MayAdd, IsAdded}
 use Rattle.resource_table.proofs.BusyTimes.{may_add, times_more}
+use Rattle.resource_table.proofs.Bounds.{bounded_push, marks_have_room}
 use Rattle.resource_table.proofs.KeptTables.{kept_push, trail_has_room, draws_have_room, length-draws_from}
 use Rattle.resource_table.proofs.KeptMarks.{last_room, last_rising, last_within, before_last, after_push}
 use Rattle.resource_table.proofs.KeptStarts.{wanted_is}
@@ -79,7 +80,17 @@ invariant_of-self g c =
       subst (λ (v : List Placement). AreTimes job v c.add_time.new.times) (sym c.push_reserved-2.ensures.items)
           (times_more job placed c.self.invariant.0.sound c.args.test c.args.start may c.self.inside.times c.add_time.new.times c.self.invariant.3
           (subst (λ (t : TestValue). IsAdded t (let s : Span = record { from = c.args.start; to = c.args.start + t.cycles } in s) c.self.inside.times c.add_time.new.times) wanted c.add_time.ensures)),
+      bounded_push job placed c.push_reserved-2.new.self.items (at_start c.args.test c.args.start) c.self.inside.bounds c.mark.new.history c.push_reserved-2.ensures.items c.self.invariant.4 c.mark.ensures.history c.mark.ensures.values c.mark.ensures.past c.mark.ensures.room,
     )
+
+pub mark-requires-clause-history : goal.mark-requires-clause-history
+mark-requires-clause-history g c = c.self.invariant.4.history
+
+pub mark-requires-clause-room : goal.mark-requires-clause-room
+mark-requires-clause-room g c =
+    let may = subst (λ (t : TableValue). MayPlace t.job t.placed c.args.test c.args.start) (sym c.self.view_is) c.requires in
+    let room = trail_has_room (job_value c.self.inside.own) c.self.inside.trail.items c.args.test c.args.start c.self.invariant.0.sound may in
+    marks_have_room (job_value c.self.inside.own) c.self.inside.trail.items c.self.inside.bounds c.self.invariant.4 room
 
 pub returns-clause-sound : goal.returns-clause-sound
 returns-clause-sound g c = (invariant_of-self g c).0.sound

@@ -1,0 +1,105 @@
+// Numbers that are changed one by one and taken back to where they stood at a mark.
+ghost use Rattle.std.specs.Prelude.{◌≡◌, ℕ, ◌+◌, ◌<◌, ◌≤◌, ◌⊎◌, ◌++◌, ◌∷◌, [], length, slice_set, replicate, vec_capacity, IfOk};
+ghost use Rattle.resource_table.specs.Histories.{at_change, past_of, ArePlaces, IsHistory};
+
+use outside::NoMemory;
+use std::alloc::Global;
+
+/// A number that was changed.
+#[derive(Clone, Copy)]
+pub struct Change {
+    /// Its place.
+    pub place: usize,
+    /// What it was before.
+    pub was: u64,
+}
+
+/// Numbers with their changes since each mark.
+#[derive(Drop)]
+pub struct History {
+    /// The numbers.
+    pub values: Vec<u64>,
+    /// The changes, the last one last.
+    pub log: Vec<Change>,
+    /// For each mark how many changes there were.
+    pub marks: Vec<usize>,
+}
+
+/// So many zeros, with room for so many marks and changes.
+pub fn new_history(
+    alloc: Global,
+    count: usize,
+    marks: usize,
+    changes: usize,
+) -> Result<History, NoMemory>
+    ensures values { IfOk result (λ h. h.values.items ≡ replicate count 0) }
+    ensures marks { IfOk result (λ h. h.marks.items ≡ []) }
+    ensures history { IfOk result IsHistory }
+    ensures room { IfOk result (λ h. marks ≤ vec_capacity h.marks) }
+{
+    Ok(History {
+        values: vec![in alloc; 0; count].map_err(|_| NoMemory)?,
+        log: Vec::with_capacity(alloc, changes).map_err(|_| NoMemory)?,
+        marks: Vec::with_capacity(alloc, marks).map_err(|_| NoMemory)?,
+    })
+}
+
+/// Puts a mark behind the last change, in room that is there.
+pub fn mark(history: &mut History)
+    requires history { IsHistory history.old }
+    requires room { length history.old.marks.items < vec_capacity history.old.marks }
+    ensures history { IsHistory history.new }
+    ensures values { history.new.values.items ≡ history.old.values.items }
+    ensures past { past_of history.new ≡ past_of history.old ++ history.old.values.items ∷ [] }
+    ensures room { vec_capacity history.new.marks ≡ vec_capacity history.old.marks }
+{
+    let changes = history.log.len();
+    history.marks.push_reserved(changes);
+}
+
+/// Raises a number, where there is room to note the change.
+pub fn raise(history: &mut History, place: usize, value: u64)
+    requires history { IsHistory history.old }
+    requires place { place < length history.old.values.items }
+    ensures history { IsHistory history.new }
+    ensures values { (history.new.values.items ≡ history.old.values.items) ⊎ (history.new.values.items ≡ slice_set history.old.values.items place value) }
+    ensures past { past_of history.new ≡ past_of history.old }
+    ensures marks { history.new.marks ≡ history.old.marks }
+{
+    let was = history.values[place];
+    if was < value && history.log.len() < history.log.capacity() {
+        history.log.push_reserved(Change { place, was });
+        history.values[place] = value;
+    }
+}
+
+/// Takes the last change back.
+fn take_back(history: &mut History)
+    requires places { ArePlaces history.old }
+    requires some { 1 ≤ length history.old.log.items }
+    ensures places { ArePlaces history.new }
+    ensures changes { length history.new.log.items + 1 ≡ length history.old.log.items }
+    ensures long { length history.new.values.items ≡ length history.old.values.items }
+    ensures same { (n : ℕ) → n < length history.old.log.items → at_change history.new n ≡ at_change history.old n }
+    ensures marks { history.new.marks ≡ history.old.marks }
+{
+    if let Some(last) = history.log.pop() {
+        history.values[last.place] = last.was;
+    }
+}
+
+/// Takes all changes since the last mark back, and the mark.
+pub fn back(history: &mut History)
+    requires history { IsHistory history.old }
+    requires marked { 1 ≤ length history.old.marks.items }
+    ensures history { IsHistory history.new }
+    ensures long { length history.new.values.items ≡ length history.old.values.items }
+    ensures past { past_of history.old ≡ past_of history.new ++ history.new.values.items ∷ [] }
+    ensures room { vec_capacity history.new.marks ≡ vec_capacity history.old.marks }
+{
+    if let Some(changes) = history.marks.pop() {
+        while history.log.len() > changes {
+            take_back(history);
+        }
+    }
+}
