@@ -5,7 +5,8 @@ use Rattle.std.proofs.lemmas.List.{length-map}
 use Rattle.std.proofs.lemmas.Option.{slice_get-get_or}
 use Rattle.soc_model.specs.Chips.{ModuleValue}
 use Rattle.plan_model.specs.declared.ChainPlan.{ChainPlan}
-use Rattle.plan_model.specs.Cells.{Cell, ChainValue, IsProper, is_read, out_length, scan_lengths, chain_cells, dealt}
+use Rattle.plan_model.specs.Cells.{Cell, ChainValue, IsProper, is_read, out_length, chain_cells, dealt}
+use Rattle.soc_model.specs.Modes.{scan_lengths}
 use Rattle.plan_model.specs.Listing.{module_size}
 use Rattle.plan_model.specs.Views.{chain_value}
 use Rattle.plan_model.proofs.CellOrder.{length-dealt}

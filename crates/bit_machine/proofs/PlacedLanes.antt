@@ -11,7 +11,8 @@ use Rattle.soc_model.specs.declared.TestId.{TestId}
 use Rattle.soc_model.specs.Chips.{ModuleValue, SocValue, LiveTest, is_live, live_of, live_from, live_tests, id_of, same_test}
 use Rattle.soc_model.specs.SoundChips.{IsSoundChip, IsSoundModule, AllDiffer}
 use Rattle.soc_model.proofs.Places.{IsKeyed-from_sound, module-unique}
-use Rattle.plan_model.specs.Cells.{Cell, ChainValue, IsProper, chain_cells, dealt, out_length, scan_lengths}
+use Rattle.plan_model.specs.Cells.{Cell, ChainValue, IsProper, chain_cells, dealt, out_length}
+use Rattle.soc_model.specs.Modes.{scan_lengths}
 use Rattle.plan_model.specs.Operations.{SelfTest, ops_of}
 use Rattle.plan_model.specs.Plans.{BusValue, PlanValue, LimitsValue, PlannedTest, planned, planned_test, of_first, chains_of, operations_of, si_of, so_of, end_of, widths, bus_place, greatest}
 use Rattle.plan_model.specs.declared.ChainPlan.{ChainPlan}

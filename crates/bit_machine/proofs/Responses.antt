@@ -8,7 +8,8 @@ use Rattle.std.proofs.lemmas.List.Sums.{sum_by-cons, sum_by-append, length-filte
 use Rattle.std.proofs.lemmas.List.Sorted.{sum_by-IsPermutation}
 use Rattle.std.proofs.lemmas.Option.{slice_get-map, slice_get-get_or, slice_get_within}
 use Rattle.soc_model.specs.Chips.{ModuleValue}
-use Rattle.plan_model.specs.Cells.{Cell, Flop, Out, ChainValue, IsProper, is_read, in_cells, out_cells, flops, cells_of, chain_cells, scan_lengths, out_length, response_cells, IsResponseBit}
+use Rattle.plan_model.specs.Cells.{Cell, Flop, Out, ChainValue, IsProper, is_read, in_cells, out_cells, flops, cells_of, chain_cells, out_length, response_cells, IsResponseBit}
+use Rattle.soc_model.specs.Modes.{scan_lengths}
 use Rattle.plan_model.proofs.LowerTimes.{count_all_chains}
 use Rattle.bit_machine.specs.Sessions.{response_place}
 use Rattle.bit_machine.proofs.Captures.{AreRead, read_numbered, range_map}

@@ -4,7 +4,8 @@ use Rattle.std.specs.List.{sum, count_by, zip, list_all, range_with_len, positio
 use Rattle.soc_model.specs.declared.Test.{Test}
 use Rattle.soc_model.specs.declared.TestId.{TestId}
 use Rattle.soc_model.specs.Chips.{SocValue, LiveTest, live_tests, id_of, same_test}
-use Rattle.plan_model.specs.Cells.{Cell, In, Flop, Out, is_loaded, scan_lengths}
+use Rattle.plan_model.specs.Cells.{Cell, In, Flop, Out, is_loaded}
+use Rattle.soc_model.specs.Modes.{scan_lengths}
 use Rattle.plan_model.specs.Operations.{Operation, Setup, Shift, Capture, SelfTest}
 use Rattle.plan_model.specs.Plans.{PlanValue, PlannedTest, planned, of_first, widths}
 use Rattle.plan_model.specs.Runs.{Content, State, operation_at, first_state, carried, shown}

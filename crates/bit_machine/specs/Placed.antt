@@ -6,7 +6,8 @@ use Rattle.soc_model.specs.Chips.{ModuleValue, is_live}
 use Rattle.plan_model.specs.declared.Wrapper.{Wrapper}
 use Rattle.plan_model.specs.Listing.{module_size}
 use Rattle.plan_model.specs.Views.{chain_value}
-use Rattle.plan_model.specs.Cells.{scan_lengths, chain_cells}
+use Rattle.plan_model.specs.Cells.{chain_cells}
+use Rattle.soc_model.specs.Modes.{scan_lengths}
 use Rattle.plan_model.specs.Plans.{PlanValue, PlannedTest, planned_test, widths, bus_place, si_of, so_of, chains_of, operations_of}
 use Rattle.bit_machine.specs.declared.lane.Lane.{Lane}
 use Rattle.bit_machine.specs.Building.{AreNewPaths}

@@ -3,7 +3,8 @@ use Rattle.std.specs.Prelude.{ℕ, ◌+◌, Bool, false, Some, List, [], ◌∷�
 use Rattle.std.specs.List.{sum, range_with_len}
 use Rattle.std.specs.Global.{Vec}
 use Rattle.soc_model.specs.Chips.{ModuleValue}
-use Rattle.plan_model.specs.Cells.{Cell, In, Flop, Out, ChainValue, scan_lengths, chain_cells}
+use Rattle.plan_model.specs.Cells.{Cell, In, Flop, Out, ChainValue, chain_cells}
+use Rattle.soc_model.specs.Modes.{scan_lengths}
 use Rattle.plan_model.specs.Operations.{Operation}
 use Rattle.plan_model.specs.Runs.{next_bits}
 

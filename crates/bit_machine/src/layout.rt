@@ -2,7 +2,8 @@
 ghost use Rattle.std.specs.Prelude.{◌≡◌, ℕ, ◌+◌, ◌^◌, ◌<◌, ◌≤◌, length, map, replicate, take, drop, false, slice_index, IfOk};
 ghost use Rattle.std.specs.List.{All, sum, sum_by};
 ghost use Rattle.soc_model.specs.Chips.{module_value};
-ghost use Rattle.plan_model.specs.Cells.{scan_lengths, IsProper};
+ghost use Rattle.plan_model.specs.Cells.{IsProper};
+ghost use Rattle.soc_model.specs.Modes.{scan_lengths};
 ghost use Rattle.plan_model.specs.Listing.{module_size};
 ghost use Rattle.plan_model.specs.Runs.{captured};
 ghost use Rattle.plan_model.specs.Views.{chain_value};
@@ -12,7 +13,7 @@ ghost use Rattle.bit_machine.specs.Layouts.{chain_of, chain_length, layout_cells
 use crate::bits::put_bits;
 use outside::{NoMemory, push};
 use plan_model::{ChainPlan, Wrapper};
-use soc_model::Module;
+use soc_model::{Module, mode_chains};
 use std::alloc::Global;
 
 /// How the cells of a module stand in the chains of a wrapper, and where their bits stand in a response.
@@ -32,11 +33,7 @@ pub struct Layout {
 fn lengths_of(alloc: Global, module: &Module, scan: bool) -> Result<Vec<u64>, NoMemory>
     ensures { IfOk result (λ lengths. lengths.items ≡ scan_lengths (module_value «module».now) scan) }
 {
-    if scan {
-        Vec::from_slice(alloc, &module.chains).map_err(|_| NoMemory)
-    } else {
-        Ok(Vec::new(alloc))
-    }
+    Vec::from_slice(alloc, mode_chains(module, scan)).map_err(|_| NoMemory)
 }
 
 /// For each scan chain, the lengths of those before it together, and the lengths of all.

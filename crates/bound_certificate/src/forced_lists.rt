@@ -2,12 +2,12 @@
 // claimed.
 ghost use Rattle.std.specs.Prelude.{◌≡◌, ℕ, ◌+◌, ◌^◌, ◌<◌, ◌≤◌, Some, IfSome, IfNone, is_some, length, slice_get, take};
 ghost use Rattle.std.specs.List.{sum_by};
-ghost use Rattle.soc_model.specs.Chips.{soc_value, module_value};
+ghost use Rattle.soc_model.specs.Chips.{soc_value};
+ghost use Rattle.soc_model.specs.declared.TheConstants.{MODULES_MOST};
 ghost use Rattle.soc_model.specs.Lookups.{module_place};
 ghost use Rattle.soc_model.specs.SoundChips.{IsSoundChip};
 ghost use Rattle.plan_model.specs.Views.{limits_value};
 ghost use Rattle.plan_model.specs.Plans.{OfForced};
-ghost use Rattle.plan_model.specs.Rules.{has_tam};
 ghost use Rattle.plan_model.specs.SoundLimits.{IsSoundLimits};
 ghost use Rattle.plan_model.specs.Bounds.{lower_tam_time};
 ghost use Rattle.plan_model.specs.Certificates.{on, passes, has_tam_at, IsForcedItem};
@@ -18,14 +18,7 @@ ghost use Rattle.bound_certificate.specs.Forced.{IsForcedSoFar};
 use crate::{BoundFault, enough};
 use bound_rules::{lower_tam_time, need};
 use plan_model::Limits;
-use soc_model::{Module, Soc, live, module_at, place_of};
-
-/// Whether a live test of the module goes over the wires.
-pub fn has_tam_test(module: &Module) -> bool
-    ensures { result ≡ has_tam (module_value «module».now) }
-{
-    module.tests.iter().any(|test| live(test) && test.tam)
-}
+use soc_model::{Soc, has_tam_test, module_at, place_of};
 
 /// The place of a module that has a live test over the wires. None comes exactly where the chip has no such module of
 /// this number.
@@ -86,7 +79,7 @@ fn take_entry(
     requires sound { IsSoundChip (soc_value soc.now) }
     requires limits { IsSoundLimits (soc_value soc.now) (limits_value limits.now) }
     requires place { place < length modules.now }
-    requires room { length marks.old ≡ 1000 }
+    requires room { length marks.old ≡ MODULES_MOST }
     requires least { least ≤ limits.now.wires + 1 }
     requires so_far { IsForcedSoFar (soc_value soc.now) limits.now.wires claimed (take place modules.now) marks.old least }
     ensures kept { IfSome result (λ next. (m : ℕ) → slice_get modules.now place ≡ Some m → IsForcedItem (soc_value soc.now) limits.now.wires claimed (take place modules.now) m × IsForcedSoFar (soc_value soc.now) limits.now.wires claimed (take (place + 1) modules.now) marks.new next) }
@@ -116,7 +109,7 @@ pub fn forced_breach(
 ) -> Option<usize>
     requires sound { IsSoundChip (soc_value soc.now) }
     requires limits { IsSoundLimits (soc_value soc.now) (limits_value limits.now) }
-    requires room { length marks.old ≡ 1000 }
+    requires room { length marks.old ≡ MODULES_MOST }
     ensures { IsBreachPlace (IsForcedItem (soc_value soc.now) limits.now.wires claimed) modules.now result }
 {
     marks.fill(false);
@@ -140,7 +133,7 @@ pub fn check_forced(
 ) -> Result<(), BoundFault>
     requires sound { IsSoundChip (soc_value soc.now) }
     requires limits { IsSoundLimits (soc_value soc.now) (limits_value limits.now) }
-    requires room { length marks.old ≡ 1000 }
+    requires room { length marks.old ≡ MODULES_MOST }
     ensures { IsCheck (soc_value soc.now) (limits_value limits.now) claimed (OfForced modules.now) result }
 {
     match forced_breach(soc, limits, claimed, modules, marks) {

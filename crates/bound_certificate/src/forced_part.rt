@@ -7,11 +7,11 @@ ghost use Rattle.plan_model.specs.SoundLimits.{IsSoundLimits};
 ghost use Rattle.bound_certificate.specs.Best.{places, by_need, up_to, IsForcedPart};
 ghost use Rattle.bound_certificate.specs.Needs.{need_or_zero, of_need};
 
-use crate::forced_lists::{forced_breach, has_tam_test};
+use crate::forced_lists::forced_breach;
 use bound_rules::need;
 use outside::NoMemory;
 use plan_model::Limits;
-use soc_model::{Soc, module_at};
+use soc_model::{MODULES_MOST, Soc, has_tam_test, module_at};
 use std::alloc::Global;
 
 /// The need of the module at a place, or 0 where it has no test over the wires.
@@ -109,7 +109,7 @@ pub fn forced_part(
     ensures { IfOk result (λ v. IsForcedPart (soc_value soc.now) (limits_value limits.now) claimed v.items) }
 {
     let order = forced_order(alloc, soc, limits, claimed)?;
-    let Ok(mut marks) = Vec::from_elem(alloc, false, 1_000) else {
+    let Ok(mut marks) = Vec::from_elem(alloc, false, MODULES_MOST as usize) else {
         return Err(NoMemory);
     };
     let place = forced_breach(soc, limits, claimed, &order, &mut marks);

@@ -5,6 +5,7 @@
 
 ghost use Rattle.std.specs.Prelude.{◌≡◌, ◌<◌, Ok, Err, IfErr, OnOk, length, nat_lt, if◌then◌else◌, vec_len};
 ghost use Rattle.soc_model.specs.Chips.{soc_value};
+ghost use Rattle.soc_model.specs.declared.TheConstants.{MODULES_MOST};
 ghost use Rattle.soc_model.specs.SoundChips.{IsSoundChip};
 ghost use Rattle.plan_model.specs.Views.{limits_value, bound_value, why_value};
 ghost use Rattle.plan_model.specs.Plans.{OfModule, OfPair, OfArea, OfPower};
@@ -28,7 +29,7 @@ use forced_lists::check_forced;
 use outside::NoMemory;
 use plan_model::{Bound, Limits, Why};
 use precedence_lists::check_chain;
-use soc_model::{Soc, place_of};
+use soc_model::{MODULES_MOST, Soc, place_of};
 use std::alloc::Global;
 
 /// Why a certificate isn't accepted.
@@ -47,13 +48,13 @@ pub enum BoundFault {
 pub struct BoundScratch {
     /// Whether the module at a place is listed.
     marks: Vec<bool>,
-    ghost marks_len: { vec_len marks ≡ 1000 },
+    ghost marks_len: { vec_len marks ≡ MODULES_MOST },
 }
 
 impl BoundScratch {
     /// Room for the check of this certificate.
     pub fn new(alloc: Global, _bound: &Bound) -> Result<BoundScratch, NoMemory> {
-        match Vec::from_elem(alloc, false, 1_000) {
+        match Vec::from_elem(alloc, false, MODULES_MOST as usize) {
             Ok(marks) => Ok(BoundScratch { marks }),
             Err(_) => Err(NoMemory),
         }

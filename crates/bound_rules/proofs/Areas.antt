@@ -12,7 +12,8 @@ use Rattle.plan_model.proofs.SoundChips.{module_size-le}
 use Rattle.plan_model.proofs.SumsOverCycles.{sum_below-sum_by, sum_below-le_by, indicator-le}
 use Rattle.plan_model.proofs.PowerAndAreaBounds.{least-le}
 use Rattle.plan_model.proofs.Sums.{sum_by-le_at}
-use Rattle.bound_rules.specs.Sizes.{sizes_of, is_tam}
+use Rattle.bound_rules.specs.Sizes.{sizes_of}
+use Rattle.soc_model.specs.Modes.{is_tam}
 use Rattle.bound_rules.proofs.Works.{times_of-le, tam_only}
 use Rattle.bound_rules.proofs.Modules.{fitting_sizes, tam_times_are, works_are, work_at_place}
 

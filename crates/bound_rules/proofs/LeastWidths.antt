@@ -8,7 +8,8 @@ use Rattle.plan_model.specs.Bounds.{quotient_up, first_below, least_from_one}
 use Rattle.plan_model.proofs.LowerTimes.{quotient_up-le}
 use Rattle.plan_model.proofs.Sums.{sum_by-le_at}
 use Rattle.bound_rules.specs.declared.sizes.Sizes.{Sizes}
-use Rattle.bound_rules.specs.Sizes.{least_chain, time_by, tam_times_by, is_tam}
+use Rattle.bound_rules.specs.Sizes.{least_chain, time_by, tam_times_by}
+use Rattle.soc_model.specs.Modes.{is_tam}
 use Rattle.bound_rules.proofs.Works.{tam_time_is, self_time_is, live_patterns, tam_only}
 
 le-up : (a w : ℕ) → 1 ≤ w → a ≤ quotient_up a w * w

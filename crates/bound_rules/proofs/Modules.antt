@@ -13,7 +13,8 @@ use Rattle.plan_model.specs.Operations.{ops_of}
 use Rattle.plan_model.specs.Plans.{greatest}
 use Rattle.plan_model.specs.Bounds.{quotient_up, least_length, lower_time, lower, is_of, module_bound, lower_tam_time}
 use Rattle.plan_model.proofs.Sums.{sum_by-filter, sum_by-le_at}
-use Rattle.bound_rules.specs.Sizes.{sizes_of, least_chain, time_by, work_by, times_by, tam_times_by, works_by, is_tam, IsFitting}
+use Rattle.bound_rules.specs.Sizes.{sizes_of, least_chain, time_by, work_by, times_by, tam_times_by, works_by, IsFitting}
+use Rattle.soc_model.specs.Modes.{is_tam}
 
 -- ---- the sizes of a module
 

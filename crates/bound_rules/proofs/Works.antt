@@ -14,7 +14,8 @@ use Rattle.plan_model.proofs.OperationCounts.{ops_length}
 use Rattle.plan_model.proofs.LowerTimes.{quotient_up-le}
 use Rattle.plan_model.proofs.Sums.{sum_by-le_at, item-le-sum_by}
 use Rattle.bound_rules.specs.declared.sizes.Sizes.{Sizes}
-use Rattle.bound_rules.specs.Sizes.{least_chain, time_by, work_by, works_by, is_tam, IsFitting}
+use Rattle.bound_rules.specs.Sizes.{least_chain, time_by, work_by, works_by, IsFitting}
+use Rattle.soc_model.specs.Modes.{is_tam}
 
 -- ---- quotients
 

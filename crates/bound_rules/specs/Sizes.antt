@@ -3,6 +3,7 @@ use Rattle.std.specs.Prelude.{ℕ, ◌+◌, ◌*◌, ◌^◌, ◌≤◌, Bool, �
 use Rattle.std.specs.List.{sum, sum_by}
 use Rattle.soc_model.specs.declared.Test.{Test}
 use Rattle.soc_model.specs.Chips.{ModuleValue, is_live}
+use Rattle.soc_model.specs.Modes.{is_tam}
 use Rattle.plan_model.specs.Operations.{ops_of}
 use Rattle.plan_model.specs.Plans.{greatest}
 use Rattle.plan_model.specs.Bounds.{quotient_up}
@@ -31,10 +32,6 @@ pub record IsFitting (s : Sizes) : Type 0 where
 -- the lower times of the live tests of a list together, and their work
 abbrev pub times_by : Sizes → ℕ → List Test → ℕ
 times_by s w ts = sum_by (λ t. if is_live t then time_by s w t else 0) ts
-
--- live, and over the wires
-abbrev pub is_tam : Test → Bool
-is_tam t = is_live t && t.tam
 
 -- the lower times of the tests of a list that go over the wires, together
 abbrev pub tam_times_by : Sizes → ℕ → List Test → ℕ

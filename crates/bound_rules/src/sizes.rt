@@ -5,10 +5,11 @@ ghost use Rattle.soc_model.specs.Chips.{module_value};
 ghost use Rattle.plan_model.specs.Listing.{module_size};
 ghost use Rattle.plan_model.specs.Plans.{greatest};
 ghost use Rattle.plan_model.specs.Bounds.{quotient_up};
-ghost use Rattle.bound_rules.specs.Sizes.{sizes_of, least_chain, time_by, work_by, times_by, tam_times_by, works_by, is_tam, IsFitting};
+ghost use Rattle.bound_rules.specs.Sizes.{sizes_of, least_chain, time_by, work_by, times_by, tam_times_by, works_by, IsFitting};
+ghost use Rattle.soc_model.specs.Modes.{is_tam};
 
 use plan_model::closed_time;
-use soc_model::{Module, Test, live};
+use soc_model::{Module, Test, live, over_wires};
 
 /// What the times of a module's tests depend on, beside the width.
 #[derive(Clone, Copy)]
@@ -50,13 +51,6 @@ fn dealt_length(cells: u64, width: u64) -> u64
     ensures { result ≡ quotient_up cells width }
 {
     cells.div_ceil(width)
-}
-
-/// Whether a test is live and goes over the wires.
-pub fn over_wires(test: &Test) -> bool
-    ensures { result ≡ is_tam test.now }
-{
-    live(test) && test.tam
 }
 
 impl Sizes {

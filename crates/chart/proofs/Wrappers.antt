@@ -12,7 +12,8 @@ use Rattle.soc_model.specs.declared.Test.{Test}
 use Rattle.soc_model.specs.Chips.{ModuleValue, SocValue, is_live}
 use Rattle.plan_model.specs.Cells.{IsProper, chain_cells}
 use Rattle.plan_model.specs.declared.Wrapper.{Wrapper}
-use Rattle.plan_model.specs.Plans.{WrapperValue, PlanValue, LimitsValue, of_first, wraps, same_mode, chains_of}
+use Rattle.plan_model.specs.Plans.{WrapperValue, PlanValue, LimitsValue, of_first, wraps, chains_of}
+use Rattle.soc_model.specs.Modes.{same_mode}
 use Rattle.plan_model.specs.Rules.{IsGood, Proper}
 use Rattle.plan_model.specs.Views.{wrapper_value, chain_value}
 use Rattle.plan_model.proofs.Lists.{from_map}

@@ -3,6 +3,7 @@ use Rattle.std.specs.Prelude.{◌≡◌, ℕ, ◌+◌, Some, slice_get, Bool, tr
 use Rattle.std.specs.List.{flat_map, range_with_len, count_by, filter}
 use Rattle.std.specs.List.Sorted.{IsPermutation}
 use Rattle.soc_model.specs.Chips.{ModuleValue}
+pub use Rattle.soc_model.specs.Modes.{scan_lengths}
 
 -- a cell: of an input terminal, a place in a scan chain (0 is nearest to the scan input), of an output terminal
 pub data Cell : Type 0 where
@@ -27,10 +28,6 @@ pub record ChainValue : Type 0 where
   pub ins : ℕ
   pub scans : List ℕ
   pub outs : ℕ
-
--- the scan chains that a mode of the module has; in terminals mode there are none
-abbrev pub scan_lengths : ModuleValue → Bool → List ℕ
-scan_lengths m scan = if scan then m.chains else []
 
 -- the cells of a scan chain, from its scan input on
 abbrev pub flops : (lengths : List ℕ) (chain : ℕ) → List Cell

@@ -4,6 +4,7 @@ use Rattle.std.specs.List.{sum, sum_by, filter, list_any}
 use Rattle.soc_model.specs.declared.Test.{Test}
 use Rattle.soc_model.specs.declared.TestId.{TestId}
 use Rattle.soc_model.specs.Chips.{ModuleValue, SocValue, LiveTest, live_tests, same_test}
+pub use Rattle.soc_model.specs.Modes.{same_mode}
 use Rattle.plan_model.specs.Cells.{Cell, ChainValue, cells_of, chain_cells, in_length, out_length}
 use Rattle.plan_model.specs.Operations.{Operation, SelfTest, ops_of}
 
@@ -89,11 +90,6 @@ si_of chains = greatest (map in_length chains)
 
 abbrev pub so_of : List (List Cell) → ℕ
 so_of chains = greatest (map out_length chains)
-
--- both are scan, or both terminals
-abbrev pub same_mode : Bool → Bool → Bool
-same_mode true b = b
-same_mode false b = not b
 
 -- the bus lists the module
 abbrev pub has_module : ℕ → BusValue → Bool

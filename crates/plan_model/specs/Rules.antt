@@ -4,6 +4,7 @@ use Rattle.std.specs.List.{sum, sum_by, flat_map, list_any, Contains}
 use Rattle.soc_model.specs.declared.Test.{Test}
 use Rattle.soc_model.specs.declared.TestId.{TestId}
 use Rattle.soc_model.specs.Chips.{ModuleValue, SocValue, IsParent, is_live, live_tests, id_of}
+pub use Rattle.soc_model.specs.Modes.{has_tam, uses_mode}
 use Rattle.plan_model.specs.Cells.{IsProper}
 use Rattle.plan_model.specs.Plans.{BusValue, WrapperValue, PlanValue, LimitsValue, PlannedTest, planned, end_of, greatest, power_at, bus_place, widths, same_mode}
 use Rattle.plan_model.specs.Right.{IsAt, Meet}
@@ -17,14 +18,6 @@ pub record IsFirstBreach {X : Type 0} (P : List X → X → Type 0) (xs : List X
   pub there : slice_get xs n ≡ Some x
   pub breaks : P (take n xs) x → ⊥
   pub earlier : (m : ℕ) (y : X) → m < n → slice_get xs m ≡ Some y → P (take m xs) y
-
--- a live test of the module goes over the wires in that mode
-abbrev pub uses_mode : Bool → ModuleValue → Bool
-uses_mode scan m = list_any (λ (t : Test). is_live t && (t.tam && same_mode scan t.scan)) m.tests
-
--- the module has a live test over the wires
-abbrev pub has_tam : ModuleValue → Bool
-has_tam m = list_any (λ (t : Test). is_live t && t.tam) m.tests
 
 -- the modules that the buses list
 abbrev pub listed : PlanValue → List ℕ

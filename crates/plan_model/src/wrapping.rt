@@ -4,23 +4,16 @@ ghost use Rattle.std.specs.Prelude.{◌≡◌, ◌≢◌, ℕ, ◌+◌, ◌*◌,
 ghost use Rattle.std.specs.List.{All, sum_by, list_all};
 ghost use Rattle.plan_model.specs.Views.{chain_value};
 ghost use Rattle.soc_model.specs.Chips.{module_value};
-ghost use Rattle.plan_model.specs.Cells.{scan_lengths, chain_cells, in_length, out_length, IsProper};
+ghost use Rattle.plan_model.specs.Cells.{chain_cells, in_length, out_length, IsProper};
 ghost use Rattle.plan_model.specs.Listing.{times, listed_times, mark_at, module_size};
 ghost use Rattle.plan_model.specs.Plans.{greatest, operations_of};
 ghost use Rattle.plan_model.specs.declared.ChainPlan.{ChainPlan};
 
 use crate::{ChainPlan, Wrapper, closed_time};
-use soc_model::{Module, Test};
+use soc_model::{Module, Test, mode_chains};
 
 /// How many scan chains are marked at a time.
 const WINDOW: usize = 1024;
-
-/// The lengths of the scan chains that a mode of a module has: none over the terminals alone.
-fn mode_chains(module: &Module, scan: bool) -> &[u64]
-    ensures { result.now ≡ scan_lengths (module_value «module».now) scan }
-{
-    if scan { &module.chains } else { &[] }
-}
 
 /// The input cells that chains take together.
 fn all_ins(chains: &[ChainPlan]) -> u128

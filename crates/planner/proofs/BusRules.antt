@@ -10,7 +10,8 @@ use Rattle.soc_model.specs.Chips.{ModuleValue, SocValue, numbers}
 use Rattle.soc_model.specs.SoundChips.{AllDiffer}
 use Rattle.soc_model.proofs.Sums.{sum_by-map}
 use Rattle.plan_model.specs.Plans.{BusValue, LimitsValue, has_module}
-use Rattle.plan_model.specs.Rules.{Each, FitsWires, IsNew, has_tam}
+use Rattle.plan_model.specs.Rules.{Each, FitsWires, IsNew}
+use Rattle.soc_model.specs.Modes.{has_tam}
 use Rattle.plan_model.specs.Certificates.{passes, has_tam_at}
 use Rattle.plan_model.proofs.Lists.{from_map, from_flat_map, contains_at, at_contains, any_from}
 use Rattle.plan_model.proofs.Sums.{item-le-sum_by, two-le-sum_by, some_passes}

@@ -15,7 +15,8 @@ use Rattle.soc_model.proofs.Limits.{modules-small, module_chains-le}
 use Rattle.plan_model.specs.declared.ChainPlan.{ChainPlan}
 use Rattle.plan_model.specs.declared.Wrapper.{Wrapper}
 use Rattle.plan_model.specs.declared.TheConstants.{PLAN_NUMBER_MOST, START_MOST}
-use Rattle.plan_model.specs.Cells.{ChainValue, IsProper, scan_lengths}
+use Rattle.plan_model.specs.Cells.{ChainValue, IsProper}
+use Rattle.soc_model.specs.Modes.{scan_lengths}
 use Rattle.plan_model.specs.Plans.{BusValue, WrapperValue, WhyValue, OfModule, OfPair, OfChain, OfArea, OfPower, OfForced, PlanValue, LimitsValue}
 use Rattle.plan_model.specs.Rules.{Each, StartsOnce, FitsWires, live_ids, listed}
 use Rattle.plan_model.specs.Views.{chain_value, wrapper_value}

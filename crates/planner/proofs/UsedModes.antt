@@ -9,10 +9,13 @@ use Rattle.std.proofs.lemmas.Grind.{flat_map-append}
 use Rattle.std.proofs.lemmas.Option.{get_or_from_slice_get, slice_get_within}
 use Rattle.soc_model.specs.declared.Test.{Test}
 use Rattle.soc_model.specs.Chips.{ModuleValue, SocValue, is_live}
-use Rattle.plan_model.specs.Plans.{BusValue, WrapperValue, same_mode}
+use Rattle.plan_model.specs.Plans.{BusValue, WrapperValue}
+use Rattle.soc_model.specs.Modes.{same_mode}
 use Rattle.plan_model.specs.declared.Wrapper.{Wrapper}
 use Rattle.plan_model.specs.Views.{wrapper_value}
-use Rattle.plan_model.specs.Rules.{pair_of, used_pairs, mode_pair, uses_mode, has_tam}
+use Rattle.plan_model.specs.Rules.{pair_of, used_pairs, mode_pair}
+use Rattle.soc_model.specs.Modes.{uses_mode}
+use Rattle.soc_model.specs.Modes.{has_tam}
 use Rattle.plan_model.proofs.Lists.{any_at, any_from}
 use Rattle.width_table.specs.Tables.{TableValue}
 use Rattle.wrapper_design.specs.Design.{mode_of, design}

@@ -8,7 +8,8 @@ use Rattle.soc_model.specs.declared.Test.{Test}
 use Rattle.soc_model.specs.Chips.{ModuleValue, SocValue, is_live}
 use Rattle.plan_model.specs.declared.Wrapper.{Wrapper}
 use Rattle.plan_model.specs.Cells.{chain_cells}
-use Rattle.plan_model.specs.Plans.{BusValue, WrapperValue, wraps, same_mode, of_first, chains_of}
+use Rattle.plan_model.specs.Plans.{BusValue, WrapperValue, wraps, of_first, chains_of}
+use Rattle.soc_model.specs.Modes.{same_mode}
 use Rattle.plan_model.specs.Rules.{Each, HasWrapper, used_pairs}
 use Rattle.plan_model.specs.Views.{wrapper_value, chain_value}
 use Rattle.plan_model.proofs.Lists.{from_map}

@@ -9,8 +9,10 @@ use Rattle.std.proofs.lemmas.Option.{slice_get-map}
 use Rattle.soc_model.specs.Chips.{ModuleValue, SocValue, numbers}
 use Rattle.soc_model.specs.SoundChips.{AllDiffer}
 use Rattle.plan_model.specs.Cells.{ChainValue, IsProper}
-use Rattle.plan_model.specs.Plans.{BusValue, WrapperValue, PlanValue, has_module, same_mode, widths, bus_place}
-use Rattle.plan_model.specs.Rules.{Each, IsNew, IsFitting, HasWrapper, HasProperCells, pair_of, used_pairs, mode_pair, uses_mode}
+use Rattle.plan_model.specs.Plans.{BusValue, WrapperValue, PlanValue, has_module, widths, bus_place}
+use Rattle.soc_model.specs.Modes.{same_mode}
+use Rattle.plan_model.specs.Rules.{Each, IsNew, IsFitting, HasWrapper, HasProperCells, pair_of, used_pairs, mode_pair}
+use Rattle.soc_model.specs.Modes.{uses_mode}
 use Rattle.plan_model.proofs.Lists.{contains_at, at_contains}
 use Rattle.plan_model.proofs.Sums.{sum_by-le_at, two-le-sum_by, at_most_one, one_if}
 use Rattle.wrapper_design.specs.Design.{mode_of, design}

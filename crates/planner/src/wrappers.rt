@@ -1,13 +1,14 @@
 // The wrappers of a plan: those of the width table at the widths of its buses.
 ghost use Rattle.std.specs.Prelude.{◌≡◌, ◌++◌, ◌<◌, ℕ, Bool, List, length, Some, slice_get, true, IfOk, OnOk, map};
 ghost use Rattle.soc_model.specs.Chips.{ModuleValue, soc_value, module_value};
-ghost use Rattle.plan_model.specs.Rules.{uses_mode, used_pairs, mode_pair};
+ghost use Rattle.plan_model.specs.Rules.{used_pairs, mode_pair};
+ghost use Rattle.soc_model.specs.Modes.{uses_mode};
 ghost use Rattle.plan_model.specs.Views.{bus_value, wrapper_value};
 ghost use Rattle.planner.specs.Wrapping.{bus_width, HaveWidths, IsUsedMode, AreUsedModes, AreTableWrappers};
 
 use outside::{NoMemory, push};
 use plan_model::{Bus, Wrapper, lists_module};
-use soc_model::{Module, Soc, live, module_at};
+use soc_model::{Soc, module_at, uses_mode};
 use std::alloc::Global;
 use width_table::WidthTable;
 
@@ -32,16 +33,6 @@ fn width_of(buses: &[Bus], number: u64) -> u64
         }
     }
     0
-}
-
-/// Whether a live test over the wires of the module is in the mode.
-fn uses_mode(module: &Module, scan: bool) -> bool
-    ensures { result ≡ uses_mode scan (module_value «module».now) }
-{
-    module
-        .tests
-        .iter()
-        .any(|test| live(test) && test.tam && test.scan == scan)
 }
 
 /// Adds a mode of a module, where it is used.

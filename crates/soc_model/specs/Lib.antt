@@ -1,4 +1,5 @@
 pub mod Chips
+pub mod Modes
 pub mod Lookups
 pub mod Faults
 pub mod Sizes

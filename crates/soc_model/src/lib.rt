@@ -3,11 +3,15 @@
 
 ghost use Rattle.std.specs.Prelude.{◌≡◌, ◌++◌, ◌∷◌, [], false, OnOk, OnErr, IfErr};
 
+mod laws;
 mod lookups;
+mod modes;
 mod sizes;
 
 use indexmap::IndexMap;
+pub use laws::parents_are_found;
 pub use lookups::{find_test, live, module_at, parent, place_of};
+pub use modes::{has_tam_test, is_of_mode, mode_chains, over_wires, uses_mode};
 pub use sizes::check_size;
 use std::alloc::Global;
 

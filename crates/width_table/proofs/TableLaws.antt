@@ -12,11 +12,13 @@ use Rattle.soc_model.specs.Sizes.{test_work}
 use Rattle.soc_model.specs.SoundChips.{IsSoundChip}
 use Rattle.soc_model.proofs.Sums.{work_in, work-modules}
 use Rattle.soc_model.proofs.Limits.{work-le}
-use Rattle.plan_model.specs.Cells.{scan_lengths, chain_cells}
+use Rattle.plan_model.specs.Cells.{chain_cells}
+use Rattle.soc_model.specs.Modes.{scan_lengths}
 use Rattle.plan_model.specs.Operations.{ops_of}
-use Rattle.plan_model.specs.Plans.{same_mode, si_of, so_of}
+use Rattle.plan_model.specs.Plans.{si_of, so_of}
+use Rattle.soc_model.specs.Modes.{same_mode}
 use Rattle.plan_model.specs.Bounds.{sum_below, least_from_one}
-use Rattle.plan_model.specs.Rules.{has_tam}
+use Rattle.soc_model.specs.Modes.{has_tam}
 use Rattle.plan_model.specs.Certificates.{passes}
 use Rattle.plan_model.proofs.Lists.{any_at}
 use Rattle.plan_model.proofs.Sums.{item-le-sum_by, sum_by-filter}
@@ -24,7 +26,8 @@ use Rattle.plan_model.proofs.OperationCounts.{ops_length}
 use Rattle.wrapper_design.specs.Design.{mode_of, design}
 use Rattle.wrapper_design.specs.Balance.{in_length_of, out_length_of}
 use Rattle.wrapper_design.proofs.Laws.{design_bounded}
-use Rattle.width_table.specs.Times.{is_of_mode, mode_time, time}
+use Rattle.width_table.specs.Times.{mode_time, time}
+use Rattle.soc_model.specs.Modes.{is_of_mode}
 use Rattle.width_table.specs.Tables.{TableValue, IsTable, places_of, time_if, time_of}
 use Rattle.width_table.proofs.Work.{live_of_mode, tam_of_mode, one_test, over_wires, idle_time}
 use Rattle.width_table.proofs.LeastWidths.{least-ge, time_falls, module_there}

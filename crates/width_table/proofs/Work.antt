@@ -9,13 +9,16 @@ use Rattle.std.proofs.Math.Nat.{mul-le-mul_right, mul-le-mul_left}
 use Rattle.soc_model.specs.declared.Test.{Test}
 use Rattle.soc_model.specs.Chips.{ModuleValue, is_live}
 use Rattle.soc_model.specs.Sizes.{test_work}
-use Rattle.plan_model.specs.Cells.{Cell, scan_lengths, chain_cells}
+use Rattle.plan_model.specs.Cells.{Cell, chain_cells}
+use Rattle.soc_model.specs.Modes.{scan_lengths}
 use Rattle.plan_model.specs.Operations.{ops_of}
-use Rattle.plan_model.specs.Plans.{same_mode, operations_of, si_of, so_of}
+use Rattle.plan_model.specs.Plans.{operations_of, si_of, so_of}
+use Rattle.soc_model.specs.Modes.{same_mode}
 use Rattle.plan_model.proofs.OperationCounts.{ops_length}
 use Rattle.wrapper_design.specs.Design.{mode_of, design}
 use Rattle.wrapper_design.specs.Balance.{in_length_of, out_length_of}
-use Rattle.width_table.specs.Times.{is_of_mode, mode_tests, mode_time}
+use Rattle.width_table.specs.Times.{mode_tests, mode_time}
+use Rattle.soc_model.specs.Modes.{is_of_mode}
 
 abbrev pub patterns_of : Test → ℕ
 patterns_of t = t.patterns

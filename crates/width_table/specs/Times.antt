@@ -3,14 +3,11 @@ use Rattle.std.specs.Prelude.{ℕ, ◌+◌, ◌<◌, ◌≤◌, ◌&&◌, Bool, 
 use Rattle.std.specs.List.{sum_by, filter}
 use Rattle.soc_model.specs.declared.Test.{Test}
 use Rattle.soc_model.specs.Chips.{ModuleValue, is_live}
+use Rattle.soc_model.specs.Modes.{is_of_mode}
 use Rattle.plan_model.specs.Cells.{ChainValue, chain_cells}
-use Rattle.plan_model.specs.Plans.{same_mode, operations_of}
+use Rattle.plan_model.specs.Plans.{operations_of}
 use Rattle.plan_model.specs.Bounds.{least_from_one}
 use Rattle.wrapper_design.specs.Design.{mode_of, design}
-
--- a live test over the wires that is in the mode
-abbrev pub is_of_mode : Bool → Test → Bool
-is_of_mode scan t = is_live t && (t.tam && same_mode scan t.scan)
 
 abbrev pub mode_tests : ModuleValue → Bool → List Test
 mode_tests m scan = filter (is_of_mode scan) m.tests

@@ -5,10 +5,11 @@ ghost use Rattle.soc_model.specs.declared.Test.{Test};
 ghost use Rattle.soc_model.specs.Chips.{module_value, is_live};
 ghost use Rattle.soc_model.specs.Sizes.{test_work};
 ghost use Rattle.plan_model.specs.Listing.{module_size};
-ghost use Rattle.width_table.specs.Times.{is_of_mode, mode_tests, mode_time};
+ghost use Rattle.width_table.specs.Times.{mode_tests, mode_time};
+ghost use Rattle.soc_model.specs.Modes.{is_of_mode};
 ghost use Rattle.width_table.specs.Choices.{AreChoices};
 
-use soc_model::{Module, Test, live};
+use soc_model::{Module, is_of_mode};
 use std::alloc::{AllocError, Global};
 use wrapper_design::PathLengths;
 
@@ -26,13 +27,6 @@ pub struct Choice {
 struct TestTotals {
     tests: u64,
     patterns: u64,
-}
-
-/// Whether the test is a live one over the wires and in the mode.
-fn is_of_mode(test: &Test, scan: bool) -> bool
-    ensures { result ≡ is_of_mode scan test.now }
-{
-    live(test) && test.tam && test.scan == scan
 }
 
 /// The totals of a mode of a module.

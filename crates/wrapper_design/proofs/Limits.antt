@@ -4,7 +4,7 @@ use Rattle.std.specs.Prelude.{slice_index}
 use Rattle.std.specs.List.{sum_by, sum, range_with_len, All}
 use Rattle.std.proofs.lemmas.List.Sums.{sum_by-cons}
 use Rattle.soc_model.specs.Chips.{ModuleValue}
-use Rattle.plan_model.specs.Cells.{scan_lengths}
+use Rattle.soc_model.specs.Modes.{scan_lengths}
 use Rattle.wrapper_design.specs.declared.order.ScanChain.{ScanChain}
 use Rattle.wrapper_design.specs.Loads.{IsOrder}
 use Rattle.wrapper_design.specs.Design.{Mode, longest_part, level, design}

@@ -2,7 +2,8 @@
 use Rattle.std.specs.Prelude.{ℕ, ◌+◌, ◌-◌, Bool, List, [], ◌∷◌, ◌++◌, map, length, replicate, max, min, nat_le, slice_index, if◌then◌else◌}
 use Rattle.std.specs.List.{sum, sum_by, range_with_len, list_all}
 use Rattle.soc_model.specs.Chips.{ModuleValue}
-use Rattle.plan_model.specs.Cells.{ChainValue, scan_lengths}
+use Rattle.plan_model.specs.Cells.{ChainValue}
+use Rattle.soc_model.specs.Modes.{scan_lengths}
 use Rattle.plan_model.specs.Plans.{greatest}
 use Rattle.plan_model.specs.Bounds.{quotient_up}
 

@@ -18,11 +18,11 @@ mod order;
 mod path_lengths;
 
 use dealing::build;
-use order::{flops_of, longest_first, mode_chains};
+use order::{flops_of, longest_first};
 use outside::NoMemory;
 pub use path_lengths::PathLengths;
 use plan_model::{ChainPlan, Wrapper};
-use soc_model::Module;
+use soc_model::{Module, mode_chains};
 use std::alloc::{AllocError, Global};
 
 /// The wrapper of the module in one mode (the scan mode, or else the one over the terminals alone) on `width` wires: so

@@ -1,10 +1,7 @@
 // The scan chains of a mode, in the order in which they go into chains.
 ghost use Rattle.std.specs.Prelude.{◌≡◌, ◌^◌, ◌<◌, IfOk, sum};
-ghost use Rattle.soc_model.specs.Chips.{module_value};
-ghost use Rattle.plan_model.specs.Cells.{scan_lengths};
 ghost use Rattle.wrapper_design.specs.Loads.{IsOrder};
 
-use soc_model::Module;
 use std::alloc::{AllocError, Global};
 use std::cmp::Reverse;
 
@@ -15,13 +12,6 @@ pub struct ScanChain {
     pub length: Reverse<u64>,
     /// Its place in the module, from 0.
     pub place: u64,
-}
-
-/// The lengths of the scan chains that a mode of the module has: none over the terminals alone.
-pub fn mode_chains(module: &Module, scan: bool) -> &[u64]
-    ensures { result.now ≡ scan_lengths (module_value «module».now) scan }
-{
-    if scan { &module.chains } else { &[] }
 }
 
 /// The lengths together.

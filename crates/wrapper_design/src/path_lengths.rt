@@ -8,8 +8,8 @@ ghost use Rattle.wrapper_design.specs.Balance.{in_length_of, out_length_of};
 
 use crate::dealing::level;
 use crate::loads::longest_part;
-use crate::order::{ScanChain, flops_of, longest_first, mode_chains};
-use soc_model::Module;
+use crate::order::{ScanChain, flops_of, longest_first};
+use soc_model::{Module, mode_chains};
 use std::alloc::{AllocError, Global};
 use std::marker::Model;
 

@@ -3,7 +3,8 @@ use Rattle.std.specs.List.{sum}
 use Rattle.std.proofs.lemmas.Result.{IfOk-weaker}
 use Rattle.soc_model.specs.Chips.{ModuleValue, module_value}
 use Rattle.plan_model.specs.Views.{chain_value}
-use Rattle.plan_model.specs.Cells.{ChainValue, scan_lengths}
+use Rattle.plan_model.specs.Cells.{ChainValue}
+use Rattle.soc_model.specs.Modes.{scan_lengths}
 use Rattle.wrapper_design.specs.Design.{mode_of, design}
 use Rattle.wrapper_design.specs.Loads.{IsOrder}
 use Rattle.wrapper_design.proofs.Limits.{flops-le, order_sum}

@@ -1,7 +1,7 @@
 use Rattle.std.proofs.Common.{◌≡◌, ℕ, ◌+◌, ◌-◌, ◌*◌, ◌^◌, ◌≤◌, ◌<◌, ◌∙◌, Bool, max, min, ap, sym, subst, arith, length, inl, inr, ◌⊎◌}
 use Rattle.std.specs.List.{sum_by, sum, filter}
 use Rattle.soc_model.specs.Chips.{ModuleValue, is_live}
-use Rattle.plan_model.specs.Cells.{scan_lengths}
+use Rattle.soc_model.specs.Modes.{scan_lengths}
 use Rattle.soc_model.specs.Chips.{module_value}
 use Rattle.wrapper_design.specs.Design.{Mode, mode_of, design}
 use Rattle.wrapper_design.specs.Balance.{in_length_of, out_length_of}

@@ -2,7 +2,7 @@ use Rattle.std.proofs.Common.{◌≤◌, ◌∙◌, false, ap, sym, ◌^◌, ari
 use Rattle.std.specs.List.{sum_by, filter}
 use Rattle.soc_model.specs.declared.Test.{Test}
 use Rattle.soc_model.specs.Chips.{module_value}
-use Rattle.width_table.specs.Times.{is_of_mode}
+use Rattle.soc_model.specs.Modes.{is_of_mode}
 use Rattle.width_table.proofs.Work.{patterns_of, left_yes, left_no, left_none, tests_few, patterns_few}
 use Rattle.width_table.proofs.choosing.totals.Goals as goal
 use Rattle.width_table.proofs.choosing.totals.Goals.{then-is_of_mode, else-is_of_mode}

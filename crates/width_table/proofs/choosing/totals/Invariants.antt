@@ -1,6 +1,6 @@
 use Rattle.std.proofs.Common.{◌≡◌, ◌+◌, length, drop}
 use Rattle.std.specs.List.{sum_by, filter}
-use Rattle.width_table.specs.Times.{is_of_mode}
+use Rattle.soc_model.specs.Modes.{is_of_mode}
 use Rattle.width_table.proofs.Work.{patterns_of}
 use Rattle.width_table.proofs.choosing.totals.Given as goal
 

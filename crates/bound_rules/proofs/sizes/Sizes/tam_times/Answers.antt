@@ -1,5 +1,5 @@
 use Rattle.std.proofs.Common.{◌∙◌, sym, arith, get_or}
-use Rattle.bound_rules.specs.Sizes.{is_tam}
+use Rattle.soc_model.specs.Modes.{is_tam}
 use Rattle.bound_rules.proofs.Works.{no_test, live_patterns, tam_only, work_at, next_at, take-le}
 use Rattle.bound_rules.proofs.sizes.Sizes.tam_times.Goals as goal
 

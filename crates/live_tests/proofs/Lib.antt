@@ -1,0 +1,2 @@
+pub mod LiveIds
+pub mod Indexing
