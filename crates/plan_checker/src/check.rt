@@ -56,11 +56,11 @@ pub(crate) struct PlacedRooms {
     pub(crate) begins: Vec<Begin>,
     /// The latest ends of the tests that a pass over the begins has seen, for each bus or each module.
     pub(crate) ends: Vec<u64>,
-    /// Their names, in the order of the jobs.
+    /// The names of the jobs' tests, in the same order.
     pub(crate) names: IndexSet<TestId>,
-    /// For each of them the place of its profile in the limits.
+    /// For each job the place of its test's profile in the limits.
     pub(crate) profiles: Vec<usize>,
-    /// What they begin and end to draw, by cycles.
+    /// What the jobs begin and end to draw, by cycles.
     pub(crate) events: Vec<Event>,
 }
 
