@@ -7,7 +7,6 @@ pub mod Orders
 pub mod Choice
 pub mod ElementaryValues
 pub mod NamesInRange
-pub mod LiveIds
 pub mod LiveNodes
 pub mod Links
 pub mod ChainLists

@@ -4,7 +4,6 @@ use Rattle.std.specs.Prelude.{slice_get, slice_set}
 use Rattle.std.specs.List.{Contains, list_any, position_or_len}
 use Rattle.std.proofs.lemmas.Bool.Decides.{nat_tests}
 use Rattle.std.proofs.lemmas.List.{take_more, length-take}
-use Rattle.indexmap.specs.IndexSet.{insert_key}
 use Rattle.std.proofs.lemmas.List.Elements.{Contains-append_left, Contains-append_right, Contains-append_cases}
 use Rattle.std.proofs.lemmas.List.Quantifiers.{position-Some}
 use Rattle.std.proofs.lemmas.List.Sums.{fails_before_first}
@@ -14,7 +13,8 @@ use Rattle.soc_model.specs.Chips.{same_test}
 use Rattle.plan_model.proofs.Lists.{from_map, contains_at, at_contains, any_at}
 use Rattle.plan_model.proofs.CertificatesAreBounds.{same_test_is, is_same_test}
 use Rattle.bound_certificate.specs.declared.nodes.Node.{Node}
-use Rattle.bound_certificate.specs.Nodes.{NodeValue, node_value, node_values, ids_of, fixed_parts, AllDiffer, add_before, linked, AreLinked}
+use Rattle.bound_certificate.specs.Nodes.{NodeValue, node_value, node_values, ids_of, fixed_parts, add_before, linked, AreLinked}
+use Rattle.live_tests.specs.Names.{AllDiffer}
 
 some_is : {X : Type 0} (x y : X) → Some x ≡ Some y → x ≡ y
 some_is x y e = cc
@@ -218,34 +218,3 @@ link_next before k d start nodes new ids o p same differ fixed old within first 
       ap fixed_parts here ∙ linked_fixed (position (same_test item.0) ids) (position (same_test item.1) ids) nodes ∙ fixed,
       subst (λ (l : List (TestId × TestId)). AreLinked l new) (sym (take_more before k d within)) (subst (λ (l : List NodeValue). AreLinked (take k before ++ item ∷ []) l) (sym here) more),
     )
-
-slice_get-take : {X : Type 0} (xs : List X) (k p : ℕ) → p < k → slice_get (take k xs) p ≡ slice_get xs p
-slice_get-take [] zero p less = refl
-slice_get-take [] (suc k) p less = refl
-slice_get-take (x ∷ xs) zero p less = absurd (omega (arith, less))
-slice_get-take (x ∷ xs) (suc k) zero less = refl
-slice_get-take (x ∷ xs) (suc k) (suc p) less = slice_get-take xs k p (omega (arith, less))
-
--- a test that stands at a later place is new
-new_test : (ids : List TestId) (k : ℕ) (id : TestId) → AllDiffer ids → slice_get ids k ≡ Some id → list_any (same_test id) (take k ids) ≡ false
-new_test ids k id differ at = by (list_any (same_test id) (take k ids)) refl
-  where
-    by : (b : Bool) → list_any (same_test id) (take k ids) ≡ b → b ≡ false
-    by false e = refl
-    by true e =
-        let a = any_at (same_test id) (take k ids) e in
-        let less : a.0 < k = omega (arith, slice_get_within (take k ids) a.0 a.1 a.2, length-take k ids) in
-        let there : slice_get ids a.0 ≡ Some a.1 = sym (slice_get-take ids k a.0 less) ∙ a.2 in
-        let same : a.0 ≡ k = differ a.0 k id (there ∙ ap Some (sym (same_test_is id a.1 a.3))) at in
-        absurd (omega (arith, less, same))
-
--- the loop over the tests
-pub ids_next : (nodes : List Node) (keys new : List TestId) (k : ℕ) (here : Node) → AllDiffer (ids_of (node_values nodes)) → keys ≡ take k (ids_of (node_values nodes)) → k < length nodes → here ≡ get_or nodes k here → new ≡ insert_key same_test keys here.id → new ≡ take (k + 1) (ids_of (node_values nodes))
-ids_next nodes keys new k here differ old within is inserted =
-    let ids = ids_of (node_values nodes) in
-    let node : slice_get nodes k ≡ Some here = slice_get-get_or nodes k here within ∙ ap Some (sym is) in
-    let value : slice_get (node_values nodes) k ≡ Some (node_value here) = slice_get-map node_value nodes k ∙ rw node refl in
-    let at : slice_get ids k ≡ Some here.id = slice_get-map (λ (n : NodeValue). n.id) (node_values nodes) k ∙ rw value refl in
-    let fresh : list_any (same_test here.id) keys ≡ false = ap (list_any (same_test here.id)) old ∙ new_test ids k here.id differ at in
-    let item : here.id ≡ get_or ids k here.id = sym (get_or_from_slice_get ids k here.id here.id at) in
-    inserted ∙ ap (λ (b : Bool). cond b keys (keys ++ here.id ∷ [])) fresh ∙ ap (λ (l : List TestId). l ++ here.id ∷ []) old ∙ ap (λ (i : TestId). take k ids ++ i ∷ []) item ∙ sym (take_more ids k here.id (slice_get_within ids k here.id at))

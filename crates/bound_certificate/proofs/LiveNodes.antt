@@ -23,8 +23,9 @@ use Rattle.bound_rules.specs.Sizes.{sizes_of, least_chain, IsFitting}
 use Rattle.bound_rules.proofs.Works.{time_by-le, tam_time_is, self_time_is}
 use Rattle.bound_rules.proofs.Modules.{fitting_sizes, time_by_sizes, work_by_sizes, module_size-le_work}
 use Rattle.bound_rules.proofs.SoundWork.{live_work-le, live_work-le_live}
-use Rattle.bound_certificate.specs.Nodes.{NodeValue, ids_of, fixed_parts, HasSmallWork, node_in, nodes_in, live_nodes, AllDiffer, AreLinked, AreNodes}
-use Rattle.bound_certificate.proofs.LiveIds.{ids_differ}
+use Rattle.bound_certificate.specs.Nodes.{NodeValue, ids_of, fixed_parts, HasSmallWork, node_in, nodes_in, live_nodes, AreLinked, AreNodes}
+use Rattle.live_tests.specs.Names.{AllDiffer}
+use Rattle.live_tests.proofs.LiveIds.{ids_differ}
 use Rattle.bound_certificate.proofs.Links.{ids_same}
 
 -- ---- lower times of live tests

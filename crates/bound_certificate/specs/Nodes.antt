@@ -30,10 +30,6 @@ ids_of nodes = map (λ (n : NodeValue). n.id) nodes
 abbrev pub fixed_parts : List NodeValue → List (TestId × ℕ)
 fixed_parts nodes = map (λ (n : NodeValue). (n.id, n.time)) nodes
 
--- no item stands at two places
-abbrev pub AllDiffer : {X : Type 0} → List X → Type 0
-AllDiffer {X} xs = (p q : ℕ) (x : X) → slice_get xs p ≡ Some x → slice_get xs q ≡ Some x → p ≡ q
-
 -- ---- without precedences
 
 -- the work of each live test fits in a machine's number

@@ -3,10 +3,11 @@ ghost use Rattle.std.specs.Prelude.{◌≡◌, ◌<◌, ◌≤◌, ◌++◌, [],
 ghost use Rattle.soc_model.specs.Chips.{soc_value, module_value};
 ghost use Rattle.soc_model.specs.SoundChips.{IsSoundChip};
 ghost use Rattle.plan_model.specs.Views.{limits_value};
-ghost use Rattle.bound_certificate.specs.Nodes.{node_values, ids_of as names, fixed_parts, HasSmallWork, nodes_in, live_nodes as nodes_of_tests, AllDiffer, linked, AreLinked, AreNodes};
+ghost use Rattle.bound_certificate.specs.Nodes.{node_values, ids_of as names, fixed_parts, HasSmallWork, nodes_in, live_nodes as nodes_of_tests, linked, AreLinked, AreNodes};
+ghost use Rattle.live_tests.specs.Names.{AllDiffer};
 
 use bound_rules::lower_time;
-use indexmap::IndexSet;
+use live_tests::LiveTests;
 use outside::NoMemory;
 use plan_model::Limits;
 use soc_model::{Module, Soc, TestId, live};
@@ -65,20 +66,6 @@ fn live_nodes(alloc: Global, soc: &Soc, wires: u64) -> Result<Vec<Node>, NoMemor
     Ok(nodes)
 }
 
-/// The tests alone, to be found by their numbers.
-fn ids_of(alloc: Global, nodes: &[Node]) -> Result<IndexSet<TestId>, NoMemory>
-    requires differ { AllDiffer (names (node_values nodes.now)) }
-    ensures { IfOk result (λ ids. ids.keys ≡ names (node_values nodes.now)) }
-{
-    let mut ids = IndexSet::new(alloc);
-    for node in nodes {
-        if ids.insert(node.id).is_err() {
-            return Err(NoMemory);
-        }
-    }
-    Ok(ids)
-}
-
 /// Adds a precedence, where both tests have a place.
 fn link(nodes: &mut Vec<Node>, first: Option<usize>, second: Option<usize>) -> Result<(), NoMemory>
     requires { IfSome second (λ place. place < length nodes.old.items) }
@@ -99,17 +86,17 @@ fn link(nodes: &mut Vec<Node>, first: Option<usize>, second: Option<usize>) -> R
 /// Adds all precedences of tests that have places.
 fn link_all(
     nodes: &mut Vec<Node>,
-    ids: &IndexSet<TestId>,
+    tests: &LiveTests,
     before: &[(TestId, TestId)],
 ) -> Result<(), NoMemory>
-    requires ids { ids.now.keys ≡ names (node_values nodes.old.items) }
+    requires ids { tests.now ≡ names (node_values nodes.old.items) }
     requires differ { AllDiffer (names (node_values nodes.old.items)) }
     requires none { AreLinked [] (node_values nodes.old.items) }
     ensures fixed { OnOk result (fixed_parts (node_values nodes.new.items) ≡ fixed_parts (node_values nodes.old.items)) }
     ensures linked { OnOk result (AreLinked before.now (node_values nodes.new.items)) }
 {
     for (first, second) in before {
-        link(nodes, ids.get_index_of(first), ids.get_index_of(second))?;
+        link(nodes, tests.place(*first), tests.place(*second))?;
     }
     Ok(())
 }
@@ -121,7 +108,7 @@ pub fn nodes_of(alloc: Global, soc: &Soc, limits: &Limits) -> Result<Vec<Node>, 
     ensures { IfOk result (λ nodes. AreNodes (soc_value soc.now) (limits_value limits.now) (node_values nodes.items)) }
 {
     let mut nodes = live_nodes(alloc, soc, limits.wires)?;
-    let ids = ids_of(alloc, &nodes)?;
-    link_all(&mut nodes, &ids, &limits.before)?;
+    let tests = LiveTests::new(alloc, soc)?;
+    link_all(&mut nodes, &tests, &limits.before)?;
     Ok(nodes)
 }

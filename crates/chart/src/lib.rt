@@ -6,14 +6,13 @@ ghost use Rattle.std.specs.List.{flat_map, filter};
 ghost use Rattle.soc_model.specs.declared.TestId.{TestId};
 ghost use Rattle.soc_model.specs.Chips.{soc_value, module_value, is_live};
 ghost use Rattle.soc_model.specs.SoundChips.{IsSoundChip};
-ghost use Rattle.plan_model.specs.declared.Wrapper.{Wrapper};
 ghost use Rattle.plan_model.specs.Plans.{wraps, has_module, bus_place, operations_of, chains_of};
 ghost use Rattle.plan_model.specs.Rules.{IsGoodAlone};
 ghost use Rattle.plan_model.specs.Views.{plan_value, wrapper_value, bus_value};
 ghost use Rattle.chart.specs.ChartText.{is_marked, mark, bar, name_text, bus_text, times_text, bar_text, row_text, start_row, chart_text};
 
 use outside::{NoMemory, extend, push_number};
-use plan_model::{Plan, bus_of, tam_duration, wrapper_of};
+use plan_model::{Plan, bus_of, test_cycles};
 use soc_model::{Module, Soc, Test, TestId, find_test, module_at};
 use std::alloc::Global;
 
@@ -153,13 +152,7 @@ impl<'a> Drawing<'a> {
         requires test_there { (k : ℕ) × (slice_get (filter is_live «module».now.tests.items) k ≡ Some test.now) }
         ensures { result ≡ length (operations_of (module_value «module».now) test.now (chains_of (plan_value self.now.plan.now) (module_value «module».now) test.now)) }
     {
-        if !test.tam {
-            return test.patterns;
-        }
-        match wrapper_of(&self.plan.wrappers, module.number, test.scan) {
-            Some(place) => tam_duration(module, &self.plan.wrappers[place], test),
-            None => unreachable!(),
-        }
+        test_cycles(&self.plan.wrappers, module, test)
     }
 
     /// The line of a start.

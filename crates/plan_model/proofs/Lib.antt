@@ -30,5 +30,7 @@ pub mod GoodWithoutLimits
 pub mod SoundChips
 pub mod ShortTests
 pub mod ByDivision
+pub mod Finding
+pub mod FoundWrappers
 pub mod CellsOnce
 pub mod GoodPlansRunRight

@@ -20,7 +20,7 @@ module_size-le soc sound p m at =
     omega arith
 
 -- a test's part of the work, of a test over the wires
-wires_work : (m : ModuleValue) (t : Test) → t.tam ≡ true → test_work m t ≤ 10 ^ 18 → m.setup + t.patterns * module_size m ≤ 10 ^ 18
+pub wires_work : (m : ModuleValue) (t : Test) → t.tam ≡ true → test_work m t ≤ 10 ^ 18 → m.setup + t.patterns * module_size m ≤ 10 ^ 18
 wires_work m t tam h = let h' = rw tam at h in omega arith
 
 -- of a live test over the wires, by the places of its module and of itself

@@ -76,6 +76,11 @@ HasWrapper plan earlier pair = Contains (map pair_of plan.wrappers) pair
 abbrev pub HasProperCells : SocValue → List WrapperValue → WrapperValue → Type 0
 HasProperCells soc earlier w = (n : ℕ) (m : ModuleValue) → slice_get soc.modules n ≡ Some m → m.number ≡ w.«module» → IsProper m w.scan w.chains
 
+-- the wrappers have one for the mode of a test of the module, and each such is proper
+pub record IsWrapped (m : ModuleValue) (t : Test) (wrappers : List WrapperValue) : Type 0 where
+  pub there : Contains (map pair_of wrappers) (m.number, t.scan)
+  pub proper : (k : ℕ) (w : WrapperValue) → slice_get wrappers k ≡ Some w → pair_of w ≡ (m.number, t.scan) → IsProper m t.scan w.chains
+
 -- the start is of a live test, and the first of it
 abbrev pub StartsOnce : SocValue → List (TestId × ℕ) → TestId × ℕ → Type 0
 StartsOnce soc earlier s = Contains (live_ids soc) s.0 × IsNew (map (λ (e : TestId × ℕ). e.0) earlier) s.0

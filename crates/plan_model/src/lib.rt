@@ -13,10 +13,10 @@ pub use laws::{
     law_of_one_test, lower_times_are_least, tests_are_short,
 };
 pub use moments::{Moment, Phases, Turn};
-pub use places::{bus_of, lists_module, wrapper_of};
+pub use places::{bus_of, lists_module, profile_of, wrapper_of};
 use soc_model::TestId;
 pub use times::closed_time;
-pub use wrapping::{is_proper, lengths, tam_duration};
+pub use wrapping::{is_proper, lengths, tam_duration, test_cycles};
 
 /// Wires of the test access mechanism (TAM), at most.
 pub const WIRES_MOST: u64 = 256;

@@ -1,10 +1,13 @@
-// Where the bus and the wrapper of a module stand in a plan.
+// Where the bus and the wrapper of a module stand in a plan, and the profile of a test in the limits.
 ghost use Rattle.std.specs.Prelude.{◌≡◌, map, position};
+ghost use Rattle.soc_model.specs.Chips.{same_test};
+ghost use Rattle.plan_model.specs.declared.Profile.{Profile};
 ghost use Rattle.plan_model.specs.declared.Wrapper.{Wrapper};
 ghost use Rattle.plan_model.specs.Plans.{bus_place, has_module, wraps};
 ghost use Rattle.plan_model.specs.Views.{bus_value, wrapper_value};
 
-use crate::{Bus, Wrapper};
+use crate::{Bus, Profile, Wrapper};
+use soc_model::TestId;
 
 /// Whether a bus lists a module.
 pub fn lists_module(bus: &Bus, module: u64) -> bool
@@ -41,4 +44,11 @@ pub fn wrapper_of(wrappers: &[Wrapper], module: u64, scan: bool) -> Option<usize
     wrappers
         .iter()
         .position(|wrapper| wraps_mode(wrapper, module, scan))
+}
+
+/// The place of the profile of a test. None comes exactly where it has none.
+pub fn profile_of(profiles: &[Profile], id: TestId) -> Option<usize>
+    ensures { result ≡ position (λ (p : Profile). same_test p.test id) profiles.now }
+{
+    profiles.iter().position(|profile| profile.test == id)
 }

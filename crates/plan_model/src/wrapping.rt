@@ -2,14 +2,16 @@
 
 ghost use Rattle.std.specs.Prelude.{◌≡◌, ◌≢◌, ℕ, ◌+◌, ◌*◌, ◌^◌, ◌<◌, ◌≤◌, length, map, IsTrue, false, slice_index, nat_eq, nat_lt, if◌then◌else◌};
 ghost use Rattle.std.specs.List.{All, sum_by, list_all};
-ghost use Rattle.plan_model.specs.Views.{chain_value};
+ghost use Rattle.plan_model.specs.Views.{chain_value, wrapper_value};
+ghost use Rattle.plan_model.specs.Rules.{IsWrapped};
+ghost use Rattle.soc_model.specs.Sizes.{test_work};
 ghost use Rattle.soc_model.specs.Chips.{module_value};
 ghost use Rattle.plan_model.specs.Cells.{chain_cells, in_length, out_length, IsProper};
 ghost use Rattle.plan_model.specs.Listing.{times, listed_times, mark_at, module_size};
-ghost use Rattle.plan_model.specs.Plans.{greatest, operations_of};
+ghost use Rattle.plan_model.specs.Plans.{PlanValue, greatest, chains_of, operations_of};
 ghost use Rattle.plan_model.specs.declared.ChainPlan.{ChainPlan};
 
-use crate::{ChainPlan, Wrapper, closed_time};
+use crate::{ChainPlan, Wrapper, closed_time, wrapper_of};
 use soc_model::{Module, Test, mode_chains};
 
 /// How many scan chains are marked at a time.
@@ -225,4 +227,22 @@ pub fn tam_duration(module: &Module, wrapper: &Wrapper, test: &Test) -> u64
 {
     let (si, so) = lengths(module, wrapper);
     closed_time(module.setup, si, so, test.patterns)
+}
+
+/// The cycles of a live test: over the wires those in the first wrapper of its mode, with those of the module's setup; of a
+/// self test its patterns. In a plan with a proper wrapper for each module and mode that is used, every live test is
+/// wrapped: `wrapped_test` of proofs/FoundWrappers.antt.
+pub fn test_cycles(wrappers: &[Wrapper], module: &Module, test: &Test) -> u64
+    requires live { 1 ≤ test.now.patterns }
+    requires work { test_work (module_value «module».now) test.now ≤ 10 ^ 18 }
+    requires wrapped { IsTrue test.now.tam → IsWrapped (module_value «module».now) test.now (map wrapper_value wrappers.now) }
+    ensures time { (plan : PlanValue) → plan.wrappers ≡ map wrapper_value wrappers.now → result ≡ length (operations_of (module_value «module».now) test.now (chains_of plan (module_value «module».now) test.now)) }
+{
+    if !test.tam {
+        return test.patterns;
+    }
+    match wrapper_of(wrappers, module.number, test.scan) {
+        Some(place) => tam_duration(module, &wrappers[place], test),
+        None => unreachable!(),
+    }
 }

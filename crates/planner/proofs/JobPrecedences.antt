@@ -12,9 +12,10 @@ use Rattle.plan_model.specs.Rules.{live_ids}
 use Rattle.plan_model.proofs.Lists.{from_flat_map, in_flat_map, contains_at, at_contains}
 use Rattle.plan_model.proofs.CertificatesAreBounds.{same_test_is, is_same_test}
 use Rattle.resource_table.specs.Jobs.{Precedes}
-use Rattle.bound_certificate.specs.Nodes.{AllDiffer}
-use Rattle.planner.specs.Jobs.{both_places, places_of, job_of}
-use Rattle.planner.proofs.Finding.{none_passes}
+use Rattle.live_tests.specs.Names.{AllDiffer}
+use Rattle.planner.specs.Jobs.{job_of}
+use Rattle.live_tests.specs.Names.{both_places, places_of}
+use Rattle.plan_model.proofs.Finding.{none_passes}
 
 pub no_id : TestId
 no_id = record { «module» = 0; test = 0 }

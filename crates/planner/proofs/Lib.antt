@@ -6,9 +6,7 @@ pub mod UsedModes
 pub mod BusWidths
 pub mod SettledBuses
 pub mod PlanNumbers
-pub mod Finding
 pub mod LiveJobs
-pub mod Wrapped
 pub mod JobPrecedences
 pub mod SoundJobs
 pub mod Planned

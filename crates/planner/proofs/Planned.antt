@@ -21,7 +21,7 @@ use Rattle.resource_table.specs.Jobs.{TestValue, JobValue, no_test, test_at, cyc
 use Rattle.resource_table.specs.Schedules.{TableValue, exclude, same_bus, is_at, end_of, last_end, IsActive, is_active, power_of, drawn, power_at, IsListSchedule, IsSoundTable}
 use Rattle.resource_table.proofs.Schedules.{sound_apart, sound_power, sound_order}
 use Rattle.resource_table.proofs.Placed.{sound_tests}
-use Rattle.bound_certificate.specs.Nodes.{AllDiffer}
+use Rattle.live_tests.specs.Names.{AllDiffer}
 use Rattle.planner.specs.Jobs.{bus_of, test_of, job_of}
 use Rattle.schedule_search.specs.Orders.{IsTopological}
 use Rattle.planner.specs.Schedules.{start_of, KeepsTimes}

@@ -16,7 +16,7 @@ use Rattle.resource_table.specs.Jobs.{TestValue, JobValue, test_value, test_at, 
 use Rattle.resource_table.specs.Schedules.{TableValue, end_of, last_end, IsListSchedule, IsSoundTable}
 use Rattle.resource_table.proofs.Fitting.{last_small}
 use Rattle.resource_table.proofs.KeptStarts.{wanted_is}
-use Rattle.bound_certificate.proofs.LiveIds.{ids_differ}
+use Rattle.live_tests.proofs.LiveIds.{ids_differ}
 use Rattle.schedule_search.specs.Orders.{IsTopological}
 use Rattle.schedule_search.specs.Found.{IsFound}
 use Rattle.schedule_search.proofs.PlacedOrders.{placed_has, placed_not}

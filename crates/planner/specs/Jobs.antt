@@ -6,6 +6,7 @@ use Rattle.soc_model.specs.declared.TestId.{TestId}
 use Rattle.soc_model.specs.Chips.{ModuleValue, SocValue, LiveTest, live_tests, id_of, same_test, parent_place}
 use Rattle.plan_model.specs.Plans.{BusValue, WrapperValue, OfArea, PlanValue, ProfileValue, LimitsValue, of_first, bus_place, chains_of, operations_of}
 use Rattle.plan_model.specs.Rules.{live_ids}
+use Rattle.live_tests.specs.Names.{places_of}
 use Rattle.resource_table.specs.Jobs.{TestValue, JobValue}
 
 -- a plan of which only the buses and the wrappers are settled
@@ -34,16 +35,6 @@ test_of soc limits plan l = record {
 -- the same of a test of a module
 abbrev pub test_in : SocValue → LimitsValue → PlanValue → ℕ → ModuleValue → Test → TestValue
 test_in soc limits plan place m t = test_of soc limits plan (record { place = place; core = m; test = t })
-
--- a pair of places, where there are both
-abbrev pub both_places : Option ℕ → Option ℕ → List (ℕ × ℕ)
-both_places (Some a) (Some b) = (a, b) ∷ []
-both_places (Some a) None = []
-both_places None b = []
-
--- a precedence by the places of its tests, where both are among these
-abbrev pub places_of : List TestId → TestId × TestId → List (ℕ × ℕ)
-places_of ids p = both_places (position (same_test p.0) ids) (position (same_test p.1) ids)
 
 -- the job of the live tests, in the order of the chip, with the precedences of live tests
 abbrev pub job_of : SocValue → LimitsValue → PlanValue → JobValue

@@ -5,30 +5,28 @@ ghost use Rattle.std.specs.List.{filter, flat_map};
 ghost use Rattle.soc_model.specs.declared.TestId.{TestId};
 ghost use Rattle.soc_model.specs.Chips.{soc_value, module_value, is_live, same_test, live_tests};
 ghost use Rattle.soc_model.specs.SoundChips.{IsSoundChip};
-ghost use Rattle.plan_model.specs.declared.Wrapper.{Wrapper};
-ghost use Rattle.plan_model.specs.declared.Profile.{Profile};
+ghost use Rattle.plan_model.specs.SoundLimits.{IsSoundLimits};
 ghost use Rattle.plan_model.specs.Plans.{wraps, bus_place, operations_of, chains_of};
 ghost use Rattle.plan_model.specs.Rules.{Keeps, Wrappers, Proper, live_ids};
 ghost use Rattle.plan_model.specs.Views.{wrapper_value, bus_value, profile_value, limits_value};
 ghost use Rattle.resource_table.specs.declared.JobTest.{JobTest};
-ghost use Rattle.resource_table.specs.Jobs.{test_value, job_value};
-ghost use Rattle.bound_certificate.specs.Nodes.{AllDiffer};
-ghost use Rattle.planner.specs.Jobs.{settled_parts, steps_of as the_steps, bus_of as the_bus, test_of as the_test, test_in, places_of as the_places, both_places, job_of as the_job};
+ghost use Rattle.resource_table.specs.Jobs.{test_value, job_value, IsSoundJob};
+ghost use Rattle.planner.specs.Jobs.{settled_parts, steps_of as the_steps, bus_of as the_bus, test_of as the_test, test_in, job_of as the_job};
 
-use indexmap::IndexSet;
+use live_tests::LiveTests;
 use outside::{NoMemory, push};
-use plan_model::{Bus, Limits, Profile, Wrapper, bus_of as bus_place_of, tam_duration, wrapper_of};
+use plan_model::{Bus, Limits, Wrapper, bus_of as bus_place_of, profile_of, test_cycles};
 use resource_table::{Job, JobTest};
 use soc_model::{Module, Soc, Test, TestId, live, module_at, parent};
 use std::alloc::Global;
 
-/// What the job of a plan is made from.
+/// What the job of a plan is made from: a chip, limits, and the buses and wrappers of the plan.
 #[derive(Clone, Copy, Drop)]
-pub(crate) struct Parts<'a> {
-    pub(crate) soc: &'a Soc,
-    pub(crate) limits: &'a Limits,
-    pub(crate) buses: &'a [Bus],
-    pub(crate) wrappers: &'a [Wrapper],
+pub struct JobParts<'a> {
+    pub soc: &'a Soc,
+    pub limits: &'a Limits,
+    pub buses: &'a [Bus],
+    pub wrappers: &'a [Wrapper],
 }
 
 /// The modules of a chip.
@@ -36,13 +34,6 @@ fn module_count(soc: &Soc) -> usize
     ensures { result ≡ length (soc_value soc.now).modules }
 {
     soc.modules.len()
-}
-
-/// The place of the profile of a test.
-fn profile_of(profiles: &[Profile], id: TestId) -> Option<usize>
-    ensures { result ≡ position (λ (p : Profile). same_test p.test id) profiles.now }
-{
-    profiles.iter().position(|profile| profile.test == id)
 }
 
 /// A copy of steps.
@@ -75,7 +66,7 @@ fn steps_of(
 }
 
 /// The cycles of a live test.
-fn cycles_of(parts: &Parts<'_>, module: &Module, test: &Test) -> u64
+fn cycles_of(parts: &JobParts<'_>, module: &Module, test: &Test) -> u64
     requires sound { IsSoundChip (soc_value parts.now.soc.now) }
     requires wrapped { Keeps (soc_value parts.now.soc.now) (limits_value parts.now.limits.now) (settled_parts (map bus_value parts.now.buses.now) (map wrapper_value parts.now.wrappers.now)) Wrappers }
     requires proper { Keeps (soc_value parts.now.soc.now) (limits_value parts.now.limits.now) (settled_parts (map bus_value parts.now.buses.now) (map wrapper_value parts.now.wrappers.now)) Proper }
@@ -84,13 +75,7 @@ fn cycles_of(parts: &Parts<'_>, module: &Module, test: &Test) -> u64
     requires is_live { is_live test.now ≡ true }
     ensures { result ≡ length (operations_of (module_value «module».now) test.now (chains_of (settled_parts (map bus_value parts.now.buses.now) (map wrapper_value parts.now.wrappers.now)) (module_value «module».now) test.now)) }
 {
-    if !test.tam {
-        return test.patterns;
-    }
-    match wrapper_of(parts.wrappers, module.number, test.scan) {
-        Some(place) => tam_duration(module, &parts.wrappers[place], test),
-        None => unreachable!(),
-    }
+    test_cycles(parts.wrappers, module, test)
 }
 
 /// The bus of a test; a self test has none.
@@ -107,7 +92,7 @@ fn bus_of(buses: &[Bus], module: &Module, test: &Test) -> Option<usize>
 /// A live test of the module at a place.
 fn test_of(
     alloc: Global,
-    parts: &Parts<'_>,
+    parts: &JobParts<'_>,
     place: usize,
     module: &Module,
     test: &Test,
@@ -139,7 +124,7 @@ fn test_of(
 fn push_live(
     alloc: Global,
     tests: &mut Vec<JobTest>,
-    parts: &Parts<'_>,
+    parts: &JobParts<'_>,
     place: usize,
     module: &Module,
 ) -> Result<(), NoMemory>
@@ -159,7 +144,7 @@ fn push_live(
 }
 
 /// The live tests, in the order of the chip.
-fn tests_of(alloc: Global, parts: &Parts<'_>) -> Result<Vec<JobTest>, NoMemory>
+fn tests_of(alloc: Global, parts: &JobParts<'_>) -> Result<Vec<JobTest>, NoMemory>
     requires sound { IsSoundChip (soc_value parts.now.soc.now) }
     requires wrapped { Keeps (soc_value parts.now.soc.now) (limits_value parts.now.limits.now) (settled_parts (map bus_value parts.now.buses.now) (map wrapper_value parts.now.wrappers.now)) Wrappers }
     requires proper { Keeps (soc_value parts.now.soc.now) (limits_value parts.now.limits.now) (settled_parts (map bus_value parts.now.buses.now) (map wrapper_value parts.now.wrappers.now)) Proper }
@@ -172,66 +157,19 @@ fn tests_of(alloc: Global, parts: &Parts<'_>) -> Result<Vec<JobTest>, NoMemory>
     Ok(tests)
 }
 
-/// The tests by their numbers.
-fn ids_of(alloc: Global, tests: &[JobTest]) -> Result<IndexSet<TestId>, NoMemory>
-    requires differ { AllDiffer (map (λ (t : JobTest). t.id) tests.now) }
-    ensures { IfOk result (λ ids. ids.keys ≡ map (λ (t : JobTest). t.id) tests.now) }
-{
-    let mut ids = IndexSet::new(alloc);
-    for test in tests {
-        if ids.insert(test.id).is_err() {
-            return Err(NoMemory);
-        }
-    }
-    Ok(ids)
-}
-
-/// Adds a pair of places, where there are both.
-fn push_both(
-    pairs: &mut Vec<(usize, usize)>,
-    first: Option<usize>,
-    second: Option<usize>,
-) -> Result<(), NoMemory>
-    ensures { OnOk result (pairs.new.items ≡ pairs.old.items ++ both_places first second) }
-{
-    let Some(earlier) = first else {
-        return Ok(());
-    };
-    let Some(later) = second else {
-        return Ok(());
-    };
-    push(pairs, (earlier, later))
-}
-
-/// The precedences whose tests both have places.
-fn places_of(
-    alloc: Global,
-    ids: &IndexSet<TestId>,
-    before: &[(TestId, TestId)],
-) -> Result<Vec<(usize, usize)>, NoMemory>
-    ensures { IfOk result (λ pairs. pairs.items ≡ flat_map (the_places ids.now.keys) before.now) }
-{
-    let mut pairs = Vec::new(alloc);
-    for (first, second) in before {
-        push_both(
-            &mut pairs,
-            ids.get_index_of(first),
-            ids.get_index_of(second),
-        )?;
-    }
-    Ok(pairs)
-}
-
-/// The job of the live tests, in the order of the chip. `NoMemory` where there is none.
-pub(crate) fn job_of(alloc: Global, parts: &Parts<'_>) -> Result<Job, NoMemory>
+/// The job of the live tests, in the order of the chip, each with the cycles that it takes in the wrappers and the bus that
+/// it goes over. Under sound limits it is a sound job, which a schedule can be searched for. `NoMemory` where there is
+/// none.
+pub fn job_of(alloc: Global, parts: &JobParts<'_>) -> Result<Job, NoMemory>
     requires sound { IsSoundChip (soc_value parts.now.soc.now) }
     requires wrapped { Keeps (soc_value parts.now.soc.now) (limits_value parts.now.limits.now) (settled_parts (map bus_value parts.now.buses.now) (map wrapper_value parts.now.wrappers.now)) Wrappers }
     requires proper { Keeps (soc_value parts.now.soc.now) (limits_value parts.now.limits.now) (settled_parts (map bus_value parts.now.buses.now) (map wrapper_value parts.now.wrappers.now)) Proper }
-    ensures { IfOk result (λ job. job_value job ≡ the_job (soc_value parts.now.soc.now) (limits_value parts.now.limits.now) (settled_parts (map bus_value parts.now.buses.now) (map wrapper_value parts.now.wrappers.now))) }
+    ensures job { IfOk result (λ job. job_value job ≡ the_job (soc_value parts.now.soc.now) (limits_value parts.now.limits.now) (settled_parts (map bus_value parts.now.buses.now) (map wrapper_value parts.now.wrappers.now))) }
+    ensures sound { IsSoundLimits (soc_value parts.now.soc.now) (limits_value parts.now.limits.now) → IfOk result (λ job. IsSoundJob (job_value job)) }
 {
     let tests = tests_of(alloc, parts)?;
-    let ids = ids_of(alloc, &tests)?;
-    let before = places_of(alloc, &ids, &parts.limits.before)?;
+    let live = LiveTests::new(alloc, parts.soc)?;
+    let before = live.precedences(alloc, &parts.limits.before)?;
     Ok(Job {
         tests,
         before,

@@ -10,5 +10,7 @@ mod planning;
 mod schedule;
 mod wrappers;
 
+pub use job::{JobParts, job_of};
 use outside::NoMemory;
 pub use planning::plan;
+pub use wrappers::table_wrappers;

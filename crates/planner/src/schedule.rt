@@ -13,7 +13,7 @@ ghost use Rattle.schedule_search.specs.Estimates.{IsEstimate};
 ghost use Rattle.planner.specs.Jobs.{settled_parts};
 ghost use Rattle.planner.specs.Schedules.{IsFoundSchedule, AreStartsOf, IsFoundList, KeepsTimes};
 
-use crate::job::{Parts, job_of};
+use crate::job::{JobParts, job_of};
 use outside::NoMemory;
 use plan_model::{Bus, Limits, Wrapper};
 use resource_table::{Job, Table};
@@ -91,7 +91,7 @@ where
     ensures early { IfOk result (λ s. All (λ (start : TestId × ℕ). start.1 ≤ 10 ^ 18) s.starts.items) }
     ensures short { IfOk result (λ s. s.cycles ≤ 10 ^ 18) }
 {
-    let parts = Parts {
+    let parts = JobParts {
         soc,
         limits,
         buses,

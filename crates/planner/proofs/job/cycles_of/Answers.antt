@@ -1,30 +1,23 @@
-use Rattle.std.proofs.Common.{◌∙◌, sym, ap, length, map, get_or, refl}
+use Rattle.std.proofs.Common.{map, refl, arith}
+use Rattle.std.proofs.lemmas.Bool.{leb-true}
 use Rattle.soc_model.specs.Chips.{soc_value, module_value}
-use Rattle.plan_model.specs.Plans.{operations_of}
+use Rattle.soc_model.proofs.Limits.{test_work-le-at, work-le}
 use Rattle.plan_model.specs.Views.{wrapper_value, bus_value}
-use Rattle.plan_model.proofs.SoundChips.{tam_work-le}
-use Rattle.planner.proofs.Wrapped.{found_at, always_found, chains_found}
+use Rattle.plan_model.proofs.FoundWrappers.{wrapped_test}
+use Rattle.planner.specs.Jobs.{settled_parts}
 use Rattle.planner.proofs.job.cycles_of.Goals as goal
 
-pub tam_duration-requires-clause-proper : goal.tam_duration-requires-clause-proper
-tam_duration-requires-clause-proper c =
-    let f = found_at (module_value c.args.«module».now) c.args.test.now.scan c.args.parts.now.wrappers.now c.in-Some.place c.index-parts-place.result (get_or c.args.parts.now.wrappers.now c.in-Some.place c.index-parts-place.result) (sym c.wrapper_of.ensures ∙ c.in-Some.is) refl in
-    c.requires.proper c.in-Some.place (wrapper_value (get_or c.args.parts.now.wrappers.now c.in-Some.place c.index-parts-place.result)) f.at c.requires.module_there.0 (module_value c.args.«module».now) c.requires.module_there.1 (sym f.module_is)
+pub test_cycles-requires-clause-live : goal.test_cycles-requires-clause-live
+test_cycles-requires-clause-live c = leb-true 1 c.args.test.now.patterns c.requires.is_live
 
-pub tam_duration-requires-clause-mode : goal.tam_duration-requires-clause-mode
-tam_duration-requires-clause-mode c =
-    (found_at (module_value c.args.«module».now) c.args.test.now.scan c.args.parts.now.wrappers.now c.in-Some.place c.index-parts-place.result (get_or c.args.parts.now.wrappers.now c.in-Some.place c.index-parts-place.result) (sym c.wrapper_of.ensures ∙ c.in-Some.is) refl).scan_is
+pub test_cycles-requires-clause-work : goal.test_cycles-requires-clause-work
+test_cycles-requires-clause-work c =
+    let part = test_work-le-at (soc_value c.args.parts.now.soc.now) c.requires.module_there.0 c.requires.test_there.0 (module_value c.args.«module».now) c.args.test.now c.requires.module_there.1 c.requires.test_there.1 c.requires.is_live in
+    omega (arith, part, work-le (soc_value c.args.parts.now.soc.now) c.requires.sound.size)
 
-pub tam_duration-requires-clause-work : goal.tam_duration-requires-clause-work
-tam_duration-requires-clause-work c =
-    tam_work-le (soc_value c.args.parts.now.soc.now) c.requires.sound c.requires.module_there.0 c.requires.test_there.0 (module_value c.args.«module».now) c.args.test.now c.requires.module_there.1 c.requires.test_there.1 c.requires.is_live c.if-not-test.false
-
-pub unreachable-requires : goal.unreachable-requires
-unreachable-requires c =
-    always_found (soc_value c.args.parts.now.soc.now) (map bus_value c.args.parts.now.buses.now) c.args.parts.now.wrappers.now c.requires.wrapped.1 c.requires.module_there.0 c.requires.test_there.0 (module_value c.args.«module».now) c.args.test.now c.requires.module_there.1 c.requires.test_there.1 c.requires.is_live c.if-not-test.false
-    (sym c.wrapper_of.ensures ∙ c.in-None.is)
+pub test_cycles-requires-clause-wrapped : goal.test_cycles-requires-clause-wrapped
+test_cycles-requires-clause-wrapped c = λ tam.
+    wrapped_test (soc_value c.args.parts.now.soc.now) (settled_parts (map bus_value c.args.parts.now.buses.now) (map wrapper_value c.args.parts.now.wrappers.now)) c.requires.wrapped.1 c.requires.proper c.requires.module_there.0 c.requires.test_there.0 (module_value c.args.«module».now) c.args.test.now c.requires.module_there.1 c.requires.test_there.1 c.requires.is_live tam
 
 pub returns : goal.returns
-returns c =
-    let f = found_at (module_value c.args.«module».now) c.args.test.now.scan c.args.parts.now.wrappers.now c.in-Some.place c.index-parts-place.result (get_or c.args.parts.now.wrappers.now c.in-Some.place c.index-parts-place.result) (sym c.wrapper_of.ensures ∙ c.in-Some.is) refl in
-    c.tam_duration.ensures.time ∙ ap (λ chains. length (operations_of (module_value c.args.«module».now) c.args.test.now chains)) (chains_found (module_value c.args.«module».now) c.args.test.now (map bus_value c.args.parts.now.buses.now) c.args.parts.now.wrappers.now c.in-Some.place (get_or c.args.parts.now.wrappers.now c.in-Some.place c.index-parts-place.result) c.if-not-test.false f)
+returns c = c.test_cycles.ensures.time (settled_parts (map bus_value c.args.parts.now.buses.now) (map wrapper_value c.args.parts.now.wrappers.now)) refl

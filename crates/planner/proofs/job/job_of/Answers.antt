@@ -1,23 +1,21 @@
-use Rattle.std.proofs.Common.{◌∙◌, ap, sym, subst, map, List}
+use Rattle.std.proofs.Common.{◌≡◌, ◌∙◌, ap, sym, subst, map, List}
 use Rattle.std.specs.List.{flat_map}
 use Rattle.soc_model.specs.declared.TestId.{TestId}
 use Rattle.soc_model.specs.Chips.{soc_value}
 use Rattle.plan_model.specs.Views.{wrapper_value, bus_value, limits_value}
-use Rattle.resource_table.specs.declared.JobTest.{JobTest}
-use Rattle.bound_certificate.specs.Nodes.{AllDiffer}
-use Rattle.bound_certificate.proofs.LiveIds.{ids_differ}
-use Rattle.planner.specs.Jobs.{settled_parts, places_of}
-use Rattle.planner.proofs.LiveJobs.{ids_are, job_same}
+use Rattle.resource_table.specs.Jobs.{IsSoundJob, job_value}
+use Rattle.live_tests.specs.Names.{places_of}
+use Rattle.planner.specs.Jobs.{settled_parts, job_of}
+use Rattle.planner.proofs.LiveJobs.{job_same}
+use Rattle.planner.proofs.SoundJobs.{job_sound}
 use Rattle.planner.proofs.job.job_of.Goals as goal
 
-pub ids_of-requires : goal.ids_of-requires
-ids_of-requires c =
-    let ids = ids_are (soc_value c.args.parts.now.soc.now) (limits_value c.args.parts.now.limits.now) (settled_parts (map bus_value c.args.parts.now.buses.now) (map wrapper_value c.args.parts.now.wrappers.now)) c.in_ok-tests.tests.items c.in_ok-tests.ensures in
-    record { differ = subst (λ (l : List TestId). AllDiffer l) (sym (ap (map (λ (t : JobTest). t.id)) c.deref.ensures.value ∙ ids)) (ids_differ (soc_value c.args.parts.now.soc.now) c.requires.sound) }
-
-pub returns : goal.returns
-returns c =
-    let ids = ids_are (soc_value c.args.parts.now.soc.now) (limits_value c.args.parts.now.limits.now) (settled_parts (map bus_value c.args.parts.now.buses.now) (map wrapper_value c.args.parts.now.wrappers.now)) c.in_ok-tests.tests.items c.in_ok-tests.ensures in
-    let keys = c.in_ok-ids.ensures ∙ ap (map (λ (t : JobTest). t.id)) c.deref.ensures.value ∙ ids in
+pub returns-clause-job : goal.returns-clause-job
+returns-clause-job c =
     job_same _ _ _ _ c.args.parts.now.limits.now.power c.in_ok-tests.ensures
-    (c.in_ok-before.ensures ∙ ap (flat_map (places_of c.in_ok-ids.ids.keys)) c.deref-2.ensures.value ∙ ap (λ (l : List TestId). flat_map (places_of l) c.args.parts.now.limits.now.before.items) keys)
+    (c.in_ok-before.ensures ∙ ap (flat_map (places_of c.in_ok-live.live)) c.deref.ensures.value ∙ ap (λ (l : List TestId). flat_map (places_of l) c.args.parts.now.limits.now.before.items) c.in_ok-live.ensures)
+
+pub returns-clause-sound : goal.returns-clause-sound
+returns-clause-sound c = λ limited.
+    subst IsSoundJob (sym (returns-clause-job c))
+    (job_sound (soc_value c.args.parts.now.soc.now) (limits_value c.args.parts.now.limits.now) (map bus_value c.args.parts.now.buses.now) c.args.parts.now.wrappers.now c.requires.sound limited c.requires.wrapped.1 c.requires.proper)

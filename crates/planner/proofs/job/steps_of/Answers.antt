@@ -4,7 +4,7 @@ use Rattle.soc_model.specs.Chips.{same_test}
 use Rattle.plan_model.specs.declared.Profile.{Profile}
 use Rattle.plan_model.specs.Plans.{ProfileValue}
 use Rattle.plan_model.specs.Views.{profile_value}
-use Rattle.planner.proofs.Finding.{of_first_found, of_first_missing}
+use Rattle.plan_model.proofs.Finding.{of_first_found, of_first_missing}
 use Rattle.planner.proofs.job.steps_of.Goals as goal
 
 pub returns-in-Some : goal.returns-in-Some

@@ -1,7 +1,0 @@
-use Rattle.std.proofs.Common.{◌≡◌, take}
-use Rattle.std.specs.List.{flat_map}
-use Rattle.planner.specs.Jobs.{places_of}
-use Rattle.planner.proofs.job.places_of.Given as goal
-
-abbrev pub invariant-loop-first : goal.invariant-loop-first
-invariant-loop-first l = l.pairs.items ≡ flat_map (places_of l.ids.keys) (take l.first-index l.before)
