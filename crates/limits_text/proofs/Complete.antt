@@ -4,6 +4,7 @@ use Rattle.std.specs.Prelude.{nat_le}
 use Rattle.std.specs.List.{All}
 use Rattle.std.proofs.lemmas.List.Elements.{All-head, All-tail}
 use Rattle.std.proofs.lemmas.Bool.Decides.{nat_tests}
+use Rattle.outside.proofs.Runs.{run-none, run-append}
 use Rattle.soc_model.specs.declared.TestId.{TestId}
 use Rattle.soc_model.specs.declared.TheConstants.{POWER_MOST}
 use Rattle.plan_model.specs.declared.TheConstants.{STEPS_MOST}
@@ -14,16 +15,8 @@ use Rattle.outside.specs.Words.{Word}
 use Rattle.limits_text.specs.Items.{number, Item, amount_item, before_item, profile_item, ArePairs, AreSteps}
 use Rattle.outside.specs.Grammars.{Viable}
 use Rattle.limits_text.specs.Grammar.{AmountComes, BeforeComes, ProfileComes, Comes, AreItems, form_number, IsText, InGrammar}
-use Rattle.limits_text.specs.Steps.{Part, title, version, between, wants, module_for, test_for, steps_for, power_for, State, start, at, last_from, may_follow, begin, step_at, step, step_from, run, ended_at, ended}
+use Rattle.limits_text.specs.Steps.{Part, title, version, between, wants, module_for, test_for, steps_for, power_for, State, start, at, last_from, may_follow, begin, step_at, step, run, ended_at, ended}
 use Rattle.limits_text.proofs.WordFacts.{key_no_number}
-
-pub run-none : (ws : List Word) → run None ws ≡ None
-run-none [] = refl
-run-none (w ∷ ws) = run-none ws
-
-pub run-append : (s : Option State) (a b : List Word) → run s (a ++ b) ≡ run (run s a) b
-run-append s [] b = refl
-run-append s (w ∷ a) b = run-append (step_from s w) a b
 
 pub some_same : {X : Type 0} (a b : X) → Some a ≡ Some b → a ≡ b
 some_same a b e = cc
@@ -136,7 +129,7 @@ front_read o a b form items is = by_cases (run o a) refl
     by_cases : (r : Option State) → run o a ≡ r → (s : State) × (run o a ≡ Some s)
     by_cases (Some s) e = (s, e)
     by_cases None e =
-        let none : run o (a ++ b) ≡ None = run-append o a b ∙ ap (λ r. run r b) e ∙ run-none b in
+        let none : run o (a ++ b) ≡ None = run-append step o a b ∙ ap (λ r. run r b) e ∙ run-none step b in
         absurd (rw none at is)
 
 -- what is viable is read so far

@@ -1,46 +1,36 @@
 -- Each text says limits, or is refused: for a chip it is something.
-use Rattle.std.proofs.Common.{◌≡◌, ◌⊎◌, inl, inr, ℕ, List, [], ◌∷◌, ◌++◌, Option, None, Some, refl, arith}
-use Rattle.outside.specs.Words.{words_of, Word}
+use Rattle.std.proofs.Common.{◌≡◌, ◌⊎◌, inl, inr, ℕ, List, Option, None, Some, refl, arith}
+use Rattle.outside.specs.Words.{words_of}
 use Rattle.soc_model.specs.declared.TestId.{TestId}
 use Rattle.soc_model.specs.declared.TheConstants.{NUMBER_WORD_MOST}
 use Rattle.soc_model.specs.Chips.{SocValue}
 use Rattle.plan_model.specs.Plans.{LimitsValue}
 use Rattle.plan_model.specs.SoundLimits.{IsAcyclic}
 use Rattle.limits_text.specs.Items.{Item}
-use Rattle.outside.specs.Grammars.{Viable, last_line}
-use Rattle.outside.proofs.Refusals.{Decides, WholeOrRefused, whole_or_refused}
+use Rattle.outside.specs.Grammars.{last_line}
+use Rattle.outside.proofs.Refusals.{WholeOrRefused, whole_or_refused}
+use Rattle.outside.proofs.Runs.{Fits, run_decides}
 use Rattle.outside.proofs.WordCounts.{words-length}
 use Rattle.limits_text.specs.Grammar.{InGrammar}
 use Rattle.limits_text.specs.Meaning.{limits_of, first_unknown, test_power}
-use Rattle.limits_text.specs.Steps.{State, start, step, run, closed}
+use Rattle.limits_text.specs.Steps.{State, start, step, closed}
 use Rattle.limits_text.specs.Cycles.{IsCycleOf}
 use Rattle.limits_text.specs.Answers.{SaysLimits, SaysKnown, Reading, read_as, refused_line, unknown_line, shown_cycle, passing_power, IsReading}
 use Rattle.limits_text.specs.Laws.{EachTextHasAnAnswer}
-use Rattle.limits_text.proofs.Complete.{viable_read}
-use Rattle.limits_text.proofs.Viable.{read_viable, read_text, no_text, none_some}
-use Rattle.limits_text.proofs.Progress.{one_more}
+use Rattle.limits_text.proofs.Viable.{read_viable, read_text, stuck, no_text}
 use Rattle.limits_text.proofs.Reading.{sound_said}
 use Rattle.limits_text.proofs.RanksOrCycles.{ranks_or_cycle}
 
 -- ---- the grammar
 
--- the states decide of each next word, and of the end
-decides : Decides InGrammar NUMBER_WORD_MOST State (λ s front. run (Some start) front ≡ Some s)
-decides = record { viable = λ s front few read. read_viable front s few read; step = steps; end = ends }
-  where
-    steps : (s : State) (front : List Word) (w : Word) → run (Some start) front ≡ Some s → ((next : State) × (run (Some start) (front ++ w ∷ []) ≡ Some next)) ⊎ (Viable InGrammar (front ++ w ∷ []) → ⊥)
-    steps s front w read = by (step s w) (one_more front w s read)
-      where
-        by : (o : Option State) → run (Some start) (front ++ w ∷ []) ≡ o → ((next : State) × (run (Some start) (front ++ w ∷ []) ≡ Some next)) ⊎ (Viable InGrammar (front ++ w ∷ []) → ⊥)
-        by None none = inr (λ v. (let r = viable_read (front ++ w ∷ []) v in none_some _ r.0 none r.1))
-        by (Some next) goes = inl (next, goes)
-
-    ends : (s : State) (ws : List Word) → run (Some start) ws ≡ Some s → InGrammar ws ⊎ (InGrammar ws → ⊥)
-    ends s ws read = by (closed s) refl
-      where
-        by : (o : Option (List Item)) → closed s ≡ o → InGrammar ws ⊎ (InGrammar ws → ⊥)
-        by (Some items) whole = inl (s.form, items, read_text ws s items read whole)
-        by None open_end = inr (no_text ws s read open_end)
+-- the states of the reader, beside the grammar
+fits : Fits InGrammar NUMBER_WORD_MOST State (List Item) step closed start
+fits = record {
+  viable = λ s ws few read. read_viable ws s few read;
+  stuck = stuck;
+  whole_read = λ s items ws read whole. (s.form, items, read_text ws s items read whole);
+  early = λ s ws read open_end. no_text ws s read open_end;
+}
 
 -- ---- the chip
 
@@ -66,7 +56,7 @@ said_is bytes soc limits says = by (first_unknown soc says.items) refl
     by (Some line) first = (unknown_line line, record { limits = limits; says = says; first = first })
 
 pub each_text : EachTextHasAnAnswer
-each_text bytes soc few = by (whole_or_refused InGrammar NUMBER_WORD_MOST State _ decides (last_line bytes) start (words_of bytes) refl (omega (arith, few, words-length bytes)))
+each_text bytes soc few = by (whole_or_refused InGrammar NUMBER_WORD_MOST State _ (run_decides InGrammar NUMBER_WORD_MOST State (List Item) step closed start fits) (last_line bytes) start (words_of bytes) refl (omega (arith, few, words-length bytes)))
   where
     by : WholeOrRefused InGrammar (words_of bytes) (last_line bytes) → IsSome bytes soc
     by (inl g) = said_is bytes soc (limits_of g.1) (record { form = g.0; items = g.1; text = g.2; limits_are = refl })

@@ -1,5 +1,5 @@
 -- How far a text was read.
-use Rattle.std.proofs.Common.{◌≡◌, ◌≤◌, List, [], ◌∷◌, ◌++◌, length, Some, ◌∙◌, ap}
+use Rattle.std.proofs.Common.{◌≡◌, ◌≤◌, List, [], ◌∷◌, ◌++◌, length, Some, ◌∙◌}
 use Rattle.std.specs.Prelude.{Result, Ok, Err, IfOk}
 use Rattle.outside.specs.declared.reading.Stop.{Stop}
 use Rattle.outside.specs.declared.reading.Stop.TheVariants.{Refused, NoMemory}
@@ -9,18 +9,14 @@ use Rattle.soc_model.specs.declared.TheConstants.{NUMBER_WORD_MOST}
 use Rattle.limits_text.specs.declared.items.Items.{Items}
 use Rattle.limits_text.specs.declared.whole.LimitsText.{LimitsText}
 use Rattle.limits_text.specs.Grammar.{InGrammar}
-use Rattle.limits_text.specs.Steps.{State, start, step, step_at, run, ended_at, whole_of}
+use Rattle.limits_text.specs.Steps.{start, step, step_at, ended_at, whole_of}
 use Rattle.limits_text.specs.Views.{done_of, part_of, Steps, Closes}
 use Rattle.limits_text.specs.Reads.{state_of, HasRead, AreItems}
-use Rattle.limits_text.proofs.Complete.{run-append}
+use Rattle.outside.proofs.Runs.{run-one_more}
 use Rattle.limits_text.proofs.Viable.{read_text, stops_here, ends_here}
 
--- one word more
-pub one_more : (front : List Word) (w : Word) (s : State) → run (Some start) front ≡ Some s → run (Some start) (front ++ w ∷ []) ≡ step s w
-one_more front w s read = run-append (Some start) front (w ∷ []) ∙ ap (λ o. run o (w ∷ [])) read
-
 pub goes_on : (front : List Word) (w : Word) (text next : LimitsText) → HasRead text front → Steps (step_at text.items.second (done_of text.items) (part_of text.part) w) (Ok next.part) next.items → HasRead next (front ++ w ∷ [])
-goes_on front w text next has steps = record { read = one_more front w (state_of text) has.read ∙ steps.0; in_step = steps.1 }
+goes_on front w text next has steps = record { read = run-one_more step (Some start) front w (state_of text) has.read ∙ steps.0; in_step = steps.1 }
 
 pub stops : (front : List Word) (w : Word) (text : LimitsText) (new : Items) (stop : Stop) → length front ≤ NUMBER_WORD_MOST → HasRead text front → Steps (step_at text.items.second (done_of text.items) (part_of text.part) w) (Err stop) new → Goes InGrammar HasRead front w (Err stop)
 stops front w text new Refused few has steps = stops_here front w (state_of text) few has.read steps

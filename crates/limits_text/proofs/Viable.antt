@@ -1,5 +1,6 @@
 -- What is read word by word goes on to a whole text.
 use Rattle.std.proofs.Common.{◌≡◌, ℕ, ◌+◌, ◌≤◌, List, [], ◌∷◌, ◌++◌, length, Bool, true, false, decimal, Option, None, Some, refl, sym, ◌∙◌, ap, arith}
+use Rattle.outside.proofs.Runs.{run-append, run-one_more}
 use Rattle.soc_model.specs.declared.TestId.{TestId}
 use Rattle.soc_model.specs.declared.TheConstants.{NUMBER_WORD_MOST}
 use Rattle.limits_text.specs.declared.items.Amount.{Amount}
@@ -13,7 +14,7 @@ use Rattle.limits_text.specs.Grammar.{IsText, InGrammar}
 use Rattle.limits_text.specs.Steps.{Part, title, version, between, wants, module_for, test_for, steps_for, power_for, State, start, at, step_at, step, run, ended_at, ended, whole_if, whole_of, closed}
 use Rattle.limits_text.proofs.WordFacts.{word_at, one_word, zero_word, title_word, wires_word, one_is, zero_is, title_is, wires_is, one_in_range, number-decimal, key_no_number}
 use Rattle.limits_text.proofs.Fresh.{fresh_test}
-use Rattle.limits_text.proofs.Complete.{run-append, some_same, IsRead, Read, text_read, viable_read}
+use Rattle.limits_text.proofs.Complete.{some_same, IsRead, Read, text_read, viable_read}
 use Rattle.limits_text.proofs.Sound.{StateIs, Holds, read_valid, no_more_items, text_of}
 
 -- words with which a text is whole
@@ -131,17 +132,19 @@ pub read_viable : (ws : List Word) (s : State) → length ws ≤ NUMBER_WORD_MOS
 read_viable ws s few e =
     let room : HasRoom s.done = omega (arith, few, no_more_items s.form s.done s.part ws (holds_at (run (Some start) ws) s ws (read_valid ws) e)) in
     let c = completes s.form s.done s.part room in
-    let runs : run (Some start) (ws ++ c.more) ≡ Some c.end = run-append (Some start) ws c.more ∙ ap (λ o. run o c.more) e ∙ c.runs in
+    let runs : run (Some start) (ws ++ c.more) ≡ Some c.end = run-append step (Some start) ws c.more ∙ ap (λ o. run o c.more) e ∙ c.runs in
     (c.more, (c.end.form, c.items, read_text (ws ++ c.more) c.end c.items runs c.whole))
 
 pub none_some : {X : Type 0} (o : Option X) (s : X) → o ≡ None → o ≡ Some s → ⊥
 none_some o s e f = cc
 
+-- words that the reader doesn't read begin no text
+pub stuck : (ws : List Word) → run (Some start) ws ≡ None → Viable InGrammar ws → ⊥
+stuck ws none v = let r = viable_read ws v in none_some (run (Some start) ws) r.0 none r.1
+
 -- the word at which the reader stops
 pub stops_here : (front : List Word) (w : Word) (s : State) → length front ≤ NUMBER_WORD_MOST → run (Some start) front ≡ Some s → step s w ≡ None → Stops InGrammar front w
-stops_here front w s few e stop =
-    let all : run (Some start) (front ++ w ∷ []) ≡ None = run-append (Some start) front (w ∷ []) ∙ ap (λ o. run o (w ∷ [])) e ∙ stop in
-    record { before = read_viable front s few e; refused = λ v. (let r = viable_read (front ++ w ∷ []) v in none_some _ r.0 all r.1) }
+stops_here front w s few e stop = record { before = read_viable front s few e; refused = stuck (front ++ w ∷ []) (run-one_more step (Some start) front w s e ∙ stop) }
 
 closed_state : (form : Bool) (s : State) (items : List Item) (o : Option State) → o ≡ Some s → Read o form items → ended s ≡ Some items
 closed_state form s items o e r = is (rw e at r)

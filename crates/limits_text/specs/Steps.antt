@@ -9,6 +9,7 @@ use Rattle.limits_text.specs.declared.items.Key.{Key}
 use Rattle.limits_text.specs.declared.items.Key.TheVariants.{One, Before, Profile}
 use Rattle.limits_text.specs.declared.items.Naming.{Naming}
 use Rattle.limits_text.specs.declared.items.Naming.TheVariants.{First, Second, Profiled}
+use Rattle.outside.specs.Runs.{step_after, run_by}
 use Rattle.outside.specs.Words.{Word}
 use Rattle.limits_text.specs.Items.{number, is_title, key_of, Item, amount_item, before_item, profile_item, is_in_range, has_amount, has_profile}
 
@@ -109,12 +110,10 @@ abbrev pub step : State → Word → Option State
 step s w = step_at s.form s.done s.part w
 
 abbrev pub step_from : Option State → Word → Option State
-step_from None w = None
-step_from (Some s) w = step s w
+step_from s w = step_after step s w
 
 abbrev pub run : Option State → List Word → Option State
-run s [] = s
-run s (w ∷ ws) = run (step_from s w) ws
+run s ws = run_by step s ws
 
 -- the items, where the last of them may end here
 abbrev pub ended_at : List Item → Part → Option (List Item)

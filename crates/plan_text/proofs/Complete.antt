@@ -5,6 +5,7 @@ use Rattle.std.specs.List.{flat_map}
 use Rattle.std.proofs.lemmas.Grind.{common_steps}
 use Rattle.std.proofs.lemmas.List.Concat.{flat_map-append}
 use Rattle.std.proofs.lemmas.List.Elements.{All-head, All-tail}
+use Rattle.outside.proofs.Runs.{run-append}
 use Rattle.soc_model.specs.declared.TestId.{TestId}
 use Rattle.plan_model.specs.declared.TheConstants.{START_MOST}
 use Rattle.plan_model.specs.Cells.{ChainValue}
@@ -15,15 +16,11 @@ use Rattle.plan_text.specs.declared.tokens.Token.{Token}
 use Rattle.plan_text.specs.declared.tokens.Token.TheVariants.{Key, Number}
 use Rattle.plan_text.specs.PlanLines.{Line, bus_line, chain_line, mode_key, wrapper_lines, start_line, test_numbers, bound_line, bound_line_by, line_tokens, tokens_of, plan_tokens}
 use Rattle.plan_text.specs.Grammar.{AreSmallStarts}
-use Rattle.plan_text.specs.Steps.{DraftValue, PartValue, after_cycles, wants_width, in_bus, wants_module, in_wrapper, in_chain, wants_test_module, after_start, wants_bound, in_tests, in_forced, whole, State, at, start, with_bus, with_wrapper, with_start, with_chain, is_chain, step_wrapper, next_if, step, step_from, run, plan_with, bound_at}
-
-pub run-append : (o : Option State) (a b : List Token) → run o (a ++ b) ≡ run (run o a) b
-run-append o [] b = refl
-run-append o (t ∷ a) b = run-append (step_from o t) a b
+use Rattle.plan_text.specs.Steps.{DraftValue, PartValue, after_cycles, wants_width, in_bus, wants_module, in_wrapper, in_chain, wants_test_module, after_start, wants_bound, in_tests, in_forced, whole, State, at, start, with_bus, with_wrapper, with_start, with_chain, is_chain, step_wrapper, next_if, step, run, plan_with, bound_at}
 
 -- first these words, and then the others
 then : (s m e : State) (a b : List Token) → run (Some s) a ≡ Some m → run (Some m) b ≡ Some e → run (Some s) (a ++ b) ≡ Some e
-then s m e a b first rest = run-append (Some s) a b ∙ ap (λ o. run o b) first ∙ rest
+then s m e a b first rest = run-append step (Some s) a b ∙ ap (λ o. run o b) first ∙ rest
 
 -- ---- what may begin in a state, after these whole parts
 

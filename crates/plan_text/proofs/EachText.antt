@@ -2,6 +2,7 @@
 use Rattle.std.proofs.Common.{◌≡◌, ◌⊎◌, inl, inr, ℕ, List, [], ◌∷◌, ◌++◌, length, Option, None, Some, refl, ◌∙◌, ap, sym, arith}
 use Rattle.outside.specs.Words.{Word, words_of}
 use Rattle.outside.specs.Grammars.{Viable, last_line}
+use Rattle.outside.proofs.Runs.{run-one_more}
 use Rattle.outside.proofs.Refusals.{Decides, WholeOrRefused, whole_or_refused}
 use Rattle.plan_model.specs.Plans.{BoundValue, PlanValue}
 use Rattle.plan_text.specs.declared.tokens.Token.{Token}
@@ -12,7 +13,7 @@ use Rattle.plan_text.specs.Answers.{IsReadPlan, RefusesText}
 use Rattle.plan_text.specs.Laws.{EachTextHasAnAnswer}
 use Rattle.plan_text.proofs.Ranges.{spelled_small, range_of}
 use Rattle.plan_text.proofs.Viable.{Refuses, read_viable, read_text, stops_here, ends_here}
-use Rattle.plan_text.proofs.Progress.{one_more, one_step}
+use Rattle.plan_text.proofs.Progress.{one_more}
 
 -- the state after these words
 record IsAfter (s : State) (words : List Word) : Type 0 where
@@ -38,7 +39,7 @@ steps s front w at = by (token_of w.0) refl
     goes : (t : Token) → token_of w.0 ≡ Some t → (o : Option State) → step s t ≡ o → GoesOnOrNot front w
     goes t is None none = never (record { refused = λ u e. ap (step s) (sym (same_token (token_of w.0) t u is e)) ∙ none })
     goes t is (Some next) into =
-        inl (next, record { tokens = at.tokens ++ t ∷ []; spelled = one_more front at.tokens w t at.spelled is; read = one_step at.tokens t s at.read ∙ into })
+        inl (next, record { tokens = at.tokens ++ t ∷ []; spelled = one_more front at.tokens w t at.spelled is; read = run-one_more step (Some start) at.tokens t s at.read ∙ into })
 
     by : (o : Option Token) → token_of w.0 ≡ o → GoesOnOrNot front w
     by None none = never (record { refused = λ t e. absurd (none_some (token_of w.0) t none e) })

@@ -14,10 +14,10 @@ use Rattle.plan_text.specs.declared.reading.PlanText.{PlanText}
 use Rattle.plan_text.specs.declared.tokens.Token.{Token}
 use Rattle.plan_text.specs.Tokens.{token_of}
 use Rattle.plan_text.specs.Grammar.{Spells, IsPlanText, IsInRange, InGrammar}
-use Rattle.plan_text.specs.Steps.{State, start, step, run, plan_with, bound_at}
+use Rattle.plan_text.specs.Steps.{start, step, plan_with, bound_at}
 use Rattle.plan_text.specs.PartValues.{draft_value, part_value, Steps}
 use Rattle.plan_text.specs.Reads.{state_of, HasRead, SaysInRange}
-use Rattle.plan_text.proofs.Complete.{run-append}
+use Rattle.outside.proofs.Runs.{run-one_more}
 use Rattle.plan_text.proofs.Ranges.{spelled_small, range_of}
 use Rattle.plan_text.proofs.Viable.{read_text, stops_here, ends_here}
 
@@ -25,12 +25,9 @@ pub one_more : (front : List Word) (ts : List Token) (w : Word) (t : Token) → 
 one_more front ts w t spells is =
     map-append (λ (w : Word). token_of w.0) front (w ∷ []) ∙ ap (λ l. l ++ token_of w.0 ∷ []) spells ∙ ap (λ o. map Some ts ++ o ∷ []) is ∙ sym (map-append Some ts (t ∷ []))
 
-pub one_step : (ts : List Token) (t : Token) (s : State) → run (Some start) ts ≡ Some s → run (Some start) (ts ++ t ∷ []) ≡ step s t
-one_step ts t s read = run-append (Some start) ts (t ∷ []) ∙ ap (λ o. run o (t ∷ [])) read
-
 pub goes_on : (front : List Word) (w : Word) (t : Token) (text next : PlanText) → HasRead text front → Some t ≡ token_of w.0 → Steps (step (state_of text) t) (Ok next.part) next.draft → HasRead next (front ++ w ∷ [])
 goes_on front w t text next has token steps =
-    record { tokens = has.tokens ++ t ∷ []; spelled = one_more front has.tokens w t has.spelled (sym token); read = one_step has.tokens t (state_of text) has.read ∙ steps }
+    record { tokens = has.tokens ++ t ∷ []; spelled = one_more front has.tokens w t has.spelled (sym token); read = run-one_more step (Some start) has.tokens t (state_of text) has.read ∙ steps }
 
 none_some : (o : Option Token) (t : Token) → None ≡ o → o ≡ Some t → ⊥
 none_some o t e f = cc

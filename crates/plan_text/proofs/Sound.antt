@@ -7,6 +7,7 @@ use Rattle.std.proofs.lemmas.List.{map-append}
 use Rattle.std.proofs.lemmas.List.Concat.{flat_map-append}
 use Rattle.std.proofs.lemmas.List.Elements.{All-push}
 use Rattle.std.proofs.lemmas.Bool.{eqb-true}
+use Rattle.outside.proofs.Runs.{run-none}
 use Rattle.soc_model.specs.declared.TestId.{TestId}
 use Rattle.plan_model.specs.declared.TheConstants.{START_MOST}
 use Rattle.plan_model.specs.Cells.{ChainValue}
@@ -297,12 +298,8 @@ step_holds : (t : Token) (s : State) (ts : List Token) → Holds s.draft s.part 
 step_holds (Number n) s ts h = number_holds s.part s.draft n ts h
 step_holds (Key k) s ts h = key_holds s.part s.draft k ts h
 
-pub run_none : (ts : List Token) → run None ts ≡ None
-run_none [] = refl
-run_none (t ∷ ts) = run_none ts
-
 run_holds : (o : Option State) (ts before : List Token) → HoldsNext o before → HoldsNext (run o ts) (before ++ ts)
-run_holds None ts before h = rw (run_none ts) tt
+run_holds None ts before h = rw (run-none step ts) tt
 run_holds (Some s) [] before h = rw (append-nil before) h
 run_holds (Some s) (t ∷ ts) before h =
     subst (HoldsNext (run (step s t) ts)) (append_assoc before (t ∷ []) ts) (run_holds (step s t) ts (before ++ t ∷ []) (step_holds t s before h))

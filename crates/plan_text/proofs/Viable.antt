@@ -1,6 +1,7 @@
 -- What is read so far is what is viable; where it ends, it is a plan's text.
 use Rattle.std.proofs.Common.{◌≡◌, ℕ, true, List, [], ◌∷◌, ◌++◌, map, Option, None, Some, refl, sym, ◌∙◌, ap, arith, append_assoc}
 use Rattle.std.proofs.lemmas.List.{map-append}
+use Rattle.outside.proofs.Runs.{run-none, run-append}
 use Rattle.soc_model.specs.declared.TestId.{TestId}
 use Rattle.plan_model.specs.Plans.{WrapperValue, OfModule, OfPair, OfChain, OfArea, OfForced, BoundValue, PlanValue}
 use Rattle.plan_text.specs.declared.tokens.Keyword.TheVariants as key
@@ -12,8 +13,8 @@ use Rattle.outside.specs.Words.{Word}
 use Rattle.outside.specs.Grammars.{Viable, Stops, EndsEarly}
 use Rattle.plan_text.specs.Grammar.{meanings, Spells, IsPlanText, InGrammar}
 use Rattle.plan_text.specs.Steps.{DraftValue, PartValue, wants_plan, wants_form, wants_cycles_word, wants_cycles, after_cycles, wants_width, in_bus, wants_module, wants_mode, in_wrapper, wants_ins, wants_outs, in_chain, wants_test_module, wants_test, wants_start, after_start, wants_bound, wants_reason, wants_bound_module, wants_pair_module, in_tests, wants_test_of, in_forced, whole, State, at, start, with_bus, with_wrapper, with_start, with_chain, step, run, plan_with, bound_at}
-use Rattle.plan_text.proofs.Sound.{closed_says, run_none}
-use Rattle.plan_text.proofs.Complete.{run-append, plan_read}
+use Rattle.plan_text.proofs.Sound.{closed_says}
+use Rattle.plan_text.proofs.Complete.{plan_read}
 use Rattle.plan_text.proofs.Ranges.{IsSmall, AllSmall, read_back}
 
 -- words that make a state end in a whole plan
@@ -130,7 +131,7 @@ read_text ws ts s b spells e is =
 pub read_viable : (ws : List Word) (ts : List Token) (s : State) → Spells ws ts → run (Some start) ts ≡ Some s → Viable InGrammar ws
 read_viable ws ts s spells e =
     let f = finish s.part s.draft in
-    let all : run (Some start) (ts ++ f.more) ≡ Some f.end = run-append (Some start) ts f.more ∙ ap (λ o. run o f.more) e ∙ f.runs in (
+    let all : run (Some start) (ts ++ f.more) ≡ Some f.end = run-append step (Some start) ts f.more ∙ ap (λ o. run o f.more) e ∙ f.runs in (
       map word_for f.more,
       (
         plan_with f.end.draft f.bound,
@@ -174,7 +175,7 @@ not_viable front ts s w spells e refuses v =
     let f = follows ts (plan_tokens plan) (token_of w.0) (meanings v.0) (sym parted ∙ text.words) in
     let r = plan_read plan text.small_starts in
     let ran : run (Some start) (ts ++ f.next ∷ f.rest) ≡ None =
-    run-append (Some start) ts (f.next ∷ f.rest) ∙ ap (λ o. run o (f.next ∷ f.rest)) e ∙ ap (λ o. run o f.rest) (refuses.refused f.next f.is) ∙ run_none f.rest in
+    run-append step (Some start) ts (f.next ∷ f.rest) ∙ ap (λ o. run o (f.next ∷ f.rest)) e ∙ ap (λ o. run o f.rest) (refuses.refused f.next f.is) ∙ run-none step f.rest in
     none_some (run (Some start) (plan_tokens plan)) r.end (ap (run (Some start)) f.words ∙ ran) r.read
 
 -- the word at which the reader stops

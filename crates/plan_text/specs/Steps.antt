@@ -1,6 +1,7 @@
 -- Reading word by word: the parts that were read whole, and what was read of the next. Only the reader's own contracts
 -- speak of it.
 use Rattle.std.specs.Prelude.{ℕ, ◌++◌, List, [], ◌∷◌, Bool, true, false, nat_eq, nat_le, Option, None, Some}
+use Rattle.outside.specs.Runs.{step_after, run_by}
 use Rattle.soc_model.specs.declared.TestId.{TestId}
 use Rattle.plan_model.specs.declared.TheConstants.{START_MOST}
 use Rattle.plan_model.specs.Cells.{ChainValue}
@@ -194,12 +195,10 @@ step s (Number n) = step_number s.draft s.part n
 step s (Key k) = step_key s.draft s.part k
 
 abbrev pub step_from : Option State → Token → Option State
-step_from None t = None
-step_from (Some s) t = step s t
+step_from s t = step_after step s t
 
 abbrev pub run : Option State → List Token → Option State
-run s [] = s
-run s (t ∷ ts) = run (step_from s t) ts
+run s ts = run_by step s ts
 
 -- ---- the end of a text
 

@@ -1,8 +1,9 @@
 -- Each text says a chip, is refused at a line, or passes a limit.
-use Rattle.std.proofs.Common.{◌≡◌, ◌⊎◌, inl, inr, ℕ, ◌<◌, List, [], ◌∷◌, ◌++◌, length, Option, None, Some, refl, ◌∙◌, arith}
-use Rattle.outside.specs.Words.{Word, words_of}
-use Rattle.outside.specs.Grammars.{Viable, last_line}
-use Rattle.outside.proofs.Refusals.{Decides, WholeOrRefused, whole_or_refused}
+use Rattle.std.proofs.Common.{◌≡◌, ◌⊎◌, inl, inr, ℕ, ◌<◌, List, length, Option, None, Some, refl, arith}
+use Rattle.outside.specs.Words.{words_of}
+use Rattle.outside.specs.Grammars.{last_line}
+use Rattle.outside.proofs.Refusals.{WholeOrRefused, whole_or_refused}
+use Rattle.outside.proofs.Runs.{Fits, run_decides}
 use Rattle.soc_model.specs.declared.Which.{Which}
 use Rattle.soc_model.specs.declared.Which.TheVariants.{Modules, Tests, Chains, Power, Work}
 use Rattle.soc_model.specs.declared.SocLimit.{SocLimit}
@@ -10,32 +11,22 @@ use Rattle.soc_model.specs.Chips.{SocValue}
 use Rattle.soc_model.specs.Sizes.{passed, rank_of, IsWithinSize, IsFirstPassed}
 use Rattle.soc_reader.specs.Table.{Item}
 use Rattle.soc_reader.specs.Grammar.{InGrammar}
-use Rattle.soc_reader.specs.Steps.{State, start, step, run, closed}
+use Rattle.soc_reader.specs.Steps.{State, start, step, closed}
 use Rattle.soc_reader.specs.Meaning.{chip_of, first_wrong}
 use Rattle.soc_reader.specs.ChipForm.{SaysModules}
 use Rattle.soc_reader.specs.Refusals.{HasAnswer}
-use Rattle.soc_reader.proofs.Viable.{read_viable, read_text, stops_here, no_text}
-use Rattle.soc_reader.proofs.Progress.{one_more}
+use Rattle.soc_reader.proofs.Viable.{read_viable, read_text, stuck, no_text}
 
 -- ---- the grammar
 
--- the states decide of each next word, and of the end
-decides : (most : ℕ) → Decides InGrammar most State (λ s front. run (Some start) front ≡ Some s)
-decides most = record { viable = λ s front few read. read_viable front s read; step = steps; end = ends }
-  where
-    steps : (s : State) (front : List Word) (w : Word) → run (Some start) front ≡ Some s → ((next : State) × (run (Some start) (front ++ w ∷ []) ≡ Some next)) ⊎ (Viable InGrammar (front ++ w ∷ []) → ⊥)
-    steps s front w read = by (step s w) refl
-      where
-        by : (o : Option State) → step s w ≡ o → ((next : State) × (run (Some start) (front ++ w ∷ []) ≡ Some next)) ⊎ (Viable InGrammar (front ++ w ∷ []) → ⊥)
-        by None none = let stops = stops_here front w s read none in inr stops.refused
-        by (Some next) goes = inl (next, one_more front w s read ∙ goes)
-
-    ends : (s : State) (ws : List Word) → run (Some start) ws ≡ Some s → InGrammar ws ⊎ (InGrammar ws → ⊥)
-    ends s ws read = by (closed s) refl
-      where
-        by : (o : Option (List Item)) → closed s ≡ o → InGrammar ws ⊎ (InGrammar ws → ⊥)
-        by (Some items) whole = inl (items, read_text ws s items read whole)
-        by None open_end = inr (no_text ws s read open_end)
+-- the states of the reader, beside the grammar
+fits : (most : ℕ) → Fits InGrammar most State (List Item) step closed start
+fits most = record {
+  viable = λ s ws few read. read_viable ws s read;
+  stuck = stuck;
+  whole_read = λ s items ws read whole. (items, read_text ws s items read whole);
+  early = λ s ws read open_end. no_text ws s read open_end;
+}
 
 -- ---- the limits on the size
 
@@ -117,7 +108,7 @@ said bytes soc says = by (size_or_limit soc)
     by (inr passes) = inr (inr (passes.0, record { soc = soc; modules = says; passed = passes.1 }))
 
 pub each_text : (bytes : List ℕ) → HasAnswer bytes
-each_text bytes = by (whole_or_refused InGrammar (length (words_of bytes)) State _ (decides (length (words_of bytes))) (last_line bytes) start (words_of bytes) refl (omega arith))
+each_text bytes = by (whole_or_refused InGrammar (length (words_of bytes)) State _ (run_decides InGrammar (length (words_of bytes)) State (List Item) step closed start (fits (length (words_of bytes)))) (last_line bytes) start (words_of bytes) refl (omega arith))
   where
     totals : (g : InGrammar (words_of bytes)) (o : Option ℕ) → first_wrong (chip_of g.0) g.0 ≡ o → HasAnswer bytes
     totals g None none = said bytes (chip_of g.0) (record { items = g.0; text = g.1; chip = refl; totals = none })
