@@ -2,17 +2,18 @@
 use Rattle.std.proofs.Common.{◌≡◌, ℕ, zero, suc, ◌+◌, ◌<◌, ◌≤◌, Some, List, [], ◌∷◌, ◌++◌, length, get_or, take, map, refl, sym, ◌∙◌, ap, subst, arith}
 use Rattle.std.specs.Prelude.{slice_get}
 use Rattle.std.specs.List.{sum_by}
-use Rattle.std.proofs.lemmas.List.{take_all, take_more, length-map, map-append}
+use Rattle.std.proofs.lemmas.List.{take_all, take_more, take-map, length-map, map-append}
 use Rattle.std.proofs.lemmas.Option.{slice_get-get_or, slice_get-map}
 use Rattle.plan_model.specs.Rules.{Each}
 use Rattle.plan_model.proofs.Lists.{at_contains}
+use Rattle.plan_model.proofs.Greatest.{le-greatest_at, greatest-least}
 use Rattle.resource_table.specs.declared.Placement.{Placement}
 use Rattle.resource_table.specs.Jobs.{TestValue, JobValue, IsSoundJob}
-use Rattle.resource_table.specs.Schedules.{at_start, last_end, IsEarliest, IsListSchedule}
-use Rattle.resource_table.proofs.Placed.{AreTests, in_take}
+use Rattle.resource_table.specs.Schedules.{TableValue, at_start, end_of, last_end, IsEarliest, IsListSchedule}
+use Rattle.resource_table.proofs.Placed.{AreTests, in_take, each_take}
 use Rattle.resource_table.proofs.Schedules.{next_list, short_list}
 use Rattle.schedule_search.specs.Orders.{IsReady}
-use Rattle.schedule_search.specs.OrderCycles.{Takes}
+use Rattle.schedule_search.specs.OrderCycles.{Takes, HasPlaced}
 use Rattle.schedule_search.proofs.LeastStarts.{some_earliest}
 
 no_placement : Placement
@@ -62,6 +63,23 @@ pub takes_once : (job : JobValue) (order : List ℕ) (a b : ℕ) → Takes job o
 takes_once job order a b one other =
     let same = same_placed job one.placed other.placed (one.in_order ∙ sym other.in_order) one.list other.list in
     one.ends ∙ ap (last_end job) same ∙ sym other.ends
+
+-- the first tests of an order end no later than all
+pub front_least : (t : TableValue) (job : JobValue) (order : List ℕ) (k end cycles : ℕ) → t.job ≡ job → HasPlaced t (take k order) end → Takes job order cycles → end ≤ cycles
+front_least t job order k end cycles same has takes =
+    let test_of : Placement → ℕ = λ p. p.test in
+    let list : IsListSchedule job t.placed = subst (λ (j : JobValue). IsListSchedule j t.placed) same has.list in
+    let front : t.placed ≡ take k takes.placed = same_placed job t.placed (take k takes.placed) (has.in_order ∙ ap (take k) (sym takes.in_order) ∙ take-map test_of k takes.placed) list (each_take (λ earlier p. IsEarliest job earlier p.test p.start) k takes.placed takes.list) in
+    let last = greatest-least (end_of job) cycles (take k takes.placed) (λ i p at. (let most = le-greatest_at (end_of job) takes.placed i p (from_take takes.placed k i p at) in let ends = takes.ends in omega (arith, most, ends))) in
+    let is : end ≡ last_end job (take k takes.placed) = has.ends ∙ ap (λ (j : JobValue). last_end j t.placed) same ∙ ap (last_end job) front in
+    omega (arith, is, last)
+  where
+    from_take : (xs : List Placement) (n i : ℕ) (x : Placement) → slice_get (take n xs) i ≡ Some x → slice_get xs i ≡ Some x
+    from_take [] zero i x at = at
+    from_take [] (suc n) i x at = at
+    from_take (y ∷ xs) zero i x at = absurd cc
+    from_take (y ∷ xs) (suc n) zero x at = at
+    from_take (y ∷ xs) (suc n) (suc i) x at = from_take xs n i x at
 
 -- ---- at least one
 

@@ -1,6 +1,7 @@
 -- Two neighbours of an order in each other's place.
-use Rattle.std.proofs.Common.{◌≡◌, ℕ, zero, suc, ◌+◌, ◌<◌, inl, inr, Some, List, [], ◌∷◌, ◌++◌, length, get_or, set, take, refl, sym, ◌∙◌, ap, subst, arith}
-use Rattle.std.specs.Prelude.{slice_get}
+use Rattle.std.proofs.Common.{◌≡◌, ℕ, zero, suc, ◌+◌, ◌<◌, inl, inr, ◌≤◌, Option, None, Some, List, [], ◌∷◌, ◌++◌, length, get_or, set, take, refl, sym, ◌∙◌, ap, subst, arith}
+use Rattle.std.specs.Prelude.{slice_get, IfNone}
+use Rattle.std.proofs.lemmas.Bool.{cases_eq}
 use Rattle.std.specs.List.{Contains, swap}
 use Rattle.std.proofs.lemmas.List.{take-append-le, take_at}
 use Rattle.std.proofs.lemmas.List.Edits.{swap_is}
@@ -10,7 +11,7 @@ use Rattle.plan_model.proofs.Lists.{from_append, in_append_left, in_append_right
 use Rattle.resource_table.specs.Jobs.{JobValue, Precedes}
 use Rattle.resource_table.proofs.Placed.{each_front}
 use Rattle.schedule_search.specs.Orders.{IsReady, IsTopological}
-use Rattle.schedule_search.specs.Exchanges.{exchanged}
+use Rattle.schedule_search.specs.Exchanges.{exchanged, NoGainAt}
 
 -- ---- an order, taken apart at two neighbours
 
@@ -209,3 +210,16 @@ not_exchanged job order place within topological before topological' =
     let first = ready_first job is.front is.rest a b (subst (Each (IsReady job)) is.whole topological.ready) in
     let now = ready_first job is.front is.rest b a (subst (Each (IsReady job)) (exchange_apart order place is) topological'.ready) in
     first.new (now.after a before)
+
+-- ---- where no exchange helps
+
+pub if_none : (o : Option ℕ) (A B : Type 0) → (A → B) → IfNone o A → IfNone o B
+if_none None A B f a = f a
+if_none (Some x) A B f a = tt
+
+-- none at a place, and none behind it
+pub none_from : (job : JobValue) (order : List ℕ) (place cycles : ℕ) → NoGainAt job order place cycles → ((later : ℕ) → place + 1 ≤ later → later + 1 < length order → NoGainAt job order later cycles) → (later : ℕ) → place ≤ later → later + 1 < length order → NoGainAt job order later cycles
+none_from job order place cycles here behind later from within = elim (cases_eq place later) [
+  | inl same ↦ subst (λ (n : ℕ). NoGainAt job order n cycles) same here
+  | inr apart ↦ behind later (omega (arith, from, apart)) within
+]

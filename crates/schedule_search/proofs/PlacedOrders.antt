@@ -1,9 +1,9 @@
 -- The tests of an order are placed one by one.
-use Rattle.std.proofs.Common.{◌≡◌, inl, inr, ℕ, ◌+◌, ◌<◌, max, Some, List, [], ◌∷◌, ◌++◌, length, get_or, take, map, true, false, refl, sym, ◌∙◌, ap, subst}
+use Rattle.std.proofs.Common.{◌≡◌, inl, inr, ℕ, ◌+◌, ◌<◌, ◌≤◌, max, Some, List, [], ◌∷◌, ◌++◌, length, get_or, take, map, true, false, refl, sym, ◌∙◌, ap, subst, arith, append_assoc, length-append}
 use Rattle.std.specs.Prelude.{slice_get, nat_eq}
 use Rattle.std.specs.List.{Contains}
 use Rattle.std.proofs.lemmas.Bool.{cases_Bool, eqb-true, eq-eqb}
-use Rattle.std.proofs.lemmas.List.{take_more, map-append}
+use Rattle.std.proofs.lemmas.List.{take_more, take_at, map-append}
 use Rattle.std.proofs.lemmas.Option.{slice_get-get_or, slice_get-map}
 use Rattle.plan_model.proofs.Lists.{from_map, contains_at, at_contains, any_at, any_from}
 use Rattle.resource_table.specs.declared.Placement.{Placement}
@@ -76,3 +76,15 @@ takes_none job order none = record { placed = []; in_order = sym none; list = λ
 
 pub first_topological : (job : JobValue) (order : List ℕ) → IsFirstOrder job order → IsTopological job order
 first_topological job order first = record { ready = λ n test at. (first.longest n test at).ready; whole = first.whole }
+
+-- a placement and those after it are taken back
+pub placed_back : (t u v x : TableValue) (n test start : ℕ) → v ≡ record { job = u.job; placed = take n u.placed } → u.job ≡ x.job → (rest : List Placement) × (u.placed ≡ x.placed ++ rest) → x ≡ record t { placed = t.placed ++ at_start test start ∷ [] } → n ≡ length t.placed → v ≡ t
+placed_back t u v x n test start back job more grown before =
+    let whole : u.placed ≡ t.placed ++ (at_start test start ∷ more.0) = more.1 ∙ ap (λ (y : TableValue). y.placed ++ more.0) grown ∙ append_assoc t.placed (at_start test start ∷ []) more.0 in
+    let front : take n u.placed ≡ t.placed = ap (take n) whole ∙ take_at t.placed (at_start test start ∷ more.0) n (sym before) in
+    let same : u.job ≡ t.job = job ∙ ap (λ (y : TableValue). y.job) grown in
+    back ∙ ap (λ (l : List Placement). (let r : TableValue = record { job = u.job; placed = l } in r)) front ∙ ap (λ (j : JobValue). (let r : TableValue = record { job = j; placed = t.placed } in r)) same
+
+pub placed_long : (t u x : TableValue) (n test start : ℕ) → (rest : List Placement) × (u.placed ≡ x.placed ++ rest) → x ≡ record t { placed = t.placed ++ at_start test start ∷ [] } → n ≡ length t.placed → n ≤ length u.placed
+placed_long t u x n test start more grown before =
+    omega (arith, before, ap length more.1, length-append x.placed more.0, ap (λ (y : TableValue). length y.placed) grown, length-append t.placed (at_start test start ∷ []))

@@ -1,13 +1,14 @@
 // Exchanges of neighbours in an order, as long as one gives fewer cycles. No memory is taken.
-ghost use Rattle.std.specs.Prelude.{◌≡◌, ℕ, ◌+◌, ◌<◌, ◌≤◌, [], true, false, length, IfSome, IfNone};
+ghost use Rattle.std.specs.Prelude.{◌≡◌, ℕ, ◌+◌, ◌^◌, ◌<◌, ◌≤◌, [], true, false, length, take, IfSome, IfNone};
 ghost use Rattle.std.specs.List.{Contains};
 ghost use Rattle.resource_table.specs.Jobs.{job_value};
 ghost use Rattle.schedule_search.specs.Orders.{IsTopological};
-ghost use Rattle.schedule_search.specs.OrderCycles.{Takes};
+ghost use Rattle.schedule_search.specs.OrderCycles.{Takes, HasPlaced};
 ghost use Rattle.schedule_search.specs.Exchanges.{exchanged, NoGainAt, NoExchangeHelps, TakesFewer};
 
-use crate::placing::order_cycles;
-use resource_table::{Job, TableOf};
+use crate::order::cycles_at;
+use crate::placing::fewer_cycles;
+use resource_table::{Job, TableOf, list_schedules_are_short};
 
 /// Whether one of these precedences goes from a test to another.
 fn is_listed(before: &[(usize, usize)], earlier: usize, later: usize) -> bool
@@ -34,17 +35,19 @@ fn may_exchange(job: &Job, order: &[usize], place: usize) -> bool
 }
 
 /// Exchanges the tests at a place and at the next one where that gives fewer cycles, and answers these. Else the order
-/// stays as it is.
+/// stays as it is. The tests before that place are placed, and end last at `end`.
 fn exchange_at<J>(
     job: &Job,
     table: &mut TableOf<J>,
     order: &mut [usize],
     place: usize,
+    end: u64,
     cycles: u64,
 ) -> Option<u64>
     requires within { place + 1 < length order.old }
     requires job { table.old.job ≡ job_value job.now }
-    requires empty { table.old.placed ≡ [] }
+    requires front { HasPlaced table.old (take place order.old) end }
+    requires small { end ≤ 10 ^ 18 }
     requires topological { IsTopological (job_value job.now) order.old }
     ensures fewer { IfSome result (TakesFewer (job_value job.now) (length order.old) cycles order.new) }
     ensures stays { IfNone result (order.new ≡ order.old) }
@@ -55,12 +58,47 @@ fn exchange_at<J>(
         return None;
     }
     order.swap(place, place + 1);
-    let fewer = order_cycles(job, table, order);
-    if fewer < cycles {
+    if let Some(fewer) = fewer_cycles(job, table, order, place, end, cycles) {
         return Some(fewer);
     }
     order.swap(place, place + 1);
     None
+}
+
+/// Makes the first exchange of neighbours from a place on that gives fewer cycles, and answers these; where there is none,
+/// the order stays as it is. The tests before that place are placed, and end last at `end`.
+fn exchange_from<J>(
+    job: &Job,
+    table: &mut TableOf<J>,
+    order: &mut [usize],
+    place: usize,
+    end: u64,
+    cycles: u64,
+) -> Option<u64>
+    requires within { place < length order.old }
+    requires job { table.old.job ≡ job_value job.now }
+    requires front { HasPlaced table.old (take place order.old) end }
+    requires small { end ≤ 10 ^ 18 }
+    requires topological { IsTopological (job_value job.now) order.old }
+    ensures fewer { IfSome result (TakesFewer (job_value job.now) (length order.old) cycles order.new) }
+    ensures stays { IfNone result (order.new ≡ order.old) }
+    ensures none_helps { IfNone result ((later : ℕ) → place ≤ later → later + 1 < length order.old → NoGainAt (job_value job.now) order.old later cycles) }
+    ensures table { table.new ≡ table.old }
+{
+    if place + 1 == order.len() {
+        return None;
+    }
+    if let Some(fewer) = exchange_at(job, table, order, place, end, cycles) {
+        return Some(fewer);
+    }
+    list_schedules_are_short();
+    let test = order[place];
+    let start = table.earliest(test);
+    let mut frame = table.place(test, start);
+    let next_end = end.max(start + cycles_at(job, test));
+    let fewer = exchange_from(job, frame.table(), order, place + 1, next_end, cycles);
+    frame.undo();
+    fewer
 }
 
 /// Makes the first exchange of neighbours that gives fewer cycles, and answers these; where there is none, the order stays
@@ -79,12 +117,10 @@ fn exchange_first<J>(
     ensures none_helps { IfNone result (NoExchangeHelps (job_value job.now) order.old cycles) }
     ensures table { table.new ≡ table.old }
 {
-    for next in 1..order.len() {
-        if let Some(fewer) = exchange_at(job, table, order, next - 1, cycles) {
-            return Some(fewer);
-        }
+    if order.is_empty() {
+        return None;
     }
-    None
+    exchange_from(job, table, order, 0, 0, cycles)
 }
 
 /// Exchanges neighbours in a topological order that takes so many cycles: the first exchange that gives fewer is made,

@@ -47,6 +47,7 @@ pub(crate) fn count_up(counts: &mut [usize], places: &[usize])
     }
 }
 
+// Where a call takes the job and doesn't read it, its contract speaks of it.
 impl Prefix {
     /// Room for the prefixes of so many tests.
     pub(crate) fn new(alloc: Global, tests: usize) -> Result<Prefix, NoMemory>

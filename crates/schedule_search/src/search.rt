@@ -89,6 +89,7 @@ pub struct Found<'s> {
 fn begin<J>(job: &Job, table: &mut TableOf<J>, first: &[usize], progress: &mut Progress)
     requires job { table.old.job ≡ job_value job.now }
     requires empty { table.old.placed ≡ [] }
+    requires sound { IsSoundTable table.old }
     requires first { IsFirstOrder (job_value job.now) first.now }
     requires room { length (job_value job.now).tests ≤ vec_capacity progress.old.best }
     ensures begun { IsBegun (job_value job.now) first.now (stand_of progress.new) }

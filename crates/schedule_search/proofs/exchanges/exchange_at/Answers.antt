@@ -1,8 +1,7 @@
-use Rattle.std.proofs.Common.{◌≡◌, ◌≤◌, ◌∙◌, ℕ, List, ap, subst, arith}
+use Rattle.std.proofs.Common.{◌∙◌, ℕ, List, ap, subst, sym}
 use Rattle.resource_table.specs.Jobs.{job_value}
 use Rattle.schedule_search.specs.OrderCycles.{Takes}
 use Rattle.schedule_search.specs.Exchanges.{exchanged}
-use Rattle.schedule_search.proofs.CycleCounts.{takes_once}
 use Rattle.schedule_search.proofs.Exchanging.{exchanged_back}
 use Rattle.schedule_search.proofs.exchanges.exchange_at.Goals as goal
 
@@ -12,7 +11,4 @@ returns-clause-stays g c =
 
 pub returns-clause-no_gain : goal.returns-clause-no_gain
 returns-clause-no_gain g c = λ cycles topological takes.
-    let fewer : Takes (job_value c.args.job.now) (exchanged c.args.order.now c.args.place) c.order_cycles-fewer.result = subst (λ (l : List ℕ). Takes (job_value c.args.job.now) l c.order_cycles-fewer.result) c.swap.ensures.after c.order_cycles-fewer.ensures.takes in
-    let same : c.order_cycles-fewer.result ≡ cycles = takes_once (job_value c.args.job.now) (exchanged c.args.order.now c.args.place) c.order_cycles-fewer.result cycles fewer takes in
-    let least : c.args.cycles ≤ c.order_cycles-fewer.result = c.if-fewer-cycles.false in
-    omega arith
+    c.in_default.ensures.none cycles (subst (λ (l : List ℕ). Takes (job_value c.args.job.now) l cycles) (sym c.swap.ensures.after) takes)

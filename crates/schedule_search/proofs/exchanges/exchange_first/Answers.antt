@@ -1,21 +1,9 @@
-use Rattle.std.proofs.Common.{◌≡◌, ◌+◌, ◌-◌, ◌∙◌, inl, inr, ℕ, List, subst, arith}
-use Rattle.std.proofs.lemmas.Bool.{cases_lt}
+use Rattle.std.proofs.Common.{◌+◌, ◌<◌, ◌≤◌, ℕ, length, arith}
 use Rattle.resource_table.specs.Jobs.{job_value}
-use Rattle.schedule_search.specs.Exchanges.{NoGainAt}
+use Rattle.schedule_search.specs.Exchanges.{NoGainAt, NoExchangeHelps}
+use Rattle.schedule_search.proofs.Exchanging.{if_none}
 use Rattle.schedule_search.proofs.exchanges.exchange_first.Goals as goal
 
-pub loop-next-preserved : goal.loop-next-preserved
-loop-next-preserved g c =
-    let here : NoGainAt (job_value c.args.job.now) c.loop-next.order (c.loop-next.next - 1) c.args.cycles = c.in_default.ensures.no_gain in
-    let here' : NoGainAt (job_value c.args.job.now) c.args.order.now (c.loop-next.next - 1) c.args.cycles = subst (λ (l : List ℕ). NoGainAt (job_value c.args.job.now) l (c.loop-next.next - 1) c.args.cycles) c.loop-next.invariant.order here in
-    record {
-      order = c.in_default.ensures.stays ∙ c.loop-next.invariant.order;
-      table = c.in_default.ensures.table ∙ c.loop-next.invariant.table;
-      no_gain = (λ place less. elim (cases_lt (place + 1) c.loop-next.next) [
-        | inl old ↦ c.loop-next.invariant.no_gain place old
-        | inr new ↦ subst (λ (p : ℕ). NoGainAt (job_value c.args.job.now) c.args.order.now p c.args.cycles) (let same : c.loop-next.next - 1 ≡ place = omega arith in same) here'
-      ]);
-    }
-
 pub returns-clause-none_helps : goal.returns-clause-none_helps
-returns-clause-none_helps g c = λ place within. c.loop-next.invariant.no_gain place (let last = c.loop-next-test.false in let long = c.loop-next.auto.order in omega arith)
+returns-clause-none_helps g c =
+    if_none c.exchange_from.result ((later : ℕ) → 0 ≤ later → later + 1 < length c.args.order.now → NoGainAt (job_value c.args.job.now) c.args.order.now later c.args.cycles) (NoExchangeHelps (job_value c.args.job.now) c.args.order.now c.args.cycles) (λ none place within. none place (omega arith) within) c.exchange_from.ensures.none_helps
