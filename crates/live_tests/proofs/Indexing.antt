@@ -1,18 +1,18 @@
 -- The names of live tests are added module by module, then each is put into the index; precedences are looked up one by one.
-use Rattle.std.proofs.Common.{◌≡◌, ℕ, zero, suc, ◌+◌, ◌<◌, Bool, true, false, cond, Option, Some, List, [], ◌∷◌, ◌++◌, length, get_or, map, take, position, refl, sym, ap, ◌∙◌, append_assoc, arith}
+use Rattle.std.proofs.Common.{◌≡◌, ℕ, zero, suc, ◌+◌, ◌<◌, Bool, true, false, cond, Option, Some, List, [], ◌∷◌, ◌++◌, length, get_or, map, take, position, refl, sym, ap, ◌∙◌, arith}
 use Rattle.std.specs.Prelude.{slice_get}
 use Rattle.std.specs.List.{filter, flat_map, list_any}
 use Rattle.std.proofs.lemmas.List.{map-append, take_more, length-take, append-nil}
 use Rattle.std.proofs.lemmas.Grind.{flat_map-append}
-use Rattle.std.proofs.lemmas.Option.{slice_get-get_or, slice_get_within, get_or_from_slice_get}
+use Rattle.std.proofs.lemmas.Option.{slice_get-get_or, slice_get_within}
 use Rattle.indexmap.specs.IndexSet.{insert_key}
 use Rattle.soc_model.specs.declared.Test.{Test}
 use Rattle.soc_model.specs.declared.TestId.{TestId}
-use Rattle.soc_model.specs.Chips.{ModuleValue, SocValue, LiveTest, is_live, live_of, live_from, id_of, same_test}
+use Rattle.soc_model.specs.Chips.{ModuleValue, SocValue, is_live, live_of, live_from, id_of, same_test}
 use Rattle.plan_model.specs.Rules.{live_ids}
 use Rattle.plan_model.proofs.CertificatesAreBounds.{same_test_is}
 use Rattle.plan_model.proofs.Lists.{any_at}
-use Rattle.live_tests.specs.Names.{AllDiffer, name_in, names_in, both_places, places_of}
+use Rattle.live_tests.specs.Names.{AllDiffer, names_in, both_places, places_of}
 
 -- ---- the names, module by module
 

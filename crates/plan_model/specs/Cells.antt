@@ -1,5 +1,5 @@
 -- The cells of a wrapped module, and the chains that they stand in.
-use Rattle.std.specs.Prelude.{◌≡◌, ℕ, ◌+◌, Some, slice_get, Bool, true, false, List, [], ◌∷◌, ◌++◌, map, length, slice_index, if◌then◌else◌}
+use Rattle.std.specs.Prelude.{◌≡◌, ℕ, ◌+◌, Some, slice_get, Bool, true, false, List, [], ◌∷◌, ◌++◌, map, length, slice_index}
 use Rattle.std.specs.List.{flat_map, range_with_len, count_by, filter}
 use Rattle.std.specs.List.Sorted.{IsPermutation}
 use Rattle.soc_model.specs.Chips.{ModuleValue}

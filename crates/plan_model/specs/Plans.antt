@@ -1,5 +1,5 @@
 -- A plan and its limits as plain lists and numbers, and the live tests of the chip as the plan places them.
-use Rattle.std.specs.Prelude.{ℕ, ◌+◌, ◌-◌, ◌<◌, ◌≤◌, Bool, true, false, not, ◌&&◌, Option, List, [], ◌∷◌, map, max, length, replicate, nat_eq, nat_lt, nat_le, take, slice_index, if◌then◌else◌}
+use Rattle.std.specs.Prelude.{ℕ, ◌+◌, ◌-◌, ◌<◌, ◌≤◌, Bool, ◌&&◌, Option, List, [], ◌∷◌, map, max, length, replicate, nat_eq, nat_lt, nat_le, take, slice_index, if◌then◌else◌}
 use Rattle.std.specs.List.{sum, sum_by, filter, list_any}
 use Rattle.soc_model.specs.declared.Test.{Test}
 use Rattle.soc_model.specs.declared.TestId.{TestId}

@@ -1,12 +1,12 @@
 -- The rules of good plans, item by item. A plan is good where it keeps all of them.
-use Rattle.std.specs.Prelude.{◌≡◌, ℕ, ◌+◌, ◌<◌, ◌≤◌, Bool, true, false, ◌&&◌, None, Some, max, List, [], ◌∷◌, ◌++◌, map, length, take, slice_get, slice_index, IfSome, IsTrue, if◌then◌else◌}
-use Rattle.std.specs.List.{sum, sum_by, flat_map, list_any, Contains}
+use Rattle.std.specs.Prelude.{◌≡◌, ℕ, ◌+◌, ◌<◌, ◌≤◌, Bool, true, false, None, Some, max, List, [], ◌∷◌, ◌++◌, map, length, take, slice_get, slice_index, IfSome, IsTrue, if◌then◌else◌}
+use Rattle.std.specs.List.{sum, sum_by, flat_map, Contains}
 use Rattle.soc_model.specs.declared.Test.{Test}
 use Rattle.soc_model.specs.declared.TestId.{TestId}
-use Rattle.soc_model.specs.Chips.{ModuleValue, SocValue, IsParent, is_live, live_tests, id_of}
+use Rattle.soc_model.specs.Chips.{ModuleValue, SocValue, IsParent, live_tests, id_of}
 pub use Rattle.soc_model.specs.Modes.{has_tam, uses_mode}
 use Rattle.plan_model.specs.Cells.{IsProper}
-use Rattle.plan_model.specs.Plans.{BusValue, WrapperValue, PlanValue, LimitsValue, PlannedTest, planned, end_of, greatest, power_at, bus_place, widths, same_mode}
+use Rattle.plan_model.specs.Plans.{BusValue, WrapperValue, PlanValue, LimitsValue, PlannedTest, planned, end_of, greatest, power_at, bus_place, widths}
 use Rattle.plan_model.specs.Right.{IsAt, Meet}
 
 -- each item keeps its rule, given the items before it

@@ -1,8 +1,7 @@
-use Rattle.std.proofs.Common.{◌≡◌, ◌≤◌, ◌^◌, true, map, sym, ap, subst, arith}
+use Rattle.std.proofs.Common.{map, sym, ap, subst, arith}
 use Rattle.std.proofs.lemmas.Bool.{leb-true}
 use Rattle.soc_model.specs.Chips.{soc_value, module_value, is_live}
 use Rattle.soc_model.proofs.Limits.{test_work-le-at, work-le}
-use Rattle.plan_model.specs.Plans.{WrapperValue}
 use Rattle.plan_model.specs.Rules.{IsWrapped, Wrappers, Proper}
 use Rattle.plan_model.specs.Views.{plan_value, wrapper_value}
 use Rattle.plan_model.proofs.FoundWrappers.{wrapped_test}
