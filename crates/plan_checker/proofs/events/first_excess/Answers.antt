@@ -14,7 +14,7 @@ pub returns-then-begun-ended : goal.returns-then-begun-ended
 unfolding none
 returns-then-begun-ended c =
     let e = get_or c.args.events.now c.loop-at.at none in
-    high_here c.args.events.now c.args.most c.loop-at.at c.loop-at.begun c.loop-at.ended (c.loop-at.begun + e.begins) (c.loop-at.ended + e.ends) none c.requires.sorted (omega arith) c.loop-at.invariant (omega arith) (omega arith) (c.is_last_of_cycle-whole.ensures.last c.if-whole.true) c.if-begun-ended.true (c.loop-at.begun + e.begins - (c.loop-at.ended + e.ends)) (omega (arith, c.if-begun-ended.true))
+    high_here c.args.events.now c.args.most c.loop-at.at c.loop-at.begun c.loop-at.ended (c.loop-at.begun + e.begins) (c.loop-at.ended + e.ends) none c.requires.sorted (omega arith) c.loop-at.invariant (omega arith) (omega arith) (c.is_last_of_cycle-whole.ensures.last c.if-whole.true) (omega (arith, c.if-begun-ended.true)) (c.loop-at.begun + e.begins - (c.loop-at.ended + e.ends)) (omega (arith, c.if-begun-ended.true))
 
 pub loop-at-preserved : goal.loop-at-preserved
 unfolding none
@@ -23,7 +23,7 @@ loop-at-preserved c =
     let small = c.requires.small c.loop-at.at none (omega arith) in
     one_summed c.args.events.now c.args.most c.loop-at.at c.loop-at.begun c.loop-at.ended (c.loop-at.begun + e.begins) (c.loop-at.ended + e.ends) none c.requires.sorted (omega arith) c.loop-at.invariant (omega arith) (omega arith) small.begins small.ends
     (λ last. elim c.else-whole.branch [
-      | else-whole-via-then-whole+else-begun-ended w ↦ w.if-begun-ended.false
+      | else-whole-via-then-whole+else-begun-ended w ↦ omega (arith, w.if-begun-ended.false)
       | else-whole-via-else-whole w ↦ absurd (c.is_last_of_cycle-whole.ensures.other w.if-whole.false last)
     ])
 
