@@ -34,13 +34,13 @@ pub enum LimFault {
     #[error("line {line} of the limits' text: no limits are written so")]
     Text { line: u64 },
     /// The item whose keyword stands on this line is the first that names a test which isn't in the chip.
-    #[error("line {line} of the limits' text: the chip has no such test")]
+    #[error("line {line} of the limits' text: the name stands for none of the chip's tests")]
     UnknownTest { line: u64 },
     /// The precedences of live tests have this cycle: each test precedes the next, and the last the first.
     #[error("the precedences of the limits have a cycle")]
     Cycle { tests: Vec<TestId> },
     /// This live test is the first with a power that passes the limit, and this is the first such power of it.
-    #[error("a test's power of {power} passes the limit")]
+    #[error("a power of {power}, drawn by one of the tests alone, passes the limit")]
     TestPower { test: TestId, power: u64 },
     /// There was no memory for the limits.
     #[error("out of memory while the limits' text was read")]
