@@ -6,7 +6,6 @@ ghost use Rattle.schedule_search.specs.OrderCycles.{HasPlaced};
 ghost use Rattle.schedule_search.specs.Walks.{is_in, walk_from, IsOpen};
 ghost use Rattle.schedule_search.specs.Prefixes.{outside, HasPrefixRoom, IsAt};
 ghost use Rattle.schedule_search.specs.Progress.{AreTries, branch, stand_of, IsBest, NoneBefore, Explored};
-ghost use Rattle.schedule_search.specs.Estimates.{CanAsk, IsAtLeastReady, IsAtMostNow};
 ghost use Rattle.schedule_search.specs.Late.{IsLateAt, AreInTime, AreUnplaced};
 
 use crate::ahead::Estimate;
@@ -56,45 +55,31 @@ fn offer(progress: &mut Progress, order: &[usize], cycles: u64)
     }
 }
 
-/// The estimate of a test. The start at which the test would be placed now is noted first: an estimate that asks for it, now or
-/// beside more placed tests, finds it the sooner.
-fn asked<J, E: Estimate<J>>(ahead: &E, table: &mut TableOf<J>, test: usize) -> u64
-    requires estimates { E.estimates ahead.now }
-    requires asked { CanAsk table.old test }
-    ensures same { table.new ≡ table.old }
-    ensures least { IsAtLeastReady table.old test result }
-    ensures most { IsAtMostNow table.old test result }
-{
-    table.note(test);
-    ahead.ask(table, test)
-}
-
 /// Whether one of some tests ends, by its estimate, as late as so many cycles, or later. The tests are those that aren't
 /// placed, longest first. Each starts at the end of the last placed test at the latest, and so the look ends at the first
 /// of them that is in time even then.
 fn is_late<J, E: Estimate<J>>(
     job: &Job,
     ahead: &E,
-    table: &mut TableOf<J>,
+    table: &TableOf<J>,
     rest: &[usize],
     end: u64,
     cycles: u64,
 ) -> bool
-    requires job { table.old.job ≡ job_value job.now }
+    requires job { table.now.job ≡ job_value job.now }
     requires estimates { E.estimates ahead.now }
-    requires sound { IsSoundTable table.old }
-    requires ends { end ≡ last_end table.old.job table.old.placed }
-    requires rest { AreUnplaced table.old.job table.old.placed rest.now }
-    ensures same { table.new ≡ table.old }
-    ensures late { result ≡ true → IsLateAt table.old cycles }
-    ensures in_time { result ≡ false → AreInTime table.old cycles }
+    requires sound { IsSoundTable table.now }
+    requires ends { end ≡ last_end table.now.job table.now.placed }
+    requires rest { AreUnplaced table.now.job table.now.placed rest.now }
+    ensures late { result ≡ true → IsLateAt table.now cycles }
+    ensures in_time { result ≡ false → AreInTime table.now cycles }
 {
     let left = cycles.saturating_sub(end);
     for test in rest {
         if cycles_at(job, *test) < left {
             return false;
         }
-        if asked(ahead, table, *test) >= cycles {
+        if ahead.ask(table, *test) >= cycles {
             return true;
         }
     }
