@@ -1,7 +1,7 @@
 // Made chips for whoever wants to try the planner: a number of modules and a seed fix the chip.
 #![tactic(auto)]
 
-ghost use Rattle.std.specs.Prelude.{◌≡◌, ◌↔◌, ◌⊎◌, ◌+◌, ◌<◌, ◌≤◌, ◌^◌, ◌++◌, ◌∷◌, [], false, IfOk, OnOk, Err};
+ghost use Rattle.std.specs.Prelude.{◌≡◌, ℕ, ◌↔◌, ◌⊎◌, ◌+◌, ◌<◌, ◌≤◌, ◌^◌, ◌++◌, ◌∷◌, [], false, IfOk, OnOk, Err};
 ghost use Rattle.std.specs.List.{All};
 ghost use Rattle.soc_model.specs.Chips.{LiveTest, live_tests, module_value, soc_value};
 ghost use Rattle.soc_model.specs.Lookups.{has_module_number};
@@ -101,6 +101,7 @@ pub fn sample(alloc: Global, n: u64, seed: u64) -> Result<Soc, SampleFault>
     ensures sound { IfOk result (λ soc. IsSoundChip (soc_value soc)) }
     ensures power { IfOk result (λ soc. All (λ (l : LiveTest). l.test.power ≤ 99) (live_tests (soc_value soc))) }
     ensures size { (result ≡ Err (SampleFault.SampleSize n)) ↔ ((n ≡ 0) ⊎ (200 < n)) }
+    ensures shown { (shown : ℕ) → result ≡ Err (SampleFault.SampleSize shown) → shown ≡ n }
 {
     if n == 0 || n > SAMPLE_MODULES_MOST {
         return Err(SampleFault::SampleSize { n });

@@ -4,5 +4,6 @@ pub mod Decides
 pub mod Ends
 pub mod Procedures
 pub mod Readings
+pub mod Samples
 pub mod Texts
 pub mod WidthsText

@@ -7,6 +7,7 @@ ghost use Rattle.std.specs.Prelude.{◌≡◌};
 mod deciding;
 mod lines;
 mod loading;
+mod samples;
 mod top;
 mod widths;
 mod words;
@@ -79,6 +80,11 @@ pub enum Command<'a> {
         soc: &'a str,
         limits: &'a str,
         plan: &'a str,
+        seed: u64,
+    },
+    /// A made chip of so many modules, planned and checked.
+    Sample {
+        n: u64,
         seed: u64,
     },
 }

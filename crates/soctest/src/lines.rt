@@ -176,7 +176,7 @@ fn push_carried(to: &mut Vec<u8>, fault: &PlanFault) -> Result<(), NoMemory>
 }
 
 /// A line of words and a number.
-fn numbered(alloc: Global, words: &[u8], number: u128) -> Result<Vec<u8>, NoMemory>
+pub(crate) fn numbered(alloc: Global, words: &[u8], number: u128) -> Result<Vec<u8>, NoMemory>
     requires { IsTrue (no_feed words.now) }
     ensures text { IfOk result (λ text. text.items ≡ words.now ++ decimal number ++ codes "\n") }
     ensures line { IfOk result (λ text. IsTrue (is_line text.items)) }
