@@ -25,7 +25,7 @@ pub one_more : (front : List Word) (ts : List Token) (w : Word) (t : Token) → 
 one_more front ts w t spells is =
     map-append (λ (w : Word). token_of w.0) front (w ∷ []) ∙ ap (λ l. l ++ token_of w.0 ∷ []) spells ∙ ap (λ o. map Some ts ++ o ∷ []) is ∙ sym (map-append Some ts (t ∷ []))
 
-pub goes_on : (front : List Word) (w : Word) (t : Token) (text next : PlanText) → HasRead text front → Some t ≡ token_of w.0 → Steps (step (state_of text) t) (Ok next.part) next.draft → HasRead next (front ++ w ∷ [])
+pub goes_on : (front : List Word) (w : Word) (t : Token) (text next : PlanText) → HasRead text front → Some t ≡ token_of w.0 → Steps (step (state_of text) t) (Ok next.part) next.draft.value → HasRead next (front ++ w ∷ [])
 goes_on front w t text next has token steps =
     record { tokens = has.tokens ++ t ∷ []; spelled = one_more front has.tokens w t has.spelled (sym token); read = run-one_more step (Some start) has.tokens t (state_of text) has.read ∙ steps }
 
@@ -47,12 +47,12 @@ stops front w t text new Refused has token steps =
 stops front w t text new NoMemory has token steps = tt
 
 -- the plan that was read
-pub whole_read : (words : List Word) (text : PlanText) (bound : BoundValue) (plan : Plan) → HasRead text words → Some bound ≡ bound_at (part_value text.part) → plan_value plan ≡ plan_with (draft_value text.draft) bound → SaysInRange words plan
+pub whole_read : (words : List Word) (text : PlanText) (bound : BoundValue) (plan : Plan) → HasRead text words → Some bound ≡ bound_at (part_value text.part) → plan_value plan ≡ plan_with (draft_value text.draft.value) bound → SaysInRange words plan
 whole_read words text bound plan has ends is =
     let said = read_text words has.tokens (state_of text) bound has.spelled has.read (sym ends) in
     record {
       said = subst (IsPlanText words) (sym is) said;
-      range = subst IsInRange (sym is) (range_of (plan_with (draft_value text.draft) bound) (spelled_small words _ said.words) said.small_starts);
+      range = subst IsInRange (sym is) (range_of (plan_with (draft_value text.draft.value) bound) (spelled_small words _ said.words) said.small_starts);
     }
 
 pub ends : (words : List Word) (text : PlanText) → HasRead text words → None ≡ bound_at (part_value text.part) → EndsEarly InGrammar words

@@ -9,11 +9,11 @@ use outside::{Reader, Stop, Unread, Word, read_text};
 use plan_model::Plan;
 use std::alloc::Global;
 
-/// What was read of a plan's text so far.
+/// What was read of a plan's text so far. The draft stands in a box, so that little is moved with each word.
 #[derive(Drop)]
 struct PlanText {
     alloc: Global,
-    draft: Draft,
+    draft: Box<Draft>,
     part: Part,
 }
 
@@ -49,6 +49,7 @@ impl<'a> Reader<'a> for PlanText {
 
     fn end(self) -> Result<Plan, Stop> {
         let PlanText { draft, part, .. } = self;
+        let draft = Box::into_inner(draft);
         match bound_at(part) {
             Some(bound) => Ok(Plan {
                 buses: draft.buses,
@@ -69,9 +70,13 @@ impl<'a> Reader<'a> for PlanText {
 pub fn read_plan(alloc: Global, bytes: &[u8]) -> Result<Plan, PlanTextFault>
     ensures { PlanRead bytes.now result }
 {
+    let draft = match Box::new(alloc, new_draft(alloc)) {
+        Ok(draft) => draft,
+        Err(_) => return Err(PlanTextFault::NoMemory),
+    };
     let start = PlanText {
         alloc,
-        draft: new_draft(alloc),
+        draft,
         part: Part::WantsPlan,
     };
     match read_text(start, bytes) {

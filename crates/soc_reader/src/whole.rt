@@ -12,11 +12,11 @@ use outside::{Reader, Stop, Unread, Word, read_text};
 use soc_model::Soc;
 use std::alloc::Global;
 
-/// What was read of a chip's text so far.
+/// What was read of a chip's text so far. The items stand in a box, so that little is moved with each word.
 #[derive(Drop)]
 struct ChipText<'a> {
     alloc: Global,
-    items: Items<'a>,
+    items: Box<Items<'a>>,
     part: ReadPart<'a>,
 }
 
@@ -54,7 +54,7 @@ impl<'a> Reader<'a> for ChipText<'a> {
             part,
         } = self;
         match close(alloc, &mut items, part) {
-            Ok(()) => Ok(items),
+            Ok(()) => Ok(Box::into_inner(items)),
             Err(stop) => Err(stop),
         }
     }
@@ -64,9 +64,13 @@ impl<'a> Reader<'a> for ChipText<'a> {
 fn read_items<'a>(alloc: Global, bytes: &'a [u8]) -> Result<Items<'a>, Unread>
     ensures { IsRead InGrammar AreItems bytes.now result }
 {
+    let items = match Box::new(alloc, no_items(alloc)) {
+        Ok(items) => items,
+        Err(_) => return Err(Unread::NoMemory),
+    };
     let start = ChipText {
         alloc,
-        items: no_items(alloc),
+        items,
         part: ReadPart::Between,
     };
     read_text(start, bytes)
