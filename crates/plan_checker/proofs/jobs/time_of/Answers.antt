@@ -1,4 +1,4 @@
-use Rattle.std.proofs.Common.{◌∙◌}
+use Rattle.std.proofs.Common.{◌^◌, ◌∙◌}
 use Rattle.std.proofs.lemmas.Bool.{le-leb}
 use Rattle.soc_model.specs.Chips.{soc_value, module_value}
 use Rattle.plan_model.specs.Listing.{module_size}
