@@ -87,3 +87,10 @@ pub enum ReadPart<'a> {
         name: &'a [u8],
     },
 }
+
+/// What was read of a text so far: whole items, and of an unfinished one what there is.
+#[derive(Drop)]
+pub struct ReadSoFar<'a> {
+    pub items: Items<'a>,
+    pub part: ReadPart<'a>,
+}
