@@ -43,7 +43,7 @@ pub record InStep (items : Items) : Type 0 where
   pub after_is : items.after ≡ after (done_of items)
   pub xy : items.xy ≡ has_xy (done_of items)
   pub names : (m : ℕ) (w : List ℕ) → is_other_name (name_in items.names m) w ≡ list_any (renames m w) (done_of items)
-  pub marks : (s : Subject) (k : Key) → is_marked s k items.given.keys ≡ list_any (is_given s k) (done_of items)
+  pub marks : (s : Subject) (k : Key) → is_marked s k items.given ≡ list_any (is_given s k) (done_of items)
 
 abbrev pub part_of : ReadPart → Part
 part_of Between = between
