@@ -14,3 +14,5 @@ pub mod GreatestSums
 pub mod SumSteps
 pub mod FirstBest
 pub mod WayBack
+pub mod NamedProfiles
+pub mod Neighbours

@@ -1,5 +1,5 @@
 -- The nodes of a chip's live tests, without precedences.
-use Rattle.std.proofs.Common.{◌≡◌, inl, inr, ℕ, zero, suc, ◌+◌, ◌*◌, ◌≤◌, ◌^◌, max, true, Some, List, [], ◌∷◌, ◌++◌, get_or, map, refl, sym, ap, ◌∙◌, subst, arith}
+use Rattle.std.proofs.Common.{◌≡◌, inl, inr, ℕ, ◌+◌, ◌*◌, ◌≤◌, ◌^◌, max, Some, List, [], ◌∷◌, ◌++◌, get_or, map, refl, sym, ap, ◌∙◌, subst, arith}
 use Rattle.std.specs.Prelude.{slice_get}
 use Rattle.std.specs.List.{All, filter, flat_map, Contains}
 use Rattle.std.proofs.lemmas.Bool.{cases_Bool}
@@ -15,8 +15,8 @@ use Rattle.plan_model.specs.Plans.{LimitsValue}
 use Rattle.plan_model.specs.Bounds.{lower_time, lower}
 use Rattle.plan_model.specs.Rules.{live_ids}
 use Rattle.plan_model.specs.Certificates.{is_called, lower_of_id}
-use Rattle.plan_model.proofs.Lists.{from_map, from_filter}
-use Rattle.plan_model.proofs.PlannedTests.{IsLive, live_at, of_first_is}
+use Rattle.plan_model.proofs.Lists.{from_map}
+use Rattle.plan_model.proofs.PlannedTests.{of_first_is}
 use Rattle.plan_model.proofs.CertificatesAreBounds.{same_test_is, is_same_test}
 use Rattle.plan_model.proofs.ShortTests.{live_patterns}
 use Rattle.bound_rules.specs.Sizes.{sizes_of, least_chain, IsFitting}

@@ -7,3 +7,4 @@ pub mod Needs
 pub mod Nodes
 pub mod Sums
 pub mod Chains
+pub mod Pairs

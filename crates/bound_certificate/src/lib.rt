@@ -3,9 +3,11 @@
 // Claims and values are in cycles; a certificate's modules and tests go by their numbers.
 #![tactic(auto)]
 
-ghost use Rattle.std.specs.Prelude.{◌≡◌, ◌<◌, Ok, Err, IfErr, OnOk, length, nat_lt, if◌then◌else◌, vec_len};
+ghost use Rattle.std.specs.Prelude.{◌≡◌, ◌+◌, ◌<◌, ◌≤◌, Ok, Err, IfOk, IfErr, OnOk, length, nat_lt, if◌then◌else◌, vec_len};
+ghost use Rattle.indexmap.specs.IndexMap.{index_map_len, spare as spare_pairs};
+ghost use Rattle.indexmap.specs.IndexSet.{keys, spare};
 ghost use Rattle.soc_model.specs.Chips.{soc_value};
-ghost use Rattle.soc_model.specs.declared.TheConstants.{MODULES_MOST};
+ghost use Rattle.soc_model.specs.declared.TheConstants.{MODULES_MOST, TESTS_MOST};
 ghost use Rattle.soc_model.specs.SoundChips.{IsSoundChip};
 ghost use Rattle.plan_model.specs.Views.{limits_value, bound_value, why_value};
 ghost use Rattle.plan_model.specs.Plans.{OfModule, OfPair, OfArea, OfPower};
@@ -20,16 +22,19 @@ mod chains;
 mod forced_lists;
 mod forced_part;
 mod nodes;
+mod power_value;
 mod precedence_lists;
 mod sums;
 
 pub use best::best_bound;
-use bound_rules::{area_bound, module_bound, pair_bound, power_bound};
+use bound_rules::{area_bound, module_bound, pair_bound};
 use forced_lists::check_forced;
+use indexmap::{IndexMap, IndexSet};
 use outside::NoMemory;
 use plan_model::{Bound, Limits, Why};
-use precedence_lists::check_chain;
-use soc_model::{MODULES_MOST, Soc, place_of};
+use power_value::power_value;
+use precedence_lists::{Pairs, check_chain};
+use soc_model::{MODULES_MOST, Soc, TESTS_MOST, TestId, place_of};
 use std::alloc::Global;
 
 /// Why a certificate isn't accepted.
@@ -42,22 +47,62 @@ pub enum BoundFault {
     Less { claimed: u64, shown: u128 },
 }
 
-/// Room for the check of a certificate: a mark for each module that a chip may have. Every room does for every
-/// certificate.
+/// Room for the check of a certificate: a mark for each module that a chip may have, and room for as many pairs and names
+/// of tests as a chip may have tests. Every room does for every certificate.
 #[derive(Drop)]
 pub struct BoundScratch {
     /// Whether the module at a place is listed.
     marks: Vec<bool>,
+    /// The neighbours in a chain, and whether a precedence sets the second behind the first.
+    pairs: Pairs,
+    /// The names of the tests that have profiles.
+    names: IndexSet<TestId>,
     ghost marks_len: { vec_len marks ≡ MODULES_MOST },
+    ghost pairs_room: { TESTS_MOST ≤ index_map_len pairs + spare_pairs pairs },
+    ghost names_room: { TESTS_MOST ≤ length (keys names) + spare names },
+}
+
+/// Room for so many pairs.
+fn pair_room(alloc: Global, count: usize) -> Result<Pairs, NoMemory>
+    ensures { IfOk result (λ room. count ≤ index_map_len room + spare_pairs room) }
+{
+    match IndexMap::with_capacity(alloc, count) {
+        Ok(room) => Ok(room),
+        Err(_) => Err(NoMemory),
+    }
+}
+
+/// Room for so many names.
+fn name_room(alloc: Global, count: usize) -> Result<IndexSet<TestId>, NoMemory>
+    ensures { IfOk result (λ room. count ≤ length (keys room) + spare room) }
+{
+    match IndexSet::with_capacity(alloc, count) {
+        Ok(room) => Ok(room),
+        Err(_) => Err(NoMemory),
+    }
+}
+
+/// A mark for each module that a chip may have.
+fn mark_room(alloc: Global) -> Result<Vec<bool>, NoMemory>
+    ensures { IfOk result (λ room. length room.items ≡ MODULES_MOST) }
+{
+    match Vec::from_elem(alloc, false, MODULES_MOST as usize) {
+        Ok(room) => Ok(room),
+        Err(_) => Err(NoMemory),
+    }
 }
 
 impl BoundScratch {
     /// Room for the check of this certificate.
     pub fn new(alloc: Global, _bound: &Bound) -> Result<BoundScratch, NoMemory> {
-        match Vec::from_elem(alloc, false, MODULES_MOST as usize) {
-            Ok(marks) => Ok(BoundScratch { marks }),
-            Err(_) => Err(NoMemory),
-        }
+        let marks = mark_room(alloc)?;
+        let pairs = pair_room(alloc, TESTS_MOST as usize)?;
+        let names = name_room(alloc, TESTS_MOST as usize)?;
+        Ok(BoundScratch {
+            marks,
+            pairs,
+            names,
+        })
     }
 }
 
@@ -108,12 +153,19 @@ fn check_area(soc: &Soc, limits: &Limits, claimed: u64) -> Result<(), BoundFault
 }
 
 /// The check of kind Power.
-fn check_power(soc: &Soc, limits: &Limits, claimed: u64) -> Result<(), BoundFault>
+fn check_power(
+    soc: &Soc,
+    limits: &Limits,
+    claimed: u64,
+    names: &mut IndexSet<TestId>,
+) -> Result<(), BoundFault>
     requires sound { IsSoundChip (soc_value soc.now) }
     requires limits { IsSoundLimits (soc_value soc.now) (limits_value limits.now) }
-    ensures { IsCheck (soc_value soc.now) (limits_value limits.now) claimed OfPower result }
+    requires room { TESTS_MOST ≤ length (keys names.old) + spare names.old }
+    ensures check { IsCheck (soc_value soc.now) (limits_value limits.now) claimed OfPower result }
+    ensures room { TESTS_MOST ≤ length (keys names.new) + spare names.new }
 {
-    enough(claimed, u128::from(power_bound(soc, limits)))
+    enough(claimed, u128::from(power_value(soc, limits, names)))
 }
 
 /// The check by the kind of the certificate.
@@ -131,9 +183,9 @@ fn check_why(
     match why {
         Why::Module { module } => check_module(soc, limits, *module, claimed),
         Why::Pair { module } => check_pair(soc, limits, *module, claimed),
-        Why::Chain { tests } => check_chain(soc, limits, tests, claimed),
+        Why::Chain { tests } => check_chain(soc, limits, tests, claimed, &mut room.pairs),
         Why::Area => check_area(soc, limits, claimed),
-        Why::Power => check_power(soc, limits, claimed),
+        Why::Power => check_power(soc, limits, claimed, &mut room.names),
         Why::Forced { modules } => check_forced(soc, limits, modules, claimed, &mut room.marks),
     }
 }

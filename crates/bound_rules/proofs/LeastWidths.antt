@@ -1,16 +1,18 @@
 -- Lower times never grow with the width; least widths and least areas.
-use Rattle.std.proofs.Common.{◌≡◌, ℕ, zero, suc, ◌+◌, ◌*◌, ◌≤◌, ◌<◌, max, Bool, true, false, leb, ltb, List, refl, arith, inl, inr, ◌⊎◌}
+use Rattle.std.proofs.Common.{◌≡◌, ℕ, zero, suc, ◌+◌, ◌*◌, ◌≤◌, ◌<◌, max, Bool, true, false, leb, ltb, List, [], ◌∷◌, refl, arith, inl, inr, ◌⊎◌}
 use Rattle.std.specs.Prelude.{min, if◌then◌else◌}
-use Rattle.std.proofs.lemmas.Bool.{cases_Bool, cases_lt, lt-ltb, le-ltb, le-leb, lt-leb}
+use Rattle.std.proofs.lemmas.Bool.{cases_Bool, cases_lt, lt-ltb, le-ltb, le-leb, lt-leb, and_parts}
+use Rattle.std.proofs.lemmas.List.Sums.{sum_by-cons}
 use Rattle.std.proofs.Math.Nat.{mul-le-mul_left, mul-le-mul_right}
 use Rattle.soc_model.specs.declared.Test.{Test}
+use Rattle.soc_model.specs.Chips.{is_live}
 use Rattle.plan_model.specs.Bounds.{quotient_up, first_below, least_from_one}
 use Rattle.plan_model.proofs.LowerTimes.{quotient_up-le}
 use Rattle.plan_model.proofs.Sums.{sum_by-le_at}
 use Rattle.bound_rules.specs.declared.sizes.Sizes.{Sizes}
 use Rattle.bound_rules.specs.Sizes.{least_chain, time_by, tam_times_by}
 use Rattle.soc_model.specs.Modes.{is_tam}
-use Rattle.bound_rules.proofs.Works.{tam_time_is, self_time_is, live_patterns, tam_only}
+use Rattle.bound_rules.proofs.Works.{up-le, tam_time_is, self_time_is, live_patterns, tam_only}
 
 le-up : (a w : ℕ) → 1 ≤ w → a ≤ quotient_up a w * w
 le-up a w h = omega arith
@@ -94,11 +96,78 @@ first_below-same f g b (suc n) same = rw (first_below-same f g b n same, same (s
 
 -- ---- the least of products
 
-pub least-next : (f : ℕ → ℕ) (n m : ℕ) → 1 ≤ n → m ≡ n + 1 → least_from_one f m ≡ min (least_from_one f n) (f m)
-least-next f zero m some is = absurd (omega arith)
-least-next f (suc n) m some is = let same : m ≡ suc (suc n) = omega arith in rw same refl
-
 pub least-same : (f g : ℕ → ℕ) (n : ℕ) → ((v : ℕ) → f v ≡ g v) → least_from_one f n ≡ least_from_one g n
 least-same f g zero same = refl
 least-same f g (suc zero) same = same 1
 least-same f g (suc (suc n)) same = rw (least-same f g (suc n) same, same (suc (suc n))) refl
+
+-- ---- more wires never divide a time by more than their number
+
+times_max : (w a b a' b' : ℕ) → a ≤ w * a' → b ≤ w * b' → max a b ≤ w * max a' b'
+times_max w a b a' b' p q =
+    let one : w * a' ≤ w * max a' b' = mul-le-mul_left w (omega arith) in
+    let two : w * b' ≤ w * max a' b' = mul-le-mul_left w (omega arith) in
+    omega arith
+
+times_min : (w a b a' b' : ℕ) → a ≤ w * a' → b ≤ w * b' → min a b ≤ w * min a' b'
+times_min w a b a' b' p q = elim (cases_lt a' b') [
+  | inl less ↦ let same : min a' b' ≡ a' = omega arith in rw same (omega arith)
+  | inr most ↦ let same : min a' b' ≡ b' = omega arith in rw same (omega arith)
+]
+
+times_sum : (w a b a' b' : ℕ) → a ≤ w * a' → b ≤ w * b' → a + b ≤ w * (a' + b')
+times_sum w a b a' b' p q =
+    let split : w * (a' + b') ≡ w * a' + w * b' = omega arith in
+    omega arith
+
+length_on_one : (s : Sizes) (scan : Bool) (ends w : ℕ) → 1 ≤ w → s.longest ≤ s.flops → least_chain s scan ends 1 ≤ w * least_chain s scan ends w
+length_on_one s true ends w some short =
+    let one : quotient_up (ends + s.flops) 1 ≤ ends + s.flops = up-le (ends + s.flops) 1 (omega arith) in
+    let whole : ends + s.flops ≤ quotient_up (ends + s.flops) w * w = le-up (ends + s.flops) w some in
+    let wide : w * quotient_up (ends + s.flops) w ≤ w * max s.longest (quotient_up (ends + s.flops) w) = mul-le-mul_left w (omega arith) in
+    omega arith
+length_on_one s false ends w some short =
+    let one : quotient_up ends 1 ≤ ends = up-le ends 1 (omega arith) in
+    let whole : ends ≤ quotient_up ends w * w = le-up ends w some in
+    omega arith
+
+formula_on_one : (setup si so si' so' p w : ℕ) → 1 ≤ w → si ≤ w * si' → so ≤ w * so' → setup + (1 + max si so) * p + min si so ≤ w * (setup + (1 + max si' so') * p + min si' so')
+formula_on_one setup si so si' so' p w some a b =
+    let longest : max si so ≤ w * max si' so' = times_max w si so si' so' a b in
+    let least : min si so ≤ w * min si' so' = times_min w si so si' so' a b in
+    let once : 1 * setup ≤ w * setup = mul-le-mul_right setup some in
+    let more : (1 + max si so) * p ≤ (w * (1 + max si' so')) * p = mul-le-mul_right p (omega arith) in
+    let turned : (w * (1 + max si' so')) * p ≡ w * ((1 + max si' so') * p) = omega arith in
+    times_sum w (setup + (1 + max si so) * p) (min si so) (setup + (1 + max si' so') * p) (min si' so') (times_sum w setup ((1 + max si so) * p) setup ((1 + max si' so') * p) (omega arith) (omega arith)) least
+
+time_on_one : (s : Sizes) (t : Test) (w : ℕ) → 1 ≤ w → 1 ≤ t.patterns → t.tam ≡ true → s.longest ≤ s.flops → time_by s 1 t ≤ w * time_by s w t
+time_on_one s t w some live tam short =
+    rw (tam_time_is s t 1 live tam, tam_time_is s t w live tam)
+    (formula_on_one s.setup (least_chain s t.scan s.inputs 1) (least_chain s t.scan s.outputs 1) (least_chain s t.scan s.inputs w) (least_chain s t.scan s.outputs w) t.patterns w some
+    (length_on_one s t.scan s.inputs w some short) (length_on_one s t.scan s.outputs w some short))
+
+times_on_one : (s : Sizes) (ts : List Test) (w : ℕ) → 1 ≤ w → s.longest ≤ s.flops → tam_times_by s 1 ts ≤ w * tam_times_by s w ts
+times_on_one s [] w some short = omega arith
+times_on_one s (t ∷ ts) w some short =
+    rw (sum_by-cons (λ t. if is_tam t then time_by s 1 t else 0) t ts, sum_by-cons (λ t. if is_tam t then time_by s w t else 0) t ts)
+    (times_sum w (if is_tam t then time_by s 1 t else 0) (tam_times_by s 1 ts) (if is_tam t then time_by s w t else 0) (tam_times_by s w ts) (each (cases_Bool (is_tam t))) (times_on_one s ts w some short))
+  where
+    each : (is_tam t ≡ true) ⊎ (is_tam t ≡ false) → (if is_tam t then time_by s 1 t else 0) ≤ w * (if is_tam t then time_by s w t else 0)
+    each (inl yes') = rw yes' (time_on_one s t w some (live_patterns t (tam_only t yes')) (and_parts (is_live t) t.tam yes').1 short)
+    each (inr no') = rw no' (omega arith)
+
+least-first : (f : ℕ → ℕ) (n : ℕ) → 1 ≤ n → ((v : ℕ) → 1 ≤ v → f 1 ≤ f v) → least_from_one f n ≡ f 1
+least-first f zero some h = absurd (omega arith)
+least-first f (suc zero) some h = refl
+least-first f (suc (suc n)) some h =
+    let ih : least_from_one f (suc n) ≡ f 1 = least-first f (suc n) (omega arith) h in
+    omega (arith, h (suc (suc n)) (omega arith))
+
+-- the least area is that on one wire
+pub least_on_one : (s : Sizes) (ts : List Test) (n : ℕ) → 1 ≤ n → s.longest ≤ s.flops → least_from_one (λ w. w * tam_times_by s w ts) n ≡ tam_times_by s 1 ts
+least_on_one s ts n some short =
+    let least : least_from_one (λ w. w * tam_times_by s w ts) n ≡ 1 * tam_times_by s 1 ts = least-first (λ w. w * tam_times_by s w ts) n some (λ v more. one (times_on_one s ts v more short)) in
+    omega arith
+  where
+    one : {a b : ℕ} → a ≤ b → 1 * a ≤ b
+    one h = omega arith

@@ -5,3 +5,4 @@ pub mod LeastWidths
 pub mod Areas
 pub mod Energies
 pub mod Naming
+pub mod ProfilePlaces

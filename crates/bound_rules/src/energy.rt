@@ -1,6 +1,7 @@
 // What tests draw together over their lower times, in power times cycles.
-ghost use Rattle.std.specs.Prelude.{◌≡◌, ℕ, ◌*◌, ◌^◌, ◌<◌, ◌≤◌, Some, length, map, slice_get};
-ghost use Rattle.soc_model.specs.Chips.{soc_value, module_value};
+ghost use Rattle.std.specs.Prelude.{◌≡◌, ℕ, ◌*◌, ◌^◌, ◌<◌, ◌≤◌, Some, length, map, position, slice_get, IfSome};
+ghost use Rattle.indexmap.specs.IndexSet.{keys};
+ghost use Rattle.soc_model.specs.Chips.{soc_value, module_value, same_test};
 ghost use Rattle.soc_model.specs.SoundChips.{IsSoundChip};
 ghost use Rattle.plan_model.specs.declared.Profile.{Profile};
 ghost use Rattle.plan_model.specs.Views.{limits_value, profile_value};
@@ -10,10 +11,12 @@ ghost use Rattle.plan_model.specs.SoundLimits.{IsSoundLimits, Grow};
 ghost use Rattle.plan_model.specs.Bounds.{sum_below, least_energy, power_bound};
 ghost use Rattle.bound_rules.specs.Sizes.{works_by, IsFitting};
 ghost use Rattle.bound_rules.specs.Energy.{powers_of, energies};
+ghost use Rattle.bound_rules.specs.ProfileNames.{names_of, HasNames};
 
 use crate::quotient_up;
 use crate::sizes::Sizes;
-use plan_model::{Limits, Profile};
+use indexmap::IndexSet;
+use plan_model::{Limits, Profile, profile_of};
 use soc_model::{Soc, Test, TestId, live, module_at};
 
 /// What a power draws in so many cycles.
@@ -41,17 +44,34 @@ fn steps_energy(steps: &[(u64, u64)], length: u64) -> u128
     sum + drawn(power, length - begun)
 }
 
-/// What a test draws over its first `length` cycles, added up: by its profile, or its own power at every cycle.
-fn test_energy(profiles: &[Profile], id: TestId, own: u64, length: u64) -> u128
-    requires { (i : ℕ) (p : Profile) → slice_get profiles.now i ≡ Some p → Grow 0 p.steps.items }
-    ensures { result ≡ sum_below (powers_of id own (map profile_value profiles.now)) length }
+/// The profiles of limits, and the names of their tests by the same places where these are at hand.
+#[derive(Clone, Copy, Drop)]
+struct Profiles<'a> {
+    list: &'a [Profile],
+    names: Option<&'a IndexSet<TestId>>,
+}
+
+/// The place of the profile of a test. None comes exactly where it has none.
+fn place_in(profiles: &Profiles<'_>, id: TestId) -> Option<usize>
+    requires { HasNames profiles.now }
+    ensures { result ≡ position (λ (p : Profile). same_test p.test id) profiles.now.list.now }
 {
-    for profile in profiles {
-        if profile.test.module == id.module && profile.test.test == id.test {
-            return steps_energy(&profile.steps, length);
-        }
+    match profiles.names {
+        Some(names) => names.get_index_of(&id),
+        None => profile_of(profiles.list, id),
     }
-    drawn(own, length)
+}
+
+/// What a test draws over its first `length` cycles, added up: by its profile, or its own power at every cycle.
+fn test_energy(profiles: &Profiles<'_>, id: TestId, own: u64, length: u64) -> u128
+    requires names { HasNames profiles.now }
+    requires steps { (i : ℕ) (p : Profile) → slice_get profiles.now.list.now i ≡ Some p → Grow 0 p.steps.items }
+    ensures { result ≡ sum_below (powers_of id own (map profile_value profiles.now.list.now)) length }
+{
+    match place_in(profiles, id) {
+        Some(place) => steps_energy(&profiles.list[place].steps, length),
+        None => drawn(own, length),
+    }
 }
 
 /// What the live tests of a module draw over their lower times, added up.
@@ -59,15 +79,16 @@ fn module_energy(
     sizes: &Sizes,
     number: u64,
     tests: &[Test],
-    profiles: &[Profile],
+    profiles: &Profiles<'_>,
     wires: u64,
 ) -> u128
     requires some_wire { 1 ≤ wires }
     requires fitting { IsFitting sizes.now }
     requires work { works_by sizes.now tests.now ≤ 10 ^ 18 }
-    requires steps { (i : ℕ) (p : Profile) → slice_get profiles.now i ≡ Some p → Grow 0 p.steps.items }
-    requires fits { energies sizes.now number (map profile_value profiles.now) wires tests.now ≤ 10 ^ 27 }
-    ensures { result ≡ energies sizes.now number (map profile_value profiles.now) wires tests.now }
+    requires names { HasNames profiles.now }
+    requires steps { (i : ℕ) (p : Profile) → slice_get profiles.now.list.now i ≡ Some p → Grow 0 p.steps.items }
+    requires fits { energies sizes.now number (map profile_value profiles.now.list.now) wires tests.now ≤ 10 ^ 27 }
+    ensures { result ≡ energies sizes.now number (map profile_value profiles.now.list.now) wires tests.now }
 {
     let mut sum = 0u128;
     for test in tests {
@@ -84,12 +105,17 @@ fn module_energy(
 }
 
 /// What all live tests draw over their lower times, added up.
-fn total_energy(soc: &Soc, limits: &Limits) -> u128
+fn total_energy(soc: &Soc, limits: &Limits, names: Option<&IndexSet<TestId>>) -> u128
     requires sound { IsSoundChip (soc_value soc.now) }
     requires limits { IsSoundLimits (soc_value soc.now) (limits_value limits.now) }
+    requires names { IfSome names (λ found. keys found.now ≡ names_of limits.now.profiles.items) }
     requires fits { least_energy (soc_value soc.now) (limits_value limits.now) ≤ 10 ^ 27 }
     ensures { result ≡ least_energy (soc_value soc.now) (limits_value limits.now) }
 {
+    let profiles = Profiles {
+        list: &limits.profiles,
+        names,
+    };
     let mut sum = 0u128;
     for place in 0..soc.modules.len() {
         let module = module_at(soc, place);
@@ -97,18 +123,18 @@ fn total_energy(soc: &Soc, limits: &Limits) -> u128
             &Sizes::of(module),
             module.number,
             &module.tests,
-            &limits.profiles,
+            &profiles,
             limits.wires,
         );
     }
     sum
 }
 
-/// The cycles in which all live tests can draw what they draw over their lower times, where no cycle has more than the
-/// power limit: their sum divided by the limit, rounded up; 0 where there is no limit, or a limit of 0.
-pub fn power_bound(soc: &Soc, limits: &Limits) -> u64
+/// The power bound, with the names of the tests that have profiles where these are at hand.
+fn bound_with(soc: &Soc, limits: &Limits, names: Option<&IndexSet<TestId>>) -> u64
     requires sound { IsSoundChip (soc_value soc.now) }
     requires limits { IsSoundLimits (soc_value soc.now) (limits_value limits.now) }
+    requires names { IfSome names (λ found. keys found.now ≡ names_of limits.now.profiles.items) }
     ensures quotient { result ≡ power_bound (soc_value soc.now) (limits_value limits.now) limits.now.power }
     ensures small { result ≤ 10 ^ 18 }
     ensures bound { IsBound (soc_value soc.now) (limits_value limits.now) result }
@@ -117,5 +143,29 @@ pub fn power_bound(soc: &Soc, limits: &Limits) -> u64
     if most == 0 {
         return 0;
     }
-    quotient_up(total_energy(soc, limits), most)
+    quotient_up(total_energy(soc, limits, names), most)
+}
+
+/// The cycles in which all live tests can draw what they draw over their lower times, where no cycle has more than the
+/// power limit: their sum divided by the limit, rounded up; 0 where there is no limit, or a limit of 0. It looks through
+/// the profiles for each live test.
+pub fn power_bound(soc: &Soc, limits: &Limits) -> u64
+    requires sound { IsSoundChip (soc_value soc.now) }
+    requires limits { IsSoundLimits (soc_value soc.now) (limits_value limits.now) }
+    ensures quotient { result ≡ power_bound (soc_value soc.now) (limits_value limits.now) limits.now.power }
+    ensures small { result ≤ 10 ^ 18 }
+    ensures bound { IsBound (soc_value soc.now) (limits_value limits.now) result }
+{
+    bound_with(soc, limits, None)
+}
+
+/// The same value as that of `power_bound`, where the names of the tests that have profiles are at hand as a set, in the
+/// order of the profiles.
+pub fn power_bound_by_names(soc: &Soc, limits: &Limits, names: &IndexSet<TestId>) -> u64
+    requires sound { IsSoundChip (soc_value soc.now) }
+    requires limits { IsSoundLimits (soc_value soc.now) (limits_value limits.now) }
+    requires names { keys names.now ≡ names_of limits.now.profiles.items }
+    ensures { result ≡ power_bound (soc_value soc.now) (limits_value limits.now) limits.now.power }
+{
+    bound_with(soc, limits, Some(names))
 }

@@ -17,7 +17,7 @@ mod names;
 mod sizes;
 mod widths;
 
-pub use energy::power_bound;
+pub use energy::{power_bound, power_bound_by_names};
 pub use names::{chain_bound, live_time};
 use sizes::Sizes;
 use soc_model::{Module, Soc, Test, module_at, parent};

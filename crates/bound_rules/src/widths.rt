@@ -58,45 +58,35 @@ pub fn need(soc: &Soc, place: usize, wires: u64, claimed: u64) -> u64
     least_width(&Sizes::of(module), &module.tests, wires, claimed)
 }
 
-/// The least area, in wires times cycles, that a module's tests over the wires take at a width from 1 to `wires`.
-fn least_area(sizes: &Sizes, tests: &[Test], wires: u64) -> u128
-    requires some_wire { 1 ≤ wires }
-    requires wires { wires ≤ 256 }
+/// The least area, in wires times cycles, that a module's tests over the wires take at a width from 1 on: that on one
+/// wire, since more wires never divide their times by more than their number.
+fn least_area(sizes: &Sizes, tests: &[Test]) -> u64
     requires fitting { IsFitting sizes.now }
     requires work { works_by sizes.now tests.now ≤ 10 ^ 18 }
-    ensures { result ≡ least_from_one (λ w. w * tam_times_by sizes.now w tests.now) wires }
+    ensures { (wires : ℕ) → 1 ≤ wires → result ≡ least_from_one (λ w. w * tam_times_by sizes.now w tests.now) wires }
 {
-    let mut least = u128::from(sizes.tam_times(tests, 1));
-    for width in 2..wires + 1 {
-        let area = u128::from(width) * u128::from(sizes.tam_times(tests, width));
-        least = least.min(area);
-    }
-    least
+    sizes.tam_times(tests, 1)
 }
 
 /// The least area of the module at a place.
-fn module_area(soc: &Soc, place: usize, wires: u64) -> u128
+fn module_area(soc: &Soc, place: usize) -> u64
     requires sound { IsSoundChip (soc_value soc.now) }
     requires place { place < length (soc_value soc.now).modules }
-    requires some_wire { 1 ≤ wires }
-    requires wires { wires ≤ 256 }
-    ensures { result ≡ module_area (soc_value soc.now) wires place }
+    ensures { (wires : ℕ) → 1 ≤ wires → result ≡ module_area (soc_value soc.now) wires place }
 {
     let module = module_at(soc, place);
-    least_area(&Sizes::of(module), &module.tests, wires)
+    least_area(&Sizes::of(module), &module.tests)
 }
 
 /// The least areas of all modules together.
-fn total_area(soc: &Soc, wires: u64) -> u128
-    requires sound { IsSoundChip (soc_value soc.now) }
-    requires some_wire { 1 ≤ wires }
-    requires wires { wires ≤ 256 }
-    ensures sum { result ≡ sum_below (module_area (soc_value soc.now) wires) (length (soc_value soc.now).modules) }
+fn total_area(soc: &Soc) -> u64
+    requires { IsSoundChip (soc_value soc.now) }
+    ensures sum { (wires : ℕ) → 1 ≤ wires → result ≡ sum_below (module_area (soc_value soc.now) wires) (length (soc_value soc.now).modules) }
     ensures small { result ≤ 10 ^ 18 }
 {
     let mut sum = 0;
     for place in 0..soc.modules.len() {
-        sum += module_area(soc, place, wires);
+        sum += module_area(soc, place);
     }
     sum
 }
@@ -106,10 +96,9 @@ fn total_area(soc: &Soc, wires: u64) -> u128
 pub fn area_bound(soc: &Soc, wires: u64) -> u64
     requires sound { IsSoundChip (soc_value soc.now) }
     requires some_wire { 1 ≤ wires }
-    requires wires { wires ≤ 256 }
     ensures quotient { result ≡ area_bound (soc_value soc.now) wires }
     ensures small { result ≤ 10 ^ 18 }
     ensures bound { (limits : LimitsValue) → limits.wires ≡ wires → IsBound (soc_value soc.now) limits result }
 {
-    quotient_up(total_area(soc, wires), wires)
+    quotient_up(u128::from(total_area(soc)), wires)
 }

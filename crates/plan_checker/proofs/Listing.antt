@@ -11,8 +11,11 @@ use Rattle.soc_model.specs.declared.TestId.{TestId}
 use Rattle.soc_model.specs.Chips.{ModuleValue, SocValue, is_live, same_test}
 use Rattle.plan_model.specs.declared.Wrapper.{Wrapper}
 use Rattle.plan_model.specs.Views.{wrapper_value}
-use Rattle.plan_model.specs.Cells.{chain_cells}
+use Rattle.plan_model.specs.Cells.{ChainValue}
+use Rattle.plan_model.specs.Operations.{ops_of}
 use Rattle.plan_checker.specs.declared.jobs.Job.{Job}
+use Rattle.plan_checker.specs.declared.jobs.Paths.{Paths}
+use Rattle.plan_checker.specs.Paths.{HasPaths}
 use Rattle.plan_checker.specs.Pairs.{is_pair}
 use Rattle.plan_checker.specs.Jobs.{StartEarly, job_of}
 use Rattle.plan_model.specs.Plans.{WrapperValue, PlanValue, bus_place, planned_test, operations_of, of_first, wraps, same_mode, chains_of}
@@ -114,8 +117,14 @@ wrapper_there soc plan have p i m t at test_at live tam =
     pair : (w : WrapperValue) (m : ℕ) (scan : Bool) → w.«module» ≡ m → w.scan ≡ scan → pair_of w ≡ (m, scan)
     pair w m scan a b = rw (a, b) refl
 
-pub chains_found : (plan : PlanValue) (m : ModuleValue) (t : Test) (n : ℕ) (f : FirstWrapper plan.wrappers m.number t.scan n) → t.tam ≡ true → chains_of plan m t ≡ chain_cells m t.scan f.w.chains
-chains_found plan m t n f tam = rw (tam, f.first) refl
+-- the same paths, by the wrapper that was read
+pub paths_same : (m : ModuleValue) (w : WrapperValue) (scan : Bool) (chains : List ChainValue) (p : Paths) → w.scan ≡ scan → chains ≡ w.chains → HasPaths m w.scan w.chains p → HasPaths m scan chains p
+paths_same m w scan chains p mode is has = rw (← mode, is) has
+
+-- the time of a test over the wires, by the paths
+pub time_is : (plan : PlanValue) (m : ModuleValue) (t : Test) (p : Paths) → t.tam ≡ true → HasPaths m t.scan (of_first (wraps m.number t.scan) (λ (w : WrapperValue). w.chains) [] plan.wrappers) p →
+    length (ops_of m.setup p.si p.so t.patterns) ≡ length (operations_of m t (chains_of plan m t))
+time_is plan m t p tam has = rw (tam, has.0, has.1) refl
 
 pub wrapper_read : (ws : List Wrapper) (n : ℕ) (w : Wrapper) (v : WrapperValue) → slice_get (map wrapper_value ws) n ≡ Some v → w ≡ get_or ws n w → v ≡ wrapper_value w
 wrapper_read ws n w v at is =

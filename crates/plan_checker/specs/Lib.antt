@@ -16,3 +16,4 @@ pub mod Wires
 pub mod Marks
 pub mod Pairs
 pub mod Room
+pub mod Paths

@@ -4,18 +4,19 @@ ghost use Rattle.std.specs.Prelude.{◌≡◌, ℕ, ◌++◌, take, ◌+◌, ◌
 ghost use Rattle.indexmap.specs.IndexSet.{keys};
 ghost use Rattle.soc_model.specs.declared.TestId.{TestId};
 ghost use Rattle.soc_model.specs.Chips.{same_test};
-ghost use Rattle.soc_model.specs.Chips.{soc_value, module_value};
-ghost use Rattle.plan_model.specs.Views.{plan_value};
-ghost use Rattle.plan_model.specs.Plans.{of_first, operations_of, chains_of};
-ghost use Rattle.plan_model.specs.Rules.{Each, HasWrapper, HasProperCells, used_pairs, pair_of};
+ghost use Rattle.soc_model.specs.Chips.{ModuleValue, soc_value, module_value};
+ghost use Rattle.plan_model.specs.Views.{chain_value, plan_value};
+ghost use Rattle.plan_model.specs.Cells.{IsProper};
+ghost use Rattle.plan_model.specs.Listing.{module_size};
+ghost use Rattle.plan_model.specs.Plans.{PlanValue, of_first, operations_of, chains_of};
 ghost use Rattle.plan_model.specs.Plans.{planned_test};
-ghost use Rattle.soc_model.specs.SoundChips.{IsSoundChip};
 ghost use Rattle.plan_checker.specs.Jobs.{StartEarly, job_of, jobs_in, jobs_of};
+ghost use Rattle.plan_checker.specs.Paths.{HasPaths, ArePaths, AreModePaths};
 ghost use Rattle.plan_checker.specs.Placing.{IsPlacing};
 
 use crate::lookups::module_count;
 use indexmap::{IndexMap, IndexSet};
-use plan_model::{Plan, tam_duration};
+use plan_model::{Plan, Wrapper, closed_time, lengths};
 use soc_model::{Module, Soc, Test, TestId, module_at};
 
 /// A live test as the plan places it: its module and its bus by their places, and the cycles from its start to its end.
@@ -50,33 +51,6 @@ fn start_of(room: &IndexMap<TestId, u64>, id: TestId) -> u64
     room.get(&id).copied().unwrap_or(0)
 }
 
-/// The cycles of a live test in the wrapper that the plan has for it.
-fn time_of(
-    soc: &Soc,
-    plan: &Plan,
-    room: &IndexSet<(u64, bool)>,
-    module: &Module,
-    test: &Test,
-) -> u64
-    requires sound { IsSoundChip (soc_value soc.now) }
-    requires there { (p : ℕ) × (slice_get (soc_value soc.now).modules p ≡ Some (module_value «module».now)) }
-    requires of_module { (i : ℕ) × (slice_get «module».now.tests.items i ≡ Some test.now) }
-    requires live { 1 ≤ test.now.patterns }
-    requires wrapped { Each (HasWrapper (plan_value plan.now)) (used_pairs (soc_value soc.now)) }
-    requires proper { Each (HasProperCells (soc_value soc.now)) (plan_value plan.now).wrappers }
-    requires filled { keys room.now ≡ map pair_of (plan_value plan.now).wrappers }
-    ensures time { result ≡ length (operations_of (module_value «module».now) test.now (chains_of (plan_value plan.now) (module_value «module».now) test.now)) }
-    ensures small { result ≤ 10 ^ 18 }
-{
-    if !test.tam {
-        return test.patterns;
-    }
-    match room.get_index_of(&(module.number, test.scan)) {
-        Some(place) => tam_duration(module, &plan.wrappers[place], test),
-        None => unreachable!(),
-    }
-}
-
 /// What the plan and the rooms that were filled from it say of a module.
 #[derive(Clone, Copy, Drop)]
 pub(crate) struct Placing<'a> {
@@ -85,6 +59,81 @@ pub(crate) struct Placing<'a> {
     pub(crate) starts: &'a IndexMap<TestId, u64>,
     pub(crate) wrappers: &'a IndexSet<(u64, bool)>,
     pub(crate) buses: &'a [usize],
+}
+
+/// The longest paths in cells through the chains of a wrapper, from their inputs and to their outputs.
+#[derive(Clone, Copy, Drop)]
+pub struct Paths {
+    pub si: u64,
+    pub so: u64,
+}
+
+/// The paths of a module's wrappers, scan and terminals, where the plan has them.
+#[derive(Clone, Copy, Drop)]
+pub(crate) struct ModePaths {
+    pub(crate) scan: Option<Paths>,
+    pub(crate) terminals: Option<Paths>,
+}
+
+/// The paths of a wrapper of the module.
+fn paths_of(module: &Module, wrapper: &Wrapper) -> Paths
+    requires proper { IsProper (module_value «module».now) wrapper.now.scan (map chain_value wrapper.now.chains.items) }
+    requires small { module_size (module_value «module».now) ≤ 10 ^ 18 }
+    ensures paths { HasPaths (module_value «module».now) wrapper.now.scan (map chain_value wrapper.now.chains.items) result }
+    ensures short { 1 + result.si + result.so ≤ module_size (module_value «module».now) }
+{
+    let (si, so) = lengths(module, wrapper);
+    Paths { si, so }
+}
+
+/// The paths of the module's wrapper in a mode.
+fn paths_in(from: &Placing<'_>, place: usize, module: &Module, scan: bool) -> Option<Paths>
+    requires placing { IsPlacing from.now.soc.now from.now.plan.now from.now.starts.now.entries (keys from.now.wrappers.now) from.now.buses.now }
+    requires there { slice_get (soc_value from.now.soc.now).modules place ≡ Some (module_value «module».now) }
+    ensures { ArePaths (plan_value from.now.plan.now) (module_value «module».now) scan result }
+{
+    match from.wrappers.get_index_of(&(module.number, scan)) {
+        Some(at) => Some(paths_of(module, &from.plan.wrappers[at])),
+        None => None,
+    }
+}
+
+/// The paths of the module's wrappers, each walked once.
+fn mode_paths(from: &Placing<'_>, place: usize, module: &Module) -> ModePaths
+    requires placing { IsPlacing from.now.soc.now from.now.plan.now from.now.starts.now.entries (keys from.now.wrappers.now) from.now.buses.now }
+    requires there { slice_get (soc_value from.now.soc.now).modules place ≡ Some (module_value «module».now) }
+    ensures { AreModePaths (plan_value from.now.plan.now) (module_value «module».now) result }
+{
+    ModePaths {
+        scan: paths_in(from, place, module, true),
+        terminals: paths_in(from, place, module, false),
+    }
+}
+
+/// The paths of the wrapper in a mode.
+fn paths_for(paths: ModePaths, scan: bool) -> Option<Paths>
+    ensures { (plan : PlanValue) (m : ModuleValue) → AreModePaths plan m paths → ArePaths plan m scan result }
+{
+    if scan { paths.scan } else { paths.terminals }
+}
+
+/// The cycles of a live test in the wrapper that the plan has for it.
+fn time_of(from: &Placing<'_>, place: usize, module: &Module, paths: ModePaths, test: &Test) -> u64
+    requires placing { IsPlacing from.now.soc.now from.now.plan.now from.now.starts.now.entries (keys from.now.wrappers.now) from.now.buses.now }
+    requires there { slice_get (soc_value from.now.soc.now).modules place ≡ Some (module_value «module».now) }
+    requires of_module { (i : ℕ) × (slice_get «module».now.tests.items i ≡ Some test.now) }
+    requires live { 1 ≤ test.now.patterns }
+    requires paths { AreModePaths (plan_value from.now.plan.now) (module_value «module».now) paths }
+    ensures time { result ≡ length (operations_of (module_value «module».now) test.now (chains_of (plan_value from.now.plan.now) (module_value «module».now) test.now)) }
+    ensures small { result ≤ 10 ^ 18 }
+{
+    if !test.tam {
+        return test.patterns;
+    }
+    match paths_for(paths, test.scan) {
+        Some(long) => closed_time(module.setup, long.si, long.so, test.patterns),
+        None => unreachable!(),
+    }
 }
 
 /// The bus of the module at a place.
@@ -96,11 +145,12 @@ pub(crate) fn bus_at(buses: &[usize], place: usize) -> usize
 }
 
 /// The job of a live test.
-fn job_of(from: &Placing<'_>, place: usize, module: &Module, test: &Test) -> Job
+fn job_of(from: &Placing<'_>, place: usize, module: &Module, paths: ModePaths, test: &Test) -> Job
     requires placing { IsPlacing from.now.soc.now from.now.plan.now from.now.starts.now.entries (keys from.now.wrappers.now) from.now.buses.now }
     requires there { slice_get (soc_value from.now.soc.now).modules place ≡ Some (module_value «module».now) }
     requires of_module { (i : ℕ) × (slice_get «module».now.tests.items i ≡ Some test.now) }
     requires live { 1 ≤ test.now.patterns }
+    requires paths { AreModePaths (plan_value from.now.plan.now) (module_value «module».now) paths }
     ensures { result ≡ job_of (planned_test (plan_value from.now.plan.now) place (module_value «module».now) test.now) }
 {
     let id = TestId {
@@ -114,7 +164,7 @@ fn job_of(from: &Placing<'_>, place: usize, module: &Module, test: &Test) -> Job
         tam: test.tam,
         bus: bus_at(from.buses, place),
         start,
-        end: start + time_of(from.soc, from.plan, from.wrappers, module, test),
+        end: start + time_of(from, place, module, paths, test),
         power: test.power,
     }
 }
@@ -135,12 +185,13 @@ fn fill_module(
     ensures filled { take result jobs.new ≡ take done jobs.old ++ jobs_in (plan_value from.now.plan.now) (place, module_value «module».now) tests.now }
     ensures count { result ≡ done + length (jobs_in (plan_value from.now.plan.now) (place, module_value «module».now) tests.now) }
 {
+    let paths = mode_paths(from, place, module);
     let mut next = done;
     for test in tests {
         if test.patterns == 0 {
             continue;
         }
-        jobs[next] = job_of(from, place, module, test);
+        jobs[next] = job_of(from, place, module, paths, test);
         next += 1;
     }
     next

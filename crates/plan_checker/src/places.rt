@@ -1,8 +1,7 @@
 // Each module with a test over the wires is on one bus, and none is on two.
 
-ghost use Rattle.std.specs.Prelude.{◌≡◌, ℕ, ◌<◌, ◌&&◌, Some, length, map, slice_get, IfSome, IfNone};
-ghost use Rattle.std.specs.List.{flat_map, list_any, Contains};
-ghost use Rattle.soc_model.specs.Chips.{is_live};
+ghost use Rattle.std.specs.Prelude.{◌≡◌, ℕ, ◌<◌, Some, length, map, slice_get, IfSome, IfNone};
+ghost use Rattle.std.specs.List.{flat_map, Contains};
 ghost use Rattle.soc_model.specs.Chips.{soc_value};
 ghost use Rattle.plan_model.specs.Views.{plan_value, bus_value};
 ghost use Rattle.plan_model.specs.Plans.{BusValue, PlanValue, LimitsValue};
@@ -16,7 +15,7 @@ ghost use Rattle.plan_checker.specs.Marks.{AreMarks, IsUnlisted, AreMarked, AreB
 use crate::PlanFault;
 use crate::lookups::find_module;
 use plan_model::{Bus, Plan};
-use soc_model::{Soc, Test, module_at};
+use soc_model::{Soc, has_tam_test, module_at};
 
 /// The place of a module of the chip.
 pub(crate) fn known_place(soc: &Soc, number: u64) -> usize
@@ -79,13 +78,6 @@ fn listed_twice(soc: &Soc, buses: &[Bus], marks: &mut [usize]) -> Option<u64>
     None
 }
 
-/// Whether a test over the wires is live.
-fn has_wired(tests: &[Test]) -> bool
-    ensures { result ≡ list_any (λ t. is_live t && t.tam) tests.now }
-{
-    tests.iter().any(|test| test.patterns >= 1 && test.tam)
-}
-
 /// The first module with a test over the wires that is on no bus.
 fn unplaced(soc: &Soc, marks: &[usize], count: usize) -> Option<u64>
     requires { length marks.now ≡ length (soc_value soc.now).modules }
@@ -96,7 +88,7 @@ fn unplaced(soc: &Soc, marks: &[usize], count: usize) -> Option<u64>
             continue;
         }
         let module = module_at(soc, place);
-        if has_wired(&module.tests) {
+        if has_tam_test(module) {
             return Some(module.number);
         }
     }

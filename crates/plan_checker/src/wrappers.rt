@@ -1,10 +1,9 @@
 // Each pair of a module and a mode that a test over the wires uses has one wrapper, and no other pair has any.
 
-ghost use Rattle.std.specs.Prelude.{◌≡◌, ℕ, ◌+◌, ◌<◌, ◌≤◌, ◌&&◌, ◌∷◌, ◌++◌, [], length, map, IsTrue, IfSome, IfNone, true, false, slice_index};
+ghost use Rattle.std.specs.Prelude.{◌≡◌, ℕ, ◌+◌, ◌<◌, ◌≤◌, ◌∷◌, ◌++◌, [], length, map, IsTrue, IfSome, IfNone, true, false, slice_index};
 ghost use Rattle.std.specs.List.{list_any, Contains};
 ghost use Rattle.indexmap.specs.IndexSet.{keys, spare};
-ghost use Rattle.soc_model.specs.Chips.{is_live};
-ghost use Rattle.plan_model.specs.Plans.{BusValue, WrapperValue, LimitsValue, same_mode};
+ghost use Rattle.plan_model.specs.Plans.{BusValue, WrapperValue, LimitsValue};
 ghost use Rattle.soc_model.specs.Chips.{soc_value, module_value};
 ghost use Rattle.plan_model.specs.Views.{plan_value, bus_value, wrapper_value};
 ghost use Rattle.plan_model.specs.Rules.{Each, IsFirstBreach, IsFitting, Wrappers, mode_pair, used_pairs, pair_of};
@@ -22,7 +21,7 @@ use crate::lookups::{find_module, module_count};
 use crate::places::known_place;
 use indexmap::IndexSet;
 use plan_model::{Bus, ChainPlan, Plan, Wrapper};
-use soc_model::{Module, Soc, Test, module_at};
+use soc_model::{Module, Soc, module_at, uses_mode};
 
 /// Whether a wrapper of the pair is in the room.
 fn has_pair(room: &IndexSet<(u64, bool)>, number: u64, scan: bool) -> bool
@@ -41,18 +40,6 @@ fn put_pair(room: &mut IndexSet<(u64, bool)>, number: u64, scan: bool)
     let _ = room.insert((number, scan));
 }
 
-/// Whether a live test over the wires is in the mode.
-fn uses_mode(tests: &[Test], scan: bool) -> bool
-    ensures { result ≡ list_any (λ t. is_live t && (t.tam && same_mode scan t.scan)) tests.now }
-{
-    for test in tests {
-        if test.patterns >= 1 && test.tam && (if scan { test.scan } else { !test.scan }) {
-            return true;
-        }
-    }
-    false
-}
-
 /// Whether a live test over the wires of the module is in the mode.
 fn is_used(soc: &Soc, number: u64, scan: bool) -> bool
     requires { IsSoundChip (soc_value soc.now) }
@@ -60,7 +47,7 @@ fn is_used(soc: &Soc, number: u64, scan: bool) -> bool
     ensures other { result ≡ false → Contains (used_pairs (soc_value soc.now)) (number, scan) → ⊥ }
 {
     match find_module(soc, number) {
-        Some(place) => uses_mode(&module_at(soc, place).tests, scan),
+        Some(place) => uses_mode(module_at(soc, place), scan),
         None => false,
     }
 }
@@ -136,7 +123,7 @@ fn lacks(module: &Module, scan: bool, room: &IndexSet<(u64, bool)>) -> bool
     ensures broken { IsTrue result → Breaks (Contains (keys room.now)) (mode_pair scan (module_value «module».now)) («module».now.number, scan) }
     ensures kept { result ≡ false → EachOf (Contains (keys room.now)) (mode_pair scan (module_value «module».now)) }
 {
-    if !uses_mode(&module.tests, scan) {
+    if !uses_mode(module, scan) {
         return false;
     }
     !has_pair(room, module.number, scan)

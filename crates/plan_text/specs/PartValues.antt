@@ -44,13 +44,13 @@ part_value (read.InForced b ms) = in_forced b ms.items
 part_value (read.Whole b) = whole (bound_value b)
 
 -- The next part is this one; or there is none.
-abbrev pub Begins : Option PartValue → Result Part Stop → Type 0
-Begins next (Ok part) = next ≡ Some (part_value part)
-Begins next (Err Refused) = next ≡ None
-Begins next (Err NoMemory) = Unit {0}
+abbrev pub Begins : Option PartValue → Result (Unit {0}) Stop → Part → Type 0
+Begins next (Ok _) part = next ≡ Some (part_value part)
+Begins next (Err Refused) part = next ≡ None
+Begins next (Err NoMemory) part = Unit {0}
 
 -- The next state is this draft and this part; or there is none.
-abbrev pub Steps : Option State → Result Part Stop → Draft → Type 0
-Steps next (Ok part) draft = next ≡ Some (at (draft_value draft) (part_value part))
-Steps next (Err Refused) draft = next ≡ None
-Steps next (Err NoMemory) draft = Unit {0}
+abbrev pub Steps : Option State → Result (Unit {0}) Stop → Part → Draft → Type 0
+Steps next (Ok _) part draft = next ≡ Some (at (draft_value draft) (part_value part))
+Steps next (Err Refused) part draft = next ≡ None
+Steps next (Err NoMemory) part draft = Unit {0}

@@ -10,7 +10,7 @@ use Rattle.plan_text.specs.Steps.{State, at, start, run}
 use Rattle.plan_text.specs.PartValues.{draft_value, part_value}
 
 abbrev pub state_of : PlanText → State
-state_of text = at (draft_value text.draft) (part_value text.part)
+state_of text = at (draft_value text.read.value.draft) (part_value text.read.value.part)
 
 -- this is what was read of the words
 pub record HasRead (text : PlanText) (words : List Word) : Type 0 where

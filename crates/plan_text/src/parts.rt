@@ -100,3 +100,10 @@ pub enum Section {
     Wrappers,
     Starts,
 }
+
+/// What was read of a text so far.
+#[derive(Drop)]
+pub struct ReadSoFar {
+    pub draft: Draft,
+    pub part: Part,
+}

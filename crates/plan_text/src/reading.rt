@@ -2,19 +2,18 @@
 ghost use Rattle.plan_text.specs.Answers.{PlanRead};
 
 use crate::PlanTextFault;
-use crate::parts::{Draft, Part};
+use crate::parts::{Part, ReadSoFar};
 use crate::steps::{bound_at, new_draft, step};
 use crate::tokens::token_of;
 use outside::{Reader, Stop, Unread, Word, read_text};
 use plan_model::Plan;
 use std::alloc::Global;
 
-/// What was read of a plan's text so far.
+/// What was read of a plan's text so far. It stands in a box, so that no more than a pointer moves from word to word.
 #[derive(Drop)]
 struct PlanText {
     alloc: Global,
-    draft: Draft,
-    part: Part,
+    read: Box<ReadSoFar>,
 }
 
 impl<'a> Reader<'a> for PlanText {
@@ -33,22 +32,19 @@ impl<'a> Reader<'a> for PlanText {
     ghost says = { SaysInRange };
 
     fn step(self, word: Word<'a>) -> Result<PlanText, Stop> {
-        let PlanText {
-            alloc,
-            mut draft,
-            part,
-        } = self;
+        let PlanText { alloc, mut read } = self;
         let Some(token) = token_of(word.bytes) else {
             return Err(Stop::Refused);
         };
-        match step(alloc, &mut draft, part, token) {
-            Ok(part) => Ok(PlanText { alloc, draft, part }),
+        let so_far = &mut *read;
+        match step(alloc, &mut so_far.draft, &mut so_far.part, token) {
+            Ok(()) => Ok(PlanText { alloc, read }),
             Err(stop) => Err(stop),
         }
     }
 
     fn end(self) -> Result<Plan, Stop> {
-        let PlanText { draft, part, .. } = self;
+        let ReadSoFar { draft, part } = Box::into_inner(self.read);
         match bound_at(part) {
             Some(bound) => Ok(Plan {
                 buses: draft.buses,
@@ -69,11 +65,15 @@ impl<'a> Reader<'a> for PlanText {
 pub fn read_plan(alloc: Global, bytes: &[u8]) -> Result<Plan, PlanTextFault>
     ensures { PlanRead bytes.now result }
 {
-    let start = PlanText {
-        alloc,
+    let nothing = ReadSoFar {
         draft: new_draft(alloc),
         part: Part::WantsPlan,
     };
+    let read = match Box::new(alloc, nothing) {
+        Ok(read) => read,
+        Err(_) => return Err(PlanTextFault::NoMemory),
+    };
+    let start = PlanText { alloc, read };
     match read_text(start, bytes) {
         Ok(plan) => Ok(plan),
         Err(Unread::Refused { line }) => Err(PlanTextFault::Text { line }),

@@ -1,5 +1,5 @@
 // Reads the words of a plan one by one.
-ghost use Rattle.std.specs.Prelude.{◌≡◌, OnOk, OnErr, option_map};
+ghost use Rattle.std.specs.Prelude.{◌≡◌, Ok, OnOk, OnErr, option_map};
 ghost use Rattle.plan_model.specs.Views.{bus_value, wrapper_value, chain_value, bound_value};
 ghost use Rattle.plan_text.specs.PartValues.{draft_value, part_value, Begins, Steps};
 ghost use Rattle.plan_text.specs.Steps.{with_bus, with_wrapper, with_start, with_chain, with_module, with_scan, next_if, at, start as state_at_first, step_number as steps_number, step_key as steps_key, step_wrapper as steps_wrapper, step as steps, begin as begins, begin_mode as begins_mode, begin_reason as begins_reason, begin_plan as begins_plan, begin_cycles as begins_cycles, is_chain as chains, bound_at as bound_there, in_bus, wants_form, wants_start};
@@ -10,6 +10,7 @@ use outside::Stop;
 use plan_model::{Bound, Bus, ChainPlan, START_MOST, Why, Wrapper};
 use soc_model::TestId;
 use std::alloc::Global;
+use std::mem::replace;
 
 /// A draft of which nothing was read.
 pub fn new_draft(alloc: Global) -> Draft
@@ -71,76 +72,100 @@ fn push_scan(chain: &mut ChainPlan, scan: u64) -> Result<(), Stop>
     Ok(())
 }
 
+/// What comes next is this.
+fn set_part(part: &mut Part, next: Part) -> Result<(), Stop>
+    ensures ok { result ≡ Ok tt }
+    ensures set { part.new ≡ next }
+{
+    *part = next;
+    Ok(())
+}
+
 /// What a keyword begins, where a section is not over.
-fn begin(key: Keyword, section: Section) -> Result<Part, Stop>
-    ensures { Begins (begins key section) result }
+fn begin(part: &mut Part, key: Keyword, section: Section) -> Result<(), Stop>
+    ensures { Begins (begins key section) result part.new }
 {
     match (key, section) {
-        (Keyword::Bus, Section::Buses) => Ok(Part::WantsWidth),
-        (Keyword::Wrapper, Section::Buses | Section::Wrappers) => Ok(Part::WantsModule),
-        (Keyword::Start, _) => Ok(Part::WantsTestModule),
-        (Keyword::Bound, _) => Ok(Part::WantsBound),
+        (Keyword::Bus, Section::Buses) => set_part(part, Part::WantsWidth),
+        (Keyword::Wrapper, Section::Buses | Section::Wrappers) => set_part(part, Part::WantsModule),
+        (Keyword::Start, _) => set_part(part, Part::WantsTestModule),
+        (Keyword::Bound, _) => set_part(part, Part::WantsBound),
         _ => Err(Stop::Refused),
     }
 }
 
 /// A wrapper in the mode of its keyword, without chains yet.
-fn begin_mode(alloc: Global, key: Keyword, module: u64) -> Result<Part, Stop>
-    ensures { Begins (begins_mode key «module») result }
+fn begin_mode(alloc: Global, part: &mut Part, key: Keyword, module: u64) -> Result<(), Stop>
+    ensures { Begins (begins_mode key «module») result part.new }
 {
     let scan = match key {
         Keyword::Scan => true,
         Keyword::Terminals => false,
         _ => return Err(Stop::Refused),
     };
-    Ok(Part::InWrapper(Wrapper {
-        module,
-        scan,
-        chains: Vec::new(alloc),
-    }))
+    set_part(
+        part,
+        Part::InWrapper(Wrapper {
+            module,
+            scan,
+            chains: Vec::new(alloc),
+        }),
+    )
 }
 
 /// A bound for the reason of its keyword.
-fn begin_reason(alloc: Global, key: Keyword, cycles: u64) -> Result<Part, Stop>
-    ensures { Begins (begins_reason key cycles) result }
+fn begin_reason(alloc: Global, part: &mut Part, key: Keyword, cycles: u64) -> Result<(), Stop>
+    ensures { Begins (begins_reason key cycles) result part.new }
 {
     match key {
-        Keyword::Module => Ok(Part::WantsBoundModule { cycles }),
-        Keyword::Pair => Ok(Part::WantsPairModule { cycles }),
-        Keyword::Chain => Ok(Part::InTests {
-            cycles,
-            tests: Vec::new(alloc),
-        }),
-        Keyword::Area => Ok(Part::Whole(Bound {
-            cycles,
-            why: Why::Area,
-        })),
-        Keyword::Power => Ok(Part::Whole(Bound {
-            cycles,
-            why: Why::Power,
-        })),
-        Keyword::Forced => Ok(Part::InForced {
-            cycles,
-            modules: Vec::new(alloc),
-        }),
+        Keyword::Module => set_part(part, Part::WantsBoundModule { cycles }),
+        Keyword::Pair => set_part(part, Part::WantsPairModule { cycles }),
+        Keyword::Chain => set_part(
+            part,
+            Part::InTests {
+                cycles,
+                tests: Vec::new(alloc),
+            },
+        ),
+        Keyword::Area => set_part(
+            part,
+            Part::Whole(Bound {
+                cycles,
+                why: Why::Area,
+            }),
+        ),
+        Keyword::Power => set_part(
+            part,
+            Part::Whole(Bound {
+                cycles,
+                why: Why::Power,
+            }),
+        ),
+        Keyword::Forced => set_part(
+            part,
+            Part::InForced {
+                cycles,
+                modules: Vec::new(alloc),
+            },
+        ),
         _ => Err(Stop::Refused),
     }
 }
 
-fn begin_plan(key: Keyword) -> Result<Part, Stop>
-    ensures { Begins (begins_plan key) result }
+fn begin_plan(part: &mut Part, key: Keyword) -> Result<(), Stop>
+    ensures { Begins (begins_plan key) result part.new }
 {
     match key {
-        Keyword::Plan => Ok(Part::WantsForm),
+        Keyword::Plan => set_part(part, Part::WantsForm),
         _ => Err(Stop::Refused),
     }
 }
 
-fn begin_cycles(key: Keyword) -> Result<Part, Stop>
-    ensures { Begins (begins_cycles key) result }
+fn begin_cycles(part: &mut Part, key: Keyword) -> Result<(), Stop>
+    ensures { Begins (begins_cycles key) result part.new }
 {
     match key {
-        Keyword::Cycles => Ok(Part::WantsCycles),
+        Keyword::Cycles => set_part(part, Part::WantsCycles),
         _ => Err(Stop::Refused),
     }
 }
@@ -152,41 +177,46 @@ fn is_chain(key: Keyword) -> bool
 }
 
 /// A keyword after a wrapper that may go on.
-fn step_wrapper(draft: &mut Draft, wrapper: Wrapper, key: Keyword) -> Result<Part, Stop>
-    ensures { Steps (steps_wrapper (draft_value draft.old) (wrapper_value wrapper) key (chains key)) result draft.new }
+fn step_wrapper(
+    draft: &mut Draft,
+    part: &mut Part,
+    wrapper: Wrapper,
+    key: Keyword,
+) -> Result<(), Stop>
+    ensures { Steps (steps_wrapper (draft_value draft.old) (wrapper_value wrapper) key (chains key)) result part.new draft.new }
 {
     if is_chain(key) {
-        return Ok(Part::WantsIns(wrapper));
+        return set_part(part, Part::WantsIns(wrapper));
     }
     push_wrapper(draft, wrapper)?;
-    begin(key, Section::Wrappers)
+    begin(part, key, Section::Wrappers)
 }
 
 /// A keyword after a bus.
-fn step_bus(draft: &mut Draft, bus: Bus, key: Keyword) -> Result<Part, Stop>
-    ensures { Steps (steps_key (draft_value draft.old) (in_bus (bus_value bus)) key) result draft.new }
+fn step_bus(draft: &mut Draft, part: &mut Part, bus: Bus, key: Keyword) -> Result<(), Stop>
+    ensures { Steps (steps_key (draft_value draft.old) (in_bus (bus_value bus)) key) result part.new draft.new }
 {
     push_bus(draft, bus)?;
-    begin(key, Section::Buses)
+    begin(part, key, Section::Buses)
 }
 
 /// A keyword as the next word.
-fn step_key(alloc: Global, draft: &mut Draft, part: Part, key: Keyword) -> Result<Part, Stop>
-    ensures { Steps (steps_key (draft_value draft.old) (part_value part) key) result draft.new }
+fn step_key(alloc: Global, draft: &mut Draft, part: &mut Part, key: Keyword) -> Result<(), Stop>
+    ensures { Steps (steps_key (draft_value draft.old) (part_value part.old) key) result part.new draft.new }
 {
-    match part {
-        Part::WantsPlan => begin_plan(key),
-        Part::WantsCyclesWord => begin_cycles(key),
-        Part::AfterCycles => begin(key, Section::Buses),
-        Part::InBus(bus) => step_bus(draft, bus, key),
-        Part::WantsMode { module } => begin_mode(alloc, key, module),
-        Part::InWrapper(wrapper) => step_wrapper(draft, wrapper, key),
+    match replace(part, Part::WantsPlan) {
+        Part::WantsPlan => begin_plan(part, key),
+        Part::WantsCyclesWord => begin_cycles(part, key),
+        Part::AfterCycles => begin(part, key, Section::Buses),
+        Part::InBus(bus) => step_bus(draft, part, bus, key),
+        Part::WantsMode { module } => begin_mode(alloc, part, key, module),
+        Part::InWrapper(wrapper) => step_wrapper(draft, part, wrapper, key),
         Part::InChain { mut wrapper, chain } => {
             push_chain(&mut wrapper, chain)?;
-            step_wrapper(draft, wrapper, key)
+            step_wrapper(draft, part, wrapper, key)
         }
-        Part::AfterStart => begin(key, Section::Starts),
-        Part::WantsReason { cycles } => begin_reason(alloc, key, cycles),
+        Part::AfterStart => begin(part, key, Section::Starts),
+        Part::WantsReason { cycles } => begin_reason(alloc, part, key, cycles),
         Part::WantsForm
         | Part::WantsCycles
         | Part::WantsWidth
@@ -207,90 +237,105 @@ fn step_key(alloc: Global, draft: &mut Draft, part: Part, key: Keyword) -> Resul
 }
 
 /// The number of a plan's form, which is 1.
-fn step_form(draft: &mut Draft, n: u64) -> Result<Part, Stop>
-    ensures { Steps (steps_number (draft_value draft.old) wants_form n) result draft.new }
+fn step_form(draft: &mut Draft, part: &mut Part, n: u64) -> Result<(), Stop>
+    ensures { Steps (steps_number (draft_value draft.old) wants_form n) result part.new draft.new }
 {
     if n == 1 {
-        Ok(Part::WantsCyclesWord)
+        set_part(part, Part::WantsCyclesWord)
     } else {
         Err(Stop::Refused)
     }
 }
 
 /// The start of a test.
-fn step_start(draft: &mut Draft, test: TestId, n: u64) -> Result<Part, Stop>
-    ensures { Steps (steps_number (draft_value draft.old) (wants_start test) n) result draft.new }
+fn step_start(draft: &mut Draft, part: &mut Part, test: TestId, n: u64) -> Result<(), Stop>
+    ensures { Steps (steps_number (draft_value draft.old) (wants_start test) n) result part.new draft.new }
 {
     if n > START_MOST {
         return Err(Stop::Refused);
     }
     push_start(draft, test, n)?;
-    Ok(Part::AfterStart)
+    set_part(part, Part::AfterStart)
 }
 
 /// A number as the next word.
-fn step_number(alloc: Global, draft: &mut Draft, part: Part, n: u64) -> Result<Part, Stop>
-    ensures { Steps (steps_number (draft_value draft.old) (part_value part) n) result draft.new }
+fn step_number(alloc: Global, draft: &mut Draft, part: &mut Part, n: u64) -> Result<(), Stop>
+    ensures { Steps (steps_number (draft_value draft.old) (part_value part.old) n) result part.new draft.new }
 {
-    match part {
-        Part::WantsForm => step_form(draft, n),
+    match replace(part, Part::WantsPlan) {
+        Part::WantsForm => step_form(draft, part, n),
         Part::WantsCycles => {
             draft.cycles = n;
-            Ok(Part::AfterCycles)
+            set_part(part, Part::AfterCycles)
         }
-        Part::WantsWidth => Ok(Part::InBus(Bus {
-            width: n,
-            modules: Vec::new(alloc),
-        })),
+        Part::WantsWidth => set_part(
+            part,
+            Part::InBus(Bus {
+                width: n,
+                modules: Vec::new(alloc),
+            }),
+        ),
         Part::InBus(mut bus) => {
             push_module(&mut bus, n)?;
-            Ok(Part::InBus(bus))
+            set_part(part, Part::InBus(bus))
         }
-        Part::WantsModule => Ok(Part::WantsMode { module: n }),
-        Part::WantsIns(wrapper) => Ok(Part::WantsOuts { wrapper, ins: n }),
-        Part::WantsOuts { wrapper, ins } => Ok(Part::InChain {
-            wrapper,
-            chain: ChainPlan {
-                ins,
-                scans: Vec::new(alloc),
-                outs: n,
+        Part::WantsModule => set_part(part, Part::WantsMode { module: n }),
+        Part::WantsIns(wrapper) => set_part(part, Part::WantsOuts { wrapper, ins: n }),
+        Part::WantsOuts { wrapper, ins } => set_part(
+            part,
+            Part::InChain {
+                wrapper,
+                chain: ChainPlan {
+                    ins,
+                    scans: Vec::new(alloc),
+                    outs: n,
+                },
             },
-        }),
+        ),
         Part::InChain { wrapper, mut chain } => {
             push_scan(&mut chain, n)?;
-            Ok(Part::InChain { wrapper, chain })
+            set_part(part, Part::InChain { wrapper, chain })
         }
-        Part::WantsTestModule => Ok(Part::WantsTest { module: n }),
-        Part::WantsTest { module } => Ok(Part::WantsStart(TestId { module, test: n })),
-        Part::WantsStart(test) => step_start(draft, test, n),
-        Part::WantsBound => Ok(Part::WantsReason { cycles: n }),
-        Part::WantsBoundModule { cycles } => Ok(Part::Whole(Bound {
-            cycles,
-            why: Why::Module { module: n },
-        })),
-        Part::WantsPairModule { cycles } => Ok(Part::Whole(Bound {
-            cycles,
-            why: Why::Pair { module: n },
-        })),
-        Part::InTests { cycles, tests } => Ok(Part::WantsTestOf {
-            cycles,
-            tests,
-            module: n,
-        }),
+        Part::WantsTestModule => set_part(part, Part::WantsTest { module: n }),
+        Part::WantsTest { module } => set_part(part, Part::WantsStart(TestId { module, test: n })),
+        Part::WantsStart(test) => step_start(draft, part, test, n),
+        Part::WantsBound => set_part(part, Part::WantsReason { cycles: n }),
+        Part::WantsBoundModule { cycles } => set_part(
+            part,
+            Part::Whole(Bound {
+                cycles,
+                why: Why::Module { module: n },
+            }),
+        ),
+        Part::WantsPairModule { cycles } => set_part(
+            part,
+            Part::Whole(Bound {
+                cycles,
+                why: Why::Pair { module: n },
+            }),
+        ),
+        Part::InTests { cycles, tests } => set_part(
+            part,
+            Part::WantsTestOf {
+                cycles,
+                tests,
+                module: n,
+            },
+        ),
         Part::WantsTestOf {
             cycles,
             mut tests,
             module,
         } => {
             tests.push(TestId { module, test: n })?;
-            Ok(Part::InTests { cycles, tests })
+            set_part(part, Part::InTests { cycles, tests })
         }
         Part::InForced {
             cycles,
             mut modules,
         } => {
             modules.push(n)?;
-            Ok(Part::InForced { cycles, modules })
+            set_part(part, Part::InForced { cycles, modules })
         }
         Part::WantsPlan
         | Part::WantsCyclesWord
@@ -304,8 +349,8 @@ fn step_number(alloc: Global, draft: &mut Draft, part: Part, n: u64) -> Result<P
 }
 
 /// The next word.
-pub fn step(alloc: Global, draft: &mut Draft, part: Part, token: Token) -> Result<Part, Stop>
-    ensures { Steps (steps (at (draft_value draft.old) (part_value part)) token) result draft.new }
+pub fn step(alloc: Global, draft: &mut Draft, part: &mut Part, token: Token) -> Result<(), Stop>
+    ensures { Steps (steps (at (draft_value draft.old) (part_value part.old)) token) result part.new draft.new }
 {
     match token {
         Token::Key(key) => step_key(alloc, draft, part, key),

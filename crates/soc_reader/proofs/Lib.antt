@@ -9,7 +9,7 @@ pub mod DifferentNumbers
 pub mod Places
 pub mod Telling
 pub mod TotalFacts
-pub mod SameGiven
+pub mod RowBits
 pub mod ChipsSaid
 pub mod OneAnswer
 pub mod EachText

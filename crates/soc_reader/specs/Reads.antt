@@ -14,12 +14,12 @@ use Rattle.soc_reader.specs.Refusals.{IsRefusedLine}
 use Rattle.soc_reader.specs.Views.{done_of, part_of, InStep}
 
 abbrev pub state_of : ChipText → State
-state_of text = record { done = done_of text.items; part = part_of text.part }
+state_of text = record { done = done_of text.read.value.items; part = part_of text.read.value.part }
 
 -- this is what was read of the words
 pub record HasRead (text : ChipText) (words : List Word) : Type 0 where
   pub read : run (Some start) words ≡ Some (state_of text)
-  pub in_step : InStep text.items
+  pub in_step : InStep text.read.value.items
 
 -- the words are these items
 abbrev pub AreItems : List Word → Items → Type 0

@@ -43,7 +43,7 @@ pub record InStep (items : Items) : Type 0 where
   pub after_is : items.after ≡ after (done_of items)
   pub xy : items.xy ≡ has_xy (done_of items)
   pub names : (m : ℕ) (w : List ℕ) → is_other_name (name_in items.names m) w ≡ list_any (renames m w) (done_of items)
-  pub marks : (s : Subject) (k : Key) → is_marked s k items.given.keys ≡ list_any (is_given s k) (done_of items)
+  pub marks : (s : Subject) (k : Key) → is_marked s k items.given ≡ list_any (is_given s k) (done_of items)
 
 abbrev pub part_of : ReadPart → Part
 part_of Between = between
@@ -54,10 +54,10 @@ part_of WantsCoordinate = wants_coordinate
 part_of (NameOrData m w) = name_or_data m w.now
 
 -- The next state is this part and these items; or there is none.
-abbrev pub Steps : Option State → Result ReadPart Stop → Items → Type 0
-Steps next (Ok part) items = (next ≡ Some (record { done = done_of items; part = part_of part })) × InStep items
-Steps next (Err Refused) items = next ≡ None
-Steps next (Err NoMemory) items = Unit {0}
+abbrev pub Steps : Option State → Result (Unit {0}) Stop → ReadPart → Items → Type 0
+Steps next (Ok _) part items = (next ≡ Some (record { done = done_of items; part = part_of part })) × InStep items
+Steps next (Err Refused) part items = next ≡ None
+Steps next (Err NoMemory) part items = Unit {0}
 
 -- The items where the text ends here are these; or it ends too early.
 abbrev pub Closes : {U : Type 0} → Option (List Item) → Result U Stop → Items → Type 0

@@ -9,8 +9,8 @@ ghost use Rattle.soc_reader.specs.Views.{item_of, done_of, InStep};
 
 use crate::items::{Items, ReadItem, ReadValue};
 use crate::keys::{After, Given, Key, Subject};
-use crate::marks::{is_in, mark};
-use indexmap::{IndexMap, IndexSet};
+use crate::marks::{Marks, is_in, mark};
+use indexmap::IndexMap;
 use outside::Stop;
 use std::alloc::{AllocFailed, Global};
 
@@ -84,14 +84,14 @@ pub fn no_items<'a>(alloc: Global) -> Items<'a>
         opened: Subject::Chip,
         after: After::Elsewhere,
         xy: false,
-        given: IndexSet::new(alloc),
+        given: IndexMap::new(alloc),
         names: IndexMap::new(alloc),
     }
 }
 
 /// Marks what an item gives.
-fn mark_item(given: &mut IndexSet<Given>, item: &ReadItem<'_>) -> Result<(), Stop>
-    ensures ok { OnOk result ((s : Subject) (k : Key) → is_marked s k given.new.keys ≡ (gives_this s k (item_of item.now) || is_marked s k given.old.keys)) }
+fn mark_item(given: &mut Marks, item: &ReadItem<'_>) -> Result<(), Stop>
+    ensures ok { OnOk result ((s : Subject) (k : Key) → is_marked s k given.new ≡ (gives_this s k (item_of item.now) || is_marked s k given.old)) }
     ensures memory { OnErr result (result ≡ Err Stop.NoMemory) }
 {
     match item {

@@ -1,7 +1,8 @@
 // The items of a text, as they are read.
 
-use crate::keys::{After, Given, Key, Shape, Subject};
-use indexmap::{IndexMap, IndexSet};
+use crate::keys::{After, Key, Shape, Subject};
+use crate::marks::Marks;
+use indexmap::IndexMap;
 
 /// What an item says of its subject.
 #[derive(Drop)]
@@ -50,7 +51,7 @@ pub struct Items<'a> {
     /// Whether `XY 1` was given.
     pub xy: bool,
     /// What was given.
-    pub given: IndexSet<Given>,
+    pub given: Marks,
     /// The names that modules were given.
     pub names: IndexMap<u64, &'a [u8]>,
 }
@@ -86,4 +87,11 @@ pub enum ReadPart<'a> {
         module: u64,
         name: &'a [u8],
     },
+}
+
+/// What was read of a text so far: whole items, and of an unfinished one what there is.
+#[derive(Drop)]
+pub struct ReadSoFar<'a> {
+    pub items: Items<'a>,
+    pub part: ReadPart<'a>,
 }

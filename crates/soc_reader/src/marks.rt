@@ -1,24 +1,86 @@
-// What was given, found by its subject and keyword.
-ghost use Rattle.std.specs.Prelude.{◌≡◌, ◌&&◌, nat_eq, OnOk, OnErr, ◌||◌, true};
+// What was given, found by its subject: a bit for each row of the table.
+ghost use Rattle.std.specs.Prelude.{◌≡◌, ◌&&◌, ◌^◌, None, nat_eq, option_map, OnOk, OnErr, ◌||◌, true, is_some, if◌then◌else◌};
+ghost use Rattle.std.specs.Int.Bits.{bit_or};
 ghost use Rattle.soc_reader.specs.Grammar.{same_subject, row};
-ghost use Rattle.soc_reader.specs.Marks.{is_marked};
+ghost use Rattle.soc_reader.specs.Marks.{bits_of, is_marked, is_same, with_row};
 
 use crate::keys::{Given, Key, Subject};
-use indexmap::IndexSet;
+use indexmap::IndexMap;
 use outside::Stop;
 
-/// Whether this was given.
-pub fn is_in(marks: &IndexSet<Given>, given: Given) -> bool
-    ensures { result ≡ is_marked given.subject given.key marks.now.keys }
+/// Of each subject the rows of the table that were given, one bit a row.
+pub type Marks = IndexMap<Subject, u32>;
+
+/// The bit of a keyword's row.
+fn row_bit(key: Key) -> u32
+    ensures { result ≡ 2 ^ row key }
 {
-    marks.contains(&given)
+    match key {
+        Key::SocName => 0x1,
+        Key::TotalModules => 0x2,
+        Key::Options => 0x4,
+        Key::PowerFlag => 0x8,
+        Key::XyFlag => 0x10,
+        Key::Module => 0x20,
+        Key::Level => 0x40,
+        Key::Inputs => 0x80,
+        Key::Outputs => 0x100,
+        Key::Bidirs => 0x200,
+        Key::Setup => 0x400,
+        Key::ScanChains => 0x800,
+        Key::TotalTests => 0x1000,
+        Key::Test => 0x2000,
+        Key::ScanUse => 0x4000,
+        Key::TamUse => 0x8000,
+        Key::Patterns => 0x1_0000,
+        Key::Power => 0x2_0000,
+    }
+}
+
+/// Whether this was given.
+pub fn is_in(marks: &Marks, given: Given) -> bool
+    ensures { result ≡ is_marked given.subject given.key marks.now }
+{
+    match marks.get(&given.subject) {
+        Some(rows) => *rows & row_bit(given.key) != 0,
+        None => false,
+    }
+}
+
+/// Notes a row of a subject of which rows were given.
+fn add_row(marks: &mut Marks, subject: Subject, bit: u32)
+    ensures { (s : Subject) → bits_of marks.new s ≡ with_row subject bit s (bits_of marks.old s) }
+{
+    if let Some(rows) = marks.get_mut(&subject) {
+        *rows |= bit;
+    }
+}
+
+/// Notes the first row of a subject.
+fn add_subject(marks: &mut Marks, subject: Subject, bit: u32) -> Result<(), Stop>
+    requires { bits_of marks.old subject ≡ None }
+    ensures ok { OnOk result ((s : Subject) → bits_of marks.new s ≡ (if is_same subject s then Some bit else bits_of marks.old s)) }
+    ensures memory { OnErr result (result ≡ Err Stop.NoMemory) }
+{
+    marks.insert(subject, bit)?;
+    Ok(())
+}
+
+/// Whether rows of a subject were given.
+fn has_rows(marks: &Marks, subject: Subject) -> bool
+    ensures { result ≡ is_some (bits_of marks.now subject) }
+{
+    marks.contains_key(&subject)
 }
 
 /// Notes that this was given.
-pub fn mark(marks: &mut IndexSet<Given>, given: Given) -> Result<(), Stop>
-    ensures ok { OnOk result ((s : Subject) (k : Key) → is_marked s k marks.new.keys ≡ ((same_subject s given.subject && nat_eq (row k) (row given.key)) || is_marked s k marks.old.keys)) }
+pub fn mark(marks: &mut Marks, given: Given) -> Result<(), Stop>
+    ensures ok { OnOk result ((s : Subject) (k : Key) → is_marked s k marks.new ≡ ((same_subject s given.subject && nat_eq (row k) (row given.key)) || is_marked s k marks.old)) }
     ensures memory { OnErr result (result ≡ Err Stop.NoMemory) }
 {
-    marks.insert(given)?;
-    Ok(())
+    if has_rows(marks, given.subject) {
+        add_row(marks, given.subject, row_bit(given.key));
+        return Ok(());
+    }
+    add_subject(marks, given.subject, row_bit(given.key))
 }

@@ -16,41 +16,52 @@ use crate::lexicon::{
 };
 use outside::{Stop, Word};
 use std::alloc::Global;
+use std::mem::replace;
 
 /// One more item.
-fn pushed<'a>(items: &mut Items<'a>, item: ReadItem<'a>) -> Result<ReadPart<'a>, Stop>
+fn pushed<'a>(
+    items: &mut Items<'a>,
+    part: &mut ReadPart<'a>,
+    item: ReadItem<'a>,
+) -> Result<(), Stop>
     requires in_step { InStep items.old }
     requires names { KeepsNames items.old.names (item_of item) }
-    ensures { Steps (at (item_of item.entry ∷ done_of items.old) between) result items.new }
+    ensures { Steps (at (item_of item.entry ∷ done_of items.old) between) result part.new items.new }
 {
     push(items, item)?;
-    Ok(ReadPart::Between)
+    *part = ReadPart::Between;
+    Ok(())
 }
 
 /// After a keyword.
 fn begin_value<'a>(
     items: &mut Items<'a>,
+    part: &mut ReadPart<'a>,
     subject: Subject,
     key: Key,
     shape: Shape,
-) -> Result<ReadPart<'a>, Stop>
+) -> Result<(), Stop>
     requires { InStep items.old }
-    ensures { Steps (begun (done_of items.old) subject key shape) result items.new }
+    ensures { Steps (begun (done_of items.old) subject key shape) result part.new items.new }
 {
     match shape {
         Shape::NoWord => pushed(
             items,
+            part,
             ReadItem::Entry {
                 subject,
                 key,
                 value: ReadValue::Nothing,
             },
         ),
-        _ => Ok(ReadPart::Wants {
-            subject,
-            key,
-            shape,
-        }),
+        _ => {
+            *part = ReadPart::Wants {
+                subject,
+                key,
+                shape,
+            };
+            Ok(())
+        }
     }
 }
 
@@ -92,9 +103,9 @@ fn shape_of(key: Key) -> Shape
 }
 
 /// A keyword, where it may stand and may be given.
-fn begin_entry<'a>(items: &mut Items<'a>, key: Key) -> Result<ReadPart<'a>, Stop>
+fn begin_entry<'a>(items: &mut Items<'a>, part: &mut ReadPart<'a>, key: Key) -> Result<(), Stop>
     requires { InStep items.old }
-    ensures { Steps (begins_entry (done_of items.old) key (owner_of key (open_after (done_of items.old)))) result items.new }
+    ensures { Steps (begins_entry (done_of items.old) key (owner_of key (open_after (done_of items.old)))) result part.new items.new }
 {
     let Some(subject) = owner(key, items.opened) else {
         return Err(Stop::Refused);
@@ -102,19 +113,25 @@ fn begin_entry<'a>(items: &mut Items<'a>, key: Key) -> Result<ReadPart<'a>, Stop
     if !may_give(items, subject, key) {
         return Err(Stop::Refused);
     }
-    begin_value(items, subject, key, shape_of(key))
+    begin_value(items, part, subject, key, shape_of(key))
 }
 
 /// A module's name, where it may have that.
-fn name_module<'a>(items: &mut Items<'a>, number: u64, name: &'a [u8]) -> Result<ReadPart<'a>, Stop>
+fn name_module<'a>(
+    items: &mut Items<'a>,
+    part: &mut ReadPart<'a>,
+    number: u64,
+    name: &'a [u8],
+) -> Result<(), Stop>
     requires { InStep items.old }
-    ensures { Steps (begin_if (may_be_named number name.now (done_of items.old)) (at (named_item number name.now ∷ done_of items.old) between)) result items.new }
+    ensures { Steps (begin_if (may_be_named number name.now (done_of items.old)) (at (named_item number name.now ∷ done_of items.old) between)) result part.new items.new }
 {
     if !may_name(items, number, name) {
         return Err(Stop::Refused);
     }
     pushed(
         items,
+        part,
         ReadItem::Name {
             module: number,
             name,
@@ -123,66 +140,74 @@ fn name_module<'a>(items: &mut Items<'a>, number: u64, name: &'a [u8]) -> Result
 }
 
 /// The first word of place data, where it may stand.
-fn begin_data<'a>(items: &mut Items<'a>, is_data: bool) -> Result<ReadPart<'a>, Stop>
+fn begin_data<'a>(items: &mut Items<'a>, part: &mut ReadPart<'a>, is_data: bool) -> Result<(), Stop>
     requires { InStep items.old }
-    ensures { Steps (begins_data (done_of items.old) is_data (open_after (done_of items.old))) result items.new }
+    ensures { Steps (begins_data (done_of items.old) is_data (open_after (done_of items.old))) result part.new items.new }
 {
     if items.opened == Subject::Chip || !is_data {
         return Err(Stop::Refused);
     }
-    Ok(ReadPart::WantsCoordinate)
+    *part = ReadPart::WantsCoordinate;
+    Ok(())
 }
 
 /// A word that is no keyword, where it may be a name or begin place data.
-fn begin_free<'a>(items: &mut Items<'a>, word: &'a [u8]) -> Result<ReadPart<'a>, Stop>
+fn begin_free<'a>(
+    items: &mut Items<'a>,
+    part: &mut ReadPart<'a>,
+    word: &'a [u8],
+) -> Result<(), Stop>
     requires { InStep items.old }
-    ensures { Steps (begins_free (done_of items.old) word.now (after_done (done_of items.old)) (open_after (done_of items.old))) result items.new }
+    ensures { Steps (begins_free (done_of items.old) word.now (after_done (done_of items.old)) (open_after (done_of items.old))) result part.new items.new }
 {
     let is_data = items.xy && is_letter_word(word);
     match (items.after, items.opened) {
         (After::AfterNumber, Subject::OfModule(number)) => {
             if is_data {
-                return Ok(ReadPart::NameOrData {
+                *part = ReadPart::NameOrData {
                     module: number,
                     name: word,
-                });
+                };
+                return Ok(());
             }
-            name_module(items, number, word)
+            name_module(items, part, number, word)
         }
-        _ => begin_data(items, is_data),
+        _ => begin_data(items, part, is_data),
     }
 }
 
 /// The first word of an item.
-fn begin<'a>(items: &mut Items<'a>, word: &'a [u8]) -> Result<ReadPart<'a>, Stop>
+fn begin<'a>(items: &mut Items<'a>, part: &mut ReadPart<'a>, word: &'a [u8]) -> Result<(), Stop>
     requires { InStep items.old }
-    ensures { Steps (begins (done_of items.old) word.now) result items.new }
+    ensures { Steps (begins (done_of items.old) word.now) result part.new items.new }
 {
     if let Some(key) = key_of(items.after == After::AfterOptions, word) {
-        return begin_entry(items, key);
+        return begin_entry(items, part, key);
     }
     if items.after == After::AfterData && is_coordinate(word) {
-        return pushed(items, ReadItem::Coordinate);
+        return pushed(items, part, ReadItem::Coordinate);
     }
     if !is_free_word(word) {
         return Err(Stop::Refused);
     }
-    begin_free(items, word)
+    begin_free(items, part, word)
 }
 
 /// After a keyword and its value.
 fn give<'a>(
     items: &mut Items<'a>,
+    part: &mut ReadPart<'a>,
     subject: Subject,
     key: Key,
     value: Option<ReadValue<'a>>,
-) -> Result<ReadPart<'a>, Stop>
+) -> Result<(), Stop>
     requires { InStep items.old }
-    ensures { Steps (after_value (done_of items.old) subject key (option_map value_of value.entry)) result items.new }
+    ensures { Steps (after_value (done_of items.old) subject key (option_map value_of value.entry)) result part.new items.new }
 {
     match value {
         Some(value) => pushed(
             items,
+            part,
             ReadItem::Entry {
                 subject,
                 key,
@@ -196,17 +221,19 @@ fn give<'a>(
 /// With so many lengths to come.
 fn go_on_listing<'a>(
     items: &mut Items<'a>,
+    part: &mut ReadPart<'a>,
     subject: Subject,
     key: Key,
     read: Vec<u64>,
     left: u64,
-) -> Result<ReadPart<'a>, Stop>
+) -> Result<(), Stop>
     requires { InStep items.old }
-    ensures { Steps (lists_from (done_of items.old) subject key read.items left) result items.new }
+    ensures { Steps (lists_from (done_of items.old) subject key read.items left) result part.new items.new }
 {
     if left == 0 {
         return pushed(
             items,
+            part,
             ReadItem::Entry {
                 subject,
                 key,
@@ -214,12 +241,13 @@ fn go_on_listing<'a>(
             },
         );
     }
-    Ok(ReadPart::Listing {
+    *part = ReadPart::Listing {
         subject,
         key,
         read,
         left,
-    })
+    };
+    Ok(())
 }
 
 /// The value that one word is.
@@ -246,60 +274,66 @@ fn word_value<'a>(shape: Shape, word: Word<'a>) -> Option<ReadValue<'a>>
 /// The word behind a keyword.
 fn step_value<'a>(
     items: &mut Items<'a>,
+    part: &mut ReadPart<'a>,
     subject: Subject,
     key: Key,
     shape: Shape,
     word: Word<'a>,
-) -> Result<ReadPart<'a>, Stop>
+) -> Result<(), Stop>
     requires { InStep items.old }
-    ensures { Steps (steps_value (done_of items.old) subject key shape (word.entry.bytes.now, word.entry.line)) result items.new }
+    ensures { Steps (steps_value (done_of items.old) subject key shape (word.entry.bytes.now, word.entry.line)) result part.new items.new }
 {
     if shape == Shape::ManyNumbers {
         return match number_of(word.bytes) {
-            Some(count) => Ok(ReadPart::Counted {
-                subject,
-                key,
-                count,
-            }),
+            Some(count) => {
+                *part = ReadPart::Counted {
+                    subject,
+                    key,
+                    count,
+                };
+                Ok(())
+            }
             None => Err(Stop::Refused),
         };
     }
-    give(items, subject, key, word_value(shape, word))
+    give(items, part, subject, key, word_value(shape, word))
 }
 
 /// One more length, and then so many are left.
 fn step_length<'a>(
     items: &mut Items<'a>,
+    part: &mut ReadPart<'a>,
     subject: Subject,
     key: Key,
     mut read: Vec<u64>,
     left: u64,
     word: &'a [u8],
-) -> Result<ReadPart<'a>, Stop>
+) -> Result<(), Stop>
     requires { InStep items.old }
-    ensures { Steps (lists_after (done_of items.old) subject key read.items left (number_in word.now)) result items.new }
+    ensures { Steps (lists_after (done_of items.old) subject key read.items left (number_in word.now)) result part.new items.new }
 {
     let Some(length) = number_of(word) else {
         return Err(Stop::Refused);
     };
     read.push(length)?;
-    go_on_listing(items, subject, key, read, left)
+    go_on_listing(items, part, subject, key, read, left)
 }
 
 /// Directly after the number of scan chains.
 fn step_counted<'a>(
     alloc: Global,
     items: &mut Items<'a>,
+    part: &mut ReadPart<'a>,
     subject: Subject,
     key: Key,
     count: u64,
     word: &'a [u8],
-) -> Result<ReadPart<'a>, Stop>
+) -> Result<(), Stop>
     requires { InStep items.old }
-    ensures { Steps (steps_counted (done_of items.old) subject key count word.now (says_lengths word.now)) result items.new }
+    ensures { Steps (steps_counted (done_of items.old) subject key count word.now (says_lengths word.now)) result part.new items.new }
 {
     if is_lengths_word(word) {
-        return go_on_listing(items, subject, key, Vec::new(alloc), count);
+        return go_on_listing(items, part, subject, key, Vec::new(alloc), count);
     }
     if count == 0 {
         push(
@@ -310,23 +344,24 @@ fn step_counted<'a>(
                 value: ReadValue::Lengths(Vec::new(alloc)),
             },
         )?;
-        return begin(items, word);
+        return begin(items, part, word);
     }
-    step_length(items, subject, key, Vec::new(alloc), count - 1, word)
+    step_length(items, part, subject, key, Vec::new(alloc), count - 1, word)
 }
 
 /// After a word that may be a name or begin place data.
 fn step_name<'a>(
     items: &mut Items<'a>,
+    part: &mut ReadPart<'a>,
     number: u64,
     name: &'a [u8],
     word: &'a [u8],
-) -> Result<ReadPart<'a>, Stop>
+) -> Result<(), Stop>
     requires { InStep items.old }
-    ensures { Steps (steps_name (done_of items.old) number name.now word.now (is_number_like word.now)) result items.new }
+    ensures { Steps (steps_name (done_of items.old) number name.now word.now (is_number_like word.now)) result part.new items.new }
 {
     if is_coordinate(word) {
-        return pushed(items, ReadItem::PlaceData);
+        return pushed(items, part, ReadItem::PlaceData);
     }
     if !may_name(items, number, name) {
         return Err(Stop::Refused);
@@ -338,31 +373,31 @@ fn step_name<'a>(
             name,
         },
     )?;
-    begin(items, word)
+    begin(items, part, word)
 }
 
 /// The next word.
 pub fn step<'a>(
     alloc: Global,
     items: &mut Items<'a>,
-    part: ReadPart<'a>,
+    part: &mut ReadPart<'a>,
     word: Word<'a>,
-) -> Result<ReadPart<'a>, Stop>
+) -> Result<(), Stop>
     requires { InStep items.old }
-    ensures { Steps (step_at (done_of items.old) (part_of part.entry) (word.entry.bytes.now, word.entry.line)) result items.new }
+    ensures { Steps (step_at (done_of items.old) (part_of part.old) (word.entry.bytes.now, word.entry.line)) result part.new items.new }
 {
-    match part {
-        ReadPart::Between => begin(items, word.bytes),
+    match replace(part, ReadPart::Between) {
+        ReadPart::Between => begin(items, part, word.bytes),
         ReadPart::Wants {
             subject,
             key,
             shape,
-        } => step_value(items, subject, key, shape, word),
+        } => step_value(items, part, subject, key, shape, word),
         ReadPart::Counted {
             subject,
             key,
             count,
-        } => step_counted(alloc, items, subject, key, count, word.bytes),
+        } => step_counted(alloc, items, part, subject, key, count, word.bytes),
         ReadPart::Listing {
             subject,
             key,
@@ -372,15 +407,15 @@ pub fn step<'a>(
             if left == 0 {
                 return Err(Stop::Refused);
             }
-            step_length(items, subject, key, read, left - 1, word.bytes)
+            step_length(items, part, subject, key, read, left - 1, word.bytes)
         }
         ReadPart::WantsCoordinate => {
             if !is_coordinate(word.bytes) {
                 return Err(Stop::Refused);
             }
-            pushed(items, ReadItem::PlaceData)
+            pushed(items, part, ReadItem::PlaceData)
         }
-        ReadPart::NameOrData { module, name } => step_name(items, module, name, word.bytes),
+        ReadPart::NameOrData { module, name } => step_name(items, part, module, name, word.bytes),
     }
 }
 

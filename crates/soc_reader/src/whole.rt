@@ -5,19 +5,18 @@ ghost use Rattle.outside.specs.Grammars.{IsRead};
 
 use crate::build::build;
 use crate::collect::no_items;
-use crate::items::{Items, ReadPart};
+use crate::items::{Items, ReadPart, ReadSoFar};
 use crate::reader::{close, step};
 use crate::totals::first_wrong;
 use outside::{Reader, Stop, Unread, Word, read_text};
 use soc_model::Soc;
 use std::alloc::Global;
 
-/// What was read of a chip's text so far.
+/// What was read of a chip's text so far. It stands in a box, so that no more than a pointer moves from word to word.
 #[derive(Drop)]
 struct ChipText<'a> {
     alloc: Global,
-    items: Items<'a>,
-    part: ReadPart<'a>,
+    read: Box<ReadSoFar<'a>>,
 }
 
 impl<'a> Reader<'a> for ChipText<'a> {
@@ -36,23 +35,17 @@ impl<'a> Reader<'a> for ChipText<'a> {
     ghost says = { AreItems };
 
     fn step(self, word: Word<'a>) -> Result<ChipText<'a>, Stop> {
-        let ChipText {
-            alloc,
-            mut items,
-            part,
-        } = self;
-        match step(alloc, &mut items, part, word) {
-            Ok(part) => Ok(ChipText { alloc, items, part }),
+        let ChipText { alloc, mut read } = self;
+        let so_far = &mut *read;
+        match step(alloc, &mut so_far.items, &mut so_far.part, word) {
+            Ok(()) => Ok(ChipText { alloc, read }),
             Err(stop) => Err(stop),
         }
     }
 
     fn end(self) -> Result<Items<'a>, Stop> {
-        let ChipText {
-            alloc,
-            mut items,
-            part,
-        } = self;
+        let ChipText { alloc, read } = self;
+        let ReadSoFar { mut items, part } = Box::into_inner(read);
         match close(alloc, &mut items, part) {
             Ok(()) => Ok(items),
             Err(stop) => Err(stop),
@@ -64,11 +57,15 @@ impl<'a> Reader<'a> for ChipText<'a> {
 fn read_items<'a>(alloc: Global, bytes: &'a [u8]) -> Result<Items<'a>, Unread>
     ensures { IsRead InGrammar AreItems bytes.now result }
 {
-    let start = ChipText {
-        alloc,
+    let nothing = ReadSoFar {
         items: no_items(alloc),
         part: ReadPart::Between,
     };
+    let read = match Box::new(alloc, nothing) {
+        Ok(read) => read,
+        Err(_) => return Err(Unread::NoMemory),
+    };
+    let start = ChipText { alloc, read };
     read_text(start, bytes)
 }
 

@@ -1,4 +1,5 @@
-use Rattle.std.proofs.Common.{◌≡◌, ◌≤◌, is_some, true, arith}
+use Rattle.std.proofs.Common.{◌≡◌, ◌≤◌, ◌-◌, is_some, true, get_or, arith}
+use Rattle.std.proofs.lemmas.Option.{slice_get-get_or}
 use Rattle.std.specs.List.{find}
 use Rattle.soc_model.specs.Chips.{soc_value}
 use Rattle.plan_model.specs.Views.{limits_value}
@@ -24,5 +25,6 @@ returns-else-place-eq0 c = λ id at.
     let found : is_some c.live_time.result ≡ is_some (find (is_called id) (live_tests (soc_value c.args.soc.now))) = found_of (soc_value c.args.soc.now) c.args.limits.now.wires c.args.tests.now c.args.place no_id id c.live_time.result c.live_time.ensures.time at in
     let live : is_some (find (is_called id) (live_tests (soc_value c.args.soc.now))) ≡ true = cc c.is_none.ensures in
     let later : 1 ≤ c.args.place = omega (arith, c.if-place-eq0.false) in
-    let is = rw c.deref.ensures.value at c.precedes.ensures in
-    stands_when (soc_value c.args.soc.now) (limits_value c.args.limits.now) c.args.tests.now c.args.place no_id id id c.precedes.result later c.requires.place at live is
+    let is = c.stands_behind.ensures (get_or c.args.tests.now (c.args.place - 1) no_id) (get_or c.args.tests.now c.args.place no_id) (slice_get-get_or c.args.tests.now (c.args.place - 1) no_id (omega (arith, c.requires.place))) (slice_get-get_or c.args.tests.now c.args.place no_id c.requires.place) in
+    let is' = rw c.deref.ensures.value at is in
+    stands_when (soc_value c.args.soc.now) (limits_value c.args.limits.now) c.args.tests.now c.args.place no_id id id c.stands_behind.result later c.requires.place at live is'

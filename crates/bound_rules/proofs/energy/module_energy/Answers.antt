@@ -18,4 +18,4 @@ pub overflow_add-sum : goal.overflow_add-sum
 overflow_add-sum c =
     let live = sym c.live.ensures ∙ c.if-live.true in
     rw (c.loop-test.invariant, c.test_energy-sum.ensures, c.time-length.ensures.time)
-    (omega (arith, next_energy c.args.sizes.now c.args.number (map profile_value c.args.profiles.now) c.args.wires c.args.tests.now c.loop-test.test-index no_test c.loop-test-test.true live, c.requires.fits))
+    (omega (arith, next_energy c.args.sizes.now c.args.number (map profile_value c.args.profiles.now.list.now) c.args.wires c.args.tests.now c.loop-test.test-index no_test c.loop-test-test.true live, c.requires.fits))

@@ -4,4 +4,4 @@ use Rattle.bound_rules.specs.Energy.{energies}
 use Rattle.bound_rules.proofs.energy.module_energy.Given as goal
 
 abbrev pub invariant-loop-test : goal.invariant-loop-test
-invariant-loop-test l = l.sum ≡ energies l.sizes l.number (map profile_value l.profiles) l.wires (take l.test-index l.tests)
+invariant-loop-test l = l.sum ≡ energies l.sizes l.number (map profile_value l.profiles.list.now) l.wires (take l.test-index l.tests)

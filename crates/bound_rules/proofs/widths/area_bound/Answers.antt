@@ -5,7 +5,7 @@ use Rattle.plan_model.proofs.PowerAndAreaBounds.{area_bounds}
 use Rattle.bound_rules.proofs.widths.area_bound.Goals as goal
 
 pub returns-clause-quotient : goal.returns-clause-quotient
-returns-clause-quotient c = c.quotient_up.ensures.quotient ∙ rw c.total_area.ensures.sum refl
+returns-clause-quotient c = c.quotient_up.ensures.quotient ∙ rw (c.from.ensures, c.total_area.ensures.sum c.args.wires c.requires.some_wire) refl
 
 pub returns-clause-bound : goal.returns-clause-bound
 returns-clause-bound c = λ limits same plan good.

@@ -16,7 +16,7 @@ least_area-requires-clause-work c =
     rw (c.deref.ensures.value, c.of.ensures.sizes) (module_work-le (soc_value c.args.soc.now) c.requires.sound c.args.place (module_value c.module_at-module.result.now) c.module_at-module.ensures)
 
 pub returns : goal.returns
-returns c =
-    c.least_area.ensures ∙ rw (c.deref.ensures.value, c.of.ensures.sizes)
-    (least-same (λ w. w * tam_times_by (sizes_of (module_value c.module_at-module.result.now)) w c.module_at-module.result.now.tests.items) (λ w. w * lower_tam_time (soc_value c.args.soc.now) c.args.place w) c.args.wires
+returns c = λ wires some.
+    c.least_area.ensures wires some ∙ rw (c.deref.ensures.value, c.of.ensures.sizes)
+    (least-same (λ w. w * tam_times_by (sizes_of (module_value c.module_at-module.result.now)) w c.module_at-module.result.now.tests.items) (λ w. w * lower_tam_time (soc_value c.args.soc.now) c.args.place w) wires
     (λ v. ap (λ n. v * n) (sym (tam_times_are (soc_value c.args.soc.now) v c.args.place (module_value c.module_at-module.result.now) c.module_at-module.ensures))))

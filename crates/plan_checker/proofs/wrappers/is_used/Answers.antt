@@ -8,7 +8,7 @@ use Rattle.plan_checker.proofs.Pairing.{UsedAt, used_at, pair_there}
 use Rattle.plan_checker.proofs.wrappers.is_used.Goals as goal
 
 pub returns-in-Some-clause-used : goal.returns-in-Some-clause-used
-returns-in-Some-clause-used c = λ yes'. pair_there (soc_value c.args.soc.now) c.in-Some.place (module_value c.module_at.result.now) c.args.number c.args.scan c.module_at.ensures c.in-Some.ensures.found (sym (rw c.deref.ensures.value at c.uses_mode.ensures) ∙ yes')
+returns-in-Some-clause-used c = λ yes'. pair_there (soc_value c.args.soc.now) c.in-Some.place (module_value c.module_at.result.now) c.args.number c.args.scan c.module_at.ensures c.in-Some.ensures.found (sym c.uses_mode.ensures ∙ yes')
 
 pub returns-in-Some-clause-other : goal.returns-in-Some-clause-other
 returns-in-Some-clause-other c = λ no' there.
@@ -17,7 +17,7 @@ returns-in-Some-clause-other c = λ no' there.
     let here : slice_get (soc_value c.args.soc.now).modules c.in-Some.place ≡ Some u.m = rw one at u.at in
     let same : u.m ≡ module_value c.module_at.result.now = some_same (sym here ∙ c.module_at.ensures) in
     let used : uses_mode c.args.scan (module_value c.module_at.result.now) ≡ true = subst (λ (m : ModuleValue). uses_mode c.args.scan m ≡ true) same u.used in
-    true≢false (sym used ∙ sym (rw c.deref.ensures.value at c.uses_mode.ensures) ∙ no')
+    true≢false (sym used ∙ sym c.uses_mode.ensures ∙ no')
 
 pub returns-in-None-clause-other : goal.returns-in-None-clause-other
 returns-in-None-clause-other c = λ _ there.

@@ -9,15 +9,15 @@ use Rattle.plan_checker.proofs.wrappers.lacks.Goals as goal
 
 pub returns-then-not-uses_mode-clause-kept : goal.returns-then-not-uses_mode-clause-kept
 returns-then-not-uses_mode-clause-kept c = λ _.
-    let none : uses_mode c.args.scan (module_value c.args.«module».now) ≡ false = sym (rw c.deref.ensures.value at c.if-not-uses_mode.ensures) in
+    let none : uses_mode c.args.scan (module_value c.args.«module».now) ≡ false = sym c.if-not-uses_mode.ensures in
     rw none (of_none (Contains (keys c.args.room.now)))
 
 pub returns-clause-broken : goal.returns-clause-broken
 returns-clause-broken c = λ yes'.
-    let used : uses_mode c.args.scan (module_value c.args.«module».now) ≡ true = sym (rw c.deref.ensures.value at c.if-not-uses_mode.ensures) in
+    let used : uses_mode c.args.scan (module_value c.args.«module».now) ≡ true = sym c.if-not-uses_mode.ensures in
     rw used (breaks_one (Contains (keys c.args.room.now)) (c.args.«module».now.number, c.args.scan) (not_paired c.args.«module».now.number c.args.scan (keys c.args.room.now) (sym c.has_pair.ensures ∙ not_is_true c.has_pair.result yes')))
 
 pub returns-clause-kept : goal.returns-clause-kept
 returns-clause-kept c = λ no'.
-    let used : uses_mode c.args.scan (module_value c.args.«module».now) ≡ true = sym (rw c.deref.ensures.value at c.if-not-uses_mode.ensures) in
+    let used : uses_mode c.args.scan (module_value c.args.«module».now) ≡ true = sym c.if-not-uses_mode.ensures in
     rw used (of_one (Contains (keys c.args.room.now)) (c.args.«module».now.number, c.args.scan) (paired c.args.«module».now.number c.args.scan (keys c.args.room.now) (sym c.has_pair.ensures ∙ not_is_false c.has_pair.result no')))

@@ -1,3 +1,4 @@
+use Rattle.std.specs.Box.{with_value}
 use Rattle.plan_text.proofs.Progress.{goes_on, unknown, stops}
 use Rattle.plan_text.proofs.reading.PlanTextReader.step.Goals as goal
 
@@ -6,7 +7,7 @@ returns-in_default c = λ front few has. unknown front (c.args.word.bytes.now, c
 
 pub returns-in-Ok : goal.returns-in-Ok
 returns-in-Ok c = λ front few has.
-    goes_on front (c.args.word.bytes.now, c.args.word.line) c.in-Some.token c.args.self (record { alloc = c.args.self.alloc; draft = c.step.new.draft; part = c.in-Ok.part }) has c.in-Some.ensures c.in-Ok.ensures
+    goes_on front (c.args.word.bytes.now, c.args.word.line) c.in-Some.token c.args.self (record { alloc = c.args.self.alloc; read = with_value c.args.self.read (record { draft = c.step.new.draft; part = c.step.new.part }) }) c.deref_mut-so_far.result.now c.deref_mut-so_far.ensures.value has c.in-Some.ensures c.in-Ok.ensures
 
 pub returns-in-Err : goal.returns-in-Err
-returns-in-Err c = λ front few has. stops front (c.args.word.bytes.now, c.args.word.line) c.in-Some.token c.args.self c.step.new.draft c.in-Err.stop has c.in-Some.ensures c.in-Err.ensures
+returns-in-Err c = λ front few has. stops front (c.args.word.bytes.now, c.args.word.line) c.in-Some.token c.args.self c.deref_mut-so_far.result.now c.step.new.part c.step.new.draft c.in-Err.stop c.deref_mut-so_far.ensures.value has c.in-Some.ensures c.in-Err.ensures

@@ -4,7 +4,7 @@ use Rattle.plan_model.specs.Views.{limits_value}
 use Rattle.plan_model.specs.Bounds.{power_bound}
 use Rattle.plan_model.proofs.PowerAndAreaBounds.{power_bounds}
 use Rattle.bound_rules.proofs.Energies.{allowed-energy, some_power, no_power, power_bound_is}
-use Rattle.bound_rules.proofs.energy.power_bound.Goals as goal
+use Rattle.bound_rules.proofs.energy.bound_with.Goals as goal
 
 pub returns-then-most-eq0-clause-quotient : goal.returns-then-most-eq0-clause-quotient
 returns-then-most-eq0-clause-quotient c = sym (no_power (soc_value c.args.soc.now) (limits_value c.args.limits.now) c.args.limits.now.power (omega (arith, c.unwrap_or-most.ensures)))

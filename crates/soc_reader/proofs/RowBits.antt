@@ -1,0 +1,117 @@
+-- The rows that were given of a subject, one bit each.
+use Rattle.std.proofs.Common.{◌≡◌, ◌∙◌, sym, ap, refl, ℕ, ◌≤◌, ◌^◌, ◌&&◌, ◌||◌, Bool, true, false, Option, None, Some, option_map, is_some, eqb, nat_eq, arith, inl, inr}
+use Rattle.std.specs.Prelude.{not, if◌then◌else◌}
+use Rattle.std.specs.Int.Bits.{bit_and, bit_or}
+use Rattle.std.proofs.lemmas.Grind.{common_steps}
+use Rattle.std.proofs.lemmas.Bool.{cases_Bool, eqb-true, ne_eqb}
+use Rattle.std.proofs.lemmas.Nat.{and_or_self, and_or_apart, pow_apart, pow_pos}
+use Rattle.indexmap.specs.IndexMap.{IndexMap}
+use Rattle.soc_reader.specs.declared.keys.Given.{Given}
+use Rattle.soc_reader.specs.declared.keys.Subject.{Subject}
+use Rattle.soc_reader.specs.declared.keys.Subject.TheVariants.{Chip, OfModule, OfTest}
+use Rattle.soc_reader.specs.declared.keys.Key.{Key}
+use Rattle.soc_reader.specs.Marks.{bits_of, has_row, is_marked, is_same, with_row}
+use Rattle.soc_reader.proofs.WordFacts.{both_true}
+use Rattle.soc_reader.specs.Grammar.{same_subject, row}
+
+-- ---- subjects
+
+same_turned : (u s : Subject) → is_same u s ≡ same_subject s u
+same_turned Chip Chip = refl
+same_turned Chip (OfModule n) = refl
+same_turned Chip (OfTest n u) = refl
+same_turned (OfModule m) Chip = refl
+same_turned (OfModule m) (OfModule n) = grind (arith, common_steps)
+same_turned (OfModule m) (OfTest n u) = refl
+same_turned (OfTest m t) Chip = refl
+same_turned (OfTest m t) (OfModule n) = refl
+same_turned (OfTest m t) (OfTest n u) = grind (arith, common_steps)
+
+subject_same : (s u : Subject) → same_subject s u ≡ true → s ≡ u
+subject_same Chip Chip e = refl
+subject_same Chip (OfModule n) e = cc
+subject_same Chip (OfTest n u) e = cc
+subject_same (OfModule m) Chip e = cc
+subject_same (OfModule m) (OfModule n) e = ap OfModule (eqb-true m n e)
+subject_same (OfModule m) (OfTest n u) e = cc
+subject_same (OfTest m t) Chip e = cc
+subject_same (OfTest m t) (OfModule n) e = cc
+subject_same (OfTest m t) (OfTest n u) e =
+    let parts = both_true (nat_eq m n) (nat_eq t u) e in
+    let first = eqb-true m n parts.0 in
+    let second = eqb-true t u parts.1 in
+    cc
+
+-- ---- rows
+
+bit_is : (n : ℕ) → not (nat_eq (bit_and (2 ^ n) (2 ^ n)) 0) ≡ true
+bit_is n =
+    let same : bit_and (2 ^ n) (2 ^ n) ≡ 2 ^ n = grind (arith, common_steps) in
+    let some : 1 ≤ 2 ^ n = omega (arith, pow_pos n) in
+    rw same (none (2 ^ n) some)
+  where
+    none : (n : ℕ) → 1 ≤ n → not (nat_eq n 0) ≡ true
+    none n h = rw (ne_eqb n 0 (λ e. omega (arith, e, h))) refl
+
+set_row : (bits n : ℕ) → not (nat_eq (bit_and (bit_or bits (2 ^ n)) (2 ^ n)) 0) ≡ true
+set_row bits n = rw (and_or_self (2 ^ n) bits) (rw (one n) (bit_is n)) where
+  one : (n : ℕ) → 2 ^ n ≡ bit_and (2 ^ n) (2 ^ n)
+  one n = grind (arith, common_steps)
+
+-- one row more
+row_more : (bits i j : ℕ) → not (nat_eq (bit_and (bit_or bits (2 ^ j)) (2 ^ i)) 0) ≡ (nat_eq i j || not (nat_eq (bit_and bits (2 ^ i)) 0))
+row_more bits i j = elim (cases_Bool (eqb i j)) [
+  | inl yes' ↦
+      let same : i ≡ j = eqb-true i j yes' in
+      rw (yes', same) (set_row bits j)
+  | inr no' ↦ rw (no', and_or_apart (2 ^ i) bits (2 ^ j) (pow_apart j i (λ e. other (sym e) no'))) refl
+]
+  where
+    other : i ≡ j → eqb i j ≡ false → ⊥
+    other e no' = absurd (grind (arith, common_steps))
+
+-- the first row
+row_first : (i j : ℕ) → not (nat_eq (bit_and (2 ^ j) (2 ^ i)) 0) ≡ nat_eq i j
+row_first i j = elim (cases_Bool (eqb i j)) [
+  | inl yes' ↦
+      let same : i ≡ j = eqb-true i j yes' in
+      rw (yes', same) (bit_is j)
+  | inr no' ↦ rw (no', pow_apart j i (λ e. other (sym e) no')) refl
+]
+  where
+    other : i ≡ j → eqb i j ≡ false → ⊥
+    other e no' = absurd (grind (arith, common_steps))
+
+-- ---- marks
+
+-- one row more of a subject of which rows were given
+pub marked_more : {S : Type 0} (old new : IndexMap Subject ℕ S) (g : Given) (bit : ℕ) (t : Bool) → bit ≡ 2 ^ row g.key → t ≡ is_some (bits_of old g.subject) → t ≡ true → ((s : Subject) → bits_of new s ≡ with_row g.subject bit s (bits_of old s)) →
+    (s : Subject) (k : Key) → is_marked s k new ≡ ((same_subject s g.subject && nat_eq (row k) (row g.key)) || is_marked s k old)
+marked_more old new g bit t is there yes' next s k = ap (λ o. has_row o k) (next s) ∙ elim (cases_Bool (same_subject s g.subject)) [
+  | inr other ↦ rw (other, same_turned g.subject s ∙ other) refl
+  | inl same ↦
+      let one : s ≡ g.subject = subject_same s g.subject same in
+      rw (same, same_turned g.subject s ∙ same, is) (some (bits_of old s) (sym (ap (λ v. is_some (bits_of old v)) one ∙ sym there ∙ yes')))
+]
+  where
+    some : (o : Option ℕ) → true ≡ is_some o → has_row (option_map (λ bits. bit_or bits (2 ^ row g.key)) o) k ≡ (nat_eq (row k) (row g.key) || has_row o k)
+    some None h = absurd cc
+    some (Some bits) h = row_more bits (row k) (row g.key)
+
+-- the first row of a subject
+pub marked_first : {S : Type 0} (old new : IndexMap Subject ℕ S) (g : Given) (bit : ℕ) → bit ≡ 2 ^ row g.key → bits_of old g.subject ≡ None → ((s : Subject) → bits_of new s ≡ (if is_same g.subject s then Some bit else bits_of old s)) →
+    (s : Subject) (k : Key) → is_marked s k new ≡ ((same_subject s g.subject && nat_eq (row k) (row g.key)) || is_marked s k old)
+marked_first old new g bit is none next s k = ap (λ o. has_row o k) (next s) ∙ elim (cases_Bool (same_subject s g.subject)) [
+  | inr other ↦ rw (other, same_turned g.subject s ∙ other) refl
+  | inl same ↦
+      let one : s ≡ g.subject = subject_same s g.subject same in
+      rw (same, same_turned g.subject s ∙ same, is, ap (λ v. bits_of old v) one ∙ none) (row_first (row k) (row g.key) ∙ or_none (nat_eq (row k) (row g.key)))
+]
+  where
+    or_none : (b : Bool) → b ≡ (b || false)
+    or_none true = refl
+    or_none false = refl
+
+pub none_of : {X : Type 0} (o : Option X) (t : Bool) → t ≡ is_some o → t ≡ false → o ≡ None
+none_of None t is e = refl
+none_of (Some x) t is e = absurd cc
