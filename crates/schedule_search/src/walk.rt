@@ -1,11 +1,12 @@
 // The walk over the orders of a job, depth first, within a budget of prefixes that are entered.
 ghost use Rattle.std.specs.Prelude.{◌≡◌, ℕ, ◌+◌, ◌-◌, ◌<◌, ◌≤◌, ◌++◌, ◌∷◌, [], true, false, length, vec_capacity};
 ghost use Rattle.resource_table.specs.Jobs.{job_value};
-ghost use Rattle.resource_table.specs.Schedules.{last_end, IsSoundTable};
+ghost use Rattle.resource_table.specs.Schedules.{last_end, IsEarliest, IsSoundTable};
 ghost use Rattle.schedule_search.specs.OrderCycles.{HasPlaced};
 ghost use Rattle.schedule_search.specs.Walks.{is_in, walk_from, IsOpen};
 ghost use Rattle.schedule_search.specs.Prefixes.{outside, HasPrefixRoom, IsAt};
 ghost use Rattle.schedule_search.specs.Progress.{AreTries, branch, stand_of, IsBest, NoneBefore, Explored};
+ghost use Rattle.schedule_search.specs.Estimates.{CanAsk, IsAtLeastReady, IsAtMostNow};
 ghost use Rattle.schedule_search.specs.Late.{IsLateAt, AreInTime, AreUnplaced};
 
 use crate::ahead::Estimate;
@@ -55,31 +56,56 @@ fn offer(progress: &mut Progress, order: &[usize], cycles: u64)
     }
 }
 
+/// The estimate of a test. The start at which the test would be placed now is noted first: an estimate that asks for it, now or
+/// beside more placed tests, finds it the sooner.
+fn asked<J, E: Estimate<J>>(ahead: &E, table: &mut TableOf<J>, test: usize) -> u64
+    requires estimates { E.estimates ahead.now }
+    requires asked { CanAsk table.old test }
+    ensures same { table.new ≡ table.old }
+    ensures least { IsAtLeastReady table.old test result }
+    ensures most { IsAtMostNow table.old test result }
+{
+    table.note(test);
+    ahead.ask(table, test)
+}
+
+/// The least start at which a test fits. It is noted, so that it is found the sooner beside more placed tests, as the other
+/// orders that go on from here place them.
+fn noted_start<J>(table: &mut TableOf<J>, test: usize) -> u64
+    requires in_job { test < length table.old.job.tests }
+    ensures same { table.new ≡ table.old }
+    ensures earliest { IsEarliest table.old.job table.old.placed test result }
+{
+    table.note(test);
+    table.earliest(test)
+}
+
 /// Whether one of some tests ends, by its estimate, as late as so many cycles, or later. The tests are those that aren't
 /// placed, longest first. Each starts at the end of the last placed test at the latest, and so the look ends at the first
 /// of them that is in time even then.
 fn is_late<J, E: Estimate<J>>(
     job: &Job,
     ahead: &E,
-    table: &TableOf<J>,
+    table: &mut TableOf<J>,
     rest: &[usize],
     end: u64,
     cycles: u64,
 ) -> bool
-    requires job { table.now.job ≡ job_value job.now }
+    requires job { table.old.job ≡ job_value job.now }
     requires estimates { E.estimates ahead.now }
-    requires sound { IsSoundTable table.now }
-    requires ends { end ≡ last_end table.now.job table.now.placed }
-    requires rest { AreUnplaced table.now.job table.now.placed rest.now }
-    ensures late { result ≡ true → IsLateAt table.now cycles }
-    ensures in_time { result ≡ false → AreInTime table.now cycles }
+    requires sound { IsSoundTable table.old }
+    requires ends { end ≡ last_end table.old.job table.old.placed }
+    requires rest { AreUnplaced table.old.job table.old.placed rest.now }
+    ensures same { table.new ≡ table.old }
+    ensures late { result ≡ true → IsLateAt table.old cycles }
+    ensures in_time { result ≡ false → AreInTime table.old cycles }
 {
     let left = cycles.saturating_sub(end);
     for test in rest {
         if cycles_at(job, *test) < left {
             return false;
         }
-        if ahead.ask(table, *test) >= cycles {
+        if asked(ahead, table, *test) >= cycles {
             return true;
         }
     }
@@ -125,7 +151,7 @@ fn follow<J, E: Estimate<J>>(
         return;
     }
     list_schedules_are_short();
-    let start = table.earliest(test);
+    let start = noted_start(table, test);
     let next_end = end.max(start + cycles_at(job, test));
     prefix.add(job, tries, test);
     let mut frame = table.place(test, start);

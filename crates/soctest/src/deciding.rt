@@ -59,7 +59,7 @@ fn decide_widths<H: Shelf>(alloc: Global, soc: &str, wires: u64, shelf: &mut H) 
     }
 }
 
-/// The text of the planner's plan, whose search estimates by the ends of the tests before. `NoMemory` where memory runs out,
+/// The text of the planner's plan, whose search estimates where a test would end if it were placed now. `NoMemory` where memory runs out,
 /// and for no other reason.
 fn text_of_plan(alloc: Global, soc: &Soc, limits: &Limits) -> Result<Vec<u8>, NoMemory>
     requires chip { IsSoundChip (soc_value soc.now) }
@@ -71,7 +71,7 @@ fn text_of_plan(alloc: Global, soc: &Soc, limits: &Limits) -> Result<Vec<u8>, No
             requires { CanAsk table.now test }
             ensures least { IsAtLeastReady table.now test result }
             ensures most { IsAtMostNow table.now test result }
-        { table.ready_end(test) },
+        { table.end_now(test) },
     );
     let plan = plan(alloc, soc, limits, ahead)?;
     print_plan(alloc, &plan)
