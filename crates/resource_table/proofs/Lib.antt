@@ -9,7 +9,6 @@ pub mod KeptTables
 pub mod BusyTimes
 pub mod KeptMarks
 pub mod KeptStarts
-pub mod Holes
 pub mod Profiles
 pub mod Marked
 pub mod Crowds
