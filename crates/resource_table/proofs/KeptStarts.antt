@@ -54,10 +54,6 @@ module _ (job : JobValue) (trail : SmallVec Placement) (ends : Vec (Option ℕ))
     over = (λ c late. load_over draws.items c (λ i d at. let end : d.to ≤ last = all_at (λ (d : Draw). d.to ≤ last) draws.items i d (draws_ended_by draws.items last refl is) at in omega arith));
   })
 
-  pub small_steps : (steps : List (ℕ × ℕ)) → steps ≡ wanted.steps → All (λ (s : ℕ × ℕ). s.0 ≤ NUMBER_WORD_MOST) steps
-  small_steps steps steps_is = λ k d lt.
-      (subst (λ (v : List (ℕ × ℕ)). All (λ (s : ℕ × ℕ). (s.0 ≤ NUMBER_WORD_MOST) × (s.1 ≤ POWER_MOST)) v) (sym (steps_is ∙ ap (λ (t : TestValue). t.steps) wanted_at)) (kept.sound.job.tests test no_test inside).small k d lt).0
-
   pub steps_within_limit : (steps : List (ℕ × ℕ)) (limit : ℕ) → steps ≡ wanted.steps → job.power ≡ Some limit → All (λ (s : ℕ × ℕ). s.1 ≤ limit) steps
   steps_within_limit steps limit steps_is is =
       subst (λ (v : List (ℕ × ℕ)). All (λ (s : ℕ × ℕ). s.1 ≤ limit) v) (sym (steps_is ∙ ap (λ (t : TestValue). t.steps) wanted_at))

@@ -11,7 +11,7 @@ pub mod KeptMarks
 pub mod KeptStarts
 pub mod Profiles
 pub mod Marked
-pub mod Crowds
+pub mod Sweeps
 pub mod Befores
 pub mod Ready
 pub mod Schedules

@@ -1,6 +1,6 @@
 -- A profile of the power that is drawn: its load at some cycles, between which it stays the same.
 use Rattle.std.specs.Prelude.{◌≡◌, ℕ, zero, suc, ◌+◌, ◌<◌, ◌≤◌, ◌⊎◌, Bool, not, nat_eq, if◌then◌else◌, Some, List, length, slice_get, slice_index_or}
-use Rattle.std.specs.List.{All, AllWithin, sum_by}
+use Rattle.std.specs.List.{All, sum_by}
 use Rattle.std.specs.List.Sorted.{IsNonDecreasingBy}
 use Rattle.resource_table.specs.declared.power.Draw.{Draw}
 use Rattle.resource_table.specs.declared.points.Point.{Point}
@@ -53,20 +53,9 @@ pub record AreMarked (draws : List Draw) (cycles : List ℕ) : Type 0 where
 abbrev pub raised_by : Draw → Point → Point
 raised_by d p = record { cycle = p.cycle; load = p.load + taken_by p.cycle d; uses = p.uses }
 
--- a point in a step's window at which too little is left free, the last such point
-pub record IsCrowded (points : List Point) (free from to place : ℕ) : Type 0 where
-  pub inside : place < length points
-  pub window : from < to
-  pub begins : (slice_index_or points place no_point).cycle < to
-  pub crowded : free < (slice_index_or points place no_point).load
-  pub later : AllWithin (λ (p : Point). from < p.cycle) points (place + 1) (length points)
-
--- the cycle from which on a crowd is over: that of the next point that leaves enough free, or else a last cycle
-pub record IsCrowdEnd (points : List Point) (free place last end : ℕ) : Type 0 where
-  pub next : ℕ
-  pub after : place < next
-  pub crowded : AllWithin (λ (p : Point). free < p.load) points (place + 1) next
-  pub found : ((next < length points) × ((slice_index_or points next no_point).load ≤ free) × (end ≡ (slice_index_or points next no_point).cycle)) ⊎ ((length points ≤ next) × (end ≡ last))
+-- from a cycle on so much is left free for so many cycles
+abbrev pub IsFreeFor : (load : ℕ → ℕ) (free width from : ℕ) → Type 0
+IsFreeFor load free width from = (c : ℕ) → from ≤ c → c < from + width → load c ≤ free
 
 -- a load that the points tell and that is over by a cycle
 pub record IsEndedProfile (load : ℕ → ℕ) (points : List Point) (last : ℕ) : Type 0 where

@@ -1,5 +1,5 @@
 // Points of a profile of the power that is drawn, in the order of their cycles.
-ghost use Rattle.std.specs.Prelude.{◌≡◌, ℕ, ◌+◌, ◌-◌, ◌^◌, ◌<◌, ◌≤◌, true, false, nat_lt, nat_eq, not, length, slice_index_or, slice_set, vec_capacity};
+ghost use Rattle.std.specs.Prelude.{◌≡◌, ℕ, ◌+◌, ◌-◌, ◌^◌, ◌<◌, ◌≤◌, true, false, nat_le, nat_lt, nat_eq, not, length, slice_index_or, slice_set, vec_capacity};
 ghost use Rattle.std.specs.List.{filter, insert};
 ghost use Rattle.std.specs.List.Sorted.{IsNonDecreasingBy, IsPartitionPoint};
 ghost use Rattle.resource_table.specs.declared.points.Point.{Point};
@@ -14,6 +14,19 @@ pub struct Point {
     pub load: u64,
     /// How many marks of placed tests stand at it.
     pub uses: usize,
+}
+
+/// How many points stand at or before a cycle.
+pub fn places_to(points: &[Point], cycle: u64) -> usize
+    requires { IsNonDecreasingBy (λ (p : Point). p.cycle) points.now }
+    ensures bound { result ≤ length points.now }
+    ensures parts { IsPartitionPoint (λ (p : Point). p.cycle ≤ cycle) (λ (p : Point). cycle < p.cycle) points.now result }
+{
+    points.partition_point(
+        |p: &Point| -> bool
+            ensures { result ≡ nat_le p.now.cycle cycle }
+        { p.cycle <= cycle },
+    )
 }
 
 /// How many points stand before a cycle.

@@ -1,11 +1,11 @@
 // A profile of the power that is drawn: the load at the cycles where a draw begins or ends, in the order of cycles. From
 // each of them on the load stays the same up to the next.
-ghost use Rattle.std.specs.Prelude.{◌≡◌, ℕ, ◌+◌, ◌-◌, ◌^◌, ◌<◌, ◌≤◌, ◌++◌, None, List, map, take, drop, length, slice_index_or, slice_set, vec_capacity, IfSome};
+ghost use Rattle.std.specs.Prelude.{◌≡◌, ℕ, ◌+◌, ◌-◌, ◌^◌, ◌<◌, ◌≤◌, ◌++◌, List, map, take, drop, length, slice_index_or, slice_set, vec_capacity, IfSome};
 ghost use Rattle.std.specs.List.{All};
 ghost use Rattle.std.specs.List.Sorted.{IsNonDecreasingBy};
 ghost use Rattle.resource_table.specs.declared.points.Point.{Point};
 ghost use Rattle.resource_table.specs.Resources.{taken_by, load_of, marks_from};
-ghost use Rattle.resource_table.specs.Profiles.{no_point, IsProfile, all_uses, ArePoints, AreMarked, raised_by, IsCrowded, IsCrowdEnd};
+ghost use Rattle.resource_table.specs.Profiles.{no_point, all_uses, ArePoints, AreMarked, raised_by};
 
 use crate::marks::{add_marks, remove_marks};
 use crate::points::{Point, places_before};
@@ -132,40 +132,4 @@ pub fn take_drawn(
     if let Some(_) = limit {
         take_draws(points, draws, count, start);
     }
-}
-
-/// The last point, from the one that tells the load at `from` up to those before `to`, at which more than so much is drawn;
-/// None where at no cycle in between more is drawn.
-pub fn crowded_place(points: &[Point], free: u64, from: u64, to: u64) -> Option<usize>
-    requires { IsNonDecreasingBy (λ (p : Point). p.cycle) points.now }
-    ensures some { IfSome result (IsCrowded points.now free from to) }
-    ensures none { result ≡ None → (load : ℕ → ℕ) → IsProfile load points.now → (c : ℕ) → from ≤ c → c < to → load c ≤ free }
-{
-    if from >= to {
-        return None;
-    }
-    let mut place = places_before(points, to);
-    while place > 0 {
-        place -= 1;
-        if points[place].load > free {
-            return Some(place);
-        }
-        if points[place].cycle <= from {
-            return None;
-        }
-    }
-    None
-}
-
-/// The cycle of the first point behind a place at which no more than so much is drawn; `last` where there is none.
-pub fn crowd_end(points: &[Point], free: u64, place: usize, last: u64) -> u64
-    requires { place < length points.now }
-    ensures { IsCrowdEnd points.now free place last result }
-{
-    for next in place + 1..points.len() {
-        if points[next].load <= free {
-            return points[next].cycle;
-        }
-    }
-    last
 }
