@@ -6,7 +6,6 @@ ghost use Rattle.schedule_search.specs.OrderCycles.{HasPlaced};
 ghost use Rattle.schedule_search.specs.Walks.{is_in, walk_from, IsOpen};
 ghost use Rattle.schedule_search.specs.Prefixes.{outside, HasPrefixRoom, IsAt};
 ghost use Rattle.schedule_search.specs.Progress.{AreTries, branch, stand_of, IsBest, NoneBefore, Explored};
-ghost use Rattle.schedule_search.specs.Estimates.{CanAsk, IsAtLeastReady, IsAtMostNow};
 ghost use Rattle.schedule_search.specs.Late.{IsLateAt, AreInTime, AreUnplaced};
 
 use crate::ahead::Estimate;
@@ -56,21 +55,39 @@ fn offer(progress: &mut Progress, order: &[usize], cycles: u64)
     }
 }
 
-/// The estimate of a test. The start at which the test would be placed now is noted first: an estimate that asks for it, now or
-/// beside more placed tests, finds it the sooner.
-fn asked<J, E: Estimate<J>>(ahead: &E, table: &mut TableOf<J>, test: usize) -> u64
+/// Whether one of some tests ends, by its estimate, as late as so many cycles, or later. The tests are those that aren't
+/// placed, longest first. Each starts at the end of the last placed test at the latest, and so the look ends at the first
+/// of them that is in time even then.
+fn is_late<J, E: Estimate<J>>(
+    job: &Job,
+    ahead: &E,
+    table: &TableOf<J>,
+    rest: &[usize],
+    end: u64,
+    cycles: u64,
+) -> bool
+    requires job { table.now.job ≡ job_value job.now }
     requires estimates { E.estimates ahead.now }
-    requires asked { CanAsk table.old test }
-    ensures same { table.new ≡ table.old }
-    ensures least { IsAtLeastReady table.old test result }
-    ensures most { IsAtMostNow table.old test result }
+    requires sound { IsSoundTable table.now }
+    requires ends { end ≡ last_end table.now.job table.now.placed }
+    requires rest { AreUnplaced table.now.job table.now.placed rest.now }
+    ensures late { result ≡ true → IsLateAt table.now cycles }
+    ensures in_time { result ≡ false → AreInTime table.now cycles }
 {
-    table.note(test);
-    ahead.ask(table, test)
+    let left = cycles.saturating_sub(end);
+    for test in rest {
+        if cycles_at(job, *test) < left {
+            return false;
+        }
+        if ahead.ask(table, *test) >= cycles {
+            return true;
+        }
+    }
+    false
 }
 
-/// The least start at which a test fits. It is noted, so that it is found the sooner beside more placed tests, as the other
-/// orders that go on from here place them.
+/// The least start at which a test fits. It is noted, so that it is found the sooner beside more placed tests: the orders that
+/// go on from here with other tests ask for it and place it again and again.
 fn noted_start<J>(table: &mut TableOf<J>, test: usize) -> u64
     requires in_job { test < length table.old.job.tests }
     ensures same { table.new ≡ table.old }
@@ -78,38 +95,6 @@ fn noted_start<J>(table: &mut TableOf<J>, test: usize) -> u64
 {
     table.note(test);
     table.earliest(test)
-}
-
-/// Whether one of some tests ends, by its estimate, as late as so many cycles, or later. The tests are those that aren't
-/// placed, longest first. Each starts at the end of the last placed test at the latest, and so the look ends at the first
-/// of them that is in time even then.
-fn is_late<J, E: Estimate<J>>(
-    job: &Job,
-    ahead: &E,
-    table: &mut TableOf<J>,
-    rest: &[usize],
-    end: u64,
-    cycles: u64,
-) -> bool
-    requires job { table.old.job ≡ job_value job.now }
-    requires estimates { E.estimates ahead.now }
-    requires sound { IsSoundTable table.old }
-    requires ends { end ≡ last_end table.old.job table.old.placed }
-    requires rest { AreUnplaced table.old.job table.old.placed rest.now }
-    ensures same { table.new ≡ table.old }
-    ensures late { result ≡ true → IsLateAt table.old cycles }
-    ensures in_time { result ≡ false → AreInTime table.old cycles }
-{
-    let left = cycles.saturating_sub(end);
-    for test in rest {
-        if cycles_at(job, *test) < left {
-            return false;
-        }
-        if asked(ahead, table, *test) >= cycles {
-            return true;
-        }
-    }
-    false
 }
 
 /// Goes on with all orders that begin with the placed tests and then with one more, where it may follow them.

@@ -5,7 +5,4 @@ use Rattle.resource_table.specs.Schedules.{ready_at}
 use Rattle.schedule_search.proofs.walk.is_late.Given as goal
 
 abbrev pub invariant-loop-test : goal.invariant-loop-test
-invariant-loop-test g l = record {
-  same : l.table ≡ l.fn.table;
-  in_time : (n test : ℕ) → n < l.test-index → slice_get l.rest n ≡ Some test → ready_at l.fn.table.job l.fn.table.placed test + cycles_of l.fn.table.job test < l.cycles;
-}
+invariant-loop-test g l = (n test : ℕ) → n < l.test-index → slice_get l.rest n ≡ Some test → ready_at l.table.job l.table.placed test + cycles_of l.table.job test < l.cycles
