@@ -1,5 +1,5 @@
 -- The marks of one more test, put in from the last one on, or taken away from the first one on.
-use Rattle.std.proofs.Common.{◌≡◌, ℕ, zero, suc, ◌+◌, ◌-◌, ◌<◌, ◌≤◌, inl, inr, Some, List, [], ◌∷◌, ◌++◌, length, get_or, set, drop, arith, refl, sym, ap, ◌∙◌, subst}
+use Rattle.std.proofs.Common.{◌≡◌, ℕ, ◌+◌, ◌-◌, ◌<◌, ◌≤◌, inl, inr, Some, List, ◌∷◌, ◌++◌, length, get_or, drop, arith, sym, ap, ◌∙◌, subst}
 use Rattle.std.specs.Prelude.{slice_get, nat_eq, if◌then◌else◌}
 use Rattle.std.specs.List.{AllWithin, sum_by}
 use Rattle.std.specs.List.Sorted.{IsNonDecreasingBy, IsPartitionPoint}
@@ -10,7 +10,7 @@ use Rattle.std.proofs.lemmas.List.Sums.{sum_by-cons, sum_by-append}
 use Rattle.resource_table.specs.declared.power.Draw.{Draw}
 use Rattle.resource_table.specs.declared.points.Point.{Point}
 use Rattle.resource_table.specs.Resources.{load_of, marks_from}
-use Rattle.resource_table.specs.Profiles.{no_point, load_before, uses_at, counted, IsProfile, ArePoints, AreMarked}
+use Rattle.resource_table.specs.Profiles.{no_point, load_before, uses_at, counted, ArePoints, AreMarked}
 use Rattle.resource_table.proofs.Places.{same_item}
 use Rattle.resource_table.proofs.Profiles.{drawn_profile, load_there, self_counts, some_used}
 

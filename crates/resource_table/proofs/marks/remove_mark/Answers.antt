@@ -1,7 +1,7 @@
-use Rattle.std.proofs.Common.{◌≡◌, ◌∙◌, ◌<◌, ◌≤◌, ◌+◌, ◌-◌, ◌∷◌, ℕ, List, length, get_or, arith, rules, sym, ap, subst}
+use Rattle.std.proofs.Common.{◌<◌, ◌≤◌, ◌+◌, ◌-◌, ℕ, List, length, arith, rules, sym, subst}
 use Rattle.std.specs.List.Sorted.{IsPartitionPoint}
 use Rattle.resource_table.specs.declared.points.Point.{Point}
-use Rattle.resource_table.specs.Profiles.{no_point, ArePoints}
+use Rattle.resource_table.specs.Profiles.{ArePoints}
 use Rattle.resource_table.proofs.Profiles.{mark_removed}
 use Rattle.resource_table.proofs.Marked.{mark_from, mark_behind, mark_cycle, mark_used}
 use Rattle.resource_table.proofs.marks.remove_mark.Goals as goal

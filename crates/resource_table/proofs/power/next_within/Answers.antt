@@ -1,4 +1,4 @@
-use Rattle.std.proofs.Common.{◌≡◌, ◌+◌, get_or, arith}
+use Rattle.std.proofs.Common.{◌≡◌, arith}
 use Rattle.resource_table.proofs.Steps.{steps_fit_more, steps_fit_end, window_at}
 use Rattle.resource_table.proofs.power.next_within.Goals as goal
 
