@@ -1,13 +1,12 @@
 -- The cycles at which what the placed tests draw may change, and the profile that is kept of them.
-use Rattle.std.proofs.Common.{◌≡◌, ℕ, zero, suc, ◌+◌, ◌-◌, ◌<◌, ◌≤◌, inl, inr, Option, None, Some, List, [], ◌∷◌, ◌++◌, length, get_or, take, drop, map, arith, refl, sym, ap, ◌∙◌, subst, length-append}
-use Rattle.std.specs.Prelude.{slice_get, nat_eq, if◌then◌else◌, ◌⊎◌, vec_len, vec_capacity, IfSome}
+use Rattle.std.proofs.Common.{◌≡◌, ℕ, zero, suc, ◌+◌, ◌-◌, ◌<◌, ◌≤◌, inl, inr, Option, None, Some, List, [], ◌∷◌, ◌++◌, length, take, drop, map, arith, refl, sym, ap, ◌∙◌, subst, length-append}
+use Rattle.std.specs.Prelude.{slice_get, nat_eq, if◌then◌else◌, ◌⊎◌, vec_capacity, IfSome}
 use Rattle.std.specs.List.{sum_by, flat_map}
 use Rattle.std.specs.Global.{Vec}
 use Rattle.std.proofs.lemmas.Bool.{cases_lt}
 use Rattle.std.proofs.lemmas.List.{take_at, length-map}
 use Rattle.std.proofs.lemmas.List.Sums.{sum_by-cons, sum_by-append}
 use Rattle.std.proofs.Math.Seq.{drop-append_seam}
-use Rattle.plan_model.specs.SoundLimits.{Grow}
 use Rattle.plan_model.proofs.Lists.{from_flat_map}
 use Rattle.resource_table.specs.declared.Placement.{Placement}
 use Rattle.resource_table.specs.declared.power.Draw.{Draw}
@@ -15,7 +14,7 @@ use Rattle.resource_table.specs.declared.points.Point.{Point}
 use Rattle.resource_table.specs.Jobs.{TestValue, JobValue, IsSoundJob, test_at, no_test, cycles_of}
 use Rattle.resource_table.specs.Schedules.{at_start, power_at, MayPlace, IsSoundTable}
 use Rattle.resource_table.specs.Resources.{load_of, draws_from, draws_of, marks_from, marks_of, step_end}
-use Rattle.resource_table.specs.Profiles.{counted, ArePoints, AreMarked, AreRising}
+use Rattle.resource_table.specs.Profiles.{counted, all_uses, ArePoints, AreMarked}
 use Rattle.resource_table.proofs.Steps.{step_end-le}
 use Rattle.resource_table.proofs.Fitting.{load_is_power}
 use Rattle.resource_table.proofs.Profiles.{self_counts}
@@ -33,21 +32,6 @@ if_some_more None h p = tt
 if_some_more (Some x) h p = h x p
 
 -- ---- the marks of one test
-
-rising-cons : (x : ℕ) (xs : List ℕ) → (0 < length xs → x ≤ get_or xs 0 0) → AreRising xs → AreRising (x ∷ xs)
-rising-cons x xs first rest = record { next = each }
-  where
-    each : (i : ℕ) → i + 1 < length (x ∷ xs) → get_or (x ∷ xs) i 0 ≤ get_or (x ∷ xs) (i + 1) 0
-    each zero lt = first (omega arith)
-    each (suc i) lt = let e : suc i + 1 ≡ suc (i + 1) = omega arith in rw e (rest.next i (omega arith))
-
-rising-from : (start length' from x : ℕ) (steps : List (ℕ × ℕ)) → Grow from steps → x ≤ start + from → x ≤ start + length' → AreRising (x ∷ map (λ (d : Draw). d.to) (draws_from start length' steps))
-rising-from start length' from x [] grow low high = record { next = (λ i lt. absurd (omega arith)) }
-rising-from start length' from x (s ∷ []) grow low high = rising-cons x ((start + length') ∷ []) (λ _. high) (record { next = (λ i lt. absurd (omega arith)) })
-rising-from start length' from x (s ∷ t ∷ next) grow low high =
-    let later : s.0 + 1 ≤ t.0 = grow.1.0 in
-    let begun : from ≤ s.0 = grow.0 in
-    rising-cons x (map (λ (d : Draw). d.to) (draws_from start length' (s ∷ t ∷ next))) (λ _. omega arith) (rising-from start length' t.0 (start + step_end length' (t ∷ next)) (t ∷ next) (omega arith, grow.1.1) (omega arith) (omega arith))
 
 -- the first step begins at a mark, or past the end
 abbrev BeginsAt : (start length' x : ℕ) → List (ℕ × ℕ) → Type 0
@@ -140,10 +124,6 @@ module _ (job : JobValue) (placed : List Placement) (p : Placement) (draws : Lis
   all_marks : flat_map (marks_of job) (placed ++ p ∷ []) ≡ flat_map (marks_of job) placed ++ marks_of job p
   all_marks = flat_map_push (marks_of job) placed p
 
-  pub last_rising : IsSoundJob job → p.test < length job.tests → AreRising (marks_from p.start (drop count draws))
-  last_rising sound inside =
-      subst AreRising (sym marks_are) (rising-from p.start (cycles_of job p.test) 0 p.start (test_at job p.test).steps (sound.tests p.test no_test inside).grows (omega arith) (omega arith))
-
   -- with it placed the limit is kept
   pub last_within : IsSoundTable (record { job = job; placed = placed }) → MayPlace job placed p.test p.start → p ≡ at_start p.test p.start → IfSome job.power (λ most. (c : ℕ) → load_of draws c ≤ most)
   last_within sound may is = if_some job.power (λ most limit c.
@@ -154,14 +134,14 @@ module _ (job : JobValue) (placed : List Placement) (p : Placement) (draws : Lis
 
   pub last_room : (points : Vec Point) → IsSoundTable (record { job = job; placed = placed }) → MayPlace job placed p.test p.start → length job.tests + sum_by (λ (t : TestValue). length t.steps) job.tests ≤ vec_capacity points →
       length (draws_of job p) ≡ length (test_at job p.test).steps →
-      IfSome job.power (λ _. ArePoints (flat_map (draws_of job) placed) (flat_map (marks_of job) placed) points.items) → IfSome job.power (λ _. vec_len points + (length draws - count + 1) ≤ vec_capacity points)
+      IfSome job.power (λ _. ArePoints (flat_map (draws_of job) placed) (flat_map (marks_of job) placed) points.items) → IfSome job.power (λ _. all_uses points.items + (length draws - count + 1) ≤ vec_capacity points)
   last_room points sound may room long = if_some_more job.power (λ most are.
       let one = trail_has_room job placed p.test p.start sound may in
       let steps = draws_have_room job placed p.test p.start sound may in
       let marks = length-all_marks job placed in
       let points_are = are.count in
       let whole = ap length draws_are ∙ length-append (flat_map (draws_of job) placed) (draws_of job p) in
-      omega (arith, one, steps, marks, points_are, whole, long, room, count_is, points.ok.0))
+      omega (arith, one, steps, marks, points_are, whole, long, room, count_is))
 
   -- the profile without it, and with it
   pub before_last : (points : List Point) → IsSoundTable (record { job = job; placed = placed }) → IfSome job.power (λ _. ArePoints (flat_map (draws_of job) placed) (flat_map (marks_of job) placed) points) →

@@ -8,7 +8,6 @@ use Rattle.std.proofs.lemmas.Option.{slice_get-get_or, get_or_from_slice_get}
 use Rattle.std.proofs.lemmas.List.Elements.{All-head, All-tail}
 use Rattle.std.proofs.lemmas.List.Sums.{sum_by-cons}
 use Rattle.smallvec.specs.SmallVec.{SmallVec}
-use Rattle.soc_model.specs.declared.TheConstants.{POWER_MOST, NUMBER_WORD_MOST}
 use Rattle.resource_table.specs.declared.JobTest.{JobTest}
 use Rattle.resource_table.specs.declared.Placement.{Placement}
 use Rattle.resource_table.specs.declared.power.Draw.{Draw}
@@ -53,10 +52,6 @@ module _ (job : JobValue) (trail : SmallVec Placement) (ends : Vec (Option ℕ))
     profile = drawn_profile draws.items (flat_map (marks_of job) trail.items) points (subst (λ (v : List Draw). AreMarked v (flat_map (marks_of job) trail.items)) (sym kept.draws_are) (all_marked job trail.items kept.sound.job (λ i p at. (kept.sound.placed i p at).in_job))) are;
     over = (λ c late. load_over draws.items c (λ i d at. let end : d.to ≤ last = all_at (λ (d : Draw). d.to ≤ last) draws.items i d (draws_ended_by draws.items last refl is) at in omega arith));
   })
-
-  pub small_steps : (steps : List (ℕ × ℕ)) → steps ≡ wanted.steps → All (λ (s : ℕ × ℕ). s.0 ≤ NUMBER_WORD_MOST) steps
-  small_steps steps steps_is = λ k d lt.
-      (subst (λ (v : List (ℕ × ℕ)). All (λ (s : ℕ × ℕ). (s.0 ≤ NUMBER_WORD_MOST) × (s.1 ≤ POWER_MOST)) v) (sym (steps_is ∙ ap (λ (t : TestValue). t.steps) wanted_at)) (kept.sound.job.tests test no_test inside).small k d lt).0
 
   pub steps_within_limit : (steps : List (ℕ × ℕ)) (limit : ℕ) → steps ≡ wanted.steps → job.power ≡ Some limit → All (λ (s : ℕ × ℕ). s.1 ≤ limit) steps
   steps_within_limit steps limit steps_is is =

@@ -9,10 +9,9 @@ pub mod KeptTables
 pub mod BusyTimes
 pub mod KeptMarks
 pub mod KeptStarts
-pub mod Holes
 pub mod Profiles
 pub mod Marked
-pub mod Crowds
+pub mod Sweeps
 pub mod Befores
 pub mod Ready
 pub mod Schedules

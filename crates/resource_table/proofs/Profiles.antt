@@ -1,19 +1,19 @@
 -- Profiles of the power that is drawn.
 use Rattle.std.proofs.Common.{◌≡◌, ◌⊎◌, ℕ, zero, suc, ◌+◌, ◌-◌, ◌<◌, ◌≤◌, ◌^◌, inl, inr, Some, List, [], ◌∷◌, ◌++◌, length, get_or, set, take, drop, map, arith, refl, sym, ap, ◌∙◌, subst}
 use Rattle.std.specs.Prelude.{slice_get, nat_eq, if◌then◌else◌}
-use Rattle.std.specs.List.{All, sum_by, insert, remove}
+use Rattle.std.specs.List.{All, sum_by, filter, insert}
 use Rattle.std.specs.List.Sorted.{IsNonDecreasingBy, IsPartitionPoint}
-use Rattle.std.proofs.lemmas.Bool.{cases_lt, cases_eq, eqb-true, eq-eqb}
+use Rattle.std.proofs.lemmas.Bool.{cases_Bool, cases_lt, cases_eq, eqb-true, eqb-false, eq-eqb}
 use Rattle.std.proofs.lemmas.List.{take_more, same_lists, length-map, length-set, get_or-map, get_or-set_same, get_or-set_other}
-use Rattle.std.proofs.lemmas.List.Edits.{length-insert, length-remove, get_or-remove_below, get_or-remove_above}
-use Rattle.std.proofs.lemmas.List.Elements.{All-append, All-cons, All-take, All-drop, All-map}
+use Rattle.std.proofs.lemmas.List.Elements.{All-append, All-cons, All-take, All-drop, All-map, All-filter}
+use Rattle.std.proofs.lemmas.List.Kept.{IsNonDecreasingBy-filter}
 use Rattle.std.proofs.lemmas.List.Sorted.{IsNonDecreasingBy-insert}
-use Rattle.std.proofs.lemmas.List.Sums.{sum_by-cons, sum_by_push, sum_by-insert, sum_by-remove, sum_by_more_le}
-use Rattle.plan_model.proofs.Sums.{sum_by-le_at, some_passes}
+use Rattle.std.proofs.lemmas.List.Sums.{sum_by-cons, sum_by_push, sum_by-insert, sum_by-set, sum_by_more_le}
+use Rattle.plan_model.proofs.Sums.{sum_by-le_at, sum_by-filter}
 use Rattle.resource_table.specs.declared.power.Draw.{Draw}
 use Rattle.resource_table.specs.declared.points.Point.{Point}
 use Rattle.resource_table.specs.Resources.{taken_by, load_of}
-use Rattle.resource_table.specs.Profiles.{no_point, load_before, IsProfile, stands_at, counted, ArePoints, AreMarked, raised_by}
+use Rattle.resource_table.specs.Profiles.{no_point, load_before, IsProfile, uses_at, all_uses, is_used, counted, ArePoints, AreMarked, raised_by}
 use Rattle.resource_table.proofs.Places.{all_at, same_item}
 
 -- ---- what a draw takes
@@ -41,12 +41,29 @@ never_taken d c empty = elim (cases_lt c d.from) [
 
 -- ---- points of draws
 
+-- where a mark stands there is a point with one
+pub some_used : (c : ℕ) (points : List Point) → 1 ≤ sum_by (uses_at c) points → (j : ℕ) × (p : Point) × (slice_get points j ≡ Some p) × (p.cycle ≡ c) × (1 ≤ p.uses)
+some_used c [] some = absurd (omega (arith, some))
+some_used c (p ∷ points) some = elim (cases_Bool (nat_eq p.cycle c)) [
+  | inl same ↦ elim (cases_lt 0 p.uses) [
+    | inl used ↦ (0, p, refl, eqb-true p.cycle c same, used)
+    | inr unused ↦
+        (let none : uses_at c p ≡ p.uses = rw same refl in
+        let r = some_used c points (omega (arith, none, unused, some, sum_by-cons (uses_at c) p points)) in
+        (suc r.0, r.1, r.2, r.3, r.4))
+  ]
+  | inr apart ↦
+      (let none : uses_at c p ≡ 0 = rw apart refl in
+      let r = some_used c points (omega (arith, none, some, sum_by-cons (uses_at c) p points)) in
+      (suc r.0, r.1, r.2, r.3, r.4))
+]
+
 -- at each of the cycles there is a point
 pub point_of : (draws : List Draw) (cycles : List ℕ) (points : List Point) → ArePoints draws cycles points → (c : ℕ) → 1 ≤ counted c cycles → (j : ℕ) × (p : Point) × (slice_get points j ≡ Some p) × (p.cycle ≡ c)
 point_of draws cycles points are c some =
     let marks = are.marks c in
-    let r = some_passes (λ (p : Point). nat_eq p.cycle c) points (omega arith) in
-    (r.0, r.1, r.2, eqb-true r.1.cycle c r.3)
+    let r = some_used c points (omega arith) in
+    (r.0, r.1, r.2, r.3)
 
 none_at_all : (f : Draw → ℕ) (draws : List Draw) → ((i : ℕ) (d : Draw) → slice_get draws i ≡ Some d → f d ≡ 0) → sum_by f draws ≡ 0
 none_at_all f [] h = refl
@@ -97,57 +114,134 @@ load_there load points is (suc n) c le parts =
 
 -- ---- a point more, a point less
 
-pub order_added : (points : List Point) (place load c : ℕ) → IsNonDecreasingBy (λ (p : Point). p.cycle) points → place ≤ length points →
-    ((k : ℕ) (d : Point) → k < place → (get_or points k d).cycle ≤ c) → ((k : ℕ) (d : Point) → place ≤ k → k < length points → c ≤ (get_or points k d).cycle) → IsNonDecreasingBy (λ (p : Point). p.cycle) (insert points place (record { cycle = c; load = load }))
-order_added points place load c ordered le low high = IsNonDecreasingBy-insert (λ (p : Point). p.cycle) points place (record { cycle = c; load = load }) ordered le low high
-
 pub point_added : (draws : List Draw) (cycles : List ℕ) (points : List Point) (place load c : ℕ) → ArePoints draws cycles points → place ≤ length points →
-    ((k : ℕ) (d : Point) → k < place → (get_or points k d).cycle ≤ c) → ((k : ℕ) (d : Point) → place ≤ k → k < length points → c ≤ (get_or points k d).cycle) → load ≡ load_of draws c → ArePoints draws (c ∷ cycles) (insert points place (record { cycle = c; load = load }))
+    ((k : ℕ) (d : Point) → k < place → (get_or points k d).cycle ≤ c) → ((k : ℕ) (d : Point) → place ≤ k → k < length points → c ≤ (get_or points k d).cycle) → load ≡ load_of draws c → ArePoints draws (c ∷ cycles) (insert points place (record { cycle = c; load = load; uses = 1 }))
 point_added draws cycles points place load c are le low high is = record {
-  ordered = order_added points place load c are.ordered le low high;
+  ordered = IsNonDecreasingBy-insert (λ (p : Point). p.cycle) points place new are.ordered le low high;
   loads = All-append P (take place points) (new ∷ drop place points) (All-take P place points are.loads) (All-cons P new (drop place points) is (All-drop P place points are.loads));
-  marks = (λ x. let old = are.marks x in omega (arith, old, sum_by-insert (stands_at x) points place new, sum_by-cons (λ y. if nat_eq y x then 1 else 0) c cycles));
-  count = (let old = are.count in omega (arith, old, length-insert points place new le));
+  marks = (λ x. let old = are.marks x in omega (arith, old, sum_by-insert (uses_at x) points place new, sum_by-cons (λ y. if nat_eq y x then 1 else 0) c cycles));
+  count = (let old = are.count in omega (arith, old, sum_by-insert (λ (p : Point). p.uses) points place new));
 }
   where
     P : Point → Type 0
     P p = p.load ≡ load_of draws p.cycle
 
     new : Point
-    new = record { cycle = c; load = load }
+    new = record { cycle = c; load = load; uses = 1 }
 
 pub self_counts : (c : ℕ) → (let n : ℕ = if nat_eq c c then 1 else 0 in n) ≡ 1
 self_counts c = rw (eq-eqb c c refl) refl
 
-pub order_removed : (points : List Point) (place : ℕ) → IsNonDecreasingBy (λ (p : Point). p.cycle) points → place < length points → IsNonDecreasingBy (λ (p : Point). p.cycle) (remove points place)
-order_removed points place ordered lt i j d le inside =
-    let shorter = length-remove points place lt in
-    elim (cases_lt i place) [
-      | inl i_below ↦ elim (cases_lt j place) [
-        | inl j_below ↦ rw (get_or-remove_below points place d i i_below lt, get_or-remove_below points place d j j_below lt) (ordered i j d le (omega arith))
-        | inr j_above ↦ rw (get_or-remove_below points place d i i_below lt, get_or-remove_above points place d j j_above lt) (ordered i (j + 1) d (omega arith) (omega arith))
-      ]
-      | inr i_above ↦ rw (get_or-remove_above points place d i i_above lt, get_or-remove_above points place d j (omega arith) lt) (ordered (i + 1) (j + 1) d (omega arith) (omega arith))
-    ]
+-- ---- a mark more, a mark less
 
-pub point_removed : (draws : List Draw) (cycles : List ℕ) (points : List Point) (place c : ℕ) → ArePoints draws (c ∷ cycles) points → place < length points → (get_or points place no_point).cycle ≡ c → ArePoints draws cycles (remove points place)
-point_removed draws cycles points place c are lt is = record {
-  ordered = order_removed points place are.ordered lt;
-  loads = All-append P (take place points) (drop (suc place) points) (All-take P place points are.loads) (All-drop P (suc place) points are.loads);
-  marks = (λ x.
-      let old = are.marks x in
-      let here : stands_at x (get_or points place no_point) ≡ (if nat_eq c x then 1 else 0) = ap (λ (v : ℕ). if nat_eq v x then 1 else 0) is in
-      omega (arith, old, here, sum_by-remove (stands_at x) points place no_point lt, sum_by-cons (λ y. if nat_eq y x then 1 else 0) c cycles));
-  count = (let old = are.count in omega (arith, old, length-remove points place lt));
+-- a point with other marks
+abbrev with_uses : Point → ℕ → Point
+with_uses p n = record { cycle = p.cycle; load = p.load; uses = n }
+
+uses_more : (p : Point) (x : ℕ) → uses_at x (with_uses p (p.uses + 1)) ≡ uses_at x p + (let n : ℕ = if nat_eq p.cycle x then 1 else 0 in n)
+uses_more p x = elim (cases_Bool (nat_eq p.cycle x)) [
+  | inl same ↦ rw same refl
+  | inr apart ↦ rw apart refl
+]
+
+uses_less : (p : Point) (x : ℕ) → 1 ≤ p.uses → uses_at x (with_uses p (p.uses - 1)) + (let n : ℕ = if nat_eq p.cycle x then 1 else 0 in n) ≡ uses_at x p
+uses_less p x some = elim (cases_Bool (nat_eq p.cycle x)) [
+  | inl same ↦ rw same (omega (arith, some))
+  | inr apart ↦ rw apart refl
+]
+
+module _ (draws : List Draw) (points : List Point) (place n : ℕ) (lt : place < length points) where
+  abbrev here : Point
+  here = get_or points place no_point
+
+  abbrev changed : List Point
+  changed = set points place (with_uses here n)
+
+  cycle_stays : (k : ℕ) (d : Point) → (get_or changed k d).cycle ≡ (get_or points k d).cycle
+  cycle_stays k d = elim (cases_eq k place) [
+    | inl same ↦ subst (λ (v : ℕ). (get_or changed v d).cycle ≡ (get_or points v d).cycle) (sym same) (ap (λ (p : Point). p.cycle) (get_or-set_same points place (with_uses here n) d lt ∙ refl) ∙ ap (λ (p : Point). p.cycle) (same_item points place no_point d lt))
+    | inr apart ↦ ap (λ (p : Point). p.cycle) (get_or-set_other points place k (with_uses here n) d apart)
+  ]
+
+  load_stays : (k : ℕ) (d : Point) → (get_or changed k d).load ≡ (get_or points k d).load
+  load_stays k d = elim (cases_eq k place) [
+    | inl same ↦ subst (λ (v : ℕ). (get_or changed v d).load ≡ (get_or points v d).load) (sym same) (ap (λ (p : Point). p.load) (get_or-set_same points place (with_uses here n) d lt) ∙ ap (λ (p : Point). p.load) (same_item points place no_point d lt))
+    | inr apart ↦ ap (λ (p : Point). p.load) (get_or-set_other points place k (with_uses here n) d apart)
+  ]
+
+  order_stays : IsNonDecreasingBy (λ (p : Point). p.cycle) points → IsNonDecreasingBy (λ (p : Point). p.cycle) changed
+  order_stays ordered i j d le inside = (let old = ordered i j d le (omega (arith, inside, length-set points place (with_uses here n))) in omega (arith, old, cycle_stays i d, cycle_stays j d))
+
+  loads_stay : All (λ (p : Point). p.load ≡ load_of draws p.cycle) points → All (λ (p : Point). p.load ≡ load_of draws p.cycle) changed
+  loads_stay loads k d inside = load_stays k d ∙ loads k d (omega (arith, inside, length-set points place (with_uses here n))) ∙ ap (load_of draws) (sym (cycle_stays k d))
+
+pub mark_added : (draws : List Draw) (cycles : List ℕ) (points : List Point) (place c : ℕ) → ArePoints draws cycles points → place < length points → (get_or points place no_point).cycle ≡ c →
+    ArePoints draws (c ∷ cycles) (set points place (record { cycle = (get_or points place no_point).cycle; load = (get_or points place no_point).load; uses = (get_or points place no_point).uses + 1 }))
+mark_added draws cycles points place c are lt is =
+    let p : Point = get_or points place no_point in
+    let n : ℕ = p.uses + 1 in
+    record {
+      ordered = order_stays draws points place n lt are.ordered;
+      loads = loads_stay draws points place n lt are.loads;
+      marks = (λ x.
+          let old = are.marks x in
+          let one : (let n : ℕ = if nat_eq p.cycle x then 1 else 0 in n) ≡ (let n : ℕ = if nat_eq c x then 1 else 0 in n) = ap (λ (v : ℕ). let n : ℕ = if nat_eq v x then 1 else 0 in n) is in
+          omega (arith, old, one, uses_more p x, sum_by-set (uses_at x) points place (with_uses p n) no_point lt, sum_by-cons (λ y. if nat_eq y x then 1 else 0) c cycles));
+      count = (let old = are.count in omega (arith, old, sum_by-set (λ (p : Point). p.uses) points place (with_uses p n) no_point lt));
+    }
+
+pub mark_removed : (draws : List Draw) (cycles : List ℕ) (points : List Point) (place c : ℕ) → ArePoints draws (c ∷ cycles) points → place < length points → (get_or points place no_point).cycle ≡ c → 1 ≤ (get_or points place no_point).uses →
+    ArePoints draws cycles (set points place (record { cycle = (get_or points place no_point).cycle; load = (get_or points place no_point).load; uses = (get_or points place no_point).uses - 1 }))
+mark_removed draws cycles points place c are lt is some =
+    let p : Point = get_or points place no_point in
+    let n : ℕ = p.uses - 1 in
+    record {
+      ordered = order_stays draws points place n lt are.ordered;
+      loads = loads_stay draws points place n lt are.loads;
+      marks = (λ x.
+          let old = are.marks x in
+          let one : (let n : ℕ = if nat_eq p.cycle x then 1 else 0 in n) ≡ (let n : ℕ = if nat_eq c x then 1 else 0 in n) = ap (λ (v : ℕ). let n : ℕ = if nat_eq v x then 1 else 0 in n) is in
+          omega (arith, old, one, uses_less p x some, sum_by-set (uses_at x) points place (with_uses p n) no_point lt, sum_by-cons (λ y. if nat_eq y x then 1 else 0) c cycles));
+      count = (let old = are.count in omega (arith, old, some, sum_by-set (λ (p : Point). p.uses) points place (with_uses p n) no_point lt));
+    }
+
+-- ---- points without a mark
+
+used_part : (f : Point → ℕ) (p : Point) → f p ≤ p.uses → (let n : ℕ = if is_used p then f p else 0 in n) ≡ f p
+used_part f p le = elim (cases_Bool (nat_eq p.uses 0)) [
+  | inl none ↦ (let zero' : p.uses ≡ 0 = eqb-true p.uses 0 none in rw none (omega (arith, zero', le)))
+  | inr some ↦ rw some refl
+]
+
+used_sum : (f : Point → ℕ) (points : List Point) → ((p : Point) → f p ≤ p.uses) → sum_by (λ (p : Point). if is_used p then f p else 0) points ≡ sum_by f points
+used_sum f [] le = refl
+used_sum f (p ∷ points) le = omega (arith, used_part f p (le p), sum_by-cons (λ (p : Point). if is_used p then f p else 0) p points, sum_by-cons f p points, used_sum f points le)
+
+uses_at-le : (c : ℕ) (p : Point) → uses_at c p ≤ p.uses
+uses_at-le c p = elim (cases_Bool (nat_eq p.cycle c)) [
+  | inl same ↦ rw same (omega arith)
+  | inr apart ↦ rw apart (omega arith)
+]
+
+pub unused_dropped : (draws : List Draw) (cycles : List ℕ) (points : List Point) → ArePoints draws cycles points → ArePoints draws cycles (filter is_used points)
+unused_dropped draws cycles points are = record {
+  ordered = IsNonDecreasingBy-filter (λ (p : Point). p.cycle) is_used points are.ordered;
+  loads = All-filter is_used (λ (p : Point). p.load ≡ load_of draws p.cycle) points are.loads;
+  marks = (λ c. sum_by-filter is_used (uses_at c) points ∙ used_sum (uses_at c) points (uses_at-le c) ∙ are.marks c);
+  count = sum_by-filter is_used (λ (p : Point). p.uses) points ∙ used_sum (λ (p : Point). p.uses) points (λ p. omega arith) ∙ are.count;
 }
-  where
-    P : Point → Type 0
-    P p = p.load ≡ load_of draws p.cycle
+
+pub few_used : (points : List Point) → length (filter is_used points) ≤ all_uses points
+few_used [] = omega arith
+few_used (p ∷ points) = elim (cases_Bool (nat_eq p.uses 0)) [
+  | inl none ↦ rw none (omega (arith, few_used points, sum_by-cons (λ (p : Point). p.uses) p points))
+  | inr some ↦ (let more = eqb-false p.uses 0 some in rw some (omega (arith, more, few_used points, sum_by-cons (λ (p : Point). p.uses) p points)))
+]
 
 -- ---- a draw more, a draw less
 
 raised_none : (d : Draw) (p : Point) → taken_by p.cycle d ≡ 0 → raised_by d p ≡ p
-raised_none d p none = ap (λ (n : ℕ). (let q : Point = record { cycle = p.cycle; load = n } in q)) (let e : p.load + taken_by p.cycle d ≡ p.load = omega (arith, none) in e)
+raised_none d p none = ap (λ (n : ℕ). (let q : Point = record { cycle = p.cycle; load = n; uses = p.uses } in q)) (let e : p.load + taken_by p.cycle d ≡ p.load = omega (arith, none) in e)
 
 -- the points up to a place have a draw more than those of another list, and those from there on are the same
 pub record AreRaised (d : Draw) (low high : List Point) (place : ℕ) : Type 0 where
@@ -176,17 +270,17 @@ raised_all d low high place are over = same_lists high (map (raised_by d) low) (
         ]
 
 -- one point more
-raised_here : (d : Draw) (p : Point) → d.from ≤ p.cycle → p.cycle < d.to → (let q : Point = record { cycle = p.cycle; load = p.load + d.power } in q) ≡ raised_by d p
-raised_here d p from to = ap (λ (n : ℕ). (let q : Point = record { cycle = p.cycle; load = p.load + n } in q)) (sym (all_taken d p.cycle from to))
+raised_here : (d : Draw) (p : Point) → d.from ≤ p.cycle → p.cycle < d.to → (let q : Point = record { cycle = p.cycle; load = p.load + d.power; uses = p.uses } in q) ≡ raised_by d p
+raised_here d p from to = ap (λ (n : ℕ). (let q : Point = record { cycle = p.cycle; load = p.load + n; uses = p.uses } in q)) (sym (all_taken d p.cycle from to))
 
 pub raised_more : (d : Draw) (low high : List Point) (place : ℕ) → AreRaised d low high place → place < length low → d.from ≤ (get_or low place no_point).cycle → (get_or low place no_point).cycle < d.to →
-    AreRaised d low (set high place (record { cycle = (get_or high place no_point).cycle; load = (get_or high place no_point).load + d.power })) (place + 1)
+    AreRaised d low (set high place (record { cycle = (get_or high place no_point).cycle; load = (get_or high place no_point).load + d.power; uses = (get_or high place no_point).uses })) (place + 1)
 raised_more d low high place are lt from to = record {
   long = are.long ∙ sym (length-set high place new);
   done = (λ k e before inside. elim (cases_eq k place) [
     | inl same ↦
         (let old : get_or high place no_point ≡ get_or low place no_point = are.rest place no_point (omega arith) in
-        let here : new ≡ raised_by d (get_or low place no_point) = ap (λ (p : Point). (let q : Point = record { cycle = p.cycle; load = p.load + d.power } in q)) old ∙ raised_here d (get_or low place no_point) from to in
+        let here : new ≡ raised_by d (get_or low place no_point) = ap (λ (p : Point). (let q : Point = record { cycle = p.cycle; load = p.load + d.power; uses = p.uses } in q)) old ∙ raised_here d (get_or low place no_point) from to in
         subst (λ (v : ℕ). get_or (set high place new) v e ≡ raised_by d (get_or low v e)) (sym same)
         (get_or-set_same high place new e (let long = are.long in omega arith) ∙ here ∙ ap (raised_by d) (same_item low place no_point e lt)))
     | inr apart ↦ get_or-set_other high place k new e apart ∙ are.done k e (omega (arith, before, apart)) inside
@@ -195,11 +289,11 @@ raised_more d low high place are lt from to = record {
 }
   where
     new : Point
-    new = record { cycle = (get_or high place no_point).cycle; load = (get_or high place no_point).load + d.power }
+    new = record { cycle = (get_or high place no_point).cycle; load = (get_or high place no_point).load + d.power; uses = (get_or high place no_point).uses }
 
 pub lowered_more : (d : Draw) (low high : List Point) (place : ℕ) → AreRaised d low high place → place < length low → d.from ≤ (get_or high place no_point).cycle → (get_or high place no_point).cycle < d.to →
     taken_by (get_or high place no_point).cycle d ≤ (get_or high place no_point).load →
-    AreRaised d (set low place (record { cycle = (get_or low place no_point).cycle; load = (get_or low place no_point).load - d.power })) high (place + 1)
+    AreRaised d (set low place (record { cycle = (get_or low place no_point).cycle; load = (get_or low place no_point).load - d.power; uses = (get_or low place no_point).uses })) high (place + 1)
 lowered_more d low high place are lt from to covers = record {
   long = length-set low place new ∙ are.long;
   done = (λ k e before inside. elim (cases_eq k place) [
@@ -213,13 +307,13 @@ lowered_more d low high place are lt from to covers = record {
 }
   where
     new : Point
-    new = record { cycle = (get_or low place no_point).cycle; load = (get_or low place no_point).load - d.power }
+    new = record { cycle = (get_or low place no_point).cycle; load = (get_or low place no_point).load - d.power; uses = (get_or low place no_point).uses }
 
-    here : (l h : Point) → h ≡ l → d.from ≤ h.cycle → h.cycle < d.to → taken_by h.cycle d ≤ h.load → h ≡ raised_by d (let q : Point = record { cycle = l.cycle; load = l.load - d.power } in q)
+    here : (l h : Point) → h ≡ l → d.from ≤ h.cycle → h.cycle < d.to → taken_by h.cycle d ≤ h.load → h ≡ raised_by d (let q : Point = record { cycle = l.cycle; load = l.load - d.power; uses = l.uses } in q)
     here l h same f t c =
         let taken = all_taken d h.cycle f t in
         let load : h.load ≡ h.load - d.power + taken_by h.cycle d = omega (arith, taken, c) in
-        ap (λ (n : ℕ). (let q : Point = record { cycle = h.cycle; load = n } in q)) load ∙ ap (λ (p : Point). raised_by d (let q : Point = record { cycle = p.cycle; load = p.load - d.power } in q)) same
+        ap (λ (n : ℕ). (let q : Point = record { cycle = h.cycle; load = n; uses = h.uses } in q)) load ∙ ap (λ (p : Point). raised_by d (let q : Point = record { cycle = p.cycle; load = p.load - d.power; uses = p.uses } in q)) same
 
 -- where the points from a place on stand after a draw
 pub over_from : (points : List Point) (place to : ℕ) → IsNonDecreasingBy (λ (p : Point). p.cycle) points → (place < length points → to ≤ (get_or points place no_point).cycle) → (k : ℕ) (e : Point) → place ≤ k → k < length points → to ≤ (get_or points k e).cycle
@@ -240,9 +334,13 @@ over_low d low high place are over k e le lt = subst (λ (v : Point). d.to ≤ v
 
 -- ---- whole draws
 
-stands_raised : (d : Draw) (points : List Point) (c : ℕ) → sum_by (stands_at c) (map (raised_by d) points) ≡ sum_by (stands_at c) points
-stands_raised d [] c = refl
-stands_raised d (p ∷ points) c = omega (arith, sum_by-cons (stands_at c) (raised_by d p) (map (raised_by d) points), sum_by-cons (stands_at c) p points, stands_raised d points c)
+uses_raised : (d : Draw) (points : List Point) (c : ℕ) → sum_by (uses_at c) (map (raised_by d) points) ≡ sum_by (uses_at c) points
+uses_raised d [] c = refl
+uses_raised d (p ∷ points) c = omega (arith, sum_by-cons (uses_at c) (raised_by d p) (map (raised_by d) points), sum_by-cons (uses_at c) p points, uses_raised d points c)
+
+all_raised : (d : Draw) (points : List Point) → all_uses (map (raised_by d) points) ≡ all_uses points
+all_raised d [] = refl
+all_raised d (p ∷ points) = omega (arith, sum_by-cons (λ (p : Point). p.uses) (raised_by d p) (map (raised_by d) points), sum_by-cons (λ (p : Point). p.uses) p points, all_raised d points)
 
 pub draw_added : (draws : List Draw) (cycles : List ℕ) (d : Draw) (low high : List Point) → ArePoints draws cycles low → high ≡ map (raised_by d) low → ArePoints (draws ++ d ∷ []) cycles high
 draw_added draws cycles d low high are is = subst (ArePoints (draws ++ d ∷ []) cycles) (sym is) (record {
@@ -255,8 +353,8 @@ draw_added draws cycles d low high are is = subst (ArePoints (draws ++ d ∷ [])
   loads = All-map (λ (p : Point). p.load ≡ load_of (draws ++ d ∷ []) p.cycle) (raised_by d) low (λ k e lt.
       let old : (get_or low k e).load ≡ load_of draws (get_or low k e).cycle = are.loads k e lt in
       omega (arith, old, sum_by_push (taken_by (get_or low k e).cycle) draws d));
-  marks = (λ c. let old = are.marks c in omega (arith, old, stands_raised d low c));
-  count = (let old = are.count in omega (arith, old, length-map low (raised_by d)));
+  marks = (λ c. let old = are.marks c in omega (arith, old, uses_raised d low c));
+  count = (let old = are.count in omega (arith, old, all_raised d low));
 })
 
 pub draw_taken : (draws : List Draw) (cycles : List ℕ) (d : Draw) (low high : List Point) → ArePoints (draws ++ d ∷ []) cycles high → high ≡ map (raised_by d) low → ArePoints draws cycles low
@@ -276,8 +374,8 @@ draw_taken draws cycles d low high are' is = go (subst (ArePoints (draws ++ d �
           let old : (raised_by d (get_or low k e)).load ≡ load_of (draws ++ d ∷ []) (raised_by d (get_or low k e)).cycle = subst (λ (p : Point). p.load ≡ load_of (draws ++ d ∷ []) p.cycle) there (are.loads k e inside) in
           let old' : (get_or low k e).load + taken_by (get_or low k e).cycle d ≡ load_of (draws ++ d ∷ []) (get_or low k e).cycle = old in
           omega (arith, old', sum_by_push (taken_by (get_or low k e).cycle) draws d));
-      marks = (λ c. let old = are.marks c in omega (arith, old, stands_raised d low c));
-      count = (let old = are.count in omega (arith, old, length-map low (raised_by d)));
+      marks = (λ c. let old = are.marks c in omega (arith, old, uses_raised d low c));
+      count = (let old = are.count in omega (arith, old, all_raised d low));
     }
 
 -- the loads have room for the next draw, and cover the last one

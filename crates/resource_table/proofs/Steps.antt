@@ -1,5 +1,5 @@
 -- The power of a test, step by step.
-use Rattle.std.proofs.Common.{◌≡◌, ℕ, zero, suc, ◌+◌, ◌-◌, ◌<◌, ◌≤◌, inl, inr, List, [], ◌∷◌, length, drop, get_or, arith, max, refl, sym, ◌∙◌, add-one, drop-cons, subst}
+use Rattle.std.proofs.Common.{◌≡◌, ℕ, zero, suc, ◌+◌, ◌-◌, ◌<◌, ◌≤◌, inl, inr, List, [], ◌∷◌, length, drop, get_or, arith, refl, sym, ◌∙◌, add-one, drop-cons, subst}
 use Rattle.std.proofs.lemmas.Bool.{cases_lt, le-leb, lt-leb, lt-ltb}
 use Rattle.std.proofs.lemmas.List.Sums.{sum_by-cons}
 use Rattle.plan_model.specs.Plans.{step_power}
@@ -114,26 +114,13 @@ steps_fit-drop load most start length zero steps fit = fit
 steps_fit-drop load most start length (suc i) [] fit = tt
 steps_fit-drop load most start length (suc i) (s ∷ steps) fit = steps_fit-drop load most start length i steps fit.1
 
--- where a step is crowded from a cycle on, no start fits before that crowd has ended
-pub jump : (load : ℕ → ℕ) (limit start other length c e : ℕ) (s : ℕ × ℕ) (next : List (ℕ × ℕ)) → StepsFit load limit other length (s ∷ next) → start ≤ other → start + s.0 ≤ c →
-    c < start + step_end length next → s.1 ≤ limit → c < e → ((x : ℕ) → c ≤ x → x < e → limit - s.1 < load x) → e - s.0 ≤ other
-jump load limit start other length c e s next fit later from to small after crowd = elim (cases_lt (other + s.0) e) [
-  | inr done ↦ omega arith
-  | inl early ↦
-      let x : ℕ = max c (other + s.0) in
-      let here : load x + s.1 ≤ limit = fit.0 x (omega arith) (omega arith) in
-      let more : limit - s.1 < load x = crowd x (omega arith) (omega arith) in
-      absurd (omega arith)
-]
-
--- the same for the step at a place
-pub jump_at : (load : ℕ → ℕ) (limit start other length' c e at : ℕ) (steps : List (ℕ × ℕ)) → at < length steps → StepsFit load limit other length' steps → start ≤ other →
-    start + (get_or steps at (0, 0)).0 ≤ c → c < start + step_end length' (drop (at + 1) steps) → (get_or steps at (0, 0)).1 ≤ limit → c < e →
-    ((x : ℕ) → c ≤ x → x < e → limit - (get_or steps at (0, 0)).1 < load x) → e - (get_or steps at (0, 0)).0 ≤ other
-jump_at load limit start other length' c e at steps lt fit later from to small after crowd =
+-- the load in the window of the step at a place
+pub window_at : (load : ℕ → ℕ) (limit other length' at : ℕ) (steps : List (ℕ × ℕ)) → at < length steps → StepsFit load limit other length' steps →
+    (c : ℕ) → other + (get_or steps at (0, 0)).0 ≤ c → c < other + step_end length' (drop (at + 1) steps) → load c + (get_or steps at (0, 0)).1 ≤ limit
+window_at load limit other length' at steps lt fit =
     let parts : drop at steps ≡ get_or steps at (0, 0) ∷ drop (at + 1) steps = rw (add-one, drop-cons steps at (0, 0)) refl in
     let here : StepsFit load limit other length' (get_or steps at (0, 0) ∷ drop (at + 1) steps) = subst (StepsFit load limit other length') parts (steps_fit-drop load limit other length' at steps fit) in
-    jump load limit start other length' c e (get_or steps at (0, 0)) (drop (at + 1) steps) here later from to small after crowd
+    here.0
 
 -- one step more
 pub steps_fit_more : (load : ℕ → ℕ) (limit start length' at : ℕ) (steps : List (ℕ × ℕ)) → at < length steps →

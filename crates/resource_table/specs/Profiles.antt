@@ -1,6 +1,6 @@
 -- A profile of the power that is drawn: its load at some cycles, between which it stays the same.
-use Rattle.std.specs.Prelude.{◌≡◌, ℕ, zero, suc, ◌+◌, ◌<◌, ◌≤◌, ◌⊎◌, ◌++◌, nat_eq, if◌then◌else◌, Some, List, length, take, drop, slice_get, slice_index_or}
-use Rattle.std.specs.List.{All, AllWithin, sum_by}
+use Rattle.std.specs.Prelude.{◌≡◌, ℕ, zero, suc, ◌+◌, ◌<◌, ◌≤◌, ◌⊎◌, Bool, not, nat_eq, if◌then◌else◌, Some, List, length, slice_get, slice_index_or}
+use Rattle.std.specs.List.{All, sum_by}
 use Rattle.std.specs.List.Sorted.{IsNonDecreasingBy}
 use Rattle.resource_table.specs.declared.power.Draw.{Draw}
 use Rattle.resource_table.specs.declared.points.Point.{Point}
@@ -8,7 +8,7 @@ use Rattle.resource_table.specs.Resources.{taken_by, load_of}
 
 -- what stands past the end of a list of points
 abbrev pub no_point : Point
-no_point = record { cycle = 0; load = 0 }
+no_point = record { cycle = 0; load = 0; uses = 0 }
 
 -- the load just before the point at a place
 abbrev pub load_before : List Point → ℕ → ℕ
@@ -22,51 +22,40 @@ pub record IsProfile (load : ℕ → ℕ) (points : List Point) : Type 0 where
   pub none_before : (c : ℕ) → All (λ (p : Point). c < p.cycle) points → load c ≡ 0
   pub between : (a c : ℕ) → a ≤ c → All (λ (p : Point). (p.cycle ≤ a) ⊎ (c < p.cycle)) points → load c ≡ load a
 
--- whether a point stands at a cycle
-abbrev pub stands_at : ℕ → Point → ℕ
-stands_at c p = if nat_eq p.cycle c then 1 else 0
+-- the marks that stand at a point of a cycle
+abbrev pub uses_at : ℕ → Point → ℕ
+uses_at c p = if nat_eq p.cycle c then p.uses else 0
+
+-- the marks that stand at points
+abbrev pub all_uses : List Point → ℕ
+all_uses points = sum_by (λ (p : Point). p.uses) points
+
+-- whether a mark stands at a point
+abbrev pub is_used : Point → Bool
+is_used p = not (nat_eq p.uses 0)
 
 -- how often a cycle stands in a list
 abbrev pub counted : ℕ → List ℕ → ℕ
 counted c cycles = sum_by (λ x. if nat_eq x c then 1 else 0) cycles
 
--- a point for each of some cycles, with what the draws take there
+-- some cycles stand as marks at points, each with what the draws take there; also points without a mark may stand
 pub record ArePoints (draws : List Draw) (cycles : List ℕ) (points : List Point) : Type 0 where
   pub ordered : IsNonDecreasingBy (λ (p : Point). p.cycle) points
   pub loads : All (λ (p : Point). p.load ≡ load_of draws p.cycle) points
-  pub marks : (c : ℕ) → sum_by (stands_at c) points ≡ counted c cycles
-  pub count : length points ≡ length cycles
+  pub marks : (c : ℕ) → sum_by (uses_at c) points ≡ counted c cycles
+  pub count : all_uses points ≡ length cycles
 
 -- each draw that takes anything begins and ends at one of the cycles
 pub record AreMarked (draws : List Draw) (cycles : List ℕ) : Type 0 where
   pub each : (i : ℕ) (d : Draw) → slice_get draws i ≡ Some d → (d.to ≤ d.from) ⊎ ((1 ≤ counted d.from cycles) × (1 ≤ counted d.to cycles))
 
--- each cycle is at least the one before
-pub record AreRising (cycles : List ℕ) : Type 0 where
-  pub next : (i : ℕ) → i + 1 < length cycles → slice_index_or cycles i 0 ≤ slice_index_or cycles (i + 1) 0
-
--- the items of a list without so many from a place on
-abbrev pub without : {X : Type 0} → (place size : ℕ) → List X → List X
-without place size xs = take place xs ++ drop (place + size) xs
-
 -- a point, with a draw that begins to be taken
 abbrev pub raised_by : Draw → Point → Point
-raised_by d p = record { cycle = p.cycle; load = p.load + taken_by p.cycle d }
+raised_by d p = record { cycle = p.cycle; load = p.load + taken_by p.cycle d; uses = p.uses }
 
--- a point in a step's window at which too little is left free, the last such point
-pub record IsCrowded (points : List Point) (free from to place : ℕ) : Type 0 where
-  pub inside : place < length points
-  pub window : from < to
-  pub begins : (slice_index_or points place no_point).cycle < to
-  pub crowded : free < (slice_index_or points place no_point).load
-  pub later : AllWithin (λ (p : Point). from < p.cycle) points (place + 1) (length points)
-
--- the cycle from which on a crowd is over: that of the next point that leaves enough free, or else a last cycle
-pub record IsCrowdEnd (points : List Point) (free place last end : ℕ) : Type 0 where
-  pub next : ℕ
-  pub after : place < next
-  pub crowded : AllWithin (λ (p : Point). free < p.load) points (place + 1) next
-  pub found : ((next < length points) × ((slice_index_or points next no_point).load ≤ free) × (end ≡ (slice_index_or points next no_point).cycle)) ⊎ ((length points ≤ next) × (end ≡ last))
+-- from a cycle on so much is left free for so many cycles
+abbrev pub IsFreeFor : (load : ℕ → ℕ) (free width from : ℕ) → Type 0
+IsFreeFor load free width from = (c : ℕ) → from ≤ c → c < from + width → load c ≤ free
 
 -- a load that the points tell and that is over by a cycle
 pub record IsEndedProfile (load : ℕ → ℕ) (points : List Point) (last : ℕ) : Type 0 where

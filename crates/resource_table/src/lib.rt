@@ -5,6 +5,7 @@
 #![tactic(auto)]
 
 mod copies;
+mod crowds;
 mod earlier;
 mod empty_times;
 mod frame;

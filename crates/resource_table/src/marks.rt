@@ -1,14 +1,17 @@
-// The points of one more test in a profile of power: one at its start, and one at the end of each of its draws. All of them
-// are put in, or taken out, in one pass over the points.
-ghost use Rattle.std.specs.Prelude.{◌≡◌, ℕ, ◌+◌, ◌-◌, ◌≤◌, ◌++◌, List, drop, length, slice_index_or, vec_len, vec_capacity};
+// The marks of a test in a profile of power: one at its start, and one at the end of each of its draws. Each stands at a
+// point of its cycle. A point stays where its marks are taken away, since the same marks often come again; such points
+// are taken out together, where there is no room.
+ghost use Rattle.std.specs.Prelude.{◌≡◌, ℕ, ◌+◌, ◌-◌, ◌^◌, ◌<◌, ◌≤◌, ◌++◌, ◌∷◌, List, drop, length, slice_index_or, vec_capacity};
 ghost use Rattle.std.specs.List.{sum_by};
 ghost use Rattle.std.specs.List.Sorted.{IsNonDecreasingBy};
 ghost use Rattle.resource_table.specs.declared.power.Draw.{Draw};
 ghost use Rattle.resource_table.specs.declared.points.Point.{Point};
 ghost use Rattle.resource_table.specs.Resources.{marks_from};
-ghost use Rattle.resource_table.specs.Profiles.{stands_at, counted, ArePoints, AreMarked, AreRising};
+ghost use Rattle.resource_table.specs.Profiles.{uses_at, all_uses, ArePoints, AreMarked};
 
-use crate::points::{Point, close_hole, open_hole, put_point, reach_cycle};
+use crate::points::{
+    Point, drop_unused, load_before, places_before, put_point, stands_at, use_less, use_more,
+};
 use crate::power::Draw;
 
 /// A mark of a test: its start, or behind that the end of one of its draws, which are those from a place on.
@@ -23,41 +26,87 @@ fn mark_at(draws: &[Draw], from: usize, start: u64, at: usize) -> u64
     }
 }
 
-/// Adds a point at each mark of a test with the draws from a place on, in room that is there. The loads stay as they are.
-pub fn add_marks(points: &mut Vec<Point>, draws: &[Draw], from: usize, start: u64)
-    requires from { from ≤ length draws.now }
-    requires room { vec_len points.old + (length draws.now - from + 1) ≤ vec_capacity points.old }
-    requires rising { AreRising (marks_from start (drop from draws.now)) }
+/// Adds a mark at a cycle, in room that is there. The loads stay as they are.
+fn add_mark(points: &mut Vec<Point>, cycle: u64)
+    requires room { length points.old.items < vec_capacity points.old }
+    requires fits { all_uses points.old.items + 1 < 2 ^ 64 }
     requires ordered { IsNonDecreasingBy (λ (p : Point). p.cycle) points.old.items }
-    ensures points { (held : List Draw) (cycles : List ℕ) → AreMarked held cycles → ArePoints held cycles points.old.items → ArePoints held (marks_from start (drop from draws.now) ++ cycles) points.new.items }
+    ensures points { (held : List Draw) (cycles : List ℕ) → AreMarked held cycles → ArePoints held cycles points.old.items → ArePoints held (cycle ∷ cycles) points.new.items }
+    ensures long { length points.new.items ≤ length points.old.items + 1 }
     ensures capacity { vec_capacity points.new ≡ vec_capacity points.old }
 {
-    let mut place = points.len();
-    let mut left = draws.len() - from + 1;
-    open_hole(points, left);
-    while left > 0 {
-        left -= 1;
-        let cycle = mark_at(draws, from, start, left);
-        place = put_point(points, place, left, cycle);
+    let place = places_before(points, cycle);
+    if stands_at(points, place, cycle) {
+        use_more(points, place);
+        return;
+    }
+    let load = load_before(points, place);
+    put_point(
+        points,
+        place,
+        Point {
+            cycle,
+            load,
+            uses: 1,
+        },
+    );
+}
+
+/// Takes away a mark that stands at a cycle.
+fn remove_mark(points: &mut Vec<Point>, cycle: u64)
+    requires ordered { IsNonDecreasingBy (λ (p : Point). p.cycle) points.old.items }
+    requires there { 1 ≤ sum_by (uses_at cycle) points.old.items }
+    ensures points { (held : List Draw) (cycles : List ℕ) → ArePoints held (cycle ∷ cycles) points.old.items → ArePoints held cycles points.new.items }
+    ensures capacity { vec_capacity points.new ≡ vec_capacity points.old }
+{
+    let mut place = places_before(points, cycle);
+    while points[place].uses == 0 {
+        place += 1;
+    }
+    use_less(points, place);
+}
+
+/// Sees to room for so many points more, where the marks leave it.
+fn make_room(points: &mut Vec<Point>, more: usize)
+    requires room { all_uses points.old.items + more ≤ vec_capacity points.old }
+    ensures points { (held : List Draw) (cycles : List ℕ) → ArePoints held cycles points.old.items → ArePoints held cycles points.new.items }
+    ensures room { length points.new.items + more ≤ vec_capacity points.new }
+    ensures capacity { vec_capacity points.new ≡ vec_capacity points.old }
+{
+    if points.capacity() - points.len() < more {
+        drop_unused(points);
     }
 }
 
-/// Takes away a point at each mark of a test with the draws from a place on.
+/// Adds the marks of a test with the draws from a place on, in room that the marks leave. The loads stay as they are.
+pub fn add_marks(points: &mut Vec<Point>, draws: &[Draw], from: usize, start: u64)
+    requires from { from ≤ length draws.now }
+    requires room { all_uses points.old.items + (length draws.now - from + 1) ≤ vec_capacity points.old }
+    requires points { (held : List Draw) × (cycles : List ℕ) × AreMarked held cycles × ArePoints held cycles points.old.items }
+    ensures points { (held : List Draw) (cycles : List ℕ) → AreMarked held cycles → ArePoints held cycles points.old.items → ArePoints held (marks_from start (drop from draws.now) ++ cycles) points.new.items }
+    ensures capacity { vec_capacity points.new ≡ vec_capacity points.old }
+{
+    let mut left = draws.len() - from + 1;
+    make_room(points, left);
+    while left > 0 {
+        left -= 1;
+        let cycle = mark_at(draws, from, start, left);
+        add_mark(points, cycle);
+    }
+}
+
+/// Takes away the marks of a test with the draws from a place on.
 pub fn remove_marks(points: &mut Vec<Point>, draws: &[Draw], from: usize, start: u64)
     requires from { from ≤ length draws.now }
-    requires rising { AreRising (marks_from start (drop from draws.now)) }
-    requires ordered { IsNonDecreasingBy (λ (p : Point). p.cycle) points.old.items }
-    requires there { (c : ℕ) → counted c (marks_from start (drop from draws.now)) ≤ sum_by (stands_at c) points.old.items }
+    requires points { (held : List Draw) × (cycles : List ℕ) × ArePoints held (marks_from start (drop from draws.now) ++ cycles) points.old.items }
     ensures points { (held : List Draw) (cycles : List ℕ) → ArePoints held (marks_from start (drop from draws.now) ++ cycles) points.old.items → ArePoints held cycles points.new.items }
     ensures capacity { vec_capacity points.new ≡ vec_capacity points.old }
 {
     let count = draws.len() - from + 1;
-    let mut place = 0;
     let mut gone = 0;
     while gone < count {
         let cycle = mark_at(draws, from, start, gone);
-        place = reach_cycle(points, place, gone, cycle);
+        remove_mark(points, cycle);
         gone += 1;
     }
-    close_hole(points, place, gone);
 }

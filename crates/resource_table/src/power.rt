@@ -5,8 +5,8 @@ ghost use Rattle.soc_model.specs.declared.TheConstants.{POWER_MOST, NUMBER_WORD_
 ghost use Rattle.resource_table.specs.Resources.{step_end as step_end_of, draws_from, StepsFit};
 ghost use Rattle.resource_table.specs.Profiles.{IsEndedProfile};
 
+use crate::crowds::after_crowds;
 use crate::points::Point;
-use crate::profile::{crowd_end, crowded_place};
 
 /// A power that is drawn from a cycle up to before another.
 #[derive(Clone, Copy)]
@@ -49,9 +49,25 @@ pub fn push_draws(draws: &mut Vec<Draw>, steps: &[(u64, u64)], start: u64, lengt
     }
 }
 
+/// The least start from `start` on at which a step of a test leaves the load within what is free: the step is from so many
+/// cycles after the start of the test on up to so many cycles after it.
+fn after_step(points: &[Point], free: u64, offset: u64, end: u64, start: u64, last: u64) -> u64
+    requires start { start ≤ last }
+    requires last { last + end < 2 ^ 63 }
+    requires profile { (load : ℕ → ℕ) × IsEndedProfile load points.now last }
+    ensures from { start ≤ result }
+    ensures most { result ≤ last }
+    ensures fits { (load : ℕ → ℕ) → IsEndedProfile load points.now last → (c : ℕ) → result + offset ≤ c → c < result + end → load c ≤ free }
+    ensures least { (load : ℕ → ℕ) → IsEndedProfile load points.now last → (other : ℕ) → start ≤ other → ((c : ℕ) → other + offset ≤ c → c < other + end → load c ≤ free) → result ≤ other }
+{
+    if end <= offset {
+        return start;
+    }
+    after_crowds(points, free, start + offset, end - offset, last) - offset
+}
+
 /// A start from `start` on before which a test of these steps doesn't stay within the limit beside what the points tell.
-/// It is `start` where the test does. Of the cycles at which too much is drawn the last ones of a step count, up to the
-/// end of their crowd.
+/// It is `start` where the test does. Each step in turn is looked at from the start that the ones before it leave.
 fn next_within(
     points: &[Point],
     limit: u64,
@@ -63,20 +79,18 @@ fn next_within(
     requires start { start ≤ last }
     requires last { last + length < 2 ^ 63 }
     requires profile { (load : ℕ → ℕ) × IsEndedProfile load points.now last }
-    requires steps { All (λ (s : ℕ × ℕ). s.0 ≤ NUMBER_WORD_MOST) steps.now }
     requires within { All (λ (s : ℕ × ℕ). s.1 ≤ limit) steps.now }
     ensures from { start ≤ result }
     ensures most { result ≤ last }
     ensures fits { (load : ℕ → ℕ) → IsEndedProfile load points.now last → result ≡ start → StepsFit load limit start length steps.now }
     ensures least { (load : ℕ → ℕ) → IsEndedProfile load points.now last → (other : ℕ) → start ≤ other → StepsFit load limit other length steps.now → result ≤ other }
 {
+    let mut found = start;
     for (at, step) in steps.iter().enumerate() {
-        let to = start + step_end(steps, at, length);
-        if let Some(place) = crowded_place(points, limit - step.1, start + step.0, to) {
-            return crowd_end(points, limit - step.1, place, last) - step.0;
-        }
+        let end = step_end(steps, at, length);
+        found = after_step(points, limit - step.1, step.0, end, found, last);
     }
-    start
+    found
 }
 
 /// The least start from `start` on at which a test of these steps stays within the limit beside what the points tell.
@@ -91,7 +105,6 @@ pub fn after_power(
     requires start { start ≤ last }
     requires last { last + length < 2 ^ 63 }
     requires profile { (load : ℕ → ℕ) × IsEndedProfile load points.now last }
-    requires steps { All (λ (s : ℕ × ℕ). s.0 ≤ NUMBER_WORD_MOST) steps.now }
     requires within { All (λ (s : ℕ × ℕ). s.1 ≤ limit) steps.now }
     ensures from { start ≤ result }
     ensures most { result ≤ last }

@@ -1,11 +1,11 @@
 // A profile of the power that is drawn: the load at the cycles where a draw begins or ends, in the order of cycles. From
 // each of them on the load stays the same up to the next.
-ghost use Rattle.std.specs.Prelude.{◌≡◌, ℕ, ◌+◌, ◌-◌, ◌^◌, ◌<◌, ◌≤◌, ◌++◌, None, List, map, take, drop, length, slice_index_or, slice_set, vec_len, vec_capacity, IfSome};
+ghost use Rattle.std.specs.Prelude.{◌≡◌, ℕ, ◌+◌, ◌-◌, ◌^◌, ◌<◌, ◌≤◌, ◌++◌, List, map, take, drop, length, slice_index_or, slice_set, vec_capacity, IfSome};
 ghost use Rattle.std.specs.List.{All};
 ghost use Rattle.std.specs.List.Sorted.{IsNonDecreasingBy};
 ghost use Rattle.resource_table.specs.declared.points.Point.{Point};
 ghost use Rattle.resource_table.specs.Resources.{taken_by, load_of, marks_from};
-ghost use Rattle.resource_table.specs.Profiles.{no_point, IsProfile, ArePoints, AreMarked, AreRising, raised_by, IsCrowded, IsCrowdEnd};
+ghost use Rattle.resource_table.specs.Profiles.{no_point, all_uses, ArePoints, AreMarked, raised_by};
 
 use crate::marks::{add_marks, remove_marks};
 use crate::points::{Point, places_before};
@@ -15,7 +15,7 @@ use crate::power::Draw;
 fn raise_at(points: &mut Vec<Point>, place: usize, power: u64)
     requires place { place < length points.old.items }
     requires fits { (slice_index_or points.old.items place no_point).load + power < 2 ^ 64 }
-    ensures items { points.new.items ≡ slice_set points.old.items place (record { cycle = (slice_index_or points.old.items place no_point).cycle; load = (slice_index_or points.old.items place no_point).load + power }) }
+    ensures items { points.new.items ≡ slice_set points.old.items place (record { cycle = (slice_index_or points.old.items place no_point).cycle; load = (slice_index_or points.old.items place no_point).load + power; uses = (slice_index_or points.old.items place no_point).uses }) }
     ensures capacity { vec_capacity points.new ≡ vec_capacity points.old }
 {
     points[place].load += power;
@@ -25,7 +25,7 @@ fn raise_at(points: &mut Vec<Point>, place: usize, power: u64)
 fn lower_at(points: &mut Vec<Point>, place: usize, power: u64)
     requires place { place < length points.old.items }
     requires covers { power ≤ (slice_index_or points.old.items place no_point).load }
-    ensures items { points.new.items ≡ slice_set points.old.items place (record { cycle = (slice_index_or points.old.items place no_point).cycle; load = (slice_index_or points.old.items place no_point).load - power }) }
+    ensures items { points.new.items ≡ slice_set points.old.items place (record { cycle = (slice_index_or points.old.items place no_point).cycle; load = (slice_index_or points.old.items place no_point).load - power; uses = (slice_index_or points.old.items place no_point).uses }) }
     ensures capacity { vec_capacity points.new ≡ vec_capacity points.old }
 {
     points[place].load -= power;
@@ -67,8 +67,7 @@ fn lower(points: &mut Vec<Point>, draw: &Draw)
 /// and with them no more than so much is drawn.
 fn add_draws(points: &mut Vec<Point>, draws: &[Draw], from: usize, start: u64, limit: u64)
     requires from { from ≤ length draws.now }
-    requires room { vec_len points.old + (length draws.now - from + 1) ≤ vec_capacity points.old }
-    requires rising { AreRising (marks_from start (drop from draws.now)) }
+    requires room { all_uses points.old.items + (length draws.now - from + 1) ≤ vec_capacity points.old }
     requires within { (c : ℕ) → load_of draws.now c ≤ limit }
     requires points { (cycles : List ℕ) × AreMarked (take from draws.now) cycles × ArePoints (take from draws.now) cycles points.old.items }
     ensures points { (cycles : List ℕ) → AreMarked (take from draws.now) cycles → ArePoints (take from draws.now) cycles points.old.items → ArePoints draws.now (marks_from start (drop from draws.now) ++ cycles) points.new.items }
@@ -83,7 +82,6 @@ fn add_draws(points: &mut Vec<Point>, draws: &[Draw], from: usize, start: u64, l
 /// Takes away all draws but so many first ones: those of a test from a start.
 fn take_draws(points: &mut Vec<Point>, draws: &[Draw], count: usize, start: u64)
     requires count { count ≤ length draws.now }
-    requires rising { AreRising (marks_from start (drop count draws.now)) }
     requires points { (cycles : List ℕ) × ArePoints draws.now (marks_from start (drop count draws.now) ++ cycles) points.old.items }
     ensures points { (cycles : List ℕ) → ArePoints draws.now (marks_from start (drop count draws.now) ++ cycles) points.old.items → ArePoints (take count draws.now) cycles points.new.items }
     ensures capacity { vec_capacity points.new ≡ vec_capacity points.old }
@@ -106,8 +104,7 @@ pub fn add_drawn(
     start: u64,
 )
     requires from { from ≤ length draws.now }
-    requires room { IfSome limit (λ _. vec_len points.old + (length draws.now - from + 1) ≤ vec_capacity points.old) }
-    requires rising { AreRising (marks_from start (drop from draws.now)) }
+    requires room { IfSome limit (λ _. all_uses points.old.items + (length draws.now - from + 1) ≤ vec_capacity points.old) }
     requires within { IfSome limit (λ most. (c : ℕ) → load_of draws.now c ≤ most) }
     requires points { IfSome limit (λ _. (cycles : List ℕ) × AreMarked (take from draws.now) cycles × ArePoints (take from draws.now) cycles points.old.items) }
     ensures points { IfSome limit (λ _. (cycles : List ℕ) → AreMarked (take from draws.now) cycles → ArePoints (take from draws.now) cycles points.old.items → ArePoints draws.now (marks_from start (drop from draws.now) ++ cycles) points.new.items) }
@@ -128,7 +125,6 @@ pub fn take_drawn(
     start: u64,
 )
     requires count { count ≤ length draws.now }
-    requires rising { AreRising (marks_from start (drop count draws.now)) }
     requires points { IfSome limit (λ _. (cycles : List ℕ) × ArePoints draws.now (marks_from start (drop count draws.now) ++ cycles) points.old.items) }
     ensures points { IfSome limit (λ _. (cycles : List ℕ) → ArePoints draws.now (marks_from start (drop count draws.now) ++ cycles) points.old.items → ArePoints (take count draws.now) cycles points.new.items) }
     ensures capacity { vec_capacity points.new ≡ vec_capacity points.old }
@@ -136,40 +132,4 @@ pub fn take_drawn(
     if let Some(_) = limit {
         take_draws(points, draws, count, start);
     }
-}
-
-/// The last point, from the one that tells the load at `from` up to those before `to`, at which more than so much is drawn;
-/// None where at no cycle in between more is drawn.
-pub fn crowded_place(points: &[Point], free: u64, from: u64, to: u64) -> Option<usize>
-    requires { IsNonDecreasingBy (λ (p : Point). p.cycle) points.now }
-    ensures some { IfSome result (IsCrowded points.now free from to) }
-    ensures none { result ≡ None → (load : ℕ → ℕ) → IsProfile load points.now → (c : ℕ) → from ≤ c → c < to → load c ≤ free }
-{
-    if from >= to {
-        return None;
-    }
-    let mut place = places_before(points, to);
-    while place > 0 {
-        place -= 1;
-        if points[place].load > free {
-            return Some(place);
-        }
-        if points[place].cycle <= from {
-            return None;
-        }
-    }
-    None
-}
-
-/// The cycle of the first point behind a place at which no more than so much is drawn; `last` where there is none.
-pub fn crowd_end(points: &[Point], free: u64, place: usize, last: u64) -> u64
-    requires { place < length points.now }
-    ensures { IsCrowdEnd points.now free place last result }
-{
-    for next in place + 1..points.len() {
-        if points[next].load <= free {
-            return points[next].cycle;
-        }
-    }
-    last
 }

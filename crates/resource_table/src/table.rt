@@ -146,14 +146,15 @@ fn new_draws(alloc: Global, steps: usize) -> Result<Vec<Draw>, NoMemory>
     Vec::with_capacity(alloc, steps).map_err(|_| NoMemory)
 }
 
-/// Points with room for one of each test and one of each step.
+/// Points with room for one of each test and one of each step, and for a quarter more of them that no test needs any longer.
 fn new_points(alloc: Global, tests: usize, steps: usize) -> Result<Vec<Point>, NoMemory>
     ensures items { IfOk result (λ points. points.items ≡ []) }
     ensures room { IfOk result (λ points. tests + steps ≤ vec_capacity points) }
 {
-    let Some(room) = tests.checked_add(steps) else {
+    let Some(marks) = tests.checked_add(steps) else {
         return Err(NoMemory);
     };
+    let room = marks.saturating_add(marks / 4);
     Vec::with_capacity(alloc, room).map_err(|_| NoMemory)
 }
 

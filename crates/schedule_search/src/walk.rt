@@ -1,7 +1,7 @@
 // The walk over the orders of a job, depth first, within a budget of prefixes that are entered.
 ghost use Rattle.std.specs.Prelude.{◌≡◌, ℕ, ◌+◌, ◌-◌, ◌<◌, ◌≤◌, ◌++◌, ◌∷◌, [], true, false, length, vec_capacity};
 ghost use Rattle.resource_table.specs.Jobs.{job_value};
-ghost use Rattle.resource_table.specs.Schedules.{last_end, IsSoundTable};
+ghost use Rattle.resource_table.specs.Schedules.{last_end, IsEarliest, IsSoundTable};
 ghost use Rattle.schedule_search.specs.OrderCycles.{HasPlaced};
 ghost use Rattle.schedule_search.specs.Walks.{is_in, walk_from, IsOpen};
 ghost use Rattle.schedule_search.specs.Prefixes.{outside, HasPrefixRoom, IsAt};
@@ -86,6 +86,17 @@ fn is_late<J, E: Estimate<J>>(
     false
 }
 
+/// The least start at which a test fits. It is noted, so that it is found the sooner beside more placed tests: the orders that
+/// go on from here with other tests ask for it and place it again and again.
+fn noted_start<J>(table: &mut TableOf<J>, test: usize) -> u64
+    requires in_job { test < length table.old.job.tests }
+    ensures same { table.new ≡ table.old }
+    ensures earliest { IsEarliest table.old.job table.old.placed test result }
+{
+    table.note(test);
+    table.earliest(test)
+}
+
 /// Goes on with all orders that begin with the placed tests and then with one more, where it may follow them.
 #[cycle(explore)]
 fn follow<J, E: Estimate<J>>(
@@ -125,7 +136,7 @@ fn follow<J, E: Estimate<J>>(
         return;
     }
     list_schedules_are_short();
-    let start = table.earliest(test);
+    let start = noted_start(table, test);
     let next_end = end.max(start + cycles_at(job, test));
     prefix.add(job, tries, test);
     let mut frame = table.place(test, start);

@@ -60,8 +60,8 @@ fn decide_widths<H: Shelf>(alloc: Global, soc: &str, wires: u64, shelf: &mut H) 
     }
 }
 
-/// The planner's plan, whose search estimates by the ends of the tests before. `NoMemory` where memory runs out, and for no
-/// other reason.
+/// The planner's plan, whose search estimates where a test would end if it were placed now. `NoMemory` where memory runs out,
+/// and for no other reason.
 pub(crate) fn planned(alloc: Global, soc: &Soc, limits: &Limits) -> Result<Plan, NoMemory>
     requires chip { IsSoundChip (soc_value soc.now) }
     requires limits { IsSoundLimits (soc_value soc.now) (limits_value limits.now) }
@@ -72,7 +72,7 @@ pub(crate) fn planned(alloc: Global, soc: &Soc, limits: &Limits) -> Result<Plan,
             requires { CanAsk table.now test }
             ensures least { IsAtLeastReady table.now test result }
             ensures most { IsAtMostNow table.now test result }
-        { table.ready_end(test) },
+        { table.end_now(test) },
     );
     plan(alloc, soc, limits, ahead)
 }

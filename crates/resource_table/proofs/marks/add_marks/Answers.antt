@@ -1,37 +1,38 @@
-use Rattle.std.proofs.Common.{◌-◌, drop, arith, ◌∙◌}
+use Rattle.std.proofs.Common.{◌≡◌, ◌∙◌, ◌+◌, ◌-◌, ◌++◌, [], ℕ, List, length, drop, arith, sym, subst}
+use Rattle.std.proofs.lemmas.List.{drop_all}
 use Rattle.resource_table.specs.Resources.{marks_from}
-use Rattle.resource_table.proofs.Marked.{length-marks, adding_first, adding_more, adding_last, order_front}
+use Rattle.resource_table.specs.Profiles.{ArePoints}
+use Rattle.resource_table.proofs.Marked.{length-marks, marks_split, marked_more}
 use Rattle.resource_table.proofs.marks.add_marks.Goals as goal
 
 pub loop-left-init : goal.loop-left-init
 loop-left-init c =
-    let count = length-marks c.args.start c.args.from c.args.draws.now c.requires.from in
+    let marks : List ℕ = marks_from c.args.start (drop c.args.from c.args.draws.now) in
+    let count : length marks ≡ length c.args.draws.now - c.args.from + 1 = length-marks c.args.start c.args.from c.args.draws.now c.requires.from in
+    let none : drop (length c.args.draws.now - c.args.from + 1) marks ≡ [] = drop_all (length c.args.draws.now - c.args.from + 1) marks (omega (arith, count)) in
     record {
-      adding = adding_first c.args.points.now.items (marks_from c.args.start (drop c.args.from c.args.draws.now)) c.open_hole.new.points.items c.len-place.result _ (omega (arith, c.len-place.ensures, c.args.points.now.ok.0)) (omega (arith, count)) c.open_hole.ensures.rest c.open_hole.ensures.front c.open_hole.ensures.long;
-      capacity = c.open_hole.ensures.capacity;
+      most = omega (arith, count);
+      points = (λ held cycles marked old. subst (λ (v : List ℕ). ArePoints held (v ++ cycles) c.make_room.new.points.items) (sym none) (c.make_room.ensures.points held cycles old));
+      room = c.make_room.ensures.room;
+      capacity = c.make_room.ensures.capacity;
     }
-
-pub put_point-place-requires-clause-within : goal.put_point-place-requires-clause-within
-put_point-place-requires-clause-within c =
-    let adding = c.loop-left.invariant.adding in
-    let most = adding.place_most in
-    let left = adding.left_most in
-    let long = adding.long in
-    let some = c.loop-left-test.true in
-    omega arith
-
-pub put_point-place-requires-clause-ordered : goal.put_point-place-requires-clause-ordered
-put_point-place-requires-clause-ordered c = order_front c.args.points.now.items c.loop-left.points.items c.loop-left.place c.loop-left.invariant.adding.front c.requires.ordered
 
 pub loop-left-preserved : goal.loop-left-preserved
 loop-left-preserved c =
+    let marks : List ℕ = marks_from c.args.start (drop c.args.from c.args.draws.now) in
+    let more : ℕ = c.loop-left.left - 1 in
     let some = c.loop-left-test.true in
+    let most = c.loop-left.invariant.most in
+    let room = c.loop-left.invariant.room in
+    let long = c.add_mark.ensures.long in
+    let capacity = c.add_mark.ensures.capacity in
+    let left_is : c.loop-left.left ≡ more + 1 = omega (arith, some) in
     record {
-      adding = adding_more c.args.points.now.items (marks_from c.args.start (drop c.args.from c.args.draws.now)) c.loop-left.points.items c.put_point-place.new.points.items c.loop-left.place c.loop-left.left (c.loop-left.left - 1) c.put_point-place.result c.mark_at-cycle.result
-          c.loop-left.invariant.adding (omega arith) c.requires.rising c.put_point-place.ensures.bound c.mark_at-cycle.ensures c.put_point-place.ensures.parts c.put_point-place.ensures.items c.put_point-place.ensures.front c.put_point-place.ensures.long;
-      capacity = c.put_point-place.ensures.capacity ∙ c.loop-left.invariant.capacity;
+      most = omega (arith, most);
+      points = (λ held cycles marked old.
+          let before : ArePoints held (drop (more + 1) marks ++ cycles) c.loop-left.points.items = subst (λ (n : ℕ). ArePoints held (drop n marks ++ cycles) c.loop-left.points.items) left_is (c.loop-left.invariant.points held cycles marked old) in
+          let added = c.add_mark.ensures.points held (drop (more + 1) marks ++ cycles) (marked_more held (drop (more + 1) marks) cycles marked) before in
+          subst (λ (v : List ℕ). ArePoints held v c.add_mark.new.points.items) (marks_split marks cycles more c.mark_at-cycle.result (omega (arith, left_is, most)) c.mark_at-cycle.ensures) added);
+      room = omega (arith, room, long, capacity, some);
+      capacity = capacity ∙ c.loop-left.invariant.capacity;
     }
-
-pub returns-clause-points : goal.returns-clause-points
-returns-clause-points c = λ held cycles marked are.
-    adding_last c.args.points.now.items (marks_from c.args.start (drop c.args.from c.args.draws.now)) c.loop-left.points.items c.loop-left.place c.loop-left.left c.loop-left.invariant.adding (let ended = c.loop-left-test.false in omega arith) held cycles marked are

@@ -1,30 +1,39 @@
-use Rattle.std.proofs.Common.{drop, arith, rules, ◌∙◌}
+use Rattle.std.proofs.Common.{◌≡◌, ◌∙◌, ◌<◌, ◌+◌, ◌-◌, ◌++◌, [], ℕ, List, length, drop, arith, sym, subst}
+use Rattle.std.proofs.lemmas.List.{drop_all}
 use Rattle.resource_table.specs.Resources.{marks_from}
-use Rattle.resource_table.proofs.Marked.{length-marks, order_behind, removing_first, removing_more, removing_last}
+use Rattle.resource_table.specs.Profiles.{ArePoints}
+use Rattle.resource_table.proofs.Marked.{length-marks, marks_split, mark_there}
 use Rattle.resource_table.proofs.marks.remove_marks.Goals as goal
-
-pub loop-gone-init : goal.loop-gone-init
-loop-gone-init c = record {
-  removing = removing_first c.args.points.now.items (marks_from c.args.start (drop c.args.from c.args.draws.now)) c.requires.ordered c.requires.there;
-  capacity = search rules;
-}
-
-pub reach_cycle-place-requires-clause-ordered : goal.reach_cycle-place-requires-clause-ordered
-reach_cycle-place-requires-clause-ordered c = order_behind c.loop-gone.place c.loop-gone.gone c.loop-gone.points.items c.loop-gone.invariant.removing.within c.loop-gone.invariant.removing.ordered
 
 pub loop-gone-preserved : goal.loop-gone-preserved
 loop-gone-preserved c =
-    let count = length-marks c.args.start c.args.from c.args.draws.now c.requires.from in
+    let marks : List ℕ = marks_from c.args.start (drop c.args.from c.args.draws.now) in
+    let count : length marks ≡ length c.args.draws.now - c.args.from + 1 = length-marks c.args.start c.args.from c.args.draws.now c.requires.from in
     let more = c.loop-gone-test.true in
+    let lt : c.loop-gone.gone < length marks = omega (arith, count, more) in
     record {
-      removing = removing_more c.args.points.now.items (marks_from c.args.start (drop c.args.from c.args.draws.now)) c.loop-gone.points.items c.reach_cycle-place.new.points.items c.loop-gone.place c.loop-gone.gone c.reach_cycle-place.result c.mark_at-cycle.result
-          c.loop-gone.invariant.removing c.requires.rising (omega (arith, count, more)) c.mark_at-cycle.ensures c.reach_cycle-place.ensures.from c.reach_cycle-place.ensures.within c.reach_cycle-place.ensures.parts c.reach_cycle-place.ensures.rest;
-      capacity = c.reach_cycle-place.ensures.capacity ∙ c.loop-gone.invariant.capacity;
+      few = omega (arith, lt);
+      points = (λ held cycles old.
+          let before = c.loop-gone.invariant.points held cycles old in
+          c.remove_mark.ensures.points held (drop (c.loop-gone.gone + 1) marks ++ cycles)
+          (subst (λ (v : List ℕ). ArePoints held v c.loop-gone.points.items) (sym (marks_split marks cycles c.loop-gone.gone c.mark_at-cycle.result lt c.mark_at-cycle.ensures)) before));
+      capacity = c.remove_mark.ensures.capacity ∙ c.loop-gone.invariant.capacity;
     }
 
+pub remove_mark-requires-clause-ordered : goal.remove_mark-requires-clause-ordered
+remove_mark-requires-clause-ordered c = (c.loop-gone.invariant.points c.requires.points.0 c.requires.points.1 c.requires.points.2).ordered
+
+pub remove_mark-requires-clause-there : goal.remove_mark-requires-clause-there
+remove_mark-requires-clause-there c =
+    let marks : List ℕ = marks_from c.args.start (drop c.args.from c.args.draws.now) in
+    let count : length marks ≡ length c.args.draws.now - c.args.from + 1 = length-marks c.args.start c.args.from c.args.draws.now c.requires.from in
+    let more = c.loop-gone-test.true in
+    mark_there c.requires.points.0 marks c.requires.points.1 c.loop-gone.points.items c.loop-gone.gone c.mark_at-cycle.result (omega (arith, count, more)) c.mark_at-cycle.ensures (c.loop-gone.invariant.points c.requires.points.0 c.requires.points.1 c.requires.points.2)
+
 pub returns-clause-points : goal.returns-clause-points
-returns-clause-points c =
-    let count = length-marks c.args.start c.args.from c.args.draws.now c.requires.from in
+returns-clause-points c = λ held cycles old.
+    let marks : List ℕ = marks_from c.args.start (drop c.args.from c.args.draws.now) in
+    let count : length marks ≡ length c.args.draws.now - c.args.from + 1 = length-marks c.args.start c.args.from c.args.draws.now c.requires.from in
     let ended = c.loop-gone-test.false in
-    λ held cycles are.
-    removing_last c.args.points.now.items (marks_from c.args.start (drop c.args.from c.args.draws.now)) c.loop-gone.points.items c.close_hole.new.points.items c.loop-gone.place c.loop-gone.gone c.loop-gone.invariant.removing (omega (arith, count, ended)) c.close_hole.ensures.items held cycles are
+    let none : drop c.loop-gone.gone marks ≡ [] = drop_all c.loop-gone.gone marks (omega (arith, count, ended)) in
+    subst (λ (v : List ℕ). ArePoints held (v ++ cycles) c.loop-gone.points.items) none (c.loop-gone.invariant.points held cycles old)

@@ -1,11 +1,13 @@
-use Rattle.std.proofs.Common.{◌≡◌, ◌-◌, drop, vec_capacity}
+use Rattle.std.proofs.Common.{◌≡◌, ◌-◌, ◌++◌, ◌≤◌, ℕ, List, length, drop, vec_capacity}
+use Rattle.resource_table.specs.declared.power.Draw.{Draw}
 use Rattle.resource_table.specs.Resources.{marks_from}
-use Rattle.resource_table.proofs.Marked.{IsRemoving}
+use Rattle.resource_table.specs.Profiles.{ArePoints}
 use Rattle.resource_table.proofs.marks.remove_marks.Given as goal
 
 abbrev pub invariant-loop-gone : goal.invariant-loop-gone
 invariant-loop-gone l = record {
-  removing : IsRemoving l.fn.points.items (marks_from l.start (drop l.from l.draws)) l.points.items l.place l.gone;
+  few : l.gone ≤ length (marks_from l.start (drop l.from l.draws));
+  points : (held : List Draw) (cycles : List ℕ) → ArePoints held (marks_from l.start (drop l.from l.draws) ++ cycles) l.fn.points.items → ArePoints held (drop l.gone (marks_from l.start (drop l.from l.draws)) ++ cycles) l.points.items;
   capacity : vec_capacity l.points ≡ vec_capacity l.fn.points;
 }
 

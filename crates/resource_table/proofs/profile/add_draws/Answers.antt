@@ -9,8 +9,8 @@ use Rattle.resource_table.proofs.profile.add_draws.Goals as goal
 abbrev no_draw : Draw
 no_draw = record { from = 0; to = 0; power = 0 }
 
-pub add_marks-requires-clause-ordered : goal.add_marks-requires-clause-ordered
-add_marks-requires-clause-ordered c = c.requires.points.2.ordered
+pub add_marks-requires-clause-points : goal.add_marks-requires-clause-points
+add_marks-requires-clause-points c = (take c.args.from c.args.draws.now, c.requires.points.0, c.requires.points.1, c.requires.points.2)
 
 pub loop-at-init : goal.loop-at-init
 loop-at-init c = record {

@@ -1,12 +1,9 @@
 use Rattle.std.proofs.Common.{◌≡◌, ◌≤◌, ◌++◌, ◌+◌, ◌-◌, ◌∙◌, ℕ, List, length, drop, take, arith, get_or, refl, sym, subst}
-use Rattle.std.specs.List.{sum_by}
 use Rattle.std.proofs.lemmas.List.{take_all}
-use Rattle.std.proofs.lemmas.List.Sums.{sum_by-append}
-use Rattle.std.specs.Prelude.{nat_eq, if◌then◌else◌}
 use Rattle.resource_table.specs.declared.power.Draw.{Draw}
 use Rattle.resource_table.specs.declared.points.Point.{Point}
 use Rattle.resource_table.specs.Resources.{marks_from}
-use Rattle.resource_table.specs.Profiles.{ArePoints, stands_at, counted}
+use Rattle.resource_table.specs.Profiles.{ArePoints}
 use Rattle.resource_table.proofs.Profiles.{last_split, loads_cover, draw_taken}
 use Rattle.resource_table.proofs.profile.take_draws.Goals as goal
 
@@ -16,10 +13,6 @@ no_draw = record { from = 0; to = 0; power = 0 }
 -- the points up to a draw, split at it
 split : (draws : List Draw) (cycles : List ℕ) (at : ℕ) (points : List Point) → 1 ≤ at → ArePoints (take at draws) cycles points → ArePoints (take (at - 1 + 1) draws) cycles points
 split draws cycles at points some are = subst (λ (n : ℕ). ArePoints (take n draws) cycles points) (let e : at ≡ at - 1 + 1 = omega arith in e) are
-
--- the marks of a test are among the cycles
-among : (draws : List Draw) (marks cycles : List ℕ) (points : List Point) → ArePoints draws (marks ++ cycles) points → (c : ℕ) → counted c marks ≤ sum_by (stands_at c) points
-among draws marks cycles points are c = let all = are.marks c in omega (arith, all, sum_by-append (λ (x : ℕ). if nat_eq x c then 1 else 0) marks cycles)
 
 pub loop-at-init : goal.loop-at-init
 loop-at-init c = record {
@@ -57,11 +50,8 @@ loop-at-preserved c =
       capacity = c.lower.ensures.capacity ∙ c.loop-at.invariant.capacity;
     }
 
-pub remove_marks-requires-clause-ordered : goal.remove_marks-requires-clause-ordered
-remove_marks-requires-clause-ordered c = (c.loop-at.invariant.points c.requires.points.0 c.requires.points.1).ordered
-
-pub remove_marks-requires-clause-there : goal.remove_marks-requires-clause-there
-remove_marks-requires-clause-there c = among (take c.loop-at.at c.args.draws.now) (marks_from c.args.start (drop c.args.count c.args.draws.now)) c.requires.points.0 c.loop-at.points.items (c.loop-at.invariant.points c.requires.points.0 c.requires.points.1)
+pub remove_marks-requires-clause-points : goal.remove_marks-requires-clause-points
+remove_marks-requires-clause-points c = (take c.loop-at.at c.args.draws.now, c.requires.points.0, c.loop-at.invariant.points c.requires.points.0 c.requires.points.1)
 
 pub returns-clause-points : goal.returns-clause-points
 returns-clause-points c = λ cycles old.

@@ -1,9 +1,9 @@
-use Rattle.std.proofs.Common.{◌≡◌, ◌∙◌, ℕ, ◌+◌, ◌-◌, ◌*◌, ◌<◌, ◌≤◌, ◌++◌, ◌∷◌, [], List, true, false, Some, length, length-append, get_or, max, vec_capacity, refl, sym, ap, subst, arith, rules}
+use Rattle.std.proofs.Common.{◌≡◌, ◌∙◌, ℕ, ◌+◌, ◌-◌, ◌*◌, ◌^◌, ◌<◌, ◌≤◌, ◌++◌, ◌∷◌, [], List, true, false, Some, length, length-append, get_or, max, vec_capacity, refl, sym, ap, subst, arith, rules}
 use Rattle.std.specs.Prelude.{slice_get}
 use Rattle.std.specs.List.{remove}
 use Rattle.std.proofs.lemmas.List.Edits.{length-remove}
 use Rattle.resource_table.specs.Jobs.{JobValue, job_value, cycles_of}
-use Rattle.resource_table.specs.Schedules.{TableValue, at_start, is_placed, IsSoundTable}
+use Rattle.resource_table.specs.Schedules.{TableValue, at_start, is_placed, MayPlace, IsSoundTable}
 use Rattle.schedule_search.specs.declared.walk.Progress.{Progress}
 use Rattle.schedule_search.specs.OrderCycles.{HasPlaced, Takes}
 use Rattle.schedule_search.specs.Orders.{IsTopological}
@@ -212,10 +212,22 @@ follow-place-frame-requires g t c =
     let path : List ℕ = c.args.prefix.now.tests.items in
     let test : ℕ = c.args.test in
     let may : may_follow job path test ≡ true = waits_then job path c.args.prefix.now.missing.items test c.waits.result c.requires.at.missing_are c.requires.in_job c.requires.unplaced c.waits.ensures c.if-waits.false in
-    let free = may_place c.args.table.now job path c.args.end test c.earliest-start.result c.requires.job c.requires.sound c.requires.placed c.requires.in_job may c.earliest-start.ensures.earliest in
+    let free = may_place c.args.table.now job path c.args.end test c.noted_start-start.result c.requires.job c.requires.sound c.requires.placed c.requires.in_job may c.noted_start-start.ensures.earliest in
     let inside : test < length c.args.table.now.job.tests = subst (λ (j : JobValue). test < length j.tests) (sym c.requires.job) c.requires.in_job in
     let new : is_placed c.args.table.now.placed test ≡ false = unplaced_in c.args.table.now.placed path test c.requires.placed.in_order c.requires.unplaced in
-    free (c.list_schedules_are_short.ensures.fits c.args.table.now test c.earliest-start.result c.requires.sound c.requires.placed.list inside new c.earliest-start.ensures.earliest)
+    let placed : MayPlace c.args.table.now.job c.args.table.now.placed test c.noted_start-start.result = free (c.list_schedules_are_short.ensures.fits c.args.table.now test c.noted_start-start.result c.requires.sound c.requires.placed.list inside new c.noted_start-start.ensures.earliest) in
+    subst (λ (t : TableValue). MayPlace t.job t.placed test c.noted_start-start.result) (sym c.noted_start-start.ensures.same) placed
+
+pub follow-overflow_add-start : goal.follow-overflow_add-start
+follow-overflow_add-start g t c =
+    let path : List ℕ = c.args.prefix.now.tests.items in
+    let test : ℕ = c.args.test in
+    let inside : test < length c.args.table.now.job.tests = subst (λ (j : JobValue). test < length j.tests) (sym c.requires.job) c.requires.in_job in
+    let new : is_placed c.args.table.now.placed test ≡ false = unplaced_in c.args.table.now.placed path test c.requires.placed.in_order c.requires.unplaced in
+    let most : c.noted_start-start.result + cycles_of c.args.table.now.job test ≤ 10 ^ 18 = c.list_schedules_are_short.ensures.fits c.args.table.now test c.noted_start-start.result c.requires.sound c.requires.placed.list inside new c.noted_start-start.ensures.earliest in
+    let cycles : c.cycles_at.result ≡ cycles_of c.args.table.now.job test = c.cycles_at.ensures ∙ ap (λ (j : JobValue). cycles_of j test) (sym c.requires.job) in
+    let small : c.noted_start-start.result + c.cycles_at.result ≤ 10 ^ 18 = omega (arith, most, cycles) in
+    search rules
 
 pub follow-explore-requires : goal.follow-explore-requires
 follow-explore-requires g t c κs within_measure =
@@ -224,12 +236,12 @@ follow-explore-requires g t c κs within_measure =
     let test : ℕ = c.args.test in
     let more : List ℕ = c.add.new.self.tests.items in
     let more_is : more ≡ path ++ test ∷ [] = c.add.ensures.tests_are in
-    let grown : c.table.result.now ≡ record c.args.table.now { placed = c.args.table.now.placed ++ at_start test c.earliest-start.result ∷ [] } = c.table.ensures.value ∙ c.place-frame.ensures.table in
+    let grown : c.table.result.now ≡ record c.args.table.now { placed = c.args.table.now.placed ++ at_start test c.noted_start-start.result ∷ [] } = c.table.ensures.value ∙ c.place-frame.ensures.table ∙ ap (λ (t : TableValue). record t { placed = t.placed ++ at_start test c.noted_start-start.result ∷ [] }) c.noted_start-start.ensures.same in
     let job_is : c.table.result.now.job ≡ job = ap (λ (v : TableValue). v.job) grown ∙ c.requires.job in
     let sound : IsSoundTable c.table.result.now = c.table.ensures.sound in
     let cycles : c.cycles_at.result ≡ cycles_of c.args.table.now.job test = c.cycles_at.ensures ∙ ap (λ (j : JobValue). cycles_of j test) (sym c.requires.job) in
-    let end' : c.max-next_end.result ≡ max c.args.end (c.earliest-start.result + cycles_of c.args.table.now.job test) = omega (arith, c.max-next_end.ensures, cycles) in
-    let placed : HasPlaced c.table.result.now more c.max-next_end.result = one_placed c.args.table.now c.table.result.now path more c.args.end c.max-next_end.result test c.earliest-start.result c.requires.placed c.earliest-start.ensures.earliest grown more_is end' in
+    let end' : c.max-next_end.result ≡ max c.args.end (c.noted_start-start.result + cycles_of c.args.table.now.job test) = omega (arith, c.max-next_end.ensures, cycles) in
+    let placed : HasPlaced c.table.result.now more c.max-next_end.result = one_placed c.args.table.now c.table.result.now path more c.args.end c.max-next_end.result test c.noted_start-start.result c.requires.placed c.noted_start-start.ensures.earliest grown more_is end' in
     let at : IsAt job more (outside job more) c.add.new.self = at_own job (path ++ test ∷ []) c.args.prefix.now.rest.items c.add.new.self c.add.ensures c.requires.at.rest_are in
     let long : length more ≡ length path + 1 = omega (arith, ap length more_is, length-append path (test ∷ [])) in
     let left : length (outside job more) + length more ≡ length job.tests = omega (arith, long, ap (λ (l : List ℕ). length (outside job l)) more_is, c.requires.left) in
@@ -241,8 +253,8 @@ follow-explore-requires g t c κs within_measure =
 pub follow-returns-then-not-progress-clause-table : goal.follow-returns-then-not-progress-clause-table
 follow-returns-then-not-progress-clause-table g t c =
     let test : ℕ = c.args.test in
-    let grown : c.table.result.now ≡ record c.args.table.now { placed = c.args.table.now.placed ++ at_start test c.earliest-start.result ∷ [] } = c.table.ensures.value ∙ c.place-frame.ensures.table in
-    let back : c.undo.new.self.0 ≡ c.args.table.now = taken_back c.args.table.now c.explore.new.table c.undo.new.self.0 c.place-frame.result.before test c.earliest-start.result c.undo.ensures.table (c.explore.ensures.table ∙ grown) c.place-frame.ensures.before in
+    let grown : c.table.result.now ≡ record c.args.table.now { placed = c.args.table.now.placed ++ at_start test c.noted_start-start.result ∷ [] } = c.table.ensures.value ∙ c.place-frame.ensures.table ∙ ap (λ (t : TableValue). record t { placed = t.placed ++ at_start test c.noted_start-start.result ∷ [] }) c.noted_start-start.ensures.same in
+    let back : c.undo.new.self.0 ≡ c.args.table.now = taken_back c.args.table.now c.explore.new.table c.undo.new.self.0 c.place-frame.result.before test c.noted_start-start.result c.undo.ensures.table (c.explore.ensures.table ∙ grown) (c.place-frame.ensures.before ∙ ap (λ (t : TableValue). length t.placed) c.noted_start-start.ensures.same) in
     search rules
 
 pub follow-returns-then-not-progress-clause-room : goal.follow-returns-then-not-progress-clause-room
@@ -260,8 +272,8 @@ follow-returns-then-not-progress-clause-explored g t c =
 pub follow-returns-else-not-progress-clause-table : goal.follow-returns-else-not-progress-clause-table
 follow-returns-else-not-progress-clause-table g t c =
     let test : ℕ = c.args.test in
-    let grown : c.table.result.now ≡ record c.args.table.now { placed = c.args.table.now.placed ++ at_start test c.earliest-start.result ∷ [] } = c.table.ensures.value ∙ c.place-frame.ensures.table in
-    let back : c.undo.new.self.0 ≡ c.args.table.now = taken_back c.args.table.now c.explore.new.table c.undo.new.self.0 c.place-frame.result.before test c.earliest-start.result c.undo.ensures.table (c.explore.ensures.table ∙ grown) c.place-frame.ensures.before in
+    let grown : c.table.result.now ≡ record c.args.table.now { placed = c.args.table.now.placed ++ at_start test c.noted_start-start.result ∷ [] } = c.table.ensures.value ∙ c.place-frame.ensures.table ∙ ap (λ (t : TableValue). record t { placed = t.placed ++ at_start test c.noted_start-start.result ∷ [] }) c.noted_start-start.ensures.same in
+    let back : c.undo.new.self.0 ≡ c.args.table.now = taken_back c.args.table.now c.explore.new.table c.undo.new.self.0 c.place-frame.result.before test c.noted_start-start.result c.undo.ensures.table (c.explore.ensures.table ∙ grown) (c.place-frame.ensures.before ∙ ap (λ (t : TableValue). length t.placed) c.noted_start-start.ensures.same) in
     search rules
 
 pub follow-returns-else-not-progress-clause-explored : goal.follow-returns-else-not-progress-clause-explored

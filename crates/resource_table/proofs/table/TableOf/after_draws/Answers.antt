@@ -5,7 +5,7 @@ use Rattle.resource_table.specs.Profiles.{ArePoints}
 use Rattle.resource_table.specs.Jobs.{job_value, test_value}
 use Rattle.resource_table.specs.Resources.{load_of, marks_of, StepsFit}
 use Rattle.resource_table.specs.Schedules.{TableValue, last_end, StaysWithin}
-use Rattle.resource_table.proofs.KeptStarts.{wanted_is, short_enough, profile_here, small_steps, steps_within_limit, steps_here, within_here}
+use Rattle.resource_table.proofs.KeptStarts.{wanted_is, short_enough, profile_here, steps_within_limit, steps_here, within_here}
 use Rattle.resource_table.proofs.table.TableOf.after_draws.Goals as goal
 
 pub after_power-requires-clause-last : goal.after_power-requires-clause-last
@@ -23,12 +23,6 @@ after_power-requires-clause-profile g c =
     let last = subst (λ (t : TableValue). c.args.last ≡ last_end t.job t.placed) (sym c.self.view_is) c.requires.last in
     let profile = profile_here (job_value c.self.inside.own) c.self.inside.trail c.self.inside.ends c.self.inside.lasts c.self.inside.draws c.self.invariant.0 c.args.test inside (test_value c.index-wanted.result.now) wanted c.self.inside.points.items c.deref.result.now c.args.last (subst (λ (o : Option ℕ). IfSome o (λ _. ArePoints c.self.inside.draws.items (flat_map (marks_of (job_value c.self.inside.own)) c.self.inside.trail.items) c.self.inside.points.items)) c.in-Some.is c.self.invariant.2.are) c.deref.ensures.value last in
     (load_of c.self.inside.draws.items, profile)
-
-pub after_power-requires-clause-steps : goal.after_power-requires-clause-steps
-after_power-requires-clause-steps g c =
-    let inside = subst (λ (t : TableValue). c.args.test < length t.job.tests) (sym c.self.view_is) c.requires.in_job in
-    let wanted = wanted_is c.self.inside.own.tests.items c.args.test c.index-wanted.result.now inside c.index-wanted.ensures in
-    small_steps (job_value c.self.inside.own) c.self.inside.trail c.self.inside.ends c.self.inside.lasts c.self.inside.draws c.self.invariant.0 c.args.test inside (test_value c.index-wanted.result.now) wanted c.deref-2.result.now c.deref-2.ensures.value
 
 pub after_power-requires-clause-within : goal.after_power-requires-clause-within
 after_power-requires-clause-within g c =

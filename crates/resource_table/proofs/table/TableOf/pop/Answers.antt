@@ -14,7 +14,7 @@ use Rattle.resource_table.proofs.BusyTimes.{may_remove, times_less}
 use Rattle.resource_table.specs.Histories.{at_change}
 use Rattle.resource_table.proofs.Bounds.{bounded_pop}
 use Rattle.resource_table.proofs.KeptTables.{kept_pop, last_may, last_inside, last_steps, last_draws, length-draws_from}
-use Rattle.resource_table.proofs.KeptMarks.{last_rising, before_pop, after_pop}
+use Rattle.resource_table.proofs.KeptMarks.{before_pop, after_pop}
 use Rattle.resource_table.proofs.KeptStarts.{wanted_is}
 use Rattle.resource_table.proofs.table.TableOf.pop.Goals as goal
 
@@ -74,22 +74,6 @@ back-requires-clause-history g c = c.self.invariant.4.history
 pub back-requires-clause-marked : goal.back-requires-clause-marked
 back-requires-clause-marked g c =
     omega (arith, c.self.invariant.4.levels, length-map c.self.inside.bounds.marks.items (at_change c.self.inside.bounds), ap length c.in-Some.ensures.items, length-append c.pop.new.self.items (c.in-Some.last ∷ []))
-
-pub take_drawn-requires-clause-rising : goal.take_drawn-requires-clause-rising
-take_drawn-requires-clause-rising g c =
-    let inside = last_inside (job_value c.self.inside.own) c.self.inside.trail c.self.inside.ends c.self.inside.lasts c.self.inside.draws c.self.invariant.0 c.pop.new.self.items c.in-Some.last c.in-Some.ensures.items in
-    let wanted = wanted_is c.self.inside.own.tests.items c.in-Some.last.test c.index-gone.result.now inside c.index-gone.ensures in
-    let job = job_value c.self.inside.own in
-    let placed = c.pop.new.self.items in
-    let draws : c.deref.result.now ≡ flat_map (draws_of job) placed ++ draws_of job c.in-Some.last = c.deref.ensures.value ∙ last_draws job c.self.inside.trail c.self.inside.ends c.self.inside.lasts c.self.inside.draws c.self.invariant.0 placed c.in-Some.last c.in-Some.ensures.items in
-    let few = length-draws_from c.in-Some.last.start (cycles_of job c.in-Some.last.test) (test_at job c.in-Some.last.test).steps in
-    let whole = ap length (sym c.deref.ensures.value ∙ draws) ∙ length-append (flat_map (draws_of job) placed) (draws_of job c.in-Some.last) in
-    let steps : c.len-steps.result ≡ length (test_at job c.in-Some.last.test).steps = c.len-steps.ensures ∙ c.index-gone.result.now.power.ok.0 ∙ ap (λ (t : TestValue). length t.steps) wanted in
-    let count : c.len.result - c.len-steps.result ≡ length (flat_map (draws_of job) placed) = omega (arith, few, whole, steps, c.len.ensures, c.self.inside.draws.ok.0) in
-    let old : IfSome job.power (λ _. ArePoints c.deref.result.now (flat_map (marks_of job) (placed ++ c.in-Some.last ∷ [])) c.self.inside.points.items) =
-    subst (λ (v : List Draw). IfSome job.power (λ _. ArePoints v (flat_map (marks_of job) (placed ++ c.in-Some.last ∷ [])) c.self.inside.points.items)) (sym c.deref.ensures.value)
-    (subst (λ (v : List Placement). IfSome job.power (λ _. ArePoints c.self.inside.draws.items (flat_map (marks_of job) v) c.self.inside.points.items)) c.in-Some.ensures.items c.self.invariant.2.are) in
-    last_rising job placed c.in-Some.last c.deref.result.now (c.len.result - c.len-steps.result) draws count c.self.invariant.0.sound.job inside
 
 pub take_drawn-requires-clause-points : goal.take_drawn-requires-clause-points
 take_drawn-requires-clause-points g c =

@@ -13,7 +13,7 @@ use Rattle.resource_table.specs.BusyTimes.{AreTimes, MayAdd, IsAdded}
 use Rattle.resource_table.proofs.BusyTimes.{may_add, times_more}
 use Rattle.resource_table.proofs.Bounds.{bounded_push, marks_have_room}
 use Rattle.resource_table.proofs.KeptTables.{kept_push, trail_has_room, draws_have_room, length-draws_from}
-use Rattle.resource_table.proofs.KeptMarks.{last_room, last_rising, last_within, before_last, after_push}
+use Rattle.resource_table.proofs.KeptMarks.{last_room, last_within, before_last, after_push}
 use Rattle.resource_table.proofs.KeptStarts.{wanted_is}
 use Rattle.resource_table.proofs.table.TableOf.push.Goals as goal
 
@@ -120,19 +120,6 @@ add_drawn-requires-clause-room g c =
     let earlier : c.len-earlier.result ≡ length (flat_map (draws_of job) placed) = c.len-earlier.ensures ∙ c.self.inside.draws.ok.0 ∙ ap length c.self.invariant.0.draws_are in
     let old : IfSome job.power (λ _. ArePoints (flat_map (draws_of job) placed) (flat_map (marks_of job) placed) c.self.inside.points.items) = subst (λ (v : List Draw). IfSome job.power (λ _. ArePoints v (flat_map (marks_of job) placed) c.self.inside.points.items)) c.self.invariant.0.draws_are c.self.invariant.2.are in
     last_room job placed (at_start c.args.test c.args.start) c.deref-2.result.now c.len-earlier.result draws earlier c.self.inside.points c.self.invariant.0.sound may c.self.invariant.2.room (length-draws_from c.args.start (cycles_of job c.args.test) (test_at job c.args.test).steps) old
-
-pub add_drawn-requires-clause-rising : goal.add_drawn-requires-clause-rising
-add_drawn-requires-clause-rising g c =
-    let may = subst (λ (t : TableValue). MayPlace t.job t.placed c.args.test c.args.start) (sym c.self.view_is) c.requires in
-    let wanted = wanted_is c.self.inside.own.tests.items c.args.test c.index-wanted.result.now may.in_job c.index-wanted.ensures in
-    let job = job_value c.self.inside.own in
-    let placed = c.self.inside.trail.items in
-    let draws : c.deref-2.result.now ≡ flat_map (draws_of job) placed ++ draws_of job (at_start c.args.test c.args.start) =
-    c.deref-2.ensures.value ∙ c.push_draws.ensures.items ∙ ap (λ (v : List (ℕ × ℕ)). c.self.inside.draws.items ++ draws_from c.args.start c.index-wanted.result.now.length v) c.deref.ensures.value
-    ∙ ap (λ (t : TestValue). c.self.inside.draws.items ++ draws_from c.args.start t.cycles t.steps) wanted ∙ ap (λ (v : List Draw). v ++ draws_of job (at_start c.args.test c.args.start)) c.self.invariant.0.draws_are in
-    let earlier : c.len-earlier.result ≡ length (flat_map (draws_of job) placed) = c.len-earlier.ensures ∙ c.self.inside.draws.ok.0 ∙ ap length c.self.invariant.0.draws_are in
-    let old : IfSome job.power (λ _. ArePoints (flat_map (draws_of job) placed) (flat_map (marks_of job) placed) c.self.inside.points.items) = subst (λ (v : List Draw). IfSome job.power (λ _. ArePoints v (flat_map (marks_of job) placed) c.self.inside.points.items)) c.self.invariant.0.draws_are c.self.invariant.2.are in
-    last_rising job placed (at_start c.args.test c.args.start) c.deref-2.result.now c.len-earlier.result draws earlier c.self.invariant.0.sound.job may.in_job
 
 pub add_drawn-requires-clause-within : goal.add_drawn-requires-clause-within
 add_drawn-requires-clause-within g c =

@@ -1,0 +1,168 @@
+-- Where a profile of power leaves enough free, swept from point to point.
+use Rattle.std.proofs.Common.{◌≡◌, ℕ, ◌+◌, ◌<◌, ◌≤◌, ◌⊎◌, inl, inr, Bool, true, false, List, length, get_or, arith, max, refl, sym, ◌∙◌, subst}
+use Rattle.std.specs.Prelude.{nat_lt, nat_le, not, ◌&&◌, if◌then◌else◌}
+use Rattle.std.specs.List.Sorted.{IsPartitionPoint}
+use Rattle.std.proofs.lemmas.Bool.{cases_lt, cases_Bool, le-leb, lt-leb, lt-ltb, le-ltb, leb-true}
+use Rattle.resource_table.specs.declared.points.Point.{Point}
+use Rattle.resource_table.specs.Profiles.{no_point, load_before, IsProfile, IsEndedProfile, IsFreeFor}
+use Rattle.resource_table.proofs.Places.{same_item}
+use Rattle.resource_table.proofs.Profiles.{load_there}
+
+-- the load from a point on up to the next
+pub load_from : (load : ℕ → ℕ) (points : List Point) → IsProfile load points → (k c : ℕ) → k < length points → (get_or points k no_point).cycle ≤ c → (k + 1 < length points → c < (get_or points (k + 1) no_point).cycle) → load c ≡ (get_or points k no_point).load
+load_from load points is k c lt from next =
+    let here : (get_or points k no_point).load ≡ load (get_or points k no_point).cycle = is.here k no_point lt in
+    let stays : load c ≡ load (get_or points k no_point).cycle = is.between (get_or points k no_point).cycle c from (λ i d inside. elim (cases_lt k i) [
+      | inr before ↦ inl (subst (λ (v : Point). (get_or points i d).cycle ≤ v.cycle) (same_item points k d no_point lt) (is.ordered i k d before lt))
+      | inl after ↦
+          (let first : c < (get_or points (k + 1) no_point).cycle = next (omega arith) in
+          let later : (get_or points (k + 1) no_point).cycle ≤ (get_or points i no_point).cycle = is.ordered (k + 1) i no_point (omega arith) inside in
+          inr (subst (λ (v : Point). c < v.cycle) (same_item points i no_point d inside) (omega arith)))
+    ]) in
+    stays ∙ sym here
+
+-- nothing is drawn from the last cycle on
+free_at_last : (load : ℕ → ℕ) (points : List Point) (free width last from : ℕ) → IsEndedProfile load points last → IsFreeFor load free width (max from last)
+free_at_last load points free width last from ended c low high = (let none = ended.over c (omega (arith, low)) in omega (arith, none))
+
+-- where too much is drawn from a point on, what is free begins at the next point or behind it
+crowd_goes_on : (load : ℕ → ℕ) (points : List Point) (free width place other : ℕ) → IsProfile load points → 1 ≤ width → place < length points → free < (get_or points place no_point).load →
+    (get_or points place no_point).cycle < other + width → IsFreeFor load free width other → (place + 1 < length points) × ((get_or points (place + 1) no_point).cycle ≤ other)
+crowd_goes_on load points free width place other is some lt crowded early good = next
+  where
+    here : (get_or points place no_point).load ≡ load (get_or points place no_point).cycle
+    here = is.here place no_point lt
+
+    passed : (get_or points place no_point).cycle ≤ other
+    passed = elim (cases_lt other (get_or points place no_point).cycle) [
+      | inr done ↦ done
+      | inl before ↦ absurd (let small = good (get_or points place no_point).cycle (omega (arith, before)) early in omega (arith, small, here, crowded))
+    ]
+
+    next : (place + 1 < length points) × ((get_or points (place + 1) no_point).cycle ≤ other)
+    next = elim (cases_lt (place + 1) (length points)) [
+      | inl more ↦ elim (cases_lt other (get_or points (place + 1) no_point).cycle) [
+        | inr late ↦ (more, late)
+        | inl before ↦ absurd (let e = load_from load points is place other lt passed (λ _. before) in let small = good other (omega arith) (omega (arith, some)) in omega (arith, e, small, crowded))
+      ]
+      | inr end ↦ absurd (let e = load_from load points is place other lt passed (λ more. absurd (omega (arith, end, more))) in let small = good other (omega arith) (omega (arith, some)) in omega (arith, e, small, crowded))
+    ]
+
+-- a sweep that has come to a place: whether a crowd stands before it, and else from which start on enough is free
+pub record IsSwept (points : List Point) (free from width last place start : ℕ) (crowded : Bool) : Type 0 where
+  pub from' : from ≤ start
+  pub most : (start ≡ from) ⊎ (start ≤ last)
+  pub clear : crowded ≡ false → (load : ℕ → ℕ) → IsEndedProfile load points last → (c : ℕ) → start ≤ c → (place < length points → c < (get_or points place no_point).cycle) → load c ≤ free
+  pub low : crowded ≡ false → (load : ℕ → ℕ) → IsEndedProfile load points last → (other : ℕ) → from ≤ other → IsFreeFor load free width other → start ≤ other
+  pub high : crowded ≡ true → (load : ℕ → ℕ) → IsEndedProfile load points last → (other : ℕ) → from ≤ other → IsFreeFor load free width other → (place < length points) × ((get_or points place no_point).cycle ≤ other)
+
+-- the load at a cycle behind which a place stands
+load_up_to : (load : ℕ → ℕ) (points : List Point) (place from c : ℕ) → IsProfile load points → place ≤ length points → IsPartitionPoint (λ (p : Point). p.cycle ≤ from) (λ (p : Point). from < p.cycle) points place →
+    from ≤ c → (place < length points → c < (get_or points place no_point).cycle) → load c ≡ load_before points place
+load_up_to load points place from c is le parts low next = load_there load points is place c le (
+  (λ k d i j. (let early = parts.0 k d i j in omega (arith, early, low))),
+  (λ k d i j.
+      let first : c < (get_or points place no_point).cycle = next (omega (arith, i, j)) in
+      let order : (get_or points place no_point).cycle ≤ (get_or points k no_point).cycle = is.ordered place k no_point i j in
+      subst (λ (p : Point). c < p.cycle) (same_item points k no_point d j) (omega (arith, first, order))),
+)
+
+pub swept_first : (points : List Point) (free from width last place : ℕ) → 1 ≤ width → place ≤ length points → IsPartitionPoint (λ (p : Point). p.cycle ≤ from) (λ (p : Point). from < p.cycle) points place →
+    IsSwept points free from width last place from (nat_lt free (load_before points place))
+swept_first points free from width last place some le parts = elim (cases_lt free (load_before points place)) [
+  | inl more ↦ rw (lt-ltb free (load_before points place) more) (record {
+    from' = omega arith;
+    most = inl refl;
+    clear = λ (no' : true ≡ false). absurd cc;
+    low = λ (no' : true ≡ false). absurd cc;
+    high = λ _ load ended other later good. elim (cases_lt place (length points)) [
+      | inl inside ↦ elim (cases_lt other (get_or points place no_point).cycle) [
+        | inr late ↦ (inside, late)
+        | inl before ↦ absurd (let e = load_up_to load points place from other ended.profile le parts later (λ _. before) in let small = good other (omega arith) (omega (arith, some)) in omega (arith, e, small, more))
+      ]
+      | inr end ↦ absurd (let e = load_up_to load points place from other ended.profile le parts later (λ inside. absurd (omega (arith, end, inside))) in let small = good other (omega arith) (omega (arith, some)) in omega (arith, e, small, more))
+    ];
+  })
+  | inr less ↦ rw (le-ltb free (load_before points place) less) (record {
+    from' = omega arith;
+    most = inl refl;
+    clear = λ _ load ended c low next. (let e = load_up_to load points place from c ended.profile le parts low next in omega (arith, e, less));
+    low = λ _ load ended other later good. later;
+    high = λ (no' : false ≡ true). absurd cc;
+  })
+]
+
+module _ (points : List Point) (free from width last place start : ℕ) (witness : (load : ℕ → ℕ) × IsEndedProfile load points last) (some : 1 ≤ width) (lt : place < length points) (behind : from < (get_or points place no_point).cycle) where
+  abbrev point : Point
+  point = get_or points place no_point
+
+  -- too much is drawn from the point on
+  more_crowded : (crowded : Bool) → IsSwept points free from width last place start crowded → (crowded ≡ false → point.cycle < start + width) → free < point.load → IsSwept points free from width last (place + 1) start true
+  more_crowded crowded swept going more = record {
+    from' = swept.from';
+    most = swept.most;
+    clear = λ (no' : true ≡ false). absurd cc;
+    low = λ (no' : true ≡ false). absurd cc;
+    high = λ _ load ended other later good. crowd_goes_on load points free width place other ended.profile some lt more (elim (cases_Bool crowded) [
+      | inl yes' ↦ (let here = (swept.high yes' load ended other later good).1 in omega (arith, here, some))
+      | inr no' ↦ (let here = going no' in let least = swept.low no' load ended other later good in omega (arith, here, least))
+    ]) good;
+  }
+
+  -- a crowd ends at the point
+  crowd_ends : IsSwept points free from width last place start true → point.load ≤ free → IsSwept points free from width last (place + 1) point.cycle false
+  crowd_ends swept less = record {
+    from' = omega (arith, behind);
+    most = inr (let h = (swept.high refl witness.0 witness.1 (max from last) (omega arith) (free_at_last witness.0 points free width last from witness.1)).1 in omega (arith, h, behind));
+    clear = λ _ load ended c low next. (let e = load_from load points ended.profile place c lt low next in omega (arith, e, less));
+    low = λ _ load ended other later good. (swept.high refl load ended other later good).1;
+    high = λ (no' : false ≡ true). absurd cc;
+  }
+
+  -- enough stays free
+  stays_free : IsSwept points free from width last place start false → point.load ≤ free → IsSwept points free from width last (place + 1) start false
+  stays_free swept less = record {
+    from' = swept.from';
+    most = swept.most;
+    clear = λ _ load ended c low next. elim (cases_lt c point.cycle) [
+      | inl early ↦ swept.clear refl load ended c low (λ _. early)
+      | inr late ↦ (let e = load_from load points ended.profile place c lt late next in omega (arith, e, less))
+    ];
+    low = λ _ load ended other later good. swept.low refl load ended other later good;
+    high = λ (no' : false ≡ true). absurd cc;
+  }
+
+  pub swept_more : (crowded : Bool) → IsSwept points free from width last place start crowded → (let b : Bool = not crowded && nat_le (start + width) point.cycle in b) ≡ false →
+      IsSwept points free from width last (place + 1) (if crowded && nat_le point.load free then point.cycle else start) (nat_lt free point.load)
+  swept_more true swept through = elim (cases_lt free point.load) [
+    | inl more ↦ rw (lt-ltb free point.load more, lt-leb point.load free more) (more_crowded true swept (λ (no' : true ≡ false). absurd cc) more)
+    | inr less ↦ rw (le-ltb free point.load less, le-leb point.load free less) (crowd_ends swept less)
+  ]
+  swept_more false swept through =
+      let going : point.cycle < start + width = elim (cases_lt point.cycle (start + width)) [
+        | inl early ↦ early
+        | inr late ↦ absurd (let e : nat_le (start + width) point.cycle ≡ true = le-leb (start + width) point.cycle late in cc)
+      ] in
+      elim (cases_lt free point.load) [
+        | inl more ↦ rw (lt-ltb free point.load more) (more_crowded false swept (λ _. going) more)
+        | inr less ↦ rw (le-ltb free point.load less) (stays_free swept less)
+      ]
+
+-- where the sweep is through, enough is free from the start on
+pub swept_through : (points : List Point) (free from width last place start : ℕ) (crowded : Bool) → IsSwept points free from width last place start crowded → (let b : Bool = not crowded && nat_le (start + width) (get_or points place no_point).cycle in b) ≡ true →
+    ((load : ℕ → ℕ) → IsEndedProfile load points last → IsFreeFor load free width start) × ((load : ℕ → ℕ) → IsEndedProfile load points last → (other : ℕ) → from ≤ other → IsFreeFor load free width other → start ≤ other)
+swept_through points free from width last place start true swept through = absurd cc
+swept_through points free from width last place start false swept through =
+    let late : start + width ≤ (get_or points place no_point).cycle = leb-true (start + width) (get_or points place no_point).cycle through in
+    ((λ load ended c low high. swept.clear refl load ended c low (λ _. omega (arith, late, high))), swept.low refl)
+
+-- and where it is over
+pub swept_over : (points : List Point) (free from width last place start : ℕ) → length points ≤ place → IsSwept points free from width last place start false →
+    ((load : ℕ → ℕ) → IsEndedProfile load points last → IsFreeFor load free width start) × ((load : ℕ → ℕ) → IsEndedProfile load points last → (other : ℕ) → from ≤ other → IsFreeFor load free width other → start ≤ other)
+swept_over points free from width last place start over swept =
+    ((λ load ended c low high. swept.clear refl load ended c low (λ inside. absurd (omega (arith, over, inside)))), swept.low refl)
+
+-- no crowd is left then
+pub none_crowded : {P : Type 0} (points : List Point) (free from width last place start : ℕ) → (load : ℕ → ℕ) × IsEndedProfile load points last → length points ≤ place → IsSwept points free from width last place start true → P
+none_crowded points free from width last place start witness over swept =
+    absurd (let inside = (swept.high refl witness.0 witness.1 (max from last) (omega arith) (free_at_last witness.0 points free width last from witness.1)).0 in omega (arith, inside, over))
