@@ -17,7 +17,6 @@ pub mod Filling
 pub mod GoodWires
 pub mod WholeChip
 pub mod Numbering
-pub mod PlanWrappers
 pub mod PlacedLanes
 pub mod PlacedTests
 pub mod NewChips

@@ -1,26 +1,19 @@
 -- A chip before its first cycle.
-use Rattle.std.proofs.Common.{◌≡◌, ℕ, zero, suc, ◌+◌, ◌-◌, ◌*◌, ◌^◌, ◌≤◌, ◌<◌, ◌⊎◌, max, min, true, false, Some, List, [], ◌∷◌, length, get_or, map, refl, ap, sym, subst, ◌∙◌, arith, inl, inr}
+use Rattle.std.proofs.Common.{◌≡◌, ℕ, zero, suc, ◌-◌, ◌^◌, ◌≤◌, ◌<◌, Some, List, [], ◌∷◌, length, get_or, map, refl, ap, sym, subst, ◌∙◌, arith}
 use Rattle.std.specs.Prelude.{slice_get}
 use Rattle.std.specs.List.{sum_by, sum}
-use Rattle.std.proofs.lemmas.List.{length-map, length-replicate, get_or-map}
+use Rattle.std.proofs.lemmas.List.{length-map, get_or-map}
 use Rattle.std.proofs.lemmas.List.Sums.{sum_by-cons}
 use Rattle.std.proofs.lemmas.Option.{slice_get_within, get_or_from_slice_get}
-use Rattle.std.proofs.lemmas.Bool.{cases_Bool}
-use Rattle.soc_model.specs.declared.Test.{Test}
-use Rattle.soc_model.specs.Chips.{ModuleValue, SocValue, LiveTest, is_live, live_tests}
+use Rattle.soc_model.specs.Chips.{SocValue, LiveTest, live_tests}
 use Rattle.soc_model.specs.Sizes.{test_work, work}
 use Rattle.soc_model.specs.SoundChips.{IsSoundChip}
 use Rattle.soc_model.proofs.Limits.{work-le}
-use Rattle.plan_model.specs.declared.Wrapper.{Wrapper}
-use Rattle.plan_model.specs.Cells.{Cell, IsProper, in_length, out_length, chain_cells}
-use Rattle.plan_model.specs.Operations.{SelfTest, ops_of}
-use Rattle.plan_model.specs.Plans.{WrapperValue, PlanValue, LimitsValue, PlannedTest, planned, planned_test, chains_of, operations_of, greatest}
+use Rattle.plan_model.specs.Plans.{PlanValue, LimitsValue, PlannedTest, planned, planned_test, chains_of, operations_of}
 use Rattle.plan_model.specs.Runs.{Content, chain_at, first_state}
 use Rattle.plan_model.specs.Rules.{IsGood, IsGoodAlone, Wrappers, Proper, bare_limits}
-use Rattle.plan_model.specs.Views.{bus_value, wrapper_value, chain_value}
-use Rattle.plan_model.proofs.Lists.{from_map, from_filter}
+use Rattle.plan_model.specs.Views.{bus_value}
 use Rattle.plan_model.proofs.ShortTests.{short_test, planned_operations}
-use Rattle.plan_model.proofs.PlannedTests.{IsLive, live_at, Wrapped, wrapped}
 use Rattle.plan_model.specs.declared.Bus.{Bus}
 use Rattle.bit_machine.specs.Chips.{made_content, wires_of, at_first}
 use Rattle.bit_machine.specs.Lanes.{lane_bits, AreNewLanes}
@@ -30,7 +23,6 @@ use Rattle.bit_machine.specs.declared.lane.Lane.{Lane}
 use Rattle.bit_machine.specs.declared.machine.Machine.{Machine}
 use Rattle.bit_machine.proofs.Assigning.{lanes_fit}
 use Rattle.bit_machine.proofs.GoodWires.{good_wires}
-use Rattle.bit_machine.proofs.PlanWrappers.{live_patterns}
 use Rattle.bit_machine.proofs.WireSteps.{state_is, lanes_width}
 use Rattle.bit_machine.proofs.WholeChip.{chip_view}
 use Rattle.bit_machine.proofs.PlacedLanes.{widths_are}

@@ -1,22 +1,22 @@
 -- The lane of a live test is that of its planned test.
-use Rattle.std.proofs.Common.{◌≡◌, ◌≢◌, ℕ, zero, suc, ◌+◌, ◌*◌, ◌%◌, ◌^◌, ◌≤◌, ◌<◌, ◌⊎◌, Bool, true, false, true≢false, max, min, Some, Result, Ok, Err, List, [], ◌∷◌, length, get_or, map, take, refl, ap, sym, subst, ◌∙◌, arith, inl, inr}
+use Rattle.std.proofs.Common.{◌≡◌, ◌≢◌, ℕ, zero, suc, ◌+◌, ◌*◌, ◌%◌, ◌^◌, ◌≤◌, ◌<◌, ◌⊎◌, Bool, true, false, true≢false, max, min, Option, None, Some, Result, Ok, Err, List, [], ◌∷◌, length, get_or, map, take, refl, ap, sym, subst, ◌∙◌, arith, inl, inr}
 use Rattle.std.specs.Prelude.{slice_get, slice_index, nat_eq, IfOk}
-use Rattle.std.specs.List.{sum, sum_by, filter, position_or_len}
+use Rattle.std.specs.List.{sum, sum_by, position_or_len}
 use Rattle.std.proofs.Math.Path.{fun_ext}
-use Rattle.std.proofs.lemmas.List.{length-map, length-replicate, get_or-map, get_or_past}
+use Rattle.std.proofs.lemmas.List.{length-map, get_or-map, get_or_past}
 use Rattle.std.proofs.lemmas.Option.{slice_get_within, get_or_from_slice_get, same_Some, slice_get-map}
-use Rattle.std.proofs.lemmas.Bool.{cases_lt, cases_Bool, and_parts, eqb-true, eq-eqb, ne_eqb}
+use Rattle.std.proofs.lemmas.Bool.{cases_lt, and_parts, eqb-true, eq-eqb, leb-true, ne_eqb}
 use Rattle.soc_model.specs.declared.Test.{Test}
 use Rattle.soc_model.specs.declared.TestId.{TestId}
-use Rattle.soc_model.specs.Chips.{ModuleValue, SocValue, LiveTest, is_live, live_of, live_from, live_tests, id_of, same_test}
+use Rattle.soc_model.specs.Chips.{ModuleValue, SocValue, LiveTest, is_live, live_tests, id_of, same_test}
 use Rattle.soc_model.specs.SoundChips.{IsSoundChip, IsSoundModule, AllDiffer}
 use Rattle.soc_model.proofs.Places.{IsKeyed-from_sound, module-unique}
 use Rattle.plan_model.specs.Cells.{Cell, ChainValue, IsProper, chain_cells, dealt, out_length}
 use Rattle.soc_model.specs.Modes.{scan_lengths}
-use Rattle.plan_model.specs.Operations.{SelfTest, ops_of}
-use Rattle.plan_model.specs.Plans.{BusValue, PlanValue, LimitsValue, PlannedTest, planned, planned_test, of_first, chains_of, operations_of, si_of, so_of, end_of, widths, bus_place, greatest}
+use Rattle.plan_model.specs.Operations.{ops_of}
+use Rattle.plan_model.specs.Plans.{BusValue, PlanValue, LimitsValue, PlannedTest, planned, planned_test, chains_of, operations_of, si_of, so_of, widths, bus_place}
 use Rattle.plan_model.specs.declared.ChainPlan.{ChainPlan}
-use Rattle.plan_model.specs.Rules.{IsGood, Wrappers, Cycles}
+use Rattle.plan_model.specs.Rules.{IsGood, Wrappers}
 use Rattle.plan_model.specs.declared.Bus.{Bus}
 use Rattle.plan_model.specs.Views.{bus_value, chain_value}
 use Rattle.plan_model.specs.Runs.{Content, chain_at}
@@ -26,9 +26,16 @@ use Rattle.bit_machine.specs.Layouts.{layout_cells}
 use Rattle.bit_machine.specs.declared.layout.Layout.{Layout}
 use Rattle.std.proofs.lemmas.Nat.{mod_below}
 use Rattle.plan_model.proofs.OperationCounts.{ops_length}
-use Rattle.plan_model.proofs.Greatest.{le-greatest, le-greatest_at}
-use Rattle.plan_model.proofs.Lists.{from_filter, in_append_left, in_append_right}
-use Rattle.plan_model.proofs.PlannedTests.{IsLive, live_at, of_first_is, Wrapped, wrapped}
+use Rattle.plan_model.proofs.Greatest.{le-greatest}
+use Rattle.plan_model.proofs.Finding.{in_filter}
+use Rattle.plan_model.proofs.Lists.{from_filter}
+use Rattle.plan_model.proofs.PlannedTests.{IsLive, live_at, Origin, origin, of_first_is, Wrapped, wrapped}
+use Rattle.plan_model.proofs.ShortTests.{short_planned}
+use Rattle.plan_model.specs.Right.{IsAt}
+use Rattle.live_tests.specs.declared.placed.PlacedTest.{PlacedTest}
+use Rattle.live_tests.specs.Placed.{bus_over, placed_of}
+use Rattle.live_tests.proofs.Placing.{the_live, in_live, places_of_origin}
+use Rattle.soc_model.specs.Lookups.{test_places}
 use Rattle.bit_machine.specs.Chips.{made_content, made_stimulus, made_response, of_live}
 use Rattle.bit_machine.specs.Paths.{path_stimulus, path_response}
 use Rattle.plan_model.specs.Moments.{ArePhases, phase_ops}
@@ -65,32 +72,6 @@ first_place (u ∷ ts) (suc q) t d at =
 sound_module : (soc : SocValue) → IsSoundChip soc → (p : ℕ) (m : ModuleValue) → slice_get soc.modules p ≡ Some m → IsSoundModule m
 sound_module soc sound p m at = subst IsSoundModule (get_or_from_slice_get soc.modules p m m at) (sound.modules p m (slice_get_within soc.modules p m at))
 
--- every live test of a module is one of the chip
-in_live : (ms : List ModuleValue) (base up n place : ℕ) (m : ModuleValue) (t : Test) → base + up ≡ place → slice_get ms up ≡ Some m → slice_get (filter is_live m.tests) n ≡ Some t → (i : ℕ) × (slice_get (live_from base ms) i ≡ Some (record { place = place; core = m; test = t }))
-unfolding live_from
-in_live [] base up n place m t e at there = absurd cc
-in_live (k ∷ ms) base zero n place m t e at there =
-    let same : k ≡ m = same_Some _ _ at in
-    let number : base ≡ place = omega arith in
-    (n, in_append_left (live_of base k) (live_from (base + 1) ms) n (record { place = place; core = m; test = t }) (rw (same, number) (slice_get-map (one_test place m) (filter is_live m.tests) n ∙ rw there refl)))
-  where
-    one_test : ℕ → ModuleValue → Test → LiveTest
-    one_test base m t = record { place = base; core = m; test = t }
-in_live (k ∷ ms) base (suc up) n place m t e at there =
-    let r = in_live ms (base + 1) up n place m t (omega arith) at there in
-    in_append_right (live_of base k) (live_from (base + 1) ms) r.0 (record { place = place; core = m; test = t }) r.1
-
-pub in_filter : (ts : List Test) (q : ℕ) (t : Test) → slice_get ts q ≡ Some t → is_live t ≡ true → (n : ℕ) × (slice_get (filter is_live ts) n ≡ Some t)
-in_filter [] q t at live = absurd cc
-in_filter (u ∷ ts) zero t at live = let same : u ≡ t = same_Some _ _ at in (0, rw (same, live) refl)
-in_filter (u ∷ ts) (suc q) t at live =
-    let r = in_filter ts q t at live in
-    elim (cases_Bool (is_live u)) [ inl yes' ↦ (suc r.0, rw yes' r.1) | inr no' ↦ (r.0, rw no' r.1) ]
-
--- the live test at a place of a module at a place
-abbrev pub the_live : ℕ → ModuleValue → Test → LiveTest
-the_live p m t = record { place = p; core = m; test = t }
-
 same_live : (y : LiveTest) (p : ℕ) (m : ModuleValue) (t : Test) → y.place ≡ p → y.core ≡ m → y.test ≡ t → y ≡ the_live p m t
 same_live y p m t a b c = rw (← a, ← b, ← c) refl
 
@@ -116,7 +97,7 @@ itself id = rw (eq-eqb id.module id.module refl, eq-eqb id.test id.test refl) re
 
 pub of_the_live : (soc : SocValue) → IsSoundChip soc → (p q : ℕ) (m : ModuleValue) (t : Test) → slice_get soc.modules p ≡ Some m → slice_get m.tests q ≡ Some t → is_live t ≡ true → (f : LiveTest → Bool) → of_live soc (id_of (the_live p m t)) f ≡ f (the_live p m t)
 of_the_live soc sound p q m t at there live f =
-    let n = in_filter m.tests q t there live in
+    let n = in_filter is_live m.tests q t there live in
     let i = in_live soc.modules 0 p n.0 p m t (omega arith) at n.1 in
     let here : slice_get (live_tests soc) i.0 ≡ Some (the_live p m t) = i.1 in
     let r = of_first_is (λ (l : LiveTest). same_test (id_of l) (id_of (the_live p m t))) f false (live_tests soc) i.0 (the_live p m t) here (itself (id_of (the_live p m t))) in
@@ -146,8 +127,9 @@ made_initial soc seed id xs = refl
 
 record PlannedIs (plan : PlanValue) (p : ℕ) (m : ModuleValue) (t : Test) (u : PlannedTest) : Type 0 where
   pub id : u.id ≡ id_of (the_live p m t)
+  pub place : u.place ≡ p
   pub tam : u.tam ≡ t.tam
-  pub start : u.start ≡ of_first (λ (s : TestId × ℕ). same_test s.0 (id_of (the_live p m t))) (λ (s : TestId × ℕ). s.1) 0 plan.starts
+  pub bus : u.bus ≡ bus_place m.number 0 plan.buses
   pub first_wire : u.first_wire ≡ sum (take (bus_place m.number 0 plan.buses) (widths plan))
   pub width : u.width ≡ slice_index (widths plan) (bus_place m.number 0 plan.buses)
   pub chains : u.chains ≡ chains_of plan m t
@@ -155,26 +137,37 @@ record PlannedIs (plan : PlanValue) (p : ℕ) (m : ModuleValue) (t : Test) (u : 
 
 planned_is : (plan : PlanValue) (p : ℕ) (m : ModuleValue) (t : Test) → PlannedIs plan p m t (planned_test plan p m t)
 unfolding planned_test
-planned_is plan p m t = record { id = refl; tam = refl; start = refl; first_wire = refl; width = refl; chains = refl; operations = refl }
+planned_is plan p m t = record { id = refl; place = refl; tam = refl; bus = refl; first_wire = refl; width = refl; chains = refl; operations = refl }
 
 -- ---- self tests
 
-self_new : (content : Content) (plan : PlanValue) (p : ℕ) (m : ModuleValue) (t : Test) (u : PlannedTest) (l : Lane) → PlannedIs plan p m t u → t.tam ≡ false → IsSelfLane t u.start l → IsNewLane content u l
-self_new content plan p m t u l is self lane = record {
-  is = record {
-    ready = record {
-      base = rw lane.base (omega arith);
-      phases = lane.phases;
-      paths = λ j q at. absurd (let within = slice_get_within l.paths.items j q at in let none = lane.none in omega arith);
-    };
-    tam = lane.tam ∙ sym (is.tam ∙ self);
-    start = lane.start_is;
-    ends = lane.ends ∙ ap (λ n. u.start + n) (sym (ap length is.operations ∙ rw self (length-replicate t.patterns SelfTest)));
-    wired = λ tam. absurd (true≢false (sym tam ∙ is.tam ∙ self));
-    alone = λ none. (lane.none, ap length is.chains ∙ rw self refl);
-  };
-  bits = λ j h. absurd (let none : length u.chains ≡ 0 = ap length is.chains ∙ rw self refl in omega arith);
-}
+over_none : (tam : Bool) (bus : ℕ) → bus_over tam bus ≡ None → tam ≡ false
+over_none true bus e = cc
+over_none false bus e = refl
+
+over_some : (tam : Bool) (bus over : ℕ) → bus_over tam bus ≡ Some over → (tam ≡ true) × (bus ≡ over)
+over_some true bus over e = (refl, same_Some bus over e)
+over_some false bus over e = absurd cc
+
+self_new : (content : Content) (plan : PlanValue) (p : ℕ) (m : ModuleValue) (t : Test) (u : PlannedTest) (placed : PlacedTest) (l : Lane) → PlannedIs plan p m t u → placed ≡ placed_of u → placed.bus ≡ None → IsSelfLane placed l → IsNewLane content u l
+self_new content plan p m t u placed l is same none lane =
+    let self' : u.tam ≡ false = over_none u.tam u.bus (ap (λ (q : PlacedTest). q.bus) (sym same) ∙ none) in
+    let self : t.tam ≡ false = sym is.tam ∙ self' in
+    record {
+      is = record {
+        ready = record {
+          base = rw lane.base (omega arith);
+          phases = lane.phases;
+          paths = λ j q at. absurd (let within = slice_get_within l.paths.items j q at in let none = lane.none in omega arith);
+        };
+        tam = lane.tam ∙ sym self';
+        start = lane.start_is ∙ ap (λ (q : PlacedTest). q.start) same;
+        ends = lane.ends ∙ ap (λ (q : PlacedTest). q.end) same;
+        wired = λ tam. absurd (true≢false (sym tam ∙ self'));
+        alone = λ none. (lane.none, ap length is.chains ∙ rw self refl);
+      };
+      bits = λ j h. absurd (let none : length u.chains ≡ 0 = ap length is.chains ∙ rw self refl in omega arith);
+    }
 
 -- ---- tests over the wires
 
@@ -187,18 +180,18 @@ long_ops : (setup si so p n : ℕ) → 1 ≤ p → setup + (1 + max si so) * p +
 long_ops setup si so zero n some h = absurd (omega arith)
 long_ops setup si so (suc p) n some h = (omega arith, omega arith)
 
-wired_new : (soc : SocValue) (sound : IsSoundChip soc) (plan : PlanValue) (seed p q : ℕ) (m : ModuleValue) (t : Test) (u : PlannedTest) (l : Lane) → slice_get soc.modules p ≡ Some m → slice_get m.tests q ≡ Some t → is_live t ≡ true → 1 ≤ t.patterns → t.tam ≡ true →
-    PlannedIs plan p m t u → IsWiredLane plan seed p q m t u.start l → IsNewLane (made_content soc seed) u l
-wired_new soc sound plan seed p q m t u l at there live some tam is lane = record {
+wired_new : (soc : SocValue) (sound : IsSoundChip soc) (plan : PlanValue) (seed p q : ℕ) (m : ModuleValue) (t : Test) (u : PlannedTest) (placed : PlacedTest) (over : ℕ) (l : Lane) → slice_get soc.modules p ≡ Some m → slice_get m.tests q ≡ Some t → is_live t ≡ true
+    → length (operations_of m t (chains_of plan m t)) ≤ 10 ^ 18 → PlannedIs plan p m t u → placed ≡ placed_of u → placed.bus ≡ Some over → IsWiredLane plan seed placed over q m t l → IsNewLane (made_content soc seed) u l
+wired_new soc sound plan seed p q m t u placed over l at there live fits is same on lane = record {
   is = record {
     ready = record {
-      base = rw lane.base (mod_below (seed + 31 * p + 17 * q) 997 (omega arith));
+      base = rw base (mod_below (seed + 31 * p + 17 * q) 997 (omega arith));
       phases = phases;
       paths = λ j r at'. sound_path (m.inputs + m.bidirs) (scan_lengths m t.scan) (get_or (chains_of plan m t) j []) r ((lane.paths.each j r at').is);
     };
     tam = lane.tam ∙ sym (is.tam ∙ tam);
-    start = lane.start_is;
-    ends = lane.ends ∙ ap (λ n. u.start + n) (sym (ap length is.operations));
+    start = lane.start_is ∙ ap (λ (q : PlacedTest). q.start) same;
+    ends = lane.ends ∙ ap (λ (q : PlacedTest). q.end) same;
     wired = λ _. wired;
     alone = λ none. absurd (true≢false (sym (is.tam ∙ tam) ∙ none));
   };
@@ -209,6 +202,21 @@ wired_new soc sound plan seed p q m t u l at there live some tam is lane = recor
       bits_of_path l j r.0 r.1 ∙ (lane.paths.each j r.0 r.1).zero ∙ sym (made_initial soc seed u.id (chain_at u j) ∙ ap (λ (c : List (List Cell)). map (λ x. false) (get_or c j [])) is.chains);
 }
   where
+    over_it : (u.tam ≡ true) × (u.bus ≡ over)
+    over_it = over_some u.tam u.bus over (ap (λ (q : PlacedTest). q.bus) (sym same) ∙ on)
+
+    tam : t.tam ≡ true
+    tam = sym is.tam ∙ over_it.0
+
+    bus : over ≡ bus_place m.number 0 plan.buses
+    bus = sym over_it.1 ∙ is.bus
+
+    base : l.base ≡ (seed + 31 * p + 17 * q) % 997
+    base = lane.base ∙ ap (λ n. (seed + 31 * n + 17 * q) % 997) (ap (λ (q : PlacedTest). q.place) same ∙ is.place)
+
+    some : 1 ≤ t.patterns
+    some = leb-true 1 t.patterns live
+
     ops : ops_of m.setup (si_of (chains_of plan m t)) (so_of (chains_of plan m t)) t.patterns ≡ phase_ops l.phases
     ops = rw (lane.setup, lane.si, lane.so, lane.patterns) refl
 
@@ -218,7 +226,7 @@ wired_new soc sound plan seed p q m t u l at there live some tam is lane = recor
     short : l.phases.setup + (1 + max l.phases.si l.phases.so) * l.phases.patterns + min l.phases.si l.phases.so ≤ 10 ^ 18
     short =
         let long : length (phase_ops l.phases) ≡ l.phases.setup + (1 + max l.phases.si l.phases.so) * l.phases.patterns + min l.phases.si l.phases.so = ops_length l.phases.setup l.phases.si l.phases.so l.phases.patterns (rw lane.patterns some) in
-        let few : length (operations_of m t (chains_of plan m t)) ≤ 10 ^ 18 = lane.short in
+        let few : length (operations_of m t (chains_of plan m t)) ≤ 10 ^ 18 = fits in
         let same : length (operations_of m t (chains_of plan m t)) ≡ length (phase_ops l.phases) = ap length (of_test ∙ ops) in
         omega arith
 
@@ -235,13 +243,13 @@ wired_new soc sound plan seed p q m t u l at there live some tam is lane = recor
     wired = record {
       operations = is.operations ∙ of_test ∙ ops;
       out_fits = λ j. rw (chain j, lane.so) (le-greatest out_length [] refl (chains_of plan m t) j);
-      first_wire = lane.first_wire ∙ sym is.first_wire;
-      width = lane.width ∙ sym is.width;
+      first_wire = lane.first_wire ∙ ap (λ b. sum (take b (widths plan))) bus ∙ sym is.first_wire;
+      width = lane.width ∙ ap (slice_index (widths plan)) bus ∙ sym is.width;
       chains = lane.paths.long ∙ sym (ap length is.chains);
       inputs = m.inputs + m.bidirs;
       lengths = scan_lengths m t.scan;
-      stimulus = rw (is.id, lane.base) (made_stimulus_is soc sound seed p q m t at there live);
-      response = rw (is.id, lane.base) (made_response_is soc sound seed p q m t at there live);
+      stimulus = rw (is.id, base) (made_stimulus_is soc sound seed p q m t at there live);
+      response = rw (is.id, base) (made_response_is soc sound seed p q m t at there live);
       path = λ j r at'. rw (chain j) ((lane.paths.each j r at').is);
     }
 
@@ -272,41 +280,69 @@ terminals m scan cs chains proper are =
     let counted : IsCounted m scan chains = proper_is_counted m scan chains (subst (IsProper m scan) (sym are) proper) in
     (counted.ins, counted.outs)
 
--- a live test ends in the plan's cycles
-pub ends_within : (soc : SocValue) (limits : LimitsValue) (plan : PlanValue) → IsGood soc limits plan → (p q : ℕ) (m : ModuleValue) (t : Test) → slice_get soc.modules p ≡ Some m → slice_get m.tests q ≡ Some t → is_live t ≡ true → end_of (planned_test plan p m t) ≤ plan.cycles
-unfolding planned
-ends_within soc limits plan good p q m t at there live =
-    let n = in_filter m.tests q t there live in
-    let i = in_live soc.modules 0 p n.0 p m t (omega arith) at n.1 in
-    let here : slice_get (live_tests soc) i.0 ≡ Some (the_live p m t) = i.1 in
-    let planned_there : slice_get (planned soc plan) i.0 ≡ Some (planned_test plan p m t) = slice_get-map (λ (l : LiveTest). planned_test plan l.place l.core l.test) (live_tests soc) i.0 ∙ rw here refl in
-    let cycles : plan.cycles ≡ greatest (map end_of (planned soc plan)) = good Cycles in
-    subst (λ n. end_of (planned_test plan p m t) ≤ n) (sym cycles) (le-greatest_at end_of (planned soc plan) i.0 (planned_test plan p m t) planned_there)
+-- ---- the lane of a planned test
 
--- the end of a live test by its start
-pub ends_by_start : (soc : SocValue) (limits : LimitsValue) (plan : PlanValue) → IsGood soc limits plan → (p q : ℕ) (m : ModuleValue) (t : Test) (start : ℕ) → slice_get soc.modules p ≡ Some m → slice_get m.tests q ≡ Some t → is_live t ≡ true →
-    start ≡ (planned_test plan p m t).start → start + length (operations_of m t (chains_of plan m t)) ≤ plan.cycles
-ends_by_start soc limits plan good p q m t start at there live same =
-    let is : PlannedIs plan p m t (planned_test plan p m t) = planned_is plan p m t in
-    let ends : end_of (planned_test plan p m t) ≤ plan.cycles = ends_within soc limits plan good p q m t at there live in
-    let long : length (planned_test plan p m t).operations ≡ length (operations_of m t (chains_of plan m t)) = ap length is.operations in
-    omega arith
+-- the test of a placed one, found by its name at the places of its module and of itself
+pub record IsNamed (soc : SocValue) (plan : PlanValue) (u : PlannedTest) (p q : ℕ) (m : ModuleValue) : Type 0 where
+  pub t : Test
+  pub module_at : slice_get soc.modules p ≡ Some m
+  pub test_at : slice_get m.tests q ≡ Some t
+  pub live : is_live t ≡ true
+  pub is : planned_test plan p m t ≡ u
 
-pub start_by_name : (plan : PlanValue) (p : ℕ) (m : ModuleValue) (t : Test) (start : ℕ) → start ≡ of_first (λ (s : TestId × ℕ). same_test s.0 (id_of (the_live p m t))) (λ (s : TestId × ℕ). s.1) 0 plan.starts → start ≡ (planned_test plan p m t).start
-start_by_name plan p m t start e = e ∙ sym (planned_is plan p m t).start
+pub named : (soc : SocValue) → IsSoundChip soc → (plan : PlanValue) (i : ℕ) (u : PlannedTest) (placed : PlacedTest) (r : Option (ℕ × ℕ)) (p q : ℕ) (m : ModuleValue) → IsAt (planned soc plan) i u → placed ≡ placed_of u → r ≡ test_places soc placed.id → r ≡ Some (p, q) → slice_get soc.modules p ≡ Some m → IsNamed soc plan u p q m
+named soc sound plan i u placed r p q m at same found is there =
+    let o : Origin soc plan i u = origin soc plan i u at in
+    let f = from_filter is_live o.l.core.tests o.n o.l.test o.test_at in
+    let places : (p, q) ≡ (o.l.place, f.0) = same_Some (p, q) (o.l.place, f.0) (sym is ∙ found ∙ ap (test_places soc) (ap (λ (q : PlacedTest). q.id) same) ∙ places_of_origin soc sound plan i u o f.0 f.1) in
+    let place : p ≡ o.l.place = ap (λ (x : ℕ × ℕ). x.0) places in
+    let own : q ≡ f.0 = ap (λ (x : ℕ × ℕ). x.1) places in
+    let core : o.l.core ≡ m = same_Some o.l.core m (sym o.module_at ∙ ap (slice_get soc.modules) (sym place) ∙ there) in
+    record {
+      t = o.l.test;
+      module_at = there;
+      test_at = ap (slice_get m.tests) own ∙ subst (λ (m : ModuleValue). slice_get m.tests f.0 ≡ Some o.l.test) core f.1;
+      live = f.2;
+      is = ap (λ (n : ℕ). planned_test plan n m o.l.test) place ∙ ap (λ (m : ModuleValue). planned_test plan o.l.place m o.l.test) (sym core) ∙ o.is;
+    }
 
-pub self_placed : (content : Content) (plan : PlanValue) (p : ℕ) (m : ModuleValue) (t : Test) (start : ℕ) (l : Lane) → t.tam ≡ false → start ≡ (planned_test plan p m t).start → IsSelfLane t start l → IsNewLane content (planned_test plan p m t) l
-self_placed content plan p m t start l self same lane = self_new content plan p m t (planned_test plan p m t) l (planned_is plan p m t) self (subst (λ s. IsSelfLane t s l) same lane)
+-- the name is found
+pub never_lost : (soc : SocValue) → IsSoundChip soc → (plan : PlanValue) (i : ℕ) (u : PlannedTest) (placed : PlacedTest) (r : Option (ℕ × ℕ)) → IsAt (planned soc plan) i u → placed ≡ placed_of u → r ≡ test_places soc placed.id → r ≡ None → ⊥
+never_lost soc sound plan i u placed r at same found none =
+    let o : Origin soc plan i u = origin soc plan i u at in
+    let f = from_filter is_live o.l.core.tests o.n o.l.test o.test_at in
+    none_some (sym none ∙ found ∙ ap (test_places soc) (ap (λ (q : PlacedTest). q.id) same) ∙ places_of_origin soc sound plan i u o f.0 f.1)
+  where
+    none_some : {X : Type 0} {x : X} → None ≡ Some x → ⊥
+    none_some e = cc
 
-pub wired_placed : (soc : SocValue) (sound : IsSoundChip soc) (plan : PlanValue) (seed p q : ℕ) (m : ModuleValue) (t : Test) (start : ℕ) → slice_get soc.modules p ≡ Some m → slice_get m.tests q ≡ Some t → is_live t ≡ true → 1 ≤ t.patterns → t.tam ≡ true →
-    start ≡ (planned_test plan p m t).start → (l : Lane) → IsWiredLane plan seed p q m t start l → IsNewLane (made_content soc seed) (planned_test plan p m t) l
-wired_placed soc sound plan seed p q m t start at there live some tam same l lane =
-    wired_new soc sound plan seed p q m t (planned_test plan p m t) l at there live some tam (planned_is plan p m t) (subst (λ s. IsWiredLane plan seed p q m t s l) same lane)
+-- a test over the wires of a bus
+pub over_wires : (plan : PlanValue) (p : ℕ) (m : ModuleValue) (t : Test) (u : PlannedTest) (placed : PlacedTest) (over : ℕ) → planned_test plan p m t ≡ u → placed ≡ placed_of u → placed.bus ≡ Some over → (t.tam ≡ true) × (over ≡ bus_place m.number 0 plan.buses)
+over_wires plan p m t u placed over is same on =
+    let o = over_some u.tam u.bus over (ap (λ (q : PlacedTest). q.bus) (sym same) ∙ on) in
+    let planned : PlannedIs plan p m t u = subst (PlannedIs plan p m t) is (planned_is plan p m t) in
+    (sym planned.tam ∙ o.0, sym o.1 ∙ planned.bus)
+
+pub self_placed : (content : Content) (soc : SocValue) (plan : PlanValue) (i : ℕ) (u : PlannedTest) (placed : PlacedTest) (l : Lane) → IsAt (planned soc plan) i u → placed ≡ placed_of u → placed.bus ≡ None → IsSelfLane placed l → IsNewLane content u l
+self_placed content soc plan i u placed l at same none lane =
+    let o : Origin soc plan i u = origin soc plan i u at in
+    self_new content plan o.l.place o.l.core o.l.test u placed l (subst (PlannedIs plan o.l.place o.l.core o.l.test) o.is (planned_is plan o.l.place o.l.core o.l.test)) same none lane
+
+pub wired_placed : (soc : SocValue) (sound : IsSoundChip soc) (limits : LimitsValue) (plan : PlanValue) → IsGood soc limits plan → (seed i p q : ℕ) (m : ModuleValue) (u : PlannedTest) (placed : PlacedTest) (over : ℕ) (l : Lane) → IsAt (planned soc plan) i u → (n : IsNamed soc plan u p q m) → placed ≡ placed_of u → placed.bus ≡ Some over
+    → IsWiredLane plan seed placed over q m n.t l → IsNewLane (made_content soc seed) u l
+wired_placed soc sound limits plan good seed i p q m u placed over l at n same on lane =
+    wired_new soc sound plan seed p q m n.t u placed over l n.module_at n.test_at n.live short planned same on lane
+  where
+    planned : PlannedIs plan p m n.t u
+    planned = subst (PlannedIs plan p m n.t) n.is (planned_is plan p m n.t)
+
+    short : length (operations_of m n.t (chains_of plan m n.t)) ≤ 10 ^ 18
+    short = omega (arith, ap length planned.operations, short_planned soc limits plan i u sound.size good at)
 
 -- the bus of a test over the wires is one of the plan's
 pub bus_there : (soc : SocValue) (limits : LimitsValue) (plan : PlanValue) → IsGood soc limits plan → (p q : ℕ) (m : ModuleValue) (t : Test) → slice_get soc.modules p ≡ Some m → slice_get m.tests q ≡ Some t → is_live t ≡ true → t.tam ≡ true → bus_place m.number 0 plan.buses < length plan.buses
 bus_there soc limits plan good p q m t at there live tam =
-    let n = in_filter m.tests q t there live in
+    let n = in_filter is_live m.tests q t there live in
     let w : Wrapped plan m t = wrapped soc limits plan good p n.0 m t at n.1 tam in
     let fits = ((good Wrappers).0 w.n w.w w.at) in
     let some : 1 ≤ length (w.w).chains = fits.some_chain in
@@ -320,18 +356,15 @@ bus_there soc limits plan good p q m t at there live tam =
     go (inl less) some on = less
     go (inr past) some on = let none : get_or (widths plan) (bus_place m.number 0 plan.buses) 0 ≡ 0 = get_or_past (widths plan) (bus_place m.number 0 plan.buses) 0 (omega (arith, many)) in absurd (omega arith)
 
-pub self_long : (plan : PlanValue) (m : ModuleValue) (t : Test) → t.tam ≡ false → length (operations_of m t (chains_of plan m t)) ≡ t.patterns
-self_long plan m t self = rw self (length-replicate t.patterns SelfTest)
-
-pub same_wired : (plan : PlanValue) (seed p q : ℕ) (m : ModuleValue) (t u : Test) (start : ℕ) (l : Lane) → t ≡ u → IsWiredLane plan seed p q m t start l → IsWiredLane plan seed p q m u start l
-same_wired plan seed p q m t u start l same is = subst (λ t. IsWiredLane plan seed p q m t start l) same is
+pub same_wired : (plan : PlanValue) (seed : ℕ) (placed : PlacedTest) (bus q : ℕ) (m : ModuleValue) (t u : Test) (l : Lane) → t ≡ u → IsWiredLane plan seed placed bus q m t l → IsWiredLane plan seed placed bus q m u l
+same_wired plan seed placed bus q m t u l same is = subst (λ t. IsWiredLane plan seed placed bus q m t l) same is
 
 pub widths_are : (buses : List Bus) → map (λ (b : Bus). b.width) buses ≡ map (λ (b : BusValue). b.width) (map bus_value buses)
 widths_are [] = refl
 widths_are (b ∷ buses) = ap (λ v. b.width ∷ v) (widths_are buses)
 
-pub first_is : (buses seen : List Bus) (bus n r : ℕ) → r ≡ sum (take bus (map (λ (b : Bus). b.width) seen)) → seen ≡ buses → bus ≡ n → r ≡ sum (take n (map (λ (b : BusValue). b.width) (map bus_value buses)))
-first_is buses seen bus n r e f g = e ∙ rw (f, g, widths_are buses) refl
+pub first_is : (buses seen : List Bus) (bus r : ℕ) → r ≡ sum (take bus (map (λ (b : Bus). b.width) seen)) → seen ≡ buses → r ≡ sum (take bus (map (λ (b : BusValue). b.width) (map bus_value buses)))
+first_is buses seen bus r e f = e ∙ rw (f, widths_are buses) refl
 
-pub width_is : (buses : List Bus) (bus n : ℕ) (b : Bus) → b ≡ get_or buses bus b → bus < length buses → bus ≡ n → b.width ≡ slice_index (map (λ (b : BusValue). b.width) (map bus_value buses)) n
-width_is buses bus n b at within same = ap (λ (b : Bus). b.width) at ∙ sym (get_or-map (λ (b : Bus). b.width) buses bus b 0 within) ∙ rw (widths_are buses, same) refl
+pub width_is : (buses : List Bus) (bus : ℕ) (b : Bus) → b ≡ get_or buses bus b → bus < length buses → b.width ≡ slice_index (map (λ (b : BusValue). b.width) (map bus_value buses)) bus
+width_is buses bus b at within = ap (λ (b : Bus). b.width) at ∙ sym (get_or-map (λ (b : Bus). b.width) buses bus b 0 within) ∙ rw (widths_are buses) refl

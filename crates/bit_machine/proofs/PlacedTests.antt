@@ -1,17 +1,15 @@
 -- The lanes of all live tests, one after another.
-use Rattle.std.proofs.Common.{◌≡◌, ℕ, zero, suc, ◌+◌, ◌≤◌, ◌<◌, ◌⊎◌, true, false, Some, List, [], ◌∷◌, ◌++◌, length, map, take, refl, ap, sym, subst, ◌∙◌, arith, inl, inr, append_assoc}
+use Rattle.std.proofs.Common.{◌≡◌, ℕ, zero, suc, ◌+◌, ◌≤◌, ◌<◌, ◌⊎◌, Some, List, [], ◌∷◌, ◌++◌, length, get_or, map, take, refl, ap, sym, subst, ◌∙◌, arith, inl, inr}
 use Rattle.std.specs.Prelude.{slice_get}
-use Rattle.std.specs.List.{filter}
-use Rattle.std.proofs.lemmas.List.{length-append, append-nil, take_more, take_all}
+use Rattle.std.proofs.lemmas.List.{length-append, length-map, take_more, take_all}
 use Rattle.std.proofs.lemmas.Option.{slice_get_within, get_or_from_slice_get, same_Some}
-use Rattle.std.proofs.lemmas.Bool.{cases_Bool}
-use Rattle.soc_model.specs.declared.Test.{Test}
-use Rattle.soc_model.specs.Chips.{ModuleValue, SocValue, LiveTest, is_live, live_of, live_from}
-use Rattle.plan_model.specs.Plans.{PlanValue, PlannedTest, planned, planned_test}
+use Rattle.plan_model.specs.Plans.{PlannedTest}
+use Rattle.plan_model.specs.Right.{IsAt}
 use Rattle.plan_model.specs.Runs.{Content}
 use Rattle.plan_model.proofs.Lists.{from_append}
+use Rattle.live_tests.specs.declared.placed.PlacedTest.{PlacedTest}
+use Rattle.live_tests.specs.Placed.{placed_of}
 use Rattle.bit_machine.specs.Lanes.{IsNewLane, AreNewLanes}
-use Rattle.bit_machine.specs.Placed.{placed_tests}
 use Rattle.bit_machine.specs.declared.lane.Lane.{Lane}
 
 pub new_more : (content : Content) (tests : List PlannedTest) (lanes new : List Lane) (t : PlannedTest) (l : Lane) → AreNewLanes content tests lanes → new ≡ lanes ++ l ∷ [] → IsNewLane content t l → AreNewLanes content (tests ++ t ∷ []) new
@@ -33,82 +31,27 @@ new_more content tests lanes new t l are pushed is = subst (AreNewLanes content 
       last u k (suc x) y e f = absurd cc
       last u k zero (suc y) e f = absurd cc
 
-pub live_test : (content : Content) (plan : PlanValue) (place : ℕ) (m : ModuleValue) (t : Test) (done : List PlannedTest) (lanes new : List Lane) (l : Lane) → is_live t ≡ true → AreNewLanes content done lanes → new ≡ lanes ++ l ∷ [] → IsNewLane content (planned_test plan place m t) l →
-    AreNewLanes content (done ++ placed_tests plan place m (t ∷ [])) new
-live_test content plan place m t done lanes new l live are pushed is = rw live (new_more content done lanes new (planned_test plan place m t) l are pushed is)
+-- before any test
+pub no_lanes : (content : Content) (lanes : List Lane) → lanes ≡ [] → AreNewLanes content [] lanes
+no_lanes content lanes none = subst (AreNewLanes content []) (sym none) (record { long = refl; each = λ i t l at there. absurd cc })
 
-pub other_test : (content : Content) (plan : PlanValue) (place : ℕ) (m : ModuleValue) (t : Test) (done : List PlannedTest) (lanes : List Lane) → is_live t ≡ false → AreNewLanes content done lanes → AreNewLanes content (done ++ placed_tests plan place m (t ∷ [])) lanes
-other_test content plan place m t done lanes off are = rw (off, append-nil done) are
+-- the planned test that a placed one stands for
+pub planned_at : (tests : List PlannedTest) (placed : List PlacedTest) (k : ℕ) (p d : PlacedTest) → placed ≡ map placed_of tests → k < length placed → p ≡ get_or placed k d → (t : PlannedTest) × IsAt tests k t × (p ≡ placed_of t)
+planned_at tests placed k p d are within is = at tests k (omega (arith, within, long)) (is ∙ ap (λ ps. get_or ps k d) are)
+  where
+    long : length placed ≡ length tests
+    long = ap length are ∙ length-map tests placed_of
 
-filter_append : (xs ys : List Test) → filter is_live (xs ++ ys) ≡ filter is_live xs ++ filter is_live ys
-filter_append [] ys = refl
-filter_append (x ∷ xs) ys = go (filter_append xs ys) (cases_Bool (is_live x)) where
-  go : filter is_live (xs ++ ys) ≡ filter is_live xs ++ filter is_live ys → (is_live x ≡ true) ⊎ (is_live x ≡ false) → filter is_live (x ∷ (xs ++ ys)) ≡ filter is_live (x ∷ xs) ++ filter is_live ys
-  go rest (inl yes') = rw yes' (ap (λ v. x ∷ v) rest)
-  go rest (inr no') = rw no' rest
+    at : (tests : List PlannedTest) (k : ℕ) → k < length tests → p ≡ get_or (map placed_of tests) k d → (t : PlannedTest) × IsAt tests k t × (p ≡ placed_of t)
+    at [] k within is = absurd (omega (arith, within))
+    at (t ∷ tests) zero within is = (t, refl, is)
+    at (t ∷ tests) (suc k) within is = at tests k (omega (arith, within)) is
 
-map_append : {X Y : Type 0} (f : X → Y) (xs ys : List X) → map f (xs ++ ys) ≡ map f xs ++ map f ys
-map_append f [] ys = refl
-map_append f (x ∷ xs) ys = ap (λ v. f x ∷ v) (map_append f xs ys)
+-- one lane more
+pub lanes_more : (content : Content) (tests : List PlannedTest) (k : ℕ) (t : PlannedTest) (lanes new : List Lane) (l : Lane) → IsAt tests k t → AreNewLanes content (take k tests) lanes → new ≡ lanes ++ l ∷ [] → IsNewLane content t l → AreNewLanes content (take (k + 1) tests) new
+lanes_more content tests k t lanes new l at are pushed is =
+    subst (λ v. AreNewLanes content v new) (sym (take_more tests k t (slice_get_within tests k t at) ∙ ap (λ u. take k tests ++ u ∷ []) (get_or_from_slice_get tests k t t at))) (new_more content (take k tests) lanes new t l are pushed is)
 
-pub tests_more : (plan : PlanValue) (place : ℕ) (m : ModuleValue) (ts : List Test) (k : ℕ) (t : Test) → slice_get ts k ≡ Some t → placed_tests plan place m (take (k + 1) ts) ≡ placed_tests plan place m (take k ts) ++ placed_tests plan place m (t ∷ [])
-tests_more plan place m ts k t at =
-    ap (placed_tests plan place m) (take_more ts k t (slice_get_within ts k t at) ∙ ap (λ u. take k ts ++ u ∷ []) (get_or_from_slice_get ts k t t at))
-    ∙ ap (map (planned_test plan place m)) (filter_append (take k ts) (t ∷ [])) ∙ map_append (planned_test plan place m) (filter is_live (take k ts)) (filter is_live (t ∷ []))
-
-pub next_test : (content : Content) (plan : PlanValue) (place : ℕ) (m : ModuleValue) (ts : List Test) (k : ℕ) (t : Test) (done : List PlannedTest) (lanes : List Lane) → slice_get ts k ≡ Some t → AreNewLanes content ((done ++ placed_tests plan place m (take k ts)) ++ placed_tests plan place m (t ∷ [])) lanes →
-    AreNewLanes content (done ++ placed_tests plan place m (take (k + 1) ts)) lanes
-next_test content plan place m ts k t done lanes at are =
-    subst (λ v. AreNewLanes content v lanes) (append_assoc done (placed_tests plan place m (take k ts)) (placed_tests plan place m (t ∷ [])) ∙ ap (λ v. done ++ v) (sym (tests_more plan place m ts k t at))) are
-
-pub no_tests : (content : Content) (done : List PlannedTest) (lanes : List Lane) → AreNewLanes content done lanes → AreNewLanes content (done ++ []) lanes
-no_tests content done lanes are = rw (append-nil done) are
-
-pub all_tests : (content : Content) (plan : PlanValue) (place : ℕ) (m : ModuleValue) (ts : List Test) (k : ℕ) (done : List PlannedTest) (lanes : List Lane) → length ts ≤ k → AreNewLanes content (done ++ placed_tests plan place m (take k ts)) lanes → AreNewLanes content (done ++ placed_tests plan place m ts) lanes
-all_tests content plan place m ts k done lanes all are = subst (λ ts. AreNewLanes content (done ++ placed_tests plan place m ts) lanes) (take_all k ts all) are
-
-pub some_test : (ts : List Test) (k : ℕ) → k < length ts → (t : Test) × (slice_get ts k ≡ Some t)
-some_test [] k h = absurd (omega arith)
-some_test (t ∷ ts) zero h = (t, refl)
-some_test (t ∷ ts) (suc k) h = some_test ts k (omega arith)
-
--- ---- module by module
-
--- the planned tests of the first modules
-abbrev pub placed_from : PlanValue → List ModuleValue → ℕ → List PlannedTest
-placed_from plan ms k = map (λ (l : LiveTest). planned_test plan l.place l.core l.test) (live_from 0 (take k ms))
-
-from_more : (base : ℕ) (ms : List ModuleValue) (k : ℕ) (m : ModuleValue) → slice_get ms k ≡ Some m → live_from base (take (suc k) ms) ≡ live_from base (take k ms) ++ live_of (base + k) m
-unfolding live_from
-from_more base [] k m at = absurd cc
-from_more base (x ∷ ms) zero m at =
-    let same : x ≡ m = same_Some _ _ at in
-    let number : base + 0 ≡ base = omega arith in
-    rw (same, number) (append-nil (live_of base m))
-from_more base (x ∷ ms) (suc k) m at =
-    let number : base + 1 + k ≡ base + suc k = omega arith in
-    rw (from_more (base + 1) ms k m at, number) (sym (append_assoc (live_of base x) (live_from (base + 1) (take k ms)) (live_of (base + suc k) m)))
-
-abbrev one_test : ℕ → ModuleValue → Test → LiveTest
-one_test k m t = record { place = k; core = m; test = t }
-
-of_module : (plan : PlanValue) (k : ℕ) (m : ModuleValue) (ts : List Test) → map (λ (l : LiveTest). planned_test plan l.place l.core l.test) (map (one_test k m) ts) ≡ map (planned_test plan k m) ts
-of_module plan k m [] = refl
-of_module plan k m (t ∷ ts) = ap (λ v. planned_test plan k m t ∷ v) (of_module plan k m ts)
-
-pub modules_more : (content : Content) (plan : PlanValue) (ms : List ModuleValue) (k : ℕ) (m : ModuleValue) (lanes : List Lane) → slice_get ms k ≡ Some m → AreNewLanes content (placed_from plan ms k ++ placed_tests plan k m m.tests) lanes → AreNewLanes content (placed_from plan ms (k + 1)) lanes
-modules_more content plan ms k m lanes at are =
-    let next : k + 1 ≡ suc k = omega arith in
-    let zero' : 0 + k ≡ k = omega arith in
-    let whole : placed_from plan ms (suc k) ≡ placed_from plan ms k ++ placed_tests plan k m m.tests =
-    ap (map (λ (l : LiveTest). planned_test plan l.place l.core l.test)) (from_more 0 ms k m at ∙ rw zero' refl) ∙ map_append (λ (l : LiveTest). planned_test plan l.place l.core l.test) (live_from 0 (take k ms)) (live_of k m)
-    ∙ ap (λ v. placed_from plan ms k ++ v) (of_module plan k m (filter is_live m.tests)) in
-    rw (next, whole) are
-
-pub no_modules : (content : Content) (plan : PlanValue) (ms : List ModuleValue) (lanes : List Lane) → lanes ≡ [] → AreNewLanes content (placed_from plan ms 0) lanes
-unfolding live_from
-no_modules content plan ms lanes none = rw none (record { long = refl; each = λ i t l a b. absurd cc })
-
-pub all_modules : (content : Content) (soc : SocValue) (plan : PlanValue) (k : ℕ) (lanes : List Lane) → length soc.modules ≤ k → AreNewLanes content (placed_from plan soc.modules k) lanes → AreNewLanes content (planned soc plan) lanes
-unfolding planned
-all_modules content soc plan k lanes all are = subst (λ ms. AreNewLanes content (map (λ (l : LiveTest). planned_test plan l.place l.core l.test) (live_from 0 ms)) lanes) (take_all k soc.modules all) are
+-- after the last test
+pub all_lanes : (content : Content) (tests : List PlannedTest) (placed : List PlacedTest) (k : ℕ) (lanes : List Lane) → placed ≡ map placed_of tests → length placed ≤ k → AreNewLanes content (take k tests) lanes → AreNewLanes content tests lanes
+all_lanes content tests placed k lanes are past new = subst (λ v. AreNewLanes content v lanes) (take_all k tests (omega (arith, past, ap length are, length-map tests placed_of))) new

@@ -1,8 +1,6 @@
 -- How the machine of a whole chip keeps what it steps: made bits, and chains as rings.
-use Rattle.std.specs.Prelude.{◌≡◌, ℕ, ◌+◌, ◌*◌, ◌%◌, ◌^◌, ◌<◌, ◌≤◌, ◌⊎◌, Bool, true, false, max, Option, Some, None, List, ◌++◌, length, take, drop, get_or, slice_get, slice_index, nat_lt, option_map, if◌then◌else◌}
+use Rattle.std.specs.Prelude.{◌≡◌, ℕ, ◌+◌, ◌*◌, ◌%◌, ◌<◌, ◌≤◌, ◌⊎◌, Bool, true, false, Option, Some, None, List, ◌++◌, length, take, drop, get_or, slice_index, nat_lt, if◌then◌else◌}
 use Rattle.plan_model.specs.Cells.{Cell, In, is_loaded, is_read, in_length, out_length}
-use Rattle.plan_model.specs.Operations.{Operation, Setup, Shift, Capture, ops_of}
-use Rattle.plan_model.specs.Runs.{wanted}
 use Rattle.plan_model.specs.OneTest.{from_end}
 use Rattle.bit_machine.specs.Sessions.{response_place}
 use Rattle.bit_machine.specs.Chips.{has_odd_square, stimulus_place}

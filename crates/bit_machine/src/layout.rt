@@ -11,7 +11,7 @@ ghost use Rattle.bit_machine.specs.Sessions.{each_with, bits_of, response_bit, z
 ghost use Rattle.bit_machine.specs.Layouts.{chain_of, chain_length, layout_cells, IsLayout, IsStarts, IsLong};
 
 use crate::bits::put_bits;
-use outside::{NoMemory, push};
+use outside::{NoMemory, copied, push};
 use plan_model::{ChainPlan, Wrapper};
 use soc_model::{Module, mode_chains};
 use std::alloc::Global;
@@ -33,7 +33,7 @@ pub struct Layout {
 fn lengths_of(alloc: Global, module: &Module, scan: bool) -> Result<Vec<u64>, NoMemory>
     ensures { IfOk result (λ lengths. lengths.items ≡ scan_lengths (module_value «module».now) scan) }
 {
-    Vec::from_slice(alloc, mode_chains(module, scan)).map_err(|_| NoMemory)
+    copied(alloc, mode_chains(module, scan))
 }
 
 /// For each scan chain, the lengths of those before it together, and the lengths of all.
@@ -57,13 +57,13 @@ fn copy_of(alloc: Global, chains: &[ChainPlan]) -> Result<Vec<ChainPlan>, NoMemo
 {
     let mut copy = Vec::new(alloc);
     for chain in chains {
-        let scans = Vec::from_slice(alloc, &chain.scans).map_err(|_| NoMemory)?;
-        copy.push(ChainPlan {
+        let scans = copied(alloc, &chain.scans)?;
+        let chain = ChainPlan {
             ins: chain.ins,
             scans,
             outs: chain.outs,
-        })
-        .map_err(|_| NoMemory)?;
+        };
+        push(&mut copy, chain)?;
     }
     Ok(copy)
 }

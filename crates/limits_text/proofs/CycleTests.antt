@@ -1,56 +1,36 @@
 -- Tests and their places among the live tests.
-use Rattle.std.proofs.Common.{◌≡◌, ℕ, zero, suc, ◌+◌, ◌-◌, ◌<◌, List, [], ◌∷◌, ◌++◌, length, get_or, take, map, Bool, true, false, cond, nat_eq, Option, Some, None, slice_get, refl, sym, ◌∙◌, ap, subst, arith, add-one}
-use Rattle.std.specs.List.{All, Contains}
-use Rattle.std.proofs.lemmas.Grind.{common_steps}
+use Rattle.std.proofs.Common.{◌≡◌, ℕ, zero, suc, ◌+◌, ◌-◌, ◌<◌, List, [], ◌∷◌, ◌++◌, length, get_or, take, map, Bool, true, false, nat_eq, Option, Some, None, slice_get, position, refl, sym, ◌∙◌, ap, subst, arith, add-one}
+use Rattle.std.specs.List.{All, Contains, flat_map}
 use Rattle.std.proofs.lemmas.Bool.{eqb-true}
 use Rattle.std.proofs.lemmas.Bool.Decides.{nat_tests}
 use Rattle.std.proofs.lemmas.List.{take_more, map-append}
 use Rattle.std.proofs.lemmas.List.Elements.{All-nil, All-cons, All-append, All-contains, All-get_or, All-from_get_or, Contains-append_left, Contains-append_right}
 use Rattle.std.proofs.lemmas.Option.{slice_get-get_or, slice_get_within}
 use Rattle.soc_model.specs.declared.TestId.{TestId}
-use Rattle.soc_model.specs.Chips.{SocValue, LiveTest, live_tests, id_of, same_test}
+use Rattle.soc_model.specs.Chips.{SocValue, same_test}
 use Rattle.plan_model.specs.Plans.{LimitsValue}
 use Rattle.plan_model.specs.Rules.{live_ids}
 use Rattle.plan_model.specs.SoundLimits.{IsAcyclic}
 use Rattle.plan_model.proofs.Lists.{contains_at, at_contains, from_flat_map}
-use Rattle.limits_text.specs.Meaning.{or_first, line_if, live_powers}
-use Rattle.limits_text.specs.Cycles.{place_from, place_among, pair_if, pairs_among, precedences, IsWalk, IsFirstCycle, HasRank, AreAt}
+use Rattle.live_tests.specs.Names.{both_places, places_of}
+use Rattle.limits_text.specs.Cycles.{precedences, IsWalk, IsFirstCycle, HasRank, AreAt}
 use Rattle.limits_text.proofs.WordFacts.{both_true}
 use Rattle.limits_text.proofs.Complete.{some_same}
-use Rattle.limits_text.proofs.SoundText.{live_powers_are}
+use Rattle.limits_text.proofs.Positions.{fails, passes_at}
 use Rattle.limits_text.proofs.Taking.{contains_here}
 use Rattle.limits_text.proofs.FirstCycles.{AreWithin}
 
 -- ---- places
 
-place-push : (n m : ℕ) (xs : List TestId) (x id : TestId) → n + length xs ≡ m → place_from n (xs ++ x ∷ []) id ≡ or_first (place_from n xs id) (line_if (same_test id x) m)
-place-push n m [] x id e = by (same_test id x)
-  where
-    same : n ≡ m
-    same = omega arith
+-- the place of a test among these
+abbrev pub place_among : List TestId → TestId → Option ℕ
+place_among ids id = position (same_test id) ids
 
-    by : (b : Bool) → cond b (Some n) None ≡ line_if b m
-    by true = ap Some same
-    by false = refl
-place-push n m (y ∷ xs) x id e = by (same_test id y) (place-push (n + 1) m xs x id (omega arith))
-  where
-    by : (b : Bool) → place_from (n + 1) (xs ++ x ∷ []) id ≡ or_first (place_from (n + 1) xs id) (line_if (same_test id x) m) → cond b (Some n) (place_from (n + 1) (xs ++ x ∷ []) id) ≡ or_first (cond b (Some n) (place_from (n + 1) xs id)) (line_if (same_test id x) m)
-    by true f = refl
-    by false f = f
+no_id : TestId
+no_id = record { «module» = 0; test = 0 }
 
-pub places_more : (ids : List TestId) (k : ℕ) (test d : TestId) (found new : TestId → Option ℕ) → k < length ids → test ≡ get_or ids k d → ((id : TestId) → found id ≡ place_among (take k ids) id) → ((id : TestId) → new id ≡ or_first (found id) (line_if (same_test id test) k)) → (id : TestId) → new id ≡ place_among (take (k + 1) ids) id
-places_more ids k test d found new less is are give id =
-    let front : length (take k ids) ≡ k = grind (arith, common_steps) in
-    give id ∙ ap (λ o. or_first o (line_if (same_test id test) k)) (are id) ∙ sym (place-push 0 k (take k ids) test id (omega (arith, front)))
-    ∙ ap (λ l. place_among l id) (ap (λ x. take k ids ++ x ∷ []) is ∙ sym (take_more ids k d less))
-
-place_within : (n p : ℕ) (ids : List TestId) (id : TestId) → place_from n ids id ≡ Some p → p < n + length ids
-place_within n p [] id e = cc
-place_within n p (x ∷ ids) id e = by (same_test id x) (place_within (n + 1) p ids id) e
-  where
-    by : (b : Bool) → (place_from (n + 1) ids id ≡ Some p → p < (n + 1) + length ids) → cond b (Some n) (place_from (n + 1) ids id) ≡ Some p → p < n + length (x ∷ ids)
-    by true again e = let same = some_same n p e in omega arith
-    by false again e = omega (arith, again e)
+place_within : (p : ℕ) (ids : List TestId) (id : TestId) → place_among ids id ≡ Some p → p < length ids
+place_within p ids id e = (passes_at (same_test id) ids p no_id e).0
 
 pub same_is : (a b : TestId) → same_test a b ≡ true → a ≡ b
 same_is a b e =
@@ -61,45 +41,41 @@ same_itself : (id : TestId) → same_test id id ≡ true
 same_itself id = grind (arith, nat_tests)
 
 -- a test that stands somewhere has a place
-place_there : (n k : ℕ) (ids : List TestId) (id : TestId) → slice_get ids k ≡ Some id → (p : ℕ) × (place_from n ids id ≡ Some p)
-place_there n k [] id at = cc
-place_there n zero (x ∷ ids) id at = (n, ap (λ b. cond b (Some n) (place_from (n + 1) ids id)) (ap (same_test id) (some_same x id at) ∙ same_itself id))
-place_there n (suc k) (x ∷ ids) id at = by (same_test id x) (place_there (n + 1) k ids id at)
+place_there : (k : ℕ) (ids : List TestId) (id : TestId) → slice_get ids k ≡ Some id → (p : ℕ) × (place_among ids id ≡ Some p)
+place_there k ids id at = by (place_among ids id) refl
   where
-    by : (b : Bool) → (p : ℕ) × (place_from (n + 1) ids id ≡ Some p) → (p : ℕ) × (cond b (Some n) (place_from (n + 1) ids id) ≡ Some p)
-    by true f = (n, refl)
-    by false f = f
+    true_false : {b : Bool} → b ≡ true → b ≡ false → ⊥
+    true_false e f = cc
+
+    by : (o : Option ℕ) → place_among ids id ≡ o → (p : ℕ) × (place_among ids id ≡ Some p)
+    by None e = absurd (true_false (same_itself id) (fails (same_test id) ids k id e at))
+    by (Some p) e = (p, e)
+
+-- the test that has a place
+pub test_there : (p : ℕ) (ids : List TestId) (id : TestId) → place_among ids id ≡ Some p → slice_get ids p ≡ Some id
+test_there p ids id e =
+    let at = passes_at (same_test id) ids p no_id e in
+    slice_get-get_or ids p no_id at.0 ∙ ap Some (sym (same_is id (get_or ids p no_id) at.1))
 
 -- ---- pairs
 
-pub pairs_within : (ids : List TestId) (before : List (TestId × TestId)) → AreWithin (pairs_among ids before) (length ids)
+pub pairs_within : (ids : List TestId) (before : List (TestId × TestId)) → AreWithin (flat_map (places_of ids) before) (length ids)
 pairs_within ids [] = All-nil (λ (e : ℕ × ℕ). (e.0 < length ids) × (e.1 < length ids))
 pairs_within ids (p ∷ before) =
-    All-append (λ (e : ℕ × ℕ). (e.0 < length ids) × (e.1 < length ids)) (pair_if (place_among ids p.0) (place_among ids p.1)) (pairs_among ids before) (one (place_among ids p.0) (place_among ids p.1) (λ i e. within p.0 i e) (λ i e. within p.1 i e)) (pairs_within ids before)
+    All-append (λ (e : ℕ × ℕ). (e.0 < length ids) × (e.1 < length ids)) (places_of ids p) (flat_map (places_of ids) before) (one (place_among ids p.0) (place_among ids p.1) (λ i e. place_within i ids p.0 e) (λ i e. place_within i ids p.1 e)) (pairs_within ids before)
   where
-    within : (id : TestId) (i : ℕ) → place_among ids id ≡ Some i → i < length ids
-    within id i e = omega (arith, place_within 0 i ids id e)
-
-    one : (a b : Option ℕ) → ((i : ℕ) → a ≡ Some i → i < length ids) → ((i : ℕ) → b ≡ Some i → i < length ids) → All (λ (e : ℕ × ℕ). (e.0 < length ids) × (e.1 < length ids)) (pair_if a b)
+    one : (a b : Option ℕ) → ((i : ℕ) → a ≡ Some i → i < length ids) → ((i : ℕ) → b ≡ Some i → i < length ids) → All (λ (e : ℕ × ℕ). (e.0 < length ids) × (e.1 < length ids)) (both_places a b)
     one (Some i) (Some j) f g = All-cons (λ (e : ℕ × ℕ). (e.0 < length ids) × (e.1 < length ids)) (i, j) [] (f i refl, g j refl) (All-nil (λ (e : ℕ × ℕ). (e.0 < length ids) × (e.1 < length ids)))
     one None b f g = All-nil (λ (e : ℕ × ℕ). (e.0 < length ids) × (e.1 < length ids))
     one (Some i) None f g = All-nil (λ (e : ℕ × ℕ). (e.0 < length ids) × (e.1 < length ids))
 
-pair_there : (ids : List TestId) (before : List (TestId × TestId)) (k i j : ℕ) (a b : TestId) → slice_get before k ≡ Some (a, b) → place_among ids a ≡ Some i → place_among ids b ≡ Some j → Contains (pairs_among ids before) (i, j)
+pair_there : (ids : List TestId) (before : List (TestId × TestId)) (k i j : ℕ) (a b : TestId) → slice_get before k ≡ Some (a, b) → place_among ids a ≡ Some i → place_among ids b ≡ Some j → Contains (flat_map (places_of ids) before) (i, j)
 pair_there ids [] k i j a b at e f = cc
 pair_there ids (p ∷ before) zero i j a b at e f =
     let same = some_same p (a, b) at in
-    Contains-append_left (pair_if (place_among ids p.0) (place_among ids p.1)) (pairs_among ids before) (i, j)
-    (subst (λ (q : TestId × TestId). Contains (pair_if (place_among ids q.0) (place_among ids q.1)) (i, j)) (sym same) (rw (e, f) (contains_here ((i, j) ∷ []) (i, j) 0 refl)))
-pair_there ids (p ∷ before) (suc k) i j a b at e f = Contains-append_right (pair_if (place_among ids p.0) (place_among ids p.1)) (pairs_among ids before) (i, j) (pair_there ids before k i j a b at e f)
-
--- the live tests alone
-firsts : (ls : List LiveTest) → map {A = TestId × ℕ} (λ t. t.0) (map (λ (l : LiveTest). (id_of l, l.test.power)) ls) ≡ map id_of ls
-firsts [] = refl
-firsts (l ∷ ls) = ap (λ ids. id_of l ∷ ids) (firsts ls)
-
-pub ids_are : (soc : SocValue) → map {A = TestId × ℕ} (λ t. t.0) (live_powers soc) ≡ live_ids soc
-ids_are soc = ap (map {A = TestId × ℕ} (λ t. t.0)) (sym (live_powers_are soc)) ∙ firsts (live_tests soc)
+    Contains-append_left (places_of ids p) (flat_map (places_of ids) before) (i, j)
+    (subst (λ (q : TestId × TestId). Contains (places_of ids q) (i, j)) (sym same) (rw (e, f) (contains_here ((i, j) ∷ []) (i, j) 0 refl)))
+pair_there ids (p ∷ before) (suc k) i j a b at e f = Contains-append_right (places_of ids p) (flat_map (places_of ids) before) (i, j) (pair_there ids before k i j a b at e f)
 
 -- ranks of places are ranks of tests
 rank_of : (ℕ → ℕ) → Option ℕ → ℕ
@@ -115,21 +91,12 @@ acyclic soc limits r = (λ id. rank_of r.0 (place_among (live_ids soc) id), λ a
         let k = contains_at limits.before (a, b) c in
         let at_a = contains_at (live_ids soc) a live_a in
         let at_b = contains_at (live_ids soc) b live_b in
-        let i = place_there 0 at_a.0 (live_ids soc) a at_a.1 in
-        let j = place_there 0 at_b.0 (live_ids soc) b at_b.1 in
+        let i = place_there at_a.0 (live_ids soc) a at_a.1 in
+        let j = place_there at_b.0 (live_ids soc) b at_b.1 in
         let less : r.0 i.0 < r.0 j.0 = r.1 i.0 j.0 (pair_there (live_ids soc) limits.before k.0 i.0 j.0 a b k.1 i.1 j.1) in
         let left : rank_of r.0 (place_among (live_ids soc) a) ≡ r.0 i.0 = ap (rank_of r.0) i.1 in
         let right : rank_of r.0 (place_among (live_ids soc) b) ≡ r.0 j.0 = ap (rank_of r.0) j.1 in
         omega (arith, less, left, right)
-
--- the test that has a place
-pub test_there : (n p : ℕ) (ids : List TestId) (id : TestId) → place_from n ids id ≡ Some p → (q : ℕ) × (n + q ≡ p) × (slice_get ids q ≡ Some id)
-test_there n p [] id e = cc
-test_there n p (x ∷ ids) id e = by (same_test id x) refl (test_there (n + 1) p ids id) e
-  where
-    by : (b : Bool) → same_test id x ≡ b → (place_from (n + 1) ids id ≡ Some p → (q : ℕ) × ((n + 1) + q ≡ p) × (slice_get ids q ≡ Some id)) → cond b (Some n) (place_from (n + 1) ids id) ≡ Some p → (q : ℕ) × (n + q ≡ p) × (slice_get (x ∷ ids) q ≡ Some id)
-    by true is again e = (0, omega (arith, some_same n p e), ap Some (sym (same_is id x is)))
-    by false is again e = let k = again e in (suc k.0, omega (arith, k.1), k.2)
 
 -- the precedence that a pair stands for
 pub record StandsFor (ids : List TestId) (before : List (TestId × TestId)) (i j : ℕ) : Type 0 where
@@ -141,25 +108,23 @@ pub record StandsFor (ids : List TestId) (before : List (TestId × TestId)) (i j
   pub first_place : place_among ids first ≡ Some i
   pub second_place : place_among ids second ≡ Some j
 
-pair_of : (a b : Option ℕ) (i j k : ℕ) → slice_get (pair_if a b) k ≡ Some (i, j) → (a ≡ Some i) × (b ≡ Some j)
+pair_of : (a b : Option ℕ) (i j k : ℕ) → slice_get (both_places a b) k ≡ Some (i, j) → (a ≡ Some i) × (b ≡ Some j)
 pair_of (Some m) (Some n) i j zero e = let same : (m, n) ≡ (i, j) = some_same {X = ℕ × ℕ} (m, n) (i, j) e in (ap Some (ap (λ (p : ℕ × ℕ). p.0) same), ap Some (ap (λ (p : ℕ × ℕ). p.1) same))
 pair_of (Some m) (Some n) i j (suc k) e = cc
 pair_of None b i j k e = cc
 pair_of (Some m) None i j k e = cc
 
-pub stands_for : (ids : List TestId) (before : List (TestId × TestId)) (i j : ℕ) → Contains (pairs_among ids before) (i, j) → StandsFor ids before i j
+pub stands_for : (ids : List TestId) (before : List (TestId × TestId)) (i j : ℕ) → Contains (flat_map (places_of ids) before) (i, j) → StandsFor ids before i j
 stands_for ids before i j c =
-    let at = contains_at (pairs_among ids before) (i, j) c in
-    let k = from_flat_map (λ (p : TestId × TestId). pair_if (place_among ids p.0) (place_among ids p.1)) before at.0 (i, j) at.1 in
+    let at = contains_at (flat_map (places_of ids) before) (i, j) c in
+    let k = from_flat_map (places_of ids) before at.0 (i, j) at.1 in
     let places = pair_of (place_among ids k.1.0) (place_among ids k.1.1) i j k.2 k.4 in
-    let a = test_there 0 i ids k.1.0 places.0 in
-    let b = test_there 0 j ids k.1.1 places.1 in
     record {
       first = k.1.0;
       second = k.1.1;
       precedes = at_contains before k.0 k.1 k.3;
-      first_at = ap (slice_get ids) (sym (omega (arith, a.1))) ∙ a.2;
-      second_at = ap (slice_get ids) (sym (omega (arith, b.1))) ∙ b.2;
+      first_at = test_there i ids k.1.0 places.0;
+      second_at = test_there j ids k.1.1 places.1;
       first_place = places.0;
       second_place = places.1;
     }

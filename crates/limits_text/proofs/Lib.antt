@@ -17,6 +17,7 @@ pub mod PrintedWords
 pub mod Printing
 pub mod PrintedTexts
 pub mod PowersWithin
+pub mod FirstPassing
 pub mod OneCycle
 pub mod OneAnswer
 pub mod PrintedAnswers

@@ -9,13 +9,13 @@ use Rattle.plan_model.specs.SoundLimits.{IsAcyclic}
 use Rattle.limits_text.specs.declared.LimFault.TheVariants as fault
 use Rattle.outside.specs.Grammars.{IsRefused, last_line}
 use Rattle.limits_text.specs.Grammar.{InGrammar}
-use Rattle.limits_text.specs.Meaning.{first_unknown, test_power}
+use Rattle.limits_text.specs.Meaning.{first_unknown, IsFirstPassing}
 use Rattle.limits_text.specs.Cycles.{IsCycleOf}
 use Rattle.limits_text.specs.Answers.{SaysLimits, SaysKnown, AreReadLimits, NamesUnknown, HasCycle, PassesPower, read_as, refused_line, unknown_line, shown_cycle, passing_power}
 use Rattle.limits_text.specs.Laws.{TextsHaveOneAnswer, TextsAreAnswered}
-use Rattle.limits_text.proofs.Complete.{some_same}
 use Rattle.limits_text.proofs.Viable.{one_text}
 use Rattle.limits_text.proofs.PowersWithin.{none_passes}
+use Rattle.limits_text.proofs.FirstPassing.{none_or_first, one_passing}
 use Rattle.outside.proofs.Refusals.{refused_once, not_refused}
 use Rattle.limits_text.proofs.CycleTests.{ranked}
 use Rattle.limits_text.proofs.OneCycle.{one_cycle_of, no_ranked_cycle}
@@ -45,7 +45,7 @@ limits_or_cycle bytes soc limits tests are has =
 limits_or_power : (bytes : List ℕ) (soc : SocValue) (limits : LimitsValue) (test : TestId) (power : ℕ) → AreReadLimits bytes soc limits → PassesPower bytes soc test power → ⊥
 limits_or_power bytes soc limits test power are passes =
     let same : limits ≡ passes.limits = one_known bytes soc limits passes.limits are.said passes.said in
-    none_some (test_power soc limits) (test, power) (none_passes soc limits are.sound) (ap (test_power soc) same ∙ passes.passes)
+    none_or_first soc limits test power (none_passes soc limits are.sound) (subst (λ l. IsFirstPassing soc l test power) (sym same) passes.passes)
 
 cycle_or_power : (bytes : List ℕ) (soc : SocValue) (tests : List TestId) (test : TestId) (power : ℕ) → HasCycle bytes soc tests → PassesPower bytes soc test power → ⊥
 cycle_or_power bytes soc tests test power has passes =
@@ -57,8 +57,8 @@ one_shown bytes soc a b x y =
 
 one_power : (bytes : List ℕ) (soc : SocValue) (s t : TestId) (m n : ℕ) → PassesPower bytes soc s m → PassesPower bytes soc t n → passing_power s m ≡ passing_power t n
 one_power bytes soc s t m n x y =
-    let same : Some (s, m) ≡ Some (t, n) = sym x.passes ∙ ap (test_power soc) (one_known bytes soc x.limits y.limits x.said y.said) ∙ y.passes in
-    ap (λ (p : TestId × ℕ). passing_power p.0 p.1) (some_same (s, m) (t, n) same)
+    let same = one_passing soc y.limits s t m n (subst (λ l. IsFirstPassing soc l s m) (one_known bytes soc x.limits y.limits x.said y.said) x.passes) y.passes in
+    ap (λ (a : TestId). passing_power a m) same.0 ∙ ap (passing_power t) same.1
 
 -- ---- of any text
 

@@ -1,5 +1,5 @@
 -- Where no live test passes the limit at any cycle, none of their powers does.
-use Rattle.std.proofs.Common.{◌≡◌, ℕ, zero, suc, ◌+◌, ◌≤◌, List, [], ◌∷◌, Bool, true, false, cond, map, Option, None, Some, slice_get, nat_lt, refl, ◌∙◌, ap, subst, arith}
+use Rattle.std.proofs.Common.{◌≡◌, ℕ, zero, suc, ◌+◌, ◌≤◌, List, [], ◌∷◌, Bool, true, false, cond, map, Option, None, Some, slice_get, nat_lt, refl, ◌∙◌, subst, arith}
 use Rattle.std.specs.Prelude.{nat_le, IfSome, find}
 use Rattle.std.specs.List.{All}
 use Rattle.std.proofs.lemmas.Bool.Decides.{nat_tests}
@@ -9,9 +9,8 @@ use Rattle.soc_model.specs.Chips.{SocValue, LiveTest, live_tests, id_of, same_te
 use Rattle.plan_model.specs.Plans.{ProfileValue, LimitsValue, of_first, step_power, power_of_id}
 use Rattle.plan_model.specs.SoundLimits.{Grow, IsSoundProfile, IsSoundLimits}
 use Rattle.plan_model.proofs.Lists.{from_map}
-use Rattle.limits_text.specs.Meaning.{powers_among, first_passing, live_powers, under, test_power}
+use Rattle.limits_text.specs.Meaning.{powers_named, powers_of, NonePasses}
 use Rattle.limits_text.proofs.Complete.{some_same}
-use Rattle.limits_text.proofs.SoundText.{live_powers_are}
 
 -- ---- the steps of a profile
 
@@ -52,27 +51,19 @@ profile_small soc most p sound small =
     none_found most (map (λ (s : ℕ × ℕ). s.1) p.steps)
     (λ i x at. (let k = from_map (λ (s : ℕ × ℕ). s.1) p.steps i x at in subst (λ n. n ≤ most) (step_begins 0 0 i p.steps k.0 sound.grows k.1 ∙ k.2) (small k.0.0)))
 
-powers_small : (soc : SocValue) (most : ℕ) (profiles : List ProfileValue) (id : TestId) (own : ℕ) → All (IsSoundProfile soc) profiles → ((r : ℕ) → of_first (λ (p : ProfileValue). same_test p.test id) (λ p. step_power r 0 p.steps) own profiles ≤ most) → find (nat_lt most) (powers_among profiles id own) ≡ None
+powers_small : (soc : SocValue) (most : ℕ) (profiles : List ProfileValue) (id : TestId) (own : ℕ) → All (IsSoundProfile soc) profiles → ((r : ℕ) → of_first (λ (p : ProfileValue). same_test p.test id) (λ p. step_power r 0 p.steps) own profiles ≤ most) → find (nat_lt most) (powers_named profiles id own) ≡ None
 powers_small soc most [] id own all small = rw (lt_false most own (small 0)) refl
 powers_small soc most (p ∷ profiles) id own all small = by (same_test p.test id) refl (powers_small soc most profiles id own (All-tail (IsSoundProfile soc) p profiles all))
   where
-    by : (b : Bool) → same_test p.test id ≡ b → (((r : ℕ) → of_first (λ (p : ProfileValue). same_test p.test id) (λ p. step_power r 0 p.steps) own profiles ≤ most) → find (nat_lt most) (powers_among profiles id own) ≡ None) → find (nat_lt most) (powers_among (p ∷ profiles) id own) ≡ None
+    by : (b : Bool) → same_test p.test id ≡ b → (((r : ℕ) → of_first (λ (p : ProfileValue). same_test p.test id) (λ p. step_power r 0 p.steps) own profiles ≤ most) → find (nat_lt most) (powers_named profiles id own) ≡ None) → find (nat_lt most) (powers_named (p ∷ profiles) id own) ≡ None
     by true is again = rw is (profile_small soc most p (All-head (IsSoundProfile soc) p profiles all) (λ r. rw is at (small r)))
     by false is again = rw is (again (λ r. rw is at (small r)))
 
-none_first : (profiles : List ProfileValue) (most : ℕ) (tests : List (TestId × ℕ)) → ((i : ℕ) (t : TestId × ℕ) → slice_get tests i ≡ Some t → find (nat_lt most) (powers_among profiles t.0 t.1) ≡ None) → first_passing profiles most tests ≡ None
-none_first profiles most [] none = refl
-none_first profiles most (t ∷ tests) none = rw (none 0 t refl) (none_first profiles most tests (λ i x at. none (suc i) x at))
-
 -- in sound limits no live test passes the limit
-pub none_passes : (soc : SocValue) (limits : LimitsValue) → IsSoundLimits soc limits → test_power soc limits ≡ None
+pub none_passes : (soc : SocValue) (limits : LimitsValue) → IsSoundLimits soc limits → NonePasses soc limits
 none_passes soc limits sound = by limits.power sound.within
   where
-    by : (o : Option ℕ) → ((i : ℕ) (l : LiveTest) → slice_get (live_tests soc) i ≡ Some l → (r : ℕ) → IfSome o (λ most. power_of_id limits (id_of l) l.test.power r ≤ most)) → under o limits.profiles (live_powers soc) ≡ None
-    by None within = refl
-    by (Some most) within = none_first limits.profiles most (live_powers soc) (λ i t at. each i t (ap (λ l. slice_get l i) (live_powers_are soc) ∙ at))
-      where
-        each : (i : ℕ) (t : TestId × ℕ) → slice_get (map (λ (l : LiveTest). (id_of l, l.test.power)) (live_tests soc)) i ≡ Some t → find (nat_lt most) (powers_among limits.profiles t.0 t.1) ≡ None
-        each i t at =
-            let k = from_map (λ (l : LiveTest). (id_of l, l.test.power)) (live_tests soc) i t at in
-            subst (λ (x : TestId × ℕ). find (nat_lt most) (powers_among limits.profiles x.0 x.1) ≡ None) k.2 (powers_small soc most limits.profiles (id_of k.0) k.0.test.power sound.profiles (within i k.0 k.1))
+    by : (o : Option ℕ) → ((i : ℕ) (l : LiveTest) → slice_get (live_tests soc) i ≡ Some l → (r : ℕ) → IfSome o (λ most. power_of_id limits (id_of l) l.test.power r ≤ most))
+        → IfSome o (λ most. (n : ℕ) (l : LiveTest) → slice_get (live_tests soc) n ≡ Some l → find (nat_lt most) (powers_of limits.profiles l) ≡ None)
+    by None within = tt
+    by (Some most) within = λ n l at. powers_small soc most limits.profiles (id_of l) l.test.power sound.profiles (within n l at)

@@ -7,7 +7,7 @@ use Rattle.plan_model.specs.Plans.{LimitsValue}
 use Rattle.plan_model.specs.SoundLimits.{IsAcyclic, IsSoundLimits}
 use Rattle.limits_text.specs.Items.{Item}
 use Rattle.limits_text.specs.Grammar.{IsText}
-use Rattle.limits_text.specs.Meaning.{limits_of, first_line, first_unknown, test_power}
+use Rattle.limits_text.specs.Meaning.{limits_of, first_line, first_unknown, NonePasses}
 use Rattle.limits_text.specs.Answers.{SaysLimits, SaysKnown, AreReadLimits, NamesUnknown}
 use Rattle.limits_text.proofs.Complete.{some_same}
 use Rattle.limits_text.proofs.SoundText.{text_sound}
@@ -21,12 +21,12 @@ pub unknown_said : (bytes : List ℕ) (soc : SocValue) (form : Bool) (items : Li
 unknown_said bytes soc form items line text first =
     record { limits = limits_of (reverse items); says = record { form = form; items = reverse items; text = text; limits_are = refl }; first = ap (first_line soc) (reverse-reverse items) ∙ first }
 
-pub sound_said : (bytes : List ℕ) (soc : SocValue) (limits : LimitsValue) → SaysKnown bytes soc limits → IsAcyclic soc limits → test_power soc limits ≡ None → AreReadLimits bytes soc limits
+pub sound_said : (bytes : List ℕ) (soc : SocValue) (limits : LimitsValue) → SaysKnown bytes soc limits → IsAcyclic soc limits → NonePasses soc limits → AreReadLimits bytes soc limits
 sound_said bytes soc limits k acyclic power =
     let is = k.says.limits_are in
     record {
       said = k;
-      sound = subst (IsSoundLimits soc) (sym is) (text_sound soc k.says.form k.says.items (words_of bytes) k.says.text k.known (subst (IsAcyclic soc) is acyclic) (subst (λ l. test_power soc l ≡ None) is power));
+      sound = subst (IsSoundLimits soc) (sym is) (text_sound soc k.says.form k.says.items (words_of bytes) k.says.text k.known (subst (IsAcyclic soc) is acyclic) (subst (NonePasses soc) is power));
     }
 
 -- ---- at most one answer

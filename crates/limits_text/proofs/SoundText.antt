@@ -1,16 +1,14 @@
 -- The limits that a text says keep their ranges, and are sound for a chip that refuses nothing of them.
-use Rattle.std.proofs.Common.{◌≡◌, ◌⊎◌, inl, inr, ℕ, zero, suc, ◌+◌, ◌≤◌, List, [], ◌∷◌, ◌++◌, length, Bool, true, false, ◌&&◌, ◌||◌, not, map, reverse, Option, None, Some, slice_get, nat_lt, cond, option_map, refl, sym, ◌∙◌, ap, subst, arith}
+use Rattle.std.proofs.Common.{◌≡◌, ◌⊎◌, inl, inr, ℕ, zero, suc, ◌≤◌, List, [], ◌∷◌, ◌++◌, length, Bool, true, false, ◌&&◌, ◌||◌, not, map, reverse, Option, None, Some, slice_get, nat_lt, cond, refl, sym, ◌∙◌, ap, subst, arith}
 use Rattle.std.specs.Prelude.{nat_le, IfSome, find}
-use Rattle.std.specs.List.{All, filter, flat_map}
+use Rattle.std.specs.List.{All}
 use Rattle.std.proofs.lemmas.Grind.{common_steps}
 use Rattle.std.proofs.lemmas.Bool.Decides.{nat_tests}
-use Rattle.std.proofs.lemmas.List.{reverse-append, map-append}
+use Rattle.std.proofs.lemmas.List.{reverse-append}
 use Rattle.std.proofs.lemmas.List.Elements.{All-nil, All-push, All-cons, All-head, All-tail}
-use Rattle.std.proofs.lemmas.Option.{slice_get-map}
-use Rattle.soc_model.specs.declared.Test.{Test}
 use Rattle.soc_model.specs.declared.TestId.{TestId}
 use Rattle.soc_model.specs.declared.TheConstants.{NUMBER_WORD_MOST, POWER_MOST}
-use Rattle.soc_model.specs.Chips.{ModuleValue, SocValue, LiveTest, live_of, live_from, live_tests, id_of, is_live, same_test}
+use Rattle.soc_model.specs.Chips.{SocValue, LiveTest, live_tests, id_of, same_test}
 use Rattle.plan_model.specs.declared.TheConstants.{WIRES_MOST, BUDGET_MOST}
 use Rattle.plan_model.specs.Plans.{ProfileValue, LimitsValue, of_first, step_power, power_of_id}
 use Rattle.plan_model.specs.SoundLimits.{HasTest, IsSoundProfile, IsAcyclic, IsSoundLimits}
@@ -18,7 +16,7 @@ use Rattle.limits_text.specs.declared.items.Amount.TheVariants.{Wires, Power, Bu
 use Rattle.outside.specs.Words.{Word}
 use Rattle.limits_text.specs.Items.{number, Item, amount_item, before_item, profile_item, has_amount, has_profile, ArePairs}
 use Rattle.limits_text.specs.Grammar.{AreItems, IsText, ProfileComes}
-use Rattle.limits_text.specs.Meaning.{limits_of, is_known, line_if, unknown_line, or_first, first_line, first_unknown, powers_among, with_test, first_passing, live_powers_in, live_powers, under, test_power}
+use Rattle.limits_text.specs.Meaning.{limits_of, is_known, line_if, unknown_line, or_first, first_line, first_unknown, powers_named, powers_of, NonePasses}
 use Rattle.limits_text.proofs.WordFacts.{both_true}
 use Rattle.limits_text.proofs.Complete.{some_same}
 
@@ -194,22 +192,6 @@ one_profile form (profile_item line id steps ∷ earlier) ws is = one_more earli
 
 -- ---- powers
 
-live_powers_at : (place : ℕ) (m : ModuleValue) (ts : List Test) → map (λ (l : LiveTest). (id_of l, l.test.power)) (map {B = LiveTest} (λ (t : Test). record { place = place; core = m; test = t }) ts) ≡ map {B = TestId × ℕ} (λ (t : Test). (record { «module» = m.number; test = t.number }, t.power)) ts
-live_powers_at place m [] = refl
-live_powers_at place m (t ∷ ts) = ap (λ l. (record { «module» = m.number; test = t.number }, t.power) ∷ l) (live_powers_at place m ts)
-
-live_powers_from : (place : ℕ) (ms : List ModuleValue) → map (λ (l : LiveTest). (id_of l, l.test.power)) (live_from place ms) ≡ flat_map live_powers_in ms
-unfolding live_from
-live_powers_from place [] = refl
-live_powers_from place (m ∷ ms) =
-    map-append (λ (l : LiveTest). (id_of l, l.test.power)) (live_of place m) (live_from (place + 1) ms)
-    ∙ ap (λ l. l ++ map (λ (l : LiveTest). (id_of l, l.test.power)) (live_from (place + 1) ms)) (live_powers_at place m (filter is_live m.tests))
-    ∙ ap (λ l. live_powers_in m ++ l) (live_powers_from (place + 1) ms)
-
--- the live tests with their powers, as the chip lists them
-pub live_powers_are : (soc : SocValue) → map (λ (l : LiveTest). (id_of l, l.test.power)) (live_tests soc) ≡ live_powers soc
-live_powers_are soc = live_powers_from 0 soc.modules
-
 not_found : (most x : ℕ) (xs : List ℕ) → find (nat_lt most) (x ∷ xs) ≡ None → (x ≤ most) × (find (nat_lt most) xs ≡ None)
 not_found most x xs e = by (nat_lt most x) refl e
   where
@@ -230,45 +212,24 @@ step_within most r now (s ∷ steps) small none =
     by true e f = e
     by false e f = f
 
-power_within : (most r : ℕ) (profiles : List ProfileValue) (id : TestId) (own : ℕ) → find (nat_lt most) (powers_among profiles id own) ≡ None → of_first (λ (p : ProfileValue). same_test p.test id) (λ p. step_power r 0 p.steps) own profiles ≤ most
+power_within : (most r : ℕ) (profiles : List ProfileValue) (id : TestId) (own : ℕ) → find (nat_lt most) (powers_named profiles id own) ≡ None → of_first (λ (p : ProfileValue). same_test p.test id) (λ p. step_power r 0 p.steps) own profiles ≤ most
 power_within most r [] id own none = (not_found most own [] none).0
 power_within most r (p ∷ profiles) id own none = by (same_test p.test id) refl (power_within most r profiles id own)
   where
-    by : (b : Bool) → same_test p.test id ≡ b → (find (nat_lt most) (powers_among profiles id own) ≡ None → of_first (λ (p : ProfileValue). same_test p.test id) (λ p. step_power r 0 p.steps) own profiles ≤ most)
+    by : (b : Bool) → same_test p.test id ≡ b → (find (nat_lt most) (powers_named profiles id own) ≡ None → of_first (λ (p : ProfileValue). same_test p.test id) (λ p. step_power r 0 p.steps) own profiles ≤ most)
         → of_first (λ (p : ProfileValue). same_test p.test id) (λ p. step_power r 0 p.steps) own (p ∷ profiles) ≤ most
     by true is again = rw is (step_within most r 0 p.steps (omega arith) (rw is at none))
     by false is again = rw is (again (rw is at none))
 
-or_none : {X : Type 0} (a b : Option X) → or_first a b ≡ None → (a ≡ None) × (b ≡ None)
-or_none None b e = (refl, e)
-or_none (Some x) b e = cc
-
-with_none : (id : TestId) (o : Option ℕ) → with_test id o ≡ None → o ≡ None
-with_none id None e = refl
-with_none id (Some n) e = cc
-
-none_passes : (profiles : List ProfileValue) (most : ℕ) (tests : List (TestId × ℕ)) (i : ℕ) (t : TestId × ℕ) → first_passing profiles most tests ≡ None → slice_get tests i ≡ Some t → find (nat_lt most) (powers_among profiles t.0 t.1) ≡ None
-none_passes profiles most [] i t e at = cc
-none_passes profiles most (x ∷ tests) i t e at = by i at (none_passes profiles most tests) (or_none (with_test x.0 (find (nat_lt most) (powers_among profiles x.0 x.1))) (first_passing profiles most tests) e)
-  where
-    by : (i : ℕ) → slice_get (x ∷ tests) i ≡ Some t → ((j : ℕ) (t : TestId × ℕ) → first_passing profiles most tests ≡ None → slice_get tests j ≡ Some t → find (nat_lt most) (powers_among profiles t.0 t.1) ≡ None)
-        → (with_test x.0 (find (nat_lt most) (powers_among profiles x.0 x.1)) ≡ None) × (first_passing profiles most tests ≡ None) → find (nat_lt most) (powers_among profiles t.0 t.1) ≡ None
-    by zero at again parts = subst (λ (y : TestId × ℕ). find (nat_lt most) (powers_among profiles y.0 y.1) ≡ None) (some_same x t at) (with_none x.0 (find (nat_lt most) (powers_among profiles x.0 x.1)) parts.0)
-    by (suc j) at again parts = again j t parts.1 at
-
--- where no live test passes the limit, none does at any cycle
-pub all_within : (soc : SocValue) (limits : LimitsValue) → test_power soc limits ≡ None → (i : ℕ) (l : LiveTest) → slice_get (live_tests soc) i ≡ Some l → (r : ℕ) → IfSome limits.power (λ most. power_of_id limits (id_of l) l.test.power r ≤ most)
+pub all_within : (soc : SocValue) (limits : LimitsValue) → NonePasses soc limits → (i : ℕ) (l : LiveTest) → slice_get (live_tests soc) i ≡ Some l → (r : ℕ) → IfSome limits.power (λ most. power_of_id limits (id_of l) l.test.power r ≤ most)
 all_within soc limits none i l at r = by limits.power none
   where
-    there : slice_get (live_powers soc) i ≡ Some (id_of l, l.test.power)
-    there = ap (λ ts. slice_get ts i) (sym (live_powers_are soc)) ∙ slice_get-map (λ (l : LiveTest). (id_of l, l.test.power)) (live_tests soc) i ∙ ap (option_map (λ (l : LiveTest). (id_of l, l.test.power))) at
-
-    by : (o : Option ℕ) → under o limits.profiles (live_powers soc) ≡ None → IfSome o (λ most. power_of_id limits (id_of l) l.test.power r ≤ most)
+    by : (o : Option ℕ) → IfSome o (λ most. (n : ℕ) (l : LiveTest) → slice_get (live_tests soc) n ≡ Some l → find (nat_lt most) (powers_of limits.profiles l) ≡ None) → IfSome o (λ most. power_of_id limits (id_of l) l.test.power r ≤ most)
     by None e = tt
-    by (Some most) e = power_within most r limits.profiles (id_of l) l.test.power (none_passes limits.profiles most (live_powers soc) i (id_of l, l.test.power) e there)
+    by (Some most) e = power_within most r limits.profiles (id_of l) l.test.power (e i l at)
 
 -- limits that a chip refuses nothing of are sound
-pub text_sound : (soc : SocValue) (form : Bool) (items : List Item) (ws : List Word) → IsText form items ws → first_unknown soc items ≡ None → IsAcyclic soc (limits_of items) → test_power soc (limits_of items) ≡ None → IsSoundLimits soc (limits_of items)
+pub text_sound : (soc : SocValue) (form : Bool) (items : List Item) (ws : List Word) → IsText form items ws → first_unknown soc items ≡ None → IsAcyclic soc (limits_of items) → NonePasses soc (limits_of items) → IsSoundLimits soc (limits_of items)
 text_sound soc form items ws is known acyclic power =
     let wires = wires_in_range form items is.rest is.are is.wires in
     record {

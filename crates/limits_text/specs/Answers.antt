@@ -1,6 +1,8 @@
 -- What is answered of a text.
 use Rattle.std.specs.Prelude.{◌≡◌, ℕ, Bool, List, Option, None, Some, Result, Ok, Err}
 use Rattle.outside.specs.Words.{words_of}
+use Rattle.outside.specs.declared.reading.Unread.{Unread}
+use Rattle.outside.specs.declared.reading.Unread.TheVariants as unread
 use Rattle.soc_model.specs.declared.TestId.{TestId}
 use Rattle.soc_model.specs.Chips.{SocValue}
 use Rattle.plan_model.specs.declared.Limits.{Limits}
@@ -12,7 +14,7 @@ use Rattle.limits_text.specs.declared.LimFault.TheVariants as fault
 use Rattle.limits_text.specs.Items.{Item}
 use Rattle.outside.specs.Grammars.{IsRefused}
 use Rattle.limits_text.specs.Grammar.{IsText, InGrammar}
-use Rattle.limits_text.specs.Meaning.{limits_of, first_unknown, test_power}
+use Rattle.limits_text.specs.Meaning.{limits_of, first_unknown, IsFirstPassing}
 use Rattle.limits_text.specs.Cycles.{IsCycleOf}
 
 -- the text says these limits
@@ -49,7 +51,7 @@ pub record PassesPower (bytes : List ℕ) (soc : SocValue) (test : TestId) (powe
   pub limits : LimitsValue
   pub said : SaysKnown bytes soc limits
   pub acyclic : IsAcyclic soc limits
-  pub passes : test_power soc limits ≡ Some (test, power)
+  pub passes : IsFirstPassing soc limits test power
 
 -- The answer is the limits that the text says, and they are sound; or the first refusal that stands; or memory ran out.
 abbrev pub LimitsRead : List ℕ → SocValue → Result Limits LimFault → Type 0
@@ -84,3 +86,8 @@ reading_of (Err (fault.UnknownTest line)) = Some (unknown_line line)
 reading_of (Err (fault.Cycle tests)) = Some (shown_cycle tests.items)
 reading_of (Err (fault.TestPower test power)) = Some (passing_power test power)
 reading_of (Err fault.NoMemory) = None
+
+-- the fault of a text whose items were not read
+abbrev pub fault_of : Unread → LimFault
+fault_of (unread.Refused line) = fault.Text line
+fault_of unread.NoMemory = fault.NoMemory

@@ -1,32 +1,15 @@
 -- Cycles of precedences. Live tests go by their places among the live tests, in the order of the chip.
-use Rattle.std.specs.Prelude.{◌≡◌, ℕ, ◌+◌, ◌-◌, ◌<◌, ◌≤◌, List, [], ◌∷◌, Option, None, Some, map, length, slice_get, if◌then◌else◌}
+use Rattle.std.specs.Prelude.{◌≡◌, ℕ, ◌+◌, ◌-◌, ◌<◌, ◌≤◌, List, Some, map, length, slice_get}
 use Rattle.std.specs.List.{flat_map, Contains}
 use Rattle.soc_model.specs.declared.TestId.{TestId}
-use Rattle.soc_model.specs.Chips.{SocValue, same_test}
+use Rattle.soc_model.specs.Chips.{SocValue}
 use Rattle.plan_model.specs.Plans.{LimitsValue}
 use Rattle.plan_model.specs.Rules.{live_ids}
-
--- the place of a test among these, where the first has this place
-abbrev pub place_from : ℕ → List TestId → TestId → Option ℕ
-place_from place [] id = None
-place_from place (x ∷ ids) id = if same_test id x then Some place else place_from (place + 1) ids id
-
--- the place of a test among these
-abbrev pub place_among : List TestId → TestId → Option ℕ
-place_among ids id = place_from 0 ids id
-
-abbrev pub pair_if : Option ℕ → Option ℕ → List (ℕ × ℕ)
-pair_if (Some i) (Some j) = (i, j) ∷ []
-pair_if None other = []
-pair_if (Some i) None = []
-
--- the precedences of tests that are among these, by their places
-abbrev pub pairs_among : List TestId → List (TestId × TestId) → List (ℕ × ℕ)
-pairs_among ids before = flat_map (λ (p : TestId × TestId). pair_if (place_among ids p.0) (place_among ids p.1)) before
+use Rattle.live_tests.specs.Names.{places_of}
 
 -- the precedences of live tests, by their places
 abbrev pub precedences : SocValue → LimitsValue → List (ℕ × ℕ)
-precedences soc limits = pairs_among (live_ids soc) limits.before
+precedences soc limits = flat_map (places_of (live_ids soc)) limits.before
 
 -- A test is taken away once no test that remains precedes it: all that precede it were taken away.
 pub data IsTaken (pairs : List (ℕ × ℕ)) : ℕ → Type 0 where

@@ -4,6 +4,7 @@ pub mod Steps
 pub mod Views
 pub mod Reads
 pub mod Meaning
+pub mod Passing
 pub mod Cycles
 pub mod Orders
 pub mod Texts

@@ -1,9 +1,7 @@
 -- What the items of a text say: the limits, the tests that they name, and what a chip refuses of them.
-use Rattle.std.specs.Prelude.{ℕ, ◌&&◌, ◌++◌, List, [], ◌∷◌, Bool, true, false, not, map, reverse, find, nat_lt, is_some, Option, None, Some}
-use Rattle.std.specs.List.{filter, flat_map}
-use Rattle.soc_model.specs.declared.Test.{Test}
+use Rattle.std.specs.Prelude.{◌≡◌, ℕ, ◌<◌, ◌&&◌, ◌++◌, List, [], ◌∷◌, Bool, true, false, not, map, reverse, find, nat_lt, slice_get, is_some, Option, None, Some, IfSome}
 use Rattle.soc_model.specs.declared.TestId.{TestId}
-use Rattle.soc_model.specs.Chips.{ModuleValue, SocValue, is_live, same_test}
+use Rattle.soc_model.specs.Chips.{SocValue, LiveTest, live_tests, id_of, same_test}
 use Rattle.soc_model.specs.Lookups.{test_places}
 use Rattle.plan_model.specs.Plans.{ProfileValue, LimitsValue, of_first}
 use Rattle.limits_text.specs.declared.TheConstants.{BUDGET}
@@ -57,33 +55,24 @@ first_unknown soc items = first_line soc (reverse items)
 -- ---- powers
 
 -- the powers of a test: of the steps of its profile, or its own where it has none
-abbrev pub powers_among : List ProfileValue → TestId → ℕ → List ℕ
-powers_among profiles id own = of_first (λ (p : ProfileValue). same_test p.test id) (λ p. map (λ (s : ℕ × ℕ). s.1) p.steps) (own ∷ []) profiles
+abbrev pub powers_named : List ProfileValue → TestId → (own : ℕ) → List ℕ
+powers_named profiles id own = of_first (λ (p : ProfileValue). same_test p.test id) (λ p. map (λ (s : ℕ × ℕ). s.1) p.steps) (own ∷ []) profiles
 
-abbrev pub with_test : TestId → Option ℕ → Option (TestId × ℕ)
-with_test id None = None
-with_test id (Some power) = Some (id, power)
+abbrev pub powers_of : List ProfileValue → LiveTest → List ℕ
+powers_of profiles l = powers_named profiles (id_of l) l.test.power
 
--- the first test that passes the limit, of tests with their own powers, and the first of its powers that does
-abbrev pub first_passing : List ProfileValue → ℕ → List (TestId × ℕ) → Option (TestId × ℕ)
-first_passing profiles most [] = None
-first_passing profiles most (t ∷ tests) = or_first (with_test t.0 (find (nat_lt most) (powers_among profiles t.0 t.1))) (first_passing profiles most tests)
+-- no live test has a power above the limit
+abbrev pub NonePasses : SocValue → LimitsValue → Type 0
+NonePasses soc limits = IfSome limits.power (λ most. (n : ℕ) (l : LiveTest) → slice_get (live_tests soc) n ≡ Some l → find (nat_lt most) (powers_of limits.profiles l) ≡ None)
 
--- the live tests of a module with their own powers
-abbrev pub live_powers_in : ModuleValue → List (TestId × ℕ)
-live_powers_in m = map (λ (t : Test). (record { «module» = m.number; test = t.number }, t.power)) (filter is_live m.tests)
-
--- the live tests with their own powers, in the order of the chip
-abbrev pub live_powers : SocValue → List (TestId × ℕ)
-live_powers soc = flat_map live_powers_in soc.modules
-
-abbrev pub under : Option ℕ → List ProfileValue → List (TestId × ℕ) → Option (TestId × ℕ)
-under None profiles tests = None
-under (Some most) profiles tests = first_passing profiles most tests
-
-abbrev pub passing_under : LimitsValue → List (TestId × ℕ) → Option (TestId × ℕ)
-passing_under limits tests = under limits.power limits.profiles tests
-
--- the first live test that passes the limit, and the first of its powers that does
-abbrev pub test_power : SocValue → LimitsValue → Option (TestId × ℕ)
-test_power soc limits = passing_under limits (live_powers soc)
+-- The first live test that passes the limit: it stands at this place, this is the first of its powers above the limit, and no
+-- earlier live test has one.
+pub record IsFirstPassing (soc : SocValue) (limits : LimitsValue) (test : TestId) (power : ℕ) : Type 0 where
+  pub most : ℕ
+  pub limit : limits.power ≡ Some most
+  pub place : ℕ
+  pub live : LiveTest
+  pub there : slice_get (live_tests soc) place ≡ Some live
+  pub named : test ≡ id_of live
+  pub passes : find (nat_lt most) (powers_of limits.profiles live) ≡ Some power
+  pub earlier : (n : ℕ) (l : LiveTest) → n < place → slice_get (live_tests soc) n ≡ Some l → find (nat_lt most) (powers_of limits.profiles l) ≡ None

@@ -19,6 +19,7 @@ pub use laws::{
     printed_limits_are_answered, printed_limits_are_read, texts_are_answered,
     texts_have_one_answer,
 };
+use outside::{NoMemory, Unread};
 pub use print::print_limits;
 pub use read::read_limits;
 use soc_model::TestId;
@@ -45,4 +46,29 @@ pub enum LimFault {
     /// There was no memory for the limits.
     #[error("out of memory while the limits' text was read")]
     NoMemory,
+}
+
+impl From<NoMemory> for LimFault {
+    ghost use Rattle.std.specs.Prelude.{◌≡◌};
+    ghost use Rattle.limits_text.specs.declared.LimFault.TheVariants.{NoMemory};
+
+    ghost from_gives = { λ _ fault. fault ≡ NoMemory };
+
+    fn from(_want: NoMemory) -> LimFault {
+        LimFault::NoMemory
+    }
+}
+
+impl From<Unread> for LimFault {
+    ghost use Rattle.std.specs.Prelude.{◌≡◌};
+    ghost use Rattle.limits_text.specs.Answers.{fault_of};
+
+    ghost from_gives = { λ unread fault. fault ≡ fault_of unread };
+
+    fn from(unread: Unread) -> LimFault {
+        match unread {
+            Unread::Refused { line } => LimFault::Text { line },
+            Unread::NoMemory => LimFault::NoMemory,
+        }
+    }
 }

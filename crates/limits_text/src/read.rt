@@ -5,9 +5,8 @@ ghost use Rattle.limits_text.specs.Answers.{LimitsRead};
 use crate::LimFault;
 use crate::build::limits_of;
 use crate::cycles::cycle_of;
-use crate::refusals::{first_unknown, live_list, test_power};
+use crate::refusals::{first_unknown, test_power};
 use crate::whole::read_items;
-use outside::Unread;
 use plan_model::Limits;
 use soc_model::Soc;
 use std::alloc::Global;
@@ -20,26 +19,15 @@ use std::alloc::Global;
 pub fn read_limits(alloc: Global, bytes: &[u8], soc: &Soc) -> Result<Limits, LimFault>
     ensures { LimitsRead bytes.now (soc_value soc.now) result }
 {
-    let items = match read_items(alloc, bytes) {
-        Ok(items) => items,
-        Err(Unread::Refused { line }) => return Err(LimFault::Text { line }),
-        Err(Unread::NoMemory) => return Err(LimFault::NoMemory),
-    };
-    if let Some(line) = first_unknown(soc, items.list.as_slice()) {
+    let items = read_items(alloc, bytes)?;
+    if let Some(line) = first_unknown(soc, &items.list) {
         return Err(LimFault::UnknownTest { line });
     }
-    let Ok(limits) = limits_of(alloc, items.list) else {
-        return Err(LimFault::NoMemory);
-    };
-    let Ok(tests) = live_list(alloc, soc) else {
-        return Err(LimFault::NoMemory);
-    };
-    match cycle_of(alloc, soc, &limits, tests.as_slice()) {
-        Ok(None) => {}
-        Ok(Some(tests)) => return Err(LimFault::Cycle { tests }),
-        Err(_) => return Err(LimFault::NoMemory),
+    let limits = limits_of(alloc, items.list)?;
+    if let Some(tests) = cycle_of(alloc, soc, &limits)? {
+        return Err(LimFault::Cycle { tests });
     }
-    if let Some((test, power)) = test_power(&limits, tests.as_slice()) {
+    if let Some((test, power)) = test_power(soc, &limits) {
         return Err(LimFault::TestPower { test, power });
     }
     Ok(limits)

@@ -1,16 +1,16 @@
 // What a chip refuses of limits: tests that it hasn't, and powers that pass the limit.
-ghost use Rattle.std.specs.Prelude.{◌≡◌, ℕ, ◌++◌, map, find, nat_lt, IfOk, OnOk};
-ghost use Rattle.soc_model.specs.Chips.{soc_value, module_value};
+ghost use Rattle.std.specs.Prelude.{◌≡◌, ℕ, ◌∷◌, [], map, find, nat_lt, MatchOption};
+ghost use Rattle.soc_model.specs.Chips.{soc_value, module_value, live_of, live_tests};
 ghost use Rattle.plan_model.specs.Views.{limits_value, profile_value};
-ghost use Rattle.limits_text.specs.Meaning.{is_known as is_in_chip, unknown_line as unknown_line_of, first_line, powers_among, first_passing as first_that_passes, live_powers_in, live_powers, passing_under};
+ghost use Rattle.limits_text.specs.Meaning.{is_known as is_in_chip, unknown_line as unknown_line_of, first_line, powers_named, NonePasses, IsFirstPassing};
+ghost use Rattle.limits_text.specs.Passing.{live_at, passing, first_passing};
 ghost use Rattle.limits_text.specs.Views.{item_of};
 
 use crate::items::Item;
-use outside::{NoMemory, push};
-use plan_model::{Limits, Profile};
+use plan_model::{Limits, Profile, profile_of};
 use soc_model::{Module, Soc, Test, TestId, find_test, live};
-use std::alloc::Global;
 
+/// Whether the chip has a test.
 fn is_known(soc: &Soc, test: TestId) -> bool
     ensures { result ≡ is_in_chip (soc_value soc.now) test }
 {
@@ -66,63 +66,75 @@ fn passing_step(steps: &[(u64, u64)], most: u64) -> Option<u64>
     None
 }
 
-/// The first power of a test that passes the limit: of a step of its profile, or its own where it has none.
-fn passing_power(profiles: &[Profile], most: u64, test: TestId, own: u64) -> Option<u64>
-    ensures { result ≡ find (nat_lt most) (powers_among (map profile_value profiles.now) test own) }
+/// The power, where it passes the limit.
+fn passing_alone(own: u64, most: u64) -> Option<u64>
+    ensures { result ≡ find (nat_lt most) (own ∷ []) }
 {
-    for profile in profiles {
-        if profile.test == test {
-            return passing_step(profile.steps.as_slice(), most);
-        }
-    }
-    if own > most {
-        return Some(own);
-    }
-    None
+    if own > most { Some(own) } else { None }
 }
 
-/// Adds the live tests of a module, with their own powers.
-fn push_live(tests: &mut Vec<(TestId, u64)>, module: &Module) -> Result<(), NoMemory>
-    ensures { OnOk result (tests.new.items ≡ tests.old.items ++ live_powers_in (module_value «module».now)) }
+/// The first power of a test that passes the limit: of a step of its profile, or its own where it has none.
+fn passing_power(profiles: &[Profile], most: u64, id: TestId, own: u64) -> Option<u64>
+    ensures { result ≡ find (nat_lt most) (powers_named (map profile_value profiles.now) id own) }
+{
+    match profile_of(profiles, id) {
+        Some(place) => passing_step(&profiles[place].steps, most),
+        None => passing_alone(own, most),
+    }
+}
+
+/// A live test of a module, where it passes the limit, and with which power.
+fn passing_test(
+    profiles: &[Profile],
+    most: u64,
+    module: &Module,
+    test: &Test,
+) -> Option<(TestId, u64)>
+    ensures { (place : ℕ) → result ≡ passing (map profile_value profiles.now) most (live_at place (module_value «module».now) test.now) }
+{
+    let id = TestId {
+        module: module.number,
+        test: test.number,
+    };
+    let power = passing_power(profiles, most, id, test.power)?;
+    Some((id, power))
+}
+
+/// The first live test of a module that passes the limit, and with which power.
+fn passing_in(profiles: &[Profile], most: u64, module: &Module) -> Option<(TestId, u64)>
+    ensures { (place : ℕ) → result ≡ first_passing (map profile_value profiles.now) most (live_of place (module_value «module».now)) }
 {
     for test in &module.tests {
-        if live(test) {
-            let id = TestId {
-                module: module.number,
-                test: test.number,
-            };
-            push(tests, (id, test.power))?;
+        if !live(test) {
+            continue;
         }
-    }
-    Ok(())
-}
-
-/// The live tests with their own powers, in the order of the chip.
-pub fn live_list(alloc: Global, soc: &Soc) -> Result<Vec<(TestId, u64)>, NoMemory>
-    ensures { IfOk result (λ tests. tests.items ≡ live_powers (soc_value soc.now)) }
-{
-    let mut tests = Vec::new(alloc);
-    for module in soc.modules.values() {
-        push_live(&mut tests, module)?;
-    }
-    Ok(tests)
-}
-
-/// The first of the tests that passes the limit, and with which power.
-fn first_passing(profiles: &[Profile], most: u64, tests: &[(TestId, u64)]) -> Option<(TestId, u64)>
-    ensures { result ≡ first_that_passes (map profile_value profiles.now) most tests.now }
-{
-    for (test, own) in tests {
-        if let Some(power) = passing_power(profiles, most, *test, *own) {
-            return Some((*test, power));
+        if let Some(found) = passing_test(profiles, most, module, test) {
+            return Some(found);
         }
     }
     None
 }
 
 /// The first live test that passes the limit, and with which power.
-pub fn test_power(limits: &Limits, tests: &[(TestId, u64)]) -> Option<(TestId, u64)>
-    ensures { result ≡ passing_under (limits_value limits.now) tests.now }
+fn first_test(profiles: &[Profile], most: u64, soc: &Soc) -> Option<(TestId, u64)>
+    ensures { result ≡ first_passing (map profile_value profiles.now) most (live_tests (soc_value soc.now)) }
 {
-    first_passing(limits.profiles.as_slice(), limits.power?, tests)
+    for module in soc.modules.values() {
+        if let Some(found) = passing_in(profiles, most, module) {
+            return Some(found);
+        }
+    }
+    None
+}
+
+/// The first live test that passes the limit, with the first such power of it.
+pub fn test_power(soc: &Soc, limits: &Limits) -> Option<(TestId, u64)>
+    ensures { MatchOption result
+        (NonePasses (soc_value soc.now) (limits_value limits.now))
+        (λ found. IsFirstPassing (soc_value soc.now) (limits_value limits.now) found.0 found.1) }
+{
+    match limits.power {
+        Some(most) => first_test(&limits.profiles, most, soc),
+        None => None,
+    }
 }

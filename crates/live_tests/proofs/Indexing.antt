@@ -1,18 +1,19 @@
--- The names of live tests are added module by module, then each is put into the index; precedences are looked up one by one.
-use Rattle.std.proofs.Common.{◌≡◌, ℕ, zero, suc, ◌+◌, ◌<◌, Bool, true, false, cond, Option, Some, List, [], ◌∷◌, ◌++◌, length, get_or, map, take, position, refl, sym, ap, ◌∙◌, arith}
-use Rattle.std.specs.Prelude.{slice_get}
-use Rattle.std.specs.List.{filter, flat_map, list_any}
-use Rattle.std.proofs.lemmas.List.{map-append, take_more, length-take, append-nil}
+-- The names of live tests are added module by module; their places and starts are noted by name, from the last one back to the
+-- first; precedences are looked up one by one.
+use Rattle.std.proofs.Common.{◌≡◌, ℕ, suc, ◌+◌, ◌<◌, Bool, cond, Option, Some, List, [], ◌∷◌, ◌++◌, length, get_or, map, take, drop, position, refl, sym, ap, ◌∙◌, arith, inl, inr, true≢false}
+use Rattle.std.specs.List.{filter, flat_map, position_from}
+use Rattle.std.specs.Map.{lookup}
+use Rattle.std.proofs.Math.Seq.{drop-cons}
+use Rattle.std.proofs.lemmas.Bool.{cases_Bool}
+use Rattle.std.proofs.lemmas.Iterator.Adapters.{position_from-zero}
+use Rattle.std.proofs.lemmas.List.{map-append, take_more, append-nil}
 use Rattle.std.proofs.lemmas.Grind.{flat_map-append}
-use Rattle.std.proofs.lemmas.Option.{slice_get-get_or, slice_get_within}
-use Rattle.indexmap.specs.IndexSet.{insert_key}
 use Rattle.soc_model.specs.declared.Test.{Test}
 use Rattle.soc_model.specs.declared.TestId.{TestId}
 use Rattle.soc_model.specs.Chips.{ModuleValue, SocValue, is_live, live_of, live_from, id_of, same_test}
 use Rattle.plan_model.specs.Rules.{live_ids}
-use Rattle.plan_model.proofs.CertificatesAreBounds.{same_test_is}
-use Rattle.plan_model.proofs.Lists.{any_at}
-use Rattle.live_tests.specs.Names.{AllDiffer, names_in, both_places, places_of}
+use Rattle.plan_model.proofs.CertificatesAreBounds.{same_test_is, is_same_test}
+use Rattle.live_tests.specs.Names.{names_in, both_places, places_of}
 
 -- ---- the names, module by module
 
@@ -31,34 +32,38 @@ names_from base (m ∷ ms) =
 pub names_are : (soc : SocValue) → flat_map names_in soc.modules ≡ live_ids soc
 names_are soc = names_from 0 soc.modules
 
--- ---- the index
+-- ---- places and starts by name
 
-slice_get-take : {X : Type 0} (xs : List X) (k p : ℕ) → p < k → slice_get (take k xs) p ≡ slice_get xs p
-slice_get-take [] zero p less = refl
-slice_get-take [] (suc k) p less = refl
-slice_get-take (x ∷ xs) zero p less = absurd (omega (arith, less))
-slice_get-take (x ∷ xs) (suc k) zero less = refl
-slice_get-take (x ∷ xs) (suc k) (suc p) less = slice_get-take xs k p (omega (arith, less))
+pub same_test_turned : (a b : TestId) → same_test a b ≡ same_test b a
+same_test_turned a b = elim (cases_Bool (same_test b a)) [
+  | inl yes' ↦ rw (same_test_is b a yes') refl
+  | inr no' ↦ elim (cases_Bool (same_test a b)) [
+    | inl yes' ↦ absurd (true≢false (sym (ap (λ v. same_test v a) (sym (same_test_is a b yes')) ∙ is_same_test a) ∙ no'))
+    | inr no'' ↦ no'' ∙ sym no'
+  ]
+]
 
-new_name : (ids : List TestId) (k : ℕ) (id : TestId) → AllDiffer ids → slice_get ids k ≡ Some id → list_any (same_test id) (take k ids) ≡ false
-new_name ids k id differ at = go (list_any (same_test id) (take k ids)) refl
-  where
-    go : (b : Bool) → list_any (same_test id) (take k ids) ≡ b → b ≡ false
-    go false e = refl
-    go true e =
-        let a = any_at (same_test id) (take k ids) e in
-        let less : a.0 < k = omega (arith, slice_get_within (take k ids) a.0 a.1 a.2, length-take k ids) in
-        let there : slice_get ids a.0 ≡ Some a.1 = sym (slice_get-take ids k a.0 less) ∙ a.2 in
-        let same : a.0 ≡ k = differ a.0 k id (there ∙ ap Some (sym (same_test_is id a.1 a.3))) at in
-        absurd (omega (arith, less, same))
+-- one name more, in front of those that are noted
+pub places_more : (names : List TestId) (k place : ℕ) (d : TestId) (old new : TestId → Option ℕ) → k + 1 ≡ place → k < length names → ((id : TestId) → old id ≡ position_from (same_test id) place (drop place names))
+    → ((id : TestId) → new id ≡ cond (same_test (get_or names k d) id) (Some k) (old id)) → (id : TestId) → new id ≡ position_from (same_test id) k (drop k names)
+places_more names k place d old new is within before added id =
+    let next : place ≡ suc k = omega (arith, is) in
+    added id ∙ ap (λ (b : Bool). cond b (Some k) (old id)) (same_test_turned (get_or names k d) id)
+    ∙ ap (λ (o : Option ℕ). cond (same_test id (get_or names k d)) (Some k) o) (before id ∙ ap (λ n. position_from (same_test id) n (drop place names)) (sym is) ∙ ap (λ n. position_from (same_test id) (k + 1) (drop n names)) next)
+    ∙ ap (position_from (same_test id) k) (sym (drop-cons names k d within))
 
--- one name more
-pub names_more : (names keys new : List TestId) (k : ℕ) (d : TestId) → AllDiffer names → keys ≡ take k names → k < length names → new ≡ insert_key same_test keys (get_or names k d) → new ≡ take (k + 1) names
-names_more names keys new k d differ old within inserted =
-    let here : TestId = get_or names k d in
-    let at : slice_get names k ≡ Some (get_or names k d) = slice_get-get_or names k d within in
-    let fresh : list_any (same_test (get_or names k d)) keys ≡ false = ap (list_any (same_test (get_or names k d))) old ∙ new_name names k (get_or names k d) differ at in
-    inserted ∙ ap (λ (b : Bool). cond b keys (keys ++ get_or names k d ∷ [])) fresh ∙ ap (λ (l : List TestId). l ++ get_or names k d ∷ []) old ∙ sym (take_more names k d within)
+-- when all are noted
+pub places_all : (names : List TestId) (id : TestId) → position_from (same_test id) 0 names ≡ position (same_test id) names
+places_all names id = sym (position_from-zero (same_test id) names)
+
+-- one start more, in front of those that are noted
+pub starts_more : (starts : List (TestId × ℕ)) (k place : ℕ) (d : TestId × ℕ) (old new : TestId → Option ℕ) → k + 1 ≡ place → k < length starts → ((id : TestId) → old id ≡ lookup (same_test id) (drop place starts))
+    → ((id : TestId) → new id ≡ cond (same_test (get_or starts k d).0 id) (Some (get_or starts k d).1) (old id)) → (id : TestId) → new id ≡ lookup (same_test id) (drop k starts)
+starts_more starts k place d old new is within before added id =
+    let next : place ≡ suc k = omega (arith, is) in
+    added id ∙ ap (λ (b : Bool). cond b (Some (get_or starts k d).1) (old id)) (same_test_turned (get_or starts k d).0 id)
+    ∙ ap (λ (o : Option ℕ). cond (same_test id (get_or starts k d).0) (Some (get_or starts k d).1) o) (before id ∙ ap (λ n. lookup (same_test id) (drop n starts)) next)
+    ∙ ap (lookup (same_test id)) (sym (drop-cons starts k d within))
 
 -- ---- precedences by places
 

@@ -1,2 +1,3 @@
 pub mod LiveIds
 pub mod Indexing
+pub mod Placing

@@ -6,13 +6,17 @@
 
 ghost use Rattle.std.specs.Prelude.{◌≡◌, ◌++◌, IfOk, OnOk, position};
 ghost use Rattle.std.specs.List.{flat_map};
+ghost use Rattle.std.specs.Map.{lookup};
+ghost use Rattle.soc_model.specs.declared.TestId.{TestId};
 ghost use Rattle.soc_model.specs.Chips.{module_value, same_test, soc_value};
-ghost use Rattle.soc_model.specs.SoundChips.{IsSoundChip};
 ghost use Rattle.plan_model.specs.Rules.{live_ids};
-ghost use Rattle.live_tests.specs.Names.{AllDiffer, both_places, names_in, places_of};
+ghost use Rattle.live_tests.specs.Names.{both_places, names_in, places_of};
 
-use indexmap::IndexSet;
+mod placed;
+
+use indexmap::IndexMap;
 use outside::{NoMemory, push};
+pub use placed::{PlacedTest, PlacedTests, first_wire};
 use soc_model::{Module, Soc, TestId, live};
 use std::alloc::Global;
 use std::marker::Model;
@@ -20,34 +24,45 @@ use std::marker::Model;
 /// The names of the live tests of a chip, in its order.
 #[derive(Drop)]
 pub struct LiveTests {
-    ids: IndexSet<TestId>,
+    names: Vec<TestId>,
+    places: IndexMap<TestId, usize>,
 }
 
 impl Model for LiveTests {
-    ghost use Rattle.std.specs.Prelude.{List};
+    ghost use Rattle.std.specs.Prelude.{◌≡◌, List, position};
+    ghost use Rattle.std.specs.Map.{lookup};
     ghost use Rattle.soc_model.specs.declared.TestId.{TestId};
+    ghost use Rattle.soc_model.specs.Chips.{same_test};
 
     ghost Value = { List TestId };
 
-    ghost view = { λ t. t.ids.keys };
+    ghost view = { λ t. t.names.items };
+
+    ghost invariant = { λ t. (id : TestId) → lookup (same_test id) t.places.entries ≡ position (same_test id) t.names.items };
 }
 
 impl LiveTests {
     /// The live tests of a chip. `NoMemory` where there is none.
     pub fn new(alloc: Global, soc: &Soc) -> Result<LiveTests, NoMemory>
-        requires { IsSoundChip (soc_value soc.now) }
         ensures { IfOk result (λ tests. tests ≡ live_ids (soc_value soc.now)) }
     {
         let names = live_names(alloc, soc)?;
-        let ids = index_of(alloc, &names)?;
-        Ok(LiveTests { ids })
+        let places = places_by_name(alloc, &names)?;
+        Ok(LiveTests { names, places })
     }
 
-    /// The place of a test. None comes exactly where the chip has no live test of that name.
+    /// The names, in the order of the chip.
+    pub fn names(&self) -> &[TestId]
+        ensures { result.now ≡ self.now }
+    {
+        &self.names
+    }
+
+    /// The place of a test: the first of its name. None comes exactly where the chip has no live test of that name.
     pub fn place(&self, id: TestId) -> Option<usize>
         ensures { result ≡ position (same_test id) self.now }
     {
-        self.ids.get_index_of(&id)
+        self.places.get(&id).copied()
     }
 
     /// The precedences by the places of their tests, in their order; those that name a test that isn't live are left
@@ -59,7 +74,7 @@ impl LiveTests {
     ) -> Result<Vec<(usize, usize)>, NoMemory>
         ensures { IfOk result (λ pairs. pairs.items ≡ flat_map (places_of self.now) before.now) }
     {
-        pairs_of(alloc, &self.ids, before)
+        pairs_of(alloc, self, before)
     }
 }
 
@@ -90,18 +105,15 @@ fn live_names(alloc: Global, soc: &Soc) -> Result<Vec<TestId>, NoMemory>
     Ok(names)
 }
 
-/// An index of names, by their places.
-fn index_of(alloc: Global, names: &[TestId]) -> Result<IndexSet<TestId>, NoMemory>
-    requires { AllDiffer names.now }
-    ensures { IfOk result (λ ids. ids.keys ≡ names.now) }
+/// The place of each name; of more than one the first.
+fn places_by_name(alloc: Global, names: &[TestId]) -> Result<IndexMap<TestId, usize>, NoMemory>
+    ensures { IfOk result (λ places. (id : TestId) → lookup (same_test id) places.entries ≡ position (same_test id) names.now) }
 {
-    let mut ids = IndexSet::new(alloc);
-    for name in names {
-        if ids.insert(*name).is_err() {
-            return Err(NoMemory);
-        }
+    let mut places = IndexMap::new(alloc);
+    for place in (0..names.len()).rev() {
+        places.insert(names[place], place)?;
     }
-    Ok(ids)
+    Ok(places)
 }
 
 /// Adds a pair of places, where there are both.
@@ -124,18 +136,14 @@ fn push_both(
 /// The precedences whose tests both have places.
 fn pairs_of(
     alloc: Global,
-    ids: &IndexSet<TestId>,
+    tests: &LiveTests,
     before: &[(TestId, TestId)],
 ) -> Result<Vec<(usize, usize)>, NoMemory>
-    ensures { IfOk result (λ pairs. pairs.items ≡ flat_map (places_of ids.now.keys) before.now) }
+    ensures { IfOk result (λ pairs. pairs.items ≡ flat_map (places_of tests.now) before.now) }
 {
     let mut pairs = Vec::new(alloc);
     for (first, second) in before {
-        push_both(
-            &mut pairs,
-            ids.get_index_of(first),
-            ids.get_index_of(second),
-        )?;
+        push_both(&mut pairs, tests.place(*first), tests.place(*second))?;
     }
     Ok(pairs)
 }

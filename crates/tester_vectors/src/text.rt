@@ -52,10 +52,8 @@ fn empty_text(alloc: Global, cycles: u64, wires: u64) -> Result<Vec<u8>, NoMemor
     ensures { IfOk result (λ text. length text.items ≡ 0) }
 {
     let room = 64 + cycles * (2 * wires + 2);
-    match Vec::with_capacity(alloc, room as usize) {
-        Ok(text) => Ok(text),
-        Err(_) => Err(NoMemory),
-    }
+    let text = Vec::with_capacity(alloc, room as usize)?;
+    Ok(text)
 }
 
 /// Appends the first line.

@@ -4,4 +4,4 @@ use Rattle.live_tests.specs.Names.{places_of}
 use Rattle.live_tests.proofs.pairs_of.Given as goal
 
 abbrev pub invariant-loop-first : goal.invariant-loop-first
-invariant-loop-first l = l.pairs.items ≡ flat_map (places_of l.ids.keys) (take l.first-index l.before)
+invariant-loop-first l = l.pairs.items ≡ flat_map (places_of l.tests) (take l.first-index l.before)

@@ -1,47 +1,49 @@
-use Rattle.std.proofs.Common.{◌≡◌, ◌∙◌, ap, sym, subst, List, ℕ, map, length, ◌<◌, arith}
-use Rattle.std.specs.List.{All}
+use Rattle.std.proofs.Common.{◌≡◌, ◌∙◌, ap, sym, subst, List, ℕ, length, ◌<◌}
+use Rattle.std.specs.List.{All, flat_map}
 use Rattle.soc_model.specs.declared.TestId.{TestId}
 use Rattle.soc_model.specs.Chips.{soc_value}
 use Rattle.plan_model.specs.Views.{limits_value}
 use Rattle.plan_model.specs.Rules.{live_ids}
-use Rattle.limits_text.specs.Cycles.{pairs_among, precedences, HasRank, IsFirstCycle, AreAt}
+use Rattle.live_tests.specs.Names.{places_of}
+use Rattle.limits_text.specs.Cycles.{precedences, HasRank, IsFirstCycle, AreAt}
 use Rattle.limits_text.proofs.FirstCycles.{AreWithin}
-use Rattle.limits_text.proofs.CycleTests.{pairs_within, ids_are, acyclic, cycle_within}
+use Rattle.limits_text.proofs.CycleTests.{pairs_within, acyclic, cycle_within}
 use Rattle.limits_text.proofs.cycles.cycle_of.Goals as goal
 
 pub first_cycle-requires : goal.first_cycle-requires
 first_cycle-requires c =
-    let n : length c.as_slice.result.now ≡ c.len.result = omega (arith, ap length c.as_slice.ensures.value, c.len.ensures) in
-    subst (λ (ps : List (ℕ × ℕ)). AreWithin ps c.len.result) (sym (c.as_slice-3.ensures.value ∙ c.in_ok-pairs.ensures))
-    (subst (λ k. AreWithin (pairs_among c.as_slice.result.now c.as_slice-2.result.now) k) n (pairs_within c.as_slice.result.now c.as_slice-2.result.now))
+    let soc = soc_value c.args.soc.now in
+    let live : c.names-names.result.now ≡ live_ids soc = c.names-names.ensures ∙ c.in_ok-tests.ensures in
+    let pairs : c.deref-2.result.now ≡ precedences soc (limits_value c.args.limits.now) = c.deref-2.ensures.value ∙ c.in_ok-pairs.ensures ∙ ap (λ (ids : List TestId). flat_map (places_of ids) c.deref.result.now) c.in_ok-tests.ensures ∙ ap (flat_map (places_of (live_ids soc))) c.deref.ensures.value in
+    let n : length (live_ids soc) ≡ length c.names-names.result.now = ap length (sym live) in
+    subst (λ (ps : List (ℕ × ℕ)). AreWithin ps (length c.names-names.result.now)) (sym pairs) (subst (λ k. AreWithin (precedences soc (limits_value c.args.limits.now)) k) n (pairs_within (live_ids soc) c.args.limits.now.before.items))
 
 pub tests_at-requires : goal.tests_at-requires
 tests_at-requires c =
-    let n : length c.as_slice.result.now ≡ c.len.result = omega (arith, ap length c.as_slice.ensures.value, c.len.ensures) in
-    let m : c.len.result ≡ length c.as_slice-in-Some.result.now = omega (arith, ap length c.as_slice-in-Some.ensures.value, c.len.ensures) in
-    let within = subst (λ (ps : List (ℕ × ℕ)). AreWithin ps c.len.result) (sym (c.as_slice-3.ensures.value ∙ c.in_ok-pairs.ensures))
-    (subst (λ k. AreWithin (pairs_among c.as_slice.result.now c.as_slice-2.result.now) k) n (pairs_within c.as_slice.result.now c.as_slice-2.result.now)) in
+    let soc = soc_value c.args.soc.now in
+    let live : c.names-names.result.now ≡ live_ids soc = c.names-names.ensures ∙ c.in_ok-tests.ensures in
+    let pairs : c.deref-2.result.now ≡ precedences soc (limits_value c.args.limits.now) = c.deref-2.ensures.value ∙ c.in_ok-pairs.ensures ∙ ap (λ (ids : List TestId). flat_map (places_of ids) c.deref.result.now) c.in_ok-tests.ensures ∙ ap (flat_map (places_of (live_ids soc))) c.deref.ensures.value in
+    let n : length (live_ids soc) ≡ length c.names-names.result.now = ap length (sym live) in
+    let within = subst (λ (ps : List (ℕ × ℕ)). AreWithin ps (length c.names-names.result.now)) (sym pairs) (subst (λ k. AreWithin (precedences soc (limits_value c.args.limits.now)) k) n (pairs_within (live_ids soc) c.args.limits.now.before.items)) in
     let found = rw c.in-Some.is at c.in_ok-cycle.ensures in
-    subst (λ (l : List ℕ). All (λ p. p < length c.as_slice-in-Some.result.now) l) (sym c.as_slice-in-Some-2.ensures.value)
-    (subst (λ k. All (λ p. p < k) c.in-Some.cycle.items) m (cycle_within c.as_slice-3.result.now c.len.result c.in-Some.cycle.items within found))
+    subst (λ (l : List ℕ). All (λ p. p < length c.names-names.result.now) l) (sym c.deref-in-Some.ensures.value) (cycle_within c.deref-2.result.now (length c.names-names.result.now) c.in-Some.cycle.items within found)
 
 pub returns-in-Some : goal.returns-in-Some
 returns-in-Some c =
     let soc = soc_value c.args.soc.now in
-    let ids_live : c.in_ok-ids.ids.items ≡ live_ids soc = c.in_ok-ids.ensures ∙ ap (map {A = TestId × ℕ} (λ t. t.0)) c.requires ∙ ids_are soc in
-    let pairs_live : c.as_slice-3.result.now ≡ precedences soc (limits_value c.args.limits.now) = c.as_slice-3.ensures.value ∙ c.in_ok-pairs.ensures ∙ ap (λ l. pairs_among l c.as_slice-2.result.now) (c.as_slice.ensures.value ∙ ids_live) ∙ ap (pairs_among (live_ids soc)) c.as_slice-2.ensures.value in
-    let count : c.len.result ≡ length (live_ids soc) = omega (arith, ap length ids_live, c.len.ensures) in
+    let live : c.names-names.result.now ≡ live_ids soc = c.names-names.ensures ∙ c.in_ok-tests.ensures in
+    let pairs : c.deref-2.result.now ≡ precedences soc (limits_value c.args.limits.now) = c.deref-2.ensures.value ∙ c.in_ok-pairs.ensures ∙ ap (λ (ids : List TestId). flat_map (places_of ids) c.deref.result.now) c.in_ok-tests.ensures ∙ ap (flat_map (places_of (live_ids soc))) c.deref.ensures.value in
+    let count : length c.names-names.result.now ≡ length (live_ids soc) = ap length live in
     let found = rw c.in-Some.is at c.in_ok-cycle.ensures in (
       c.in-Some.cycle.items,
-      subst (λ n. IsFirstCycle (precedences soc (limits_value c.args.limits.now)) n c.in-Some.cycle.items) count (subst (λ (ps : List (ℕ × ℕ)). IsFirstCycle ps c.len.result c.in-Some.cycle.items) pairs_live found),
-      subst (λ (l : List TestId). AreAt l c.in-Some.cycle.items c.in_ok-tests_at-in-Some.field-0.items) (c.as_slice-in-Some.ensures.value ∙ ids_live)
-          (subst (λ (l : List ℕ). AreAt c.as_slice-in-Some.result.now l c.in_ok-tests_at-in-Some.field-0.items) c.as_slice-in-Some-2.ensures.value c.in_ok-tests_at-in-Some.ensures),
+      subst (λ n. IsFirstCycle (precedences soc (limits_value c.args.limits.now)) n c.in-Some.cycle.items) count (subst (λ (ps : List (ℕ × ℕ)). IsFirstCycle ps (length c.names-names.result.now) c.in-Some.cycle.items) pairs found),
+      subst (λ (l : List TestId). AreAt l c.in-Some.cycle.items c.in_ok-tests_at-in-Some.field-0.items) live
+          (subst (λ (l : List ℕ). AreAt c.names-names.result.now l c.in_ok-tests_at-in-Some.field-0.items) c.deref-in-Some.ensures.value c.in_ok-tests_at-in-Some.ensures),
     )
 
 pub returns : goal.returns
 returns c =
     let soc = soc_value c.args.soc.now in
-    let ids_live : c.in_ok-ids.ids.items ≡ live_ids soc = c.in_ok-ids.ensures ∙ ap (map {A = TestId × ℕ} (λ t. t.0)) c.requires ∙ ids_are soc in
-    let pairs_live : c.as_slice-3.result.now ≡ precedences soc (limits_value c.args.limits.now) = c.as_slice-3.ensures.value ∙ c.in_ok-pairs.ensures ∙ ap (λ l. pairs_among l c.as_slice-2.result.now) (c.as_slice.ensures.value ∙ ids_live) ∙ ap (pairs_among (live_ids soc)) c.as_slice-2.ensures.value in
+    let pairs : c.deref-2.result.now ≡ precedences soc (limits_value c.args.limits.now) = c.deref-2.ensures.value ∙ c.in_ok-pairs.ensures ∙ ap (λ (ids : List TestId). flat_map (places_of ids) c.deref.result.now) c.in_ok-tests.ensures ∙ ap (flat_map (places_of (live_ids soc))) c.deref.ensures.value in
     let ranked = rw c.in-None.is at c.in_ok-cycle.ensures in
-    acyclic soc (limits_value c.args.limits.now) (subst HasRank pairs_live ranked)
+    acyclic soc (limits_value c.args.limits.now) (subst HasRank pairs ranked)

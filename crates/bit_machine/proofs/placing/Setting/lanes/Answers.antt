@@ -1,20 +1,35 @@
-use Rattle.std.proofs.Common.{◌≡◌, length, arith}
-use Rattle.soc_model.specs.Chips.{soc_value, module_value}
+use Rattle.std.proofs.Common.{◌∙◌, ◌≤◌, None, length, get_or, refl, arith}
+use Rattle.soc_model.specs.Chips.{soc_value}
+use Rattle.plan_model.specs.Plans.{planned}
 use Rattle.plan_model.specs.Views.{plan_value}
+use Rattle.live_tests.specs.declared.placed.PlacedTest.{PlacedTest}
 use Rattle.bit_machine.specs.Chips.{made_content}
-use Rattle.std.proofs.lemmas.List.{length-map}
-use Rattle.bit_machine.proofs.PlacedTests.{placed_from, no_modules, modules_more, all_modules}
+use Rattle.bit_machine.proofs.PlacedTests.{planned_at, lanes_more, all_lanes}
 use Rattle.bit_machine.proofs.placing.Setting.lanes.Goals as goal
 
-pub loop-place-init : goal.loop-place-init
-loop-place-init c = no_modules (made_content (soc_value c.args.self.now.soc.now) c.args.self.now.seed) (plan_value c.args.self.now.plan.now) (soc_value c.args.self.now.soc.now).modules c.new-lanes.result.items c.new-lanes.ensures.items
+nowhere : PlacedTest
+nowhere = record { id = record { «module» = 0; test = 0 }; place = 0; bus = None; start = 0; end = 0; power = 0 }
 
-pub loop-place-preserved : goal.loop-place-preserved
-loop-place-preserved c =
-    modules_more (made_content (soc_value c.args.self.now.soc.now) c.args.self.now.seed) (plan_value c.args.self.now.plan.now) (soc_value c.args.self.now.soc.now).modules c.loop-place.place (module_value c.module_at-module.result.now) c.push_module.new.lanes.items c.module_at-module.ensures
-    (c.in_ok-push_module.ensures (placed_from (plan_value c.args.self.now.plan.now) (soc_value c.args.self.now.soc.now).modules c.loop-place.place) c.loop-place.invariant)
+pub lane_of-requires-clause-there : goal.lane_of-requires-clause-there
+unfolding nowhere
+lane_of-requires-clause-there c =
+    let tests = planned (soc_value c.args.self.now.soc.now) (plan_value c.args.self.now.plan.now) in
+    let placed = c.tests-test-items.result.now in
+    let r = planned_at tests placed c.loop-test.test-index (get_or placed c.loop-test.test-index nowhere) nowhere (c.tests-test-items.ensures ∙ c.in_ok-placed.ensures) c.loop-test-test.true refl in
+    (c.loop-test.test-index, r.0, r.1, r.2)
+
+pub loop-test-preserved : goal.loop-test-preserved
+unfolding nowhere
+loop-test-preserved c =
+    let content = made_content (soc_value c.args.self.now.soc.now) c.args.self.now.seed in
+    let tests = planned (soc_value c.args.self.now.soc.now) (plan_value c.args.self.now.plan.now) in
+    let placed = c.tests-test-items.result.now in
+    let r = planned_at tests placed c.loop-test.test-index (get_or placed c.loop-test.test-index nowhere) nowhere (c.tests-test-items.ensures ∙ c.in_ok-placed.ensures) c.loop-test-test.true refl in
+    lanes_more content tests c.loop-test.test-index r.0 c.loop-test.lanes.items c.push.new.to.items c.in_ok-lane_of.field-0 r.1 c.loop-test.invariant c.in_ok-push.ensures.ok (c.in_ok-lane_of.ensures c.loop-test.test-index r.0 r.1 r.2)
 
 pub returns : goal.returns
 returns c =
-    let same_many : length (soc_value c.args.self.now.soc.now).modules ≡ length c.args.self.now.soc.now.modules.entries = length-map c.args.self.now.soc.now.modules.entries _ in
-    all_modules (made_content (soc_value c.args.self.now.soc.now) c.args.self.now.seed) (soc_value c.args.self.now.soc.now) (plan_value c.args.self.now.plan.now) c.loop-place.place c.loop-place.lanes.items (omega (arith, c.loop-place-test.false, c.len-place-end.ensures.len, same_many)) c.loop-place.invariant
+    let content = made_content (soc_value c.args.self.now.soc.now) c.args.self.now.seed in
+    let tests = planned (soc_value c.args.self.now.soc.now) (plan_value c.args.self.now.plan.now) in
+    let past : length c.tests-test-items.result.now ≤ c.loop-test.test-index = omega (arith, c.loop-test-test.false) in
+    all_lanes content tests c.tests-test-items.result.now c.loop-test.test-index c.loop-test.lanes.items (c.tests-test-items.ensures ∙ c.in_ok-placed.ensures) past c.loop-test.invariant

@@ -1,57 +1,92 @@
-use Rattle.std.proofs.Common.{◌∙◌, ◌+◌, ap, refl, map, length, arith}
-use Rattle.soc_model.specs.Chips.{module_value}
-use Rattle.plan_model.specs.Views.{plan_value, bus_value, chain_value}
-use Rattle.bit_machine.proofs.LaneSteps.{slice_at}
-use Rattle.plan_model.specs.Plans.{operations_of, bus_place, si_of, so_of}
-use Rattle.plan_model.specs.Cells.{chain_cells}
-use Rattle.bit_machine.proofs.PlacedLanes.{the_test, paths_are, terminals, same_wired, first_is, width_is}
+use Rattle.std.proofs.Common.{◌≡◌, ◌∙◌, ap, sym, refl, position, None, Some, arith}
+use Rattle.std.proofs.lemmas.List.{length-map}
+use Rattle.std.proofs.lemmas.Option.{get_or_from_slice_get}
+use Rattle.soc_model.specs.declared.Test.{Test}
+use Rattle.soc_model.specs.Chips.{soc_value, module_value}
+use Rattle.plan_model.specs.declared.Wrapper.{Wrapper}
+use Rattle.plan_model.specs.Plans.{wraps}
+use Rattle.plan_model.specs.Rules.{IsWrapped, Wrappers, Proper, bare_limits}
+use Rattle.plan_model.specs.Views.{plan_value, wrapper_value, bus_value}
+use Rattle.plan_model.proofs.FoundWrappers.{IsFound, found_at, proper_found, chains_found, always_found, wrapped_test}
+use Rattle.plan_model.proofs.SoundChips.{module_size-le}
+use Rattle.std.proofs.Common.{subst}
+use Rattle.bit_machine.specs.Chips.{made_content}
+use Rattle.bit_machine.specs.Lanes.{IsNewLane}
+use Rattle.bit_machine.specs.Placed.{IsInWrapper, IsWiredLane}
+use Rattle.bit_machine.proofs.PlacedLanes.{the_test, ok_map, IsNamed, named, never_lost, over_wires, wired_placed, bus_there}
 use Rattle.bit_machine.proofs.placing.Setting.wired_test.Goals as goal
 
-pub tam_duration-length-requires-clause-mode : goal.tam_duration-length-requires-clause-mode
-tam_duration-length-requires-clause-mode c = (c.requires.test c.index-test.result.now (slice_at c.args.module.now.tests.items c.args.at c.index-test.result.now c.requires.at c.index-test.ensures)).mode
+pub unreachable-requires : goal.unreachable-requires
+unreachable-requires c =
+    let th = c.requires.there in
+    never_lost (soc_value c.args.self.now.soc.now) c.requires.sound (plan_value c.args.self.now.plan.now) th.0 th.1 c.args.placed.now c.find_test.result th.2 th.3 c.find_test.ensures c.in_default.is
 
-pub tam_duration-length-requires-clause-tam : goal.tam_duration-length-requires-clause-tam
-tam_duration-length-requires-clause-tam c = (c.requires.test c.index-test.result.now (slice_at c.args.module.now.tests.items c.args.at c.index-test.result.now c.requires.at c.index-test.ensures)).tam
+pub wrapped_test-requires-clause-small : goal.wrapped_test-requires-clause-small
+wrapped_test-requires-clause-small c = module_size-le (soc_value c.args.self.now.soc.now) c.requires.sound c.in-Some.place (module_value c.module_at-module.result.now) c.module_at-module.ensures
 
-pub tam_duration-length-requires-clause-live : goal.tam_duration-length-requires-clause-live
-tam_duration-length-requires-clause-live c = (c.requires.test c.index-test.result.now (slice_at c.args.module.now.tests.items c.args.at c.index-test.result.now c.requires.at c.index-test.ensures)).live
+pub wrapped_test-requires-clause-proper : goal.wrapped_test-requires-clause-proper
+wrapped_test-requires-clause-proper c =
+    let soc = soc_value c.args.self.now.soc.now in
+    let plan = plan_value c.args.self.now.plan.now in
+    let m = module_value c.module_at-module.result.now in
+    let th = c.requires.there in
+    let n : IsNamed soc plan th.1 c.in-Some.place c.in-Some.at m = named soc c.requires.sound plan th.0 th.1 c.args.placed.now c.find_test.result c.in-Some.place c.in-Some.at m th.2 th.3 c.find_test.ensures c.in-Some.is c.module_at-module.ensures in
+    let over = over_wires plan c.in-Some.place m n.t th.1 c.args.placed.now c.args.bus n.is th.3 c.requires.over in
+    let own : c.index.result.now ≡ n.t = c.index.ensures ∙ get_or_from_slice_get m.tests c.in-Some.at n.t c.index.result.now n.test_at in
+    let wrapped : IsWrapped m n.t plan.wrappers = wrapped_test soc plan (c.requires.good Wrappers).1 (c.requires.good Proper) c.in-Some.place c.in-Some.at m n.t n.module_at n.test_at n.live over.0 in
+    let place : position (λ (w : Wrapper). wraps m.number n.t.scan (wrapper_value w)) c.args.self.now.plan.now.wrappers.items ≡ Some c.in-Some-wrapper_of.found =
+    ap (λ (t : Test). position (λ (w : Wrapper). wraps m.number t.scan (wrapper_value w)) c.args.self.now.plan.now.wrappers.items) (sym own)
+    ∙ ap (position (λ (w : Wrapper). wraps m.number c.index.result.now.scan (wrapper_value w))) (sym c.deref.ensures.value) ∙ sym c.wrapper_of.ensures ∙ c.in-Some-wrapper_of.is in
+    let found : IsFound m n.t.scan c.args.self.now.plan.now.wrappers.items c.in-Some-wrapper_of.found c.index-wrapper.result.now = found_at m n.t.scan c.args.self.now.plan.now.wrappers.items c.in-Some-wrapper_of.found c.index-wrapper.result.now c.index-wrapper.result.now place c.index-wrapper.ensures in
+    proper_found m n.t c.args.self.now.plan.now.wrappers.items c.in-Some-wrapper_of.found c.index-wrapper.result.now wrapped found
 
-pub tam_duration-length-requires-clause-work : goal.tam_duration-length-requires-clause-work
-tam_duration-length-requires-clause-work c = (c.requires.test c.index-test.result.now (slice_at c.args.module.now.tests.items c.args.at c.index-test.result.now c.requires.at c.index-test.ensures)).work
+pub wrapped_test-requires-clause-test : goal.wrapped_test-requires-clause-test
+wrapped_test-requires-clause-test c = λ test there.
+    let soc = soc_value c.args.self.now.soc.now in
+    let plan = plan_value c.args.self.now.plan.now in
+    let m = module_value c.module_at-module.result.now in
+    let th = c.requires.there in
+    let n : IsNamed soc plan th.1 c.in-Some.place c.in-Some.at m = named soc c.requires.sound plan th.0 th.1 c.args.placed.now c.find_test.result c.in-Some.place c.in-Some.at m th.2 th.3 c.find_test.ensures c.in-Some.is c.module_at-module.ensures in
+    let over = over_wires plan c.in-Some.place m n.t th.1 c.args.placed.now c.args.bus n.is th.3 c.requires.over in
+    let own : c.index.result.now ≡ n.t = c.index.ensures ∙ get_or_from_slice_get m.tests c.in-Some.at n.t c.index.result.now n.test_at in
+    let wrapped : IsWrapped m n.t plan.wrappers = wrapped_test soc plan (c.requires.good Wrappers).1 (c.requires.good Proper) c.in-Some.place c.in-Some.at m n.t n.module_at n.test_at n.live over.0 in
+    let place : position (λ (w : Wrapper). wraps m.number n.t.scan (wrapper_value w)) c.args.self.now.plan.now.wrappers.items ≡ Some c.in-Some-wrapper_of.found =
+    ap (λ (t : Test). position (λ (w : Wrapper). wraps m.number t.scan (wrapper_value w)) c.args.self.now.plan.now.wrappers.items) (sym own)
+    ∙ ap (position (λ (w : Wrapper). wraps m.number c.index.result.now.scan (wrapper_value w))) (sym c.deref.ensures.value) ∙ sym c.wrapper_of.ensures ∙ c.in-Some-wrapper_of.is in
+    let found : IsFound m n.t.scan c.args.self.now.plan.now.wrappers.items c.in-Some-wrapper_of.found c.index-wrapper.result.now = found_at m n.t.scan c.args.self.now.plan.now.wrappers.items c.in-Some-wrapper_of.found c.index-wrapper.result.now c.index-wrapper.result.now place c.index-wrapper.ensures in
+    subst (λ (t : Test). IsInWrapper plan m t c.index-wrapper.result.now) (the_test m.tests c.in-Some.at n.t test n.test_at there)
+    (record { mode = found.scan_is; chains = chains_found plan m n.t c.args.self.now.plan.now.wrappers.items c.in-Some-wrapper_of.found c.index-wrapper.result.now refl over.0 found })
 
-pub paths_of-requires-clause-ins : goal.paths_of-requires-clause-ins
-paths_of-requires-clause-ins c =
-    let t = terminals (module_value c.args.module.now) c.args.wrapper.now.scan (map chain_value c.args.wrapper.now.chains.items) c.in_ok-layout.layout.chains.items c.requires.proper c.in_ok-layout.ensures.chains in
-    omega (arith, t.0, c.requires.small)
+pub wrapped_test-requires-clause-bus : goal.wrapped_test-requires-clause-bus
+wrapped_test-requires-clause-bus c =
+    let soc = soc_value c.args.self.now.soc.now in
+    let plan = plan_value c.args.self.now.plan.now in
+    let m = module_value c.module_at-module.result.now in
+    let th = c.requires.there in
+    let n : IsNamed soc plan th.1 c.in-Some.place c.in-Some.at m = named soc c.requires.sound plan th.0 th.1 c.args.placed.now c.find_test.result c.in-Some.place c.in-Some.at m th.2 th.3 c.find_test.ensures c.in-Some.is c.module_at-module.ensures in
+    let over = over_wires plan c.in-Some.place m n.t th.1 c.args.placed.now c.args.bus n.is th.3 c.requires.over in
+    omega (arith, over.1, bus_there soc (bare_limits plan) plan c.requires.good c.in-Some.place c.in-Some.at m n.t n.module_at n.test_at n.live over.0, length-map c.args.self.now.plan.now.buses.items bus_value)
 
-pub paths_of-requires-clause-outs : goal.paths_of-requires-clause-outs
-paths_of-requires-clause-outs c =
-    let t = terminals (module_value c.args.module.now) c.args.wrapper.now.scan (map chain_value c.args.wrapper.now.chains.items) c.in_ok-layout.layout.chains.items c.requires.proper c.in_ok-layout.ensures.chains in
-    omega (arith, t.1, c.requires.small)
-
-pub overflow_add-result : goal.overflow_add-result
-overflow_add-result c =
-    let ends = (c.requires.test c.index-test.result.now (slice_at c.args.module.now.tests.items c.args.at c.index-test.result.now c.requires.at c.index-test.ensures)).ends in
-    let time = c.tam_duration-length.ensures.time ∙ ap (λ v. length (operations_of (module_value c.args.module.now) c.index-test.result.now v)) (c.requires.test c.index-test.result.now (slice_at c.args.module.now.tests.items c.args.at c.index-test.result.now c.requires.at c.index-test.ensures)).chains in
-    omega (arith, ends, time)
+pub unreachable-requires-in-None : goal.unreachable-requires-in-None
+unreachable-requires-in-None c =
+    let soc = soc_value c.args.self.now.soc.now in
+    let plan = plan_value c.args.self.now.plan.now in
+    let m = module_value c.module_at-module.result.now in
+    let th = c.requires.there in
+    let n : IsNamed soc plan th.1 c.in-Some.place c.in-Some.at m = named soc c.requires.sound plan th.0 th.1 c.args.placed.now c.find_test.result c.in-Some.place c.in-Some.at m th.2 th.3 c.find_test.ensures c.in-Some.is c.module_at-module.ensures in
+    let over = over_wires plan c.in-Some.place m n.t th.1 c.args.placed.now c.args.bus n.is th.3 c.requires.over in
+    let own : c.index.result.now ≡ n.t = c.index.ensures ∙ get_or_from_slice_get m.tests c.in-Some.at n.t c.index.result.now n.test_at in
+    let wrapped : IsWrapped m n.t plan.wrappers = wrapped_test soc plan (c.requires.good Wrappers).1 (c.requires.good Proper) c.in-Some.place c.in-Some.at m n.t n.module_at n.test_at n.live over.0 in
+    let place : position (λ (w : Wrapper). wraps m.number n.t.scan (wrapper_value w)) c.args.self.now.plan.now.wrappers.items ≡ None =
+    ap (λ (t : Test). position (λ (w : Wrapper). wraps m.number t.scan (wrapper_value w)) c.args.self.now.plan.now.wrappers.items) (sym own)
+    ∙ ap (position (λ (w : Wrapper). wraps m.number c.index.result.now.scan (wrapper_value w))) (sym c.deref.ensures.value) ∙ sym c.wrapper_of.ensures ∙ c.in-None.is in
+    always_found m n.t c.args.self.now.plan.now.wrappers.items wrapped place
 
 pub returns : goal.returns
-returns c = λ test there.
-    let w = (c.requires.test c.index-test.result.now (slice_at c.args.module.now.tests.items c.args.at c.index-test.result.now c.requires.at c.index-test.ensures)) in
-    let cells = ap (λ scan. chain_cells (module_value c.args.module.now) scan (map chain_value c.args.wrapper.now.chains.items)) w.mode ∙ w.chains in
-    let time = c.tam_duration-length.ensures.time ∙ ap (λ v. length (operations_of (module_value c.args.module.now) c.index-test.result.now v)) w.chains in
-    let bus = c.bus_of-bus.ensures ∙ ap (λ buses. bus_place c.args.module.now.number 0 (map bus_value buses)) c.deref.ensures.value in
-    same_wired (plan_value c.args.self.now.plan.now) c.args.self.now.seed c.args.place c.args.at (module_value c.args.module.now) c.index-test.result.now test c.args.start _ (the_test c.args.module.now.tests.items c.args.at c.index-test.result.now test (slice_at c.args.module.now.tests.items c.args.at c.index-test.result.now c.requires.at c.index-test.ensures) there) (record {
-      tam = refl;
-      base = c.base_of.ensures.base;
-      start_is = refl;
-      ends = ap (λ n. c.args.start + n) time;
-      setup = refl;
-      si = c.lengths-si.ensures.si ∙ ap si_of cells;
-      so = c.lengths-si.ensures.so ∙ ap so_of cells;
-      patterns = refl;
-      first_wire = first_is c.args.self.now.plan.now.buses.items c.deref-2.result.now c.bus_of-bus.result (bus_place c.args.module.now.number 0 (map bus_value c.args.self.now.plan.now.buses.items)) c.first_wire.result c.first_wire.ensures c.deref-2.ensures.value bus;
-      width = width_is c.args.self.now.plan.now.buses.items c.bus_of-bus.result (bus_place c.args.module.now.number 0 (map bus_value c.args.self.now.plan.now.buses.items)) c.index.result.now c.index.ensures (omega (arith, bus, c.requires.bus)) bus;
-      short = omega (arith, c.tam_duration-length.ensures.small, time);
-      paths = paths_are (plan_value c.args.self.now.plan.now) (module_value c.args.module.now) c.index-test.result.now (c.args.module.now.inputs + c.args.module.now.bidirs) c.args.wrapper.now.scan (map chain_value c.args.wrapper.now.chains.items) c.in_ok-layout.layout c.in_ok-paths.paths.items c.in_ok-layout.ensures.lengths c.in_ok-layout.ensures.chains w.mode w.chains c.in_ok-paths.ensures;
-    })
+returns c = λ i u at same.
+    let soc = soc_value c.args.self.now.soc.now in
+    let plan = plan_value c.args.self.now.plan.now in
+    let m = module_value c.module_at-module.result.now in
+    let n : IsNamed soc plan u c.in-Some.place c.in-Some.at m = named soc c.requires.sound plan i u c.args.placed.now c.find_test.result c.in-Some.place c.in-Some.at m at same c.find_test.ensures c.in-Some.is c.module_at-module.ensures in
+    ok_map (IsWiredLane plan c.args.self.now.seed c.args.placed.now c.args.bus c.in-Some.at m n.t) (IsNewLane (made_content soc c.args.self.now.seed) u)
+    (λ lane is. wired_placed soc c.requires.sound (bare_limits plan) plan c.requires.good c.args.self.now.seed i c.in-Some.place c.in-Some.at m u c.args.placed.now c.args.bus lane at n same c.requires.over is) c.wrapped_test.result (c.wrapped_test.ensures n.t n.test_at)

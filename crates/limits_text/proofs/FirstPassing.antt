@@ -1,0 +1,159 @@
+-- The first live test that passes the limit on power: there is at most one, and one or none.
+use Rattle.std.proofs.Common.{◌≡◌, ◌⊎◌, inl, inr, ℕ, zero, suc, ◌+◌, ◌<◌, List, [], ◌∷◌, ◌++◌, Option, None, Some, map, option_map, slice_get, nat_lt, refl, sym, ◌∙◌, ap, subst, arith}
+use Rattle.std.specs.Prelude.{find, IfSome, MatchOption}
+use Rattle.std.specs.List.{filter}
+use Rattle.std.proofs.lemmas.Bool.{cases_order}
+use Rattle.soc_model.specs.declared.Test.{Test}
+use Rattle.soc_model.specs.declared.TestId.{TestId}
+use Rattle.soc_model.specs.Chips.{ModuleValue, SocValue, LiveTest, is_live, live_of, live_from, live_tests, id_of}
+use Rattle.plan_model.specs.Plans.{ProfileValue, LimitsValue}
+use Rattle.limits_text.specs.Meaning.{or_first, powers_of, NonePasses, IsFirstPassing}
+use Rattle.limits_text.specs.Passing.{live_at, passing, first_passing}
+use Rattle.limits_text.proofs.Complete.{some_same}
+
+none_some : {X : Type 0} (o : Option X) (x : X) → o ≡ None → o ≡ Some x → ⊥
+none_some o x e f = cc
+
+-- ---- at most one
+
+-- where none passes, no first one does
+pub none_or_first : (soc : SocValue) (limits : LimitsValue) (test : TestId) (power : ℕ) → NonePasses soc limits → IsFirstPassing soc limits test power → ⊥
+none_or_first soc limits test power none first =
+    let all = subst (λ (o : Option ℕ). IfSome o (λ most. (n : ℕ) (l : LiveTest) → slice_get (live_tests soc) n ≡ Some l → find (nat_lt most) (powers_of limits.profiles l) ≡ None)) first.limit none in
+    none_some (find (nat_lt first.most) (powers_of limits.profiles first.live)) power (all first.place first.live first.there) first.passes
+
+pub one_passing : (soc : SocValue) (limits : LimitsValue) (s t : TestId) (m n : ℕ) → IsFirstPassing soc limits s m → IsFirstPassing soc limits t n → (s ≡ t) × (m ≡ n)
+one_passing soc limits s t m n x y = by (cases_order x.place y.place)
+  where
+    most : x.most ≡ y.most
+    most = some_same x.most y.most (sym x.limit ∙ y.limit)
+
+    not_before : (s t : TestId) (m n : ℕ) (x : IsFirstPassing soc limits s m) (y : IsFirstPassing soc limits t n) → x.most ≡ y.most → x.place < y.place → ⊥
+    not_before s t m n x y same less = none_some (find (nat_lt y.most) (powers_of limits.profiles x.live)) m (y.earlier x.place x.live less x.there) (ap (λ (k : ℕ). find (nat_lt k) (powers_of limits.profiles x.live)) (sym same) ∙ x.passes)
+
+    at_one : x.place ≡ y.place → (s ≡ t) × (m ≡ n)
+    at_one same =
+        let live : x.live ≡ y.live = some_same x.live y.live (sym x.there ∙ ap (slice_get (live_tests soc)) same ∙ y.there) in (
+          x.named ∙ ap id_of live ∙ sym y.named,
+          some_same m n (sym x.passes ∙ ap (λ (k : ℕ). find (nat_lt k) (powers_of limits.profiles x.live)) most ∙ ap (λ (l : LiveTest). find (nat_lt y.most) (powers_of limits.profiles l)) live ∙ y.passes),
+        )
+
+    by : (x.place ≡ y.place) ⊎ ((x.place < y.place) ⊎ (y.place < x.place)) → (s ≡ t) × (m ≡ n)
+    by (inl same) = at_one same
+    by (inr (inl less)) = absurd (not_before s t m n x y most less)
+    by (inr (inr more)) = absurd (not_before t s n m y x (sym most) more)
+
+-- ---- one or none
+
+-- the first of a list that passes, by its place
+record IsFound (profiles : List ProfileValue) (most : ℕ) (tests : List LiveTest) (test : TestId) (power : ℕ) : Type 0 where
+  place : ℕ
+  live : LiveTest
+  there : slice_get tests place ≡ Some live
+  named : test ≡ id_of live
+  passes : find (nat_lt most) (powers_of profiles live) ≡ Some power
+  earlier : (n : ℕ) (l : LiveTest) → n < place → slice_get tests n ≡ Some l → find (nat_lt most) (powers_of profiles l) ≡ None
+
+found_here : (profiles : List ProfileValue) (most power : ℕ) (l : LiveTest) (tests : List LiveTest) → find (nat_lt most) (powers_of profiles l) ≡ Some power → IsFound profiles most (l ∷ tests) (id_of l) power
+found_here profiles most power l tests passes = record { place = 0; live = l; there = refl; named = refl; passes = passes; earlier = λ n k less at. absurd (omega (arith, less)) }
+
+found_later : (profiles : List ProfileValue) (most : ℕ) (l : LiveTest) (tests : List LiveTest) (test : TestId) (power : ℕ) → find (nat_lt most) (powers_of profiles l) ≡ None → IsFound profiles most tests test power → IsFound profiles most (l ∷ tests) test power
+found_later profiles most l tests test power none f = record { place = suc f.place; live = f.live; there = f.there; named = f.named; passes = f.passes; earlier = λ n k less at. before n k less at }
+  where
+    before : (n : ℕ) (k : LiveTest) → n < suc f.place → slice_get (l ∷ tests) n ≡ Some k → find (nat_lt most) (powers_of profiles k) ≡ None
+    before zero k less at = subst (λ (x : LiveTest). find (nat_lt most) (powers_of profiles x) ≡ None) (some_same l k at) none
+    before (suc n) k less at = f.earlier n k (omega (arith, less)) at
+
+none_more : (profiles : List ProfileValue) (most : ℕ) (l : LiveTest) (tests : List LiveTest) → find (nat_lt most) (powers_of profiles l) ≡ None → ((n : ℕ) (k : LiveTest) → slice_get tests n ≡ Some k → find (nat_lt most) (powers_of profiles k) ≡ None)
+    → (n : ℕ) (k : LiveTest) → slice_get (l ∷ tests) n ≡ Some k → find (nat_lt most) (powers_of profiles k) ≡ None
+none_more profiles most l tests none rest zero k at = subst (λ (x : LiveTest). find (nat_lt most) (powers_of profiles x) ≡ None) (some_same l k at) none
+none_more profiles most l tests none rest (suc n) k at = rest n k at
+
+-- what the search test by test finds
+found_in : (profiles : List ProfileValue) (most : ℕ) (tests : List LiveTest) → MatchOption (first_passing profiles most tests)
+    ((n : ℕ) (l : LiveTest) → slice_get tests n ≡ Some l → find (nat_lt most) (powers_of profiles l) ≡ None)
+    (λ found. IsFound profiles most tests found.0 found.1)
+found_in profiles most [] = λ n l at. absurd cc
+found_in profiles most (l ∷ tests) = by (find (nat_lt most) (powers_of profiles l)) refl (found_in profiles most tests)
+  where
+    later : find (nat_lt most) (powers_of profiles l) ≡ None → (o : Option (TestId × ℕ)) → MatchOption o ((n : ℕ) (k : LiveTest) → slice_get tests n ≡ Some k → find (nat_lt most) (powers_of profiles k) ≡ None) (λ found. IsFound profiles most tests found.0 found.1)
+        → MatchOption o ((n : ℕ) (k : LiveTest) → slice_get (l ∷ tests) n ≡ Some k → find (nat_lt most) (powers_of profiles k) ≡ None) (λ found. IsFound profiles most (l ∷ tests) found.0 found.1)
+    later none None rest = none_more profiles most l tests none rest
+    later none (Some found) rest = found_later profiles most l tests found.0 found.1 none rest
+
+    by : (o : Option ℕ) → find (nat_lt most) (powers_of profiles l) ≡ o → MatchOption (first_passing profiles most tests) ((n : ℕ) (k : LiveTest) → slice_get tests n ≡ Some k → find (nat_lt most) (powers_of profiles k) ≡ None) (λ found. IsFound profiles most tests found.0 found.1)
+        → MatchOption (or_first (option_map (λ (power : ℕ). (id_of l, power)) o) (first_passing profiles most tests))
+        ((n : ℕ) (k : LiveTest) → slice_get (l ∷ tests) n ≡ Some k → find (nat_lt most) (powers_of profiles k) ≡ None) (λ found. IsFound profiles most (l ∷ tests) found.0 found.1)
+    by None none rest = later none (first_passing profiles most tests) rest
+    by (Some power) passes rest = found_here profiles most power l tests passes
+
+is_first : (soc : SocValue) (limits : LimitsValue) (most : ℕ) (test : TestId) (power : ℕ) → limits.power ≡ Some most → IsFound limits.profiles most (live_tests soc) test power → IsFirstPassing soc limits test power
+is_first soc limits most test power limit f = record { most = most; limit = limit; place = f.place; live = f.live; there = f.there; named = f.named; passes = f.passes; earlier = f.earlier }
+
+-- under a limit
+pub passes_under : (soc : SocValue) (limits : LimitsValue) (most : ℕ) (o : Option (TestId × ℕ)) → limits.power ≡ Some most → o ≡ first_passing limits.profiles most (live_tests soc) → MatchOption o (NonePasses soc limits) (λ found. IsFirstPassing soc limits found.0 found.1)
+passes_under soc limits most o limit is = by o (subst (λ (o : Option (TestId × ℕ)). MatchOption o ((n : ℕ) (l : LiveTest) → slice_get (live_tests soc) n ≡ Some l → find (nat_lt most) (powers_of limits.profiles l) ≡ None) (λ found. IsFound limits.profiles most (live_tests soc) found.0 found.1)) (sym is) (found_in limits.profiles most (live_tests soc)))
+  where
+    by : (o : Option (TestId × ℕ)) → MatchOption o ((n : ℕ) (l : LiveTest) → slice_get (live_tests soc) n ≡ Some l → find (nat_lt most) (powers_of limits.profiles l) ≡ None) (λ found. IsFound limits.profiles most (live_tests soc) found.0 found.1)
+        → MatchOption o (NonePasses soc limits) (λ found. IsFirstPassing soc limits found.0 found.1)
+    by None none = subst (λ (o : Option ℕ). IfSome o (λ most. (n : ℕ) (l : LiveTest) → slice_get (live_tests soc) n ≡ Some l → find (nat_lt most) (powers_of limits.profiles l) ≡ None)) (sym limit) none
+    by (Some found) f = is_first soc limits most found.0 found.1 limit f
+
+-- without a limit
+pub passes_free : (soc : SocValue) (limits : LimitsValue) → limits.power ≡ None → NonePasses soc limits
+passes_free soc limits free = subst (λ (o : Option ℕ). IfSome o (λ most. (n : ℕ) (l : LiveTest) → slice_get (live_tests soc) n ≡ Some l → find (nat_lt most) (powers_of limits.profiles l) ≡ None)) (sym free) tt
+
+pub passes_or_not : (soc : SocValue) (limits : LimitsValue) → NonePasses soc limits ⊎ ((test : TestId) × (power : ℕ) × IsFirstPassing soc limits test power)
+passes_or_not soc limits = by limits.power refl
+  where
+    under : (o : Option (TestId × ℕ)) → MatchOption o (NonePasses soc limits) (λ found. IsFirstPassing soc limits found.0 found.1) → NonePasses soc limits ⊎ ((test : TestId) × (power : ℕ) × IsFirstPassing soc limits test power)
+    under None none = inl none
+    under (Some found) first = inr (found.0, found.1, first)
+
+    by : (o : Option ℕ) → limits.power ≡ o → NonePasses soc limits ⊎ ((test : TestId) × (power : ℕ) × IsFirstPassing soc limits test power)
+    by None free = inl (passes_free soc limits free)
+    by (Some most) limit = under (first_passing limits.profiles most (live_tests soc)) (passes_under soc limits most (first_passing limits.profiles most (live_tests soc)) limit refl)
+
+-- ---- module by module
+
+or_first_assoc : {X : Type 0} (a b c : Option X) → or_first (or_first a b) c ≡ or_first a (or_first b c)
+or_first_assoc None b c = refl
+or_first_assoc (Some x) b c = refl
+
+pub first_of_both : (profiles : List ProfileValue) (most : ℕ) (a b : List LiveTest) → first_passing profiles most (a ++ b) ≡ or_first (first_passing profiles most a) (first_passing profiles most b)
+first_of_both profiles most [] b = refl
+first_of_both profiles most (l ∷ a) b = ap (or_first (passing profiles most l)) (first_of_both profiles most a b) ∙ sym (or_first_assoc (passing profiles most l) (first_passing profiles most a) (first_passing profiles most b))
+
+-- the places of modules change nothing
+of_tests : (profiles : List ProfileValue) (most base other : ℕ) (m : ModuleValue) (ts : List Test) → first_passing profiles most (map (live_at base m) ts) ≡ first_passing profiles most (map (live_at other m) ts)
+of_tests profiles most base other m [] = refl
+of_tests profiles most base other m (t ∷ ts) = ap (or_first (passing profiles most (live_at base m t))) (of_tests profiles most base other m ts)
+
+of_modules : (profiles : List ProfileValue) (most base other : ℕ) (ms : List ModuleValue) → first_passing profiles most (live_from base ms) ≡ first_passing profiles most (live_from other ms)
+unfolding live_from
+of_modules profiles most base other [] = refl
+of_modules profiles most base other (m ∷ ms) =
+    first_of_both profiles most (live_of base m) (live_from (base + 1) ms)
+    ∙ ap (λ o. or_first o (first_passing profiles most (live_from (base + 1) ms))) (of_tests profiles most base other m (filter is_live m.tests))
+    ∙ ap (or_first (first_passing profiles most (live_of other m))) (of_modules profiles most (base + 1) (other + 1) ms)
+    ∙ sym (first_of_both profiles most (live_of other m) (live_from (other + 1) ms))
+
+-- what the first module gives
+module_first : (profiles : List ProfileValue) (most : ℕ) (m : ModuleValue) (rest : List ModuleValue) → first_passing profiles most (live_from 0 (m ∷ rest)) ≡ or_first (first_passing profiles most (live_of 0 m)) (first_passing profiles most (live_from 0 rest))
+unfolding live_from
+module_first profiles most m rest =
+    first_of_both profiles most (live_of 0 m) (live_from (0 + 1) rest) ∙ ap (or_first (first_passing profiles most (live_of 0 m))) (of_modules profiles most (0 + 1) 0 rest)
+
+pub module_passes : (profiles : List ProfileValue) (most : ℕ) (m : ModuleValue) (rest left : List ModuleValue) (r : Option (TestId × ℕ)) (found : TestId × ℕ) (whole : Option (TestId × ℕ)) → left ≡ m ∷ rest → r ≡ first_passing profiles most (live_of 0 m) → r ≡ Some found
+    → first_passing profiles most (live_from 0 left) ≡ whole → Some found ≡ whole
+module_passes profiles most m rest left r found whole goes is some before =
+    ap (λ o. or_first o (first_passing profiles most (live_from 0 rest))) (sym some ∙ is) ∙ sym (module_first profiles most m rest) ∙ ap (λ ms. first_passing profiles most (live_from 0 ms)) (sym goes) ∙ before
+
+pub module_passes_not : (profiles : List ProfileValue) (most : ℕ) (m : ModuleValue) (rest left : List ModuleValue) (r whole : Option (TestId × ℕ)) → left ≡ m ∷ rest → r ≡ first_passing profiles most (live_of 0 m) → r ≡ None
+    → first_passing profiles most (live_from 0 left) ≡ whole → first_passing profiles most (live_from 0 rest) ≡ whole
+module_passes_not profiles most m rest left r whole goes is none before =
+    ap (λ o. or_first o (first_passing profiles most (live_from 0 rest))) (sym none ∙ is) ∙ sym (module_first profiles most m rest) ∙ ap (λ ms. first_passing profiles most (live_from 0 ms)) (sym goes) ∙ before
+
+pub no_module_passes : (profiles : List ProfileValue) (most : ℕ) (left : List ModuleValue) (whole : Option (TestId × ℕ)) → left ≡ [] → first_passing profiles most (live_from 0 left) ≡ whole → None ≡ whole
+unfolding live_from
+no_module_passes profiles most left whole none before = ap (λ ms. first_passing profiles most (live_from 0 ms)) (sym none) ∙ before

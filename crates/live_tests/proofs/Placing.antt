@@ -1,0 +1,215 @@
+-- The live tests of a plan are placed module by module, and found by name.
+use Rattle.std.proofs.Common.{◌≡◌, inl, inr, ℕ, zero, suc, ◌+◌, ◌≤◌, ◌<◌, Bool, true, false, cond, Option, None, Some, List, [], ◌∷◌, ◌++◌, length, get_or, map, drop, position, option_map, refl, sym, ap, subst, ◌∙◌, append_assoc, append-nil, arith}
+use Rattle.std.specs.Prelude.{slice_get, find, nat_eq, nat_lt, unwrap_or}
+use Rattle.std.specs.List.{filter, position_or_len}
+use Rattle.std.specs.Map.{lookup}
+use Rattle.std.proofs.lemmas.Bool.{cases_Bool}
+use Rattle.std.proofs.lemmas.Bool.Decides.{nat_tests}
+use Rattle.std.proofs.lemmas.List.{length-map, map-append}
+use Rattle.std.proofs.lemmas.List.Folds.{find_at}
+use Rattle.std.proofs.lemmas.Option.{slice_get-map, slice_get-get_or, slice_get_within, get_or_from_slice_get}
+use Rattle.soc_model.specs.declared.Test.{Test}
+use Rattle.soc_model.specs.declared.TestId.{TestId}
+use Rattle.soc_model.specs.Chips.{ModuleValue, SocValue, LiveTest, is_live, live_of, live_from, live_tests, id_of, same_test}
+use Rattle.plan_model.specs.Plans.{PlanValue, LimitsValue, PlannedTest, planned, planned_test, chains_of, operations_of, end_of, greatest, bus_place, of_first}
+use Rattle.plan_model.specs.Rules.{IsGood, Cycles, live_ids}
+use Rattle.plan_model.proofs.Finding.{in_filter}
+use Rattle.plan_model.proofs.Greatest.{le-greatest_at}
+use Rattle.plan_model.proofs.Lists.{in_append_left, in_append_right}
+use Rattle.plan_model.proofs.PlannedTests.{Origin}
+use Rattle.soc_model.specs.Lookups.{test_places}
+use Rattle.soc_model.specs.SoundChips.{IsSoundChip, IsSoundModule}
+use Rattle.soc_model.proofs.Places.{IsKeyed-from_sound, place-from_module, test_places-at, position-from_slice_get}
+use Rattle.live_tests.specs.declared.placed.PlacedTest.{PlacedTest}
+use Rattle.live_tests.specs.Placed.{bus_over, is_called, placed_in, placed_of, placed_tests}
+use Rattle.live_tests.proofs.Indexing.{same_test_turned}
+
+-- ---- live tests of a chip
+
+abbrev pub the_live : ℕ → ModuleValue → Test → LiveTest
+the_live place m t = record { place = place; core = m; test = t }
+
+-- a live test of a module is one of the chip
+pub in_live : (ms : List ModuleValue) (base up n place : ℕ) (m : ModuleValue) (t : Test) → base + up ≡ place → slice_get ms up ≡ Some m → slice_get (filter is_live m.tests) n ≡ Some t → (i : ℕ) × (slice_get (live_from base ms) i ≡ Some (the_live place m t))
+unfolding live_from
+in_live [] base up n place m t e at there = absurd cc
+in_live (k ∷ ms) base zero n place m t e at there =
+    let same : k ≡ m = cc in
+    let number : base ≡ place = omega (arith, e) in
+    (n, in_append_left (live_of base k) (live_from (base + 1) ms) n (the_live place m t) (rw (same, number) (slice_get-map (the_live place m) (filter is_live m.tests) n ∙ rw there refl)))
+in_live (k ∷ ms) base (suc up) n place m t e at there =
+    let r = in_live ms (base + 1) up n place m t (omega (arith, e)) at there in
+    in_append_right (live_of base k) (live_from (base + 1) ms) r.0 (the_live place m t) r.1
+
+sound_module : (soc : SocValue) → IsSoundChip soc → (p : ℕ) (m : ModuleValue) → slice_get soc.modules p ≡ Some m → IsSoundModule m
+sound_module soc sound p m at = subst IsSoundModule (get_or_from_slice_get soc.modules p m m at) (sound.modules p m (slice_get_within soc.modules p m at))
+
+position-numbers : (n : ℕ) (ts : List Test) → position (λ (t : Test). nat_eq n t.number) ts ≡ position (nat_eq n) (map (λ (t : Test). t.number) ts)
+position-numbers n ts = rw (first_of ts, length-map ts (λ (t : Test). t.number)) refl where
+  first_of : (ts : List Test) → position_or_len (nat_eq n) (map (λ (t : Test). t.number) ts) ≡ position_or_len (λ (t : Test). nat_eq n t.number) ts
+  first_of [] = refl
+  first_of (t ∷ ts) = elim (cases_Bool (nat_eq n t.number)) [ inl yes' ↦ rw yes' refl | inr no' ↦ rw no' (ap (λ v. 1 + v) (first_of ts)) ]
+
+id_of_planned : (plan : PlanValue) (l : LiveTest) → (planned_test plan l.place l.core l.test).id ≡ id_of l
+unfolding planned_test
+id_of_planned plan l = refl
+
+-- a planned test is found by its name, at the places of its module and of itself
+pub places_of_origin : (soc : SocValue) → IsSoundChip soc → (plan : PlanValue) (i : ℕ) (u : PlannedTest) (o : Origin soc plan i u) (q : ℕ) → slice_get o.l.core.tests q ≡ Some o.l.test → test_places soc u.id ≡ Some (o.l.place, q)
+places_of_origin soc sound plan i u o q at =
+    let keyed = IsKeyed-from_sound sound in
+    let placed = place-from_module keyed o.l.place o.l.core o.module_at in
+    let differ = (sound_module soc sound o.l.place o.l.core o.module_at).tests_differ in
+    let named : slice_get (map (λ (t : Test). t.number) o.l.core.tests) q ≡ Some o.l.test.number = slice_get-map (λ (t : Test). t.number) o.l.core.tests q ∙ ap (option_map (λ (t : Test). t.number)) at in
+    let found = position-numbers o.l.test.number o.l.core.tests ∙ position-from_slice_get (map (λ (t : Test). t.number) o.l.core.tests) o.l.test.number q differ named in
+    let id : u.id ≡ id_of o.l = ap (λ (t : PlannedTest). t.id) (sym o.is) ∙ id_of_planned plan o.l in
+    ap (test_places soc) id ∙ test_places-at soc (id_of o.l) o.l.place o.l.core placed o.module_at ∙ ap (option_map (λ (n : ℕ). (o.l.place, n))) found
+
+-- ---- what is placed of a test
+
+start_found : (id : TestId) (starts : List (TestId × ℕ)) → unwrap_or (lookup (same_test id) starts) 0 ≡ of_first (λ (s : TestId × ℕ). same_test s.0 id) (λ s. s.1) 0 starts
+start_found id [] = refl
+start_found id (s ∷ ss) = elim (cases_Bool (same_test id s.0)) [
+  | inl yes' ↦ rw (yes', sym (same_test_turned id s.0) ∙ yes') refl
+  | inr no' ↦ rw (no', sym (same_test_turned id s.0) ∙ no') (start_found id ss)
+]
+
+start_of_planned : (plan : PlanValue) (place : ℕ) (m : ModuleValue) (t : Test) → (planned_test plan place m t).start ≡ of_first (λ (s : TestId × ℕ). same_test s.0 (id_of (the_live place m t))) (λ s. s.1) 0 plan.starts
+unfolding planned_test
+start_of_planned plan place m t = refl
+
+end_of_planned : (plan : PlanValue) (place : ℕ) (m : ModuleValue) (t : Test) → end_of (planned_test plan place m t) ≡ (planned_test plan place m t).start + length (operations_of m t (chains_of plan m t))
+unfolding planned_test
+end_of_planned plan place m t = refl
+
+-- the start that is found
+pub start_is : (plan : PlanValue) (place : ℕ) (m : ModuleValue) (t : Test) (start : ℕ) → start ≡ unwrap_or (lookup (same_test (id_of (the_live place m t))) plan.starts) 0 → start ≡ (planned_test plan place m t).start
+start_is plan place m t start is = is ∙ start_found (id_of (the_live place m t)) plan.starts ∙ sym (start_of_planned plan place m t)
+
+-- the end
+pub end_is : (plan : PlanValue) (place : ℕ) (m : ModuleValue) (t : Test) (start n : ℕ) → start ≡ (planned_test plan place m t).start → n ≡ length (operations_of m t (chains_of plan m t)) → start + n ≡ end_of (planned_test plan place m t)
+end_is plan place m t start n is long = omega (arith, is, long, end_of_planned plan place m t)
+
+-- no test of a good plan ends after the plan
+pub ends_within : (soc : SocValue) (limits : LimitsValue) (plan : PlanValue) → IsGood soc limits plan → (p q : ℕ) (m : ModuleValue) (t : Test) → slice_get soc.modules p ≡ Some m → slice_get m.tests q ≡ Some t → is_live t ≡ true → end_of (planned_test plan p m t) ≤ plan.cycles
+unfolding planned
+ends_within soc limits plan good p q m t at there live =
+    let n = in_filter is_live m.tests q t there live in
+    let i = in_live soc.modules 0 p n.0 p m t (omega arith) at n.1 in
+    let planned_there : slice_get (planned soc plan) i.0 ≡ Some (planned_test plan p m t) = slice_get-map (λ (l : LiveTest). planned_test plan l.place l.core l.test) (live_tests soc) i.0 ∙ ap (option_map (λ (l : LiveTest). planned_test plan l.place l.core l.test)) i.1 in
+    let cycles : plan.cycles ≡ greatest (map end_of (planned soc plan)) = good Cycles in
+    subst (λ n. end_of (planned_test plan p m t) ≤ n) (sym cycles) (le-greatest_at end_of (planned soc plan) i.0 (planned_test plan p m t) planned_there)
+
+-- the placed test of these parts
+pub test_is : (plan : PlanValue) (place : ℕ) (m : ModuleValue) (t : Test) (bus start n : ℕ) (over : Option ℕ) → bus ≡ bus_place m.number 0 plan.buses → over ≡ bus_over t.tam bus → start ≡ (planned_test plan place m t).start → n ≡ length (operations_of m t (chains_of plan m t))
+    → (let p : PlacedTest = record { id = id_of (the_live place m t); place = place; bus = over; start = start; end = start + n; power = t.power } in p) ≡ placed_of (planned_test plan place m t)
+unfolding planned_test
+test_is plan place m t bus start n over bus_is over_is is long =
+    ap (λ (b : Option ℕ). the_placed b start (start + n)) (over_is ∙ ap (bus_over t.tam) bus_is)
+    ∙ ap (λ (s : ℕ). the_placed (bus_over t.tam (bus_place m.number 0 plan.buses)) s (s + n)) is
+    ∙ ap (λ (k : ℕ). the_placed (bus_over t.tam (bus_place m.number 0 plan.buses)) (planned_test plan place m t).start ((planned_test plan place m t).start + k)) long
+  where
+    the_placed : Option ℕ → ℕ → ℕ → PlacedTest
+    the_placed b s e = record { id = id_of (the_live place m t); place = place; bus = b; start = s; end = e; power = t.power }
+
+-- ---- module by module
+
+map_twice : {X Y Z : Type 0} (f : Y → Z) (g : X → Y) (xs : List X) → map f (map g xs) ≡ map (λ x. f (g x)) xs
+map_twice f g [] = refl
+map_twice f g (x ∷ xs) = ap (λ ys. f (g x) ∷ ys) (map_twice f g xs)
+
+drop_at : {X : Type 0} (xs : List X) (k : ℕ) (x : X) → slice_get xs k ≡ Some x → drop k xs ≡ x ∷ drop (suc k) xs
+drop_at [] k x at = absurd cc
+drop_at (y ∷ xs) zero x at = let same : y ≡ x = cc in ap (λ (z : _). z ∷ xs) same
+drop_at (y ∷ xs) (suc k) x at = drop_at xs k x at
+
+drop_past : {X : Type 0} (xs : List X) (k : ℕ) → length xs ≤ k → drop k xs ≡ []
+drop_past [] zero past = refl
+drop_past [] (suc k) past = refl
+drop_past (x ∷ xs) zero past = absurd (omega (arith, past))
+drop_past (x ∷ xs) (suc k) past = drop_past xs k (omega (arith, past))
+
+-- a live test as the plan places it
+abbrev pub placed_live : PlanValue → LiveTest → PlacedTest
+placed_live plan l = placed_of (planned_test plan l.place l.core l.test)
+
+-- all of them
+pub placed_are : (soc : SocValue) (plan : PlanValue) → placed_tests soc plan ≡ map (placed_live plan) (live_tests soc)
+unfolding planned
+placed_are soc plan = map_twice placed_of (λ (l : LiveTest). planned_test plan l.place l.core l.test) (live_tests soc)
+
+-- one module more
+pub module_more : (plan : PlanValue) (old new whole : List PlacedTest) (place next : ℕ) (ms : List ModuleValue) (m : ModuleValue) → next ≡ place + 1 → slice_get ms place ≡ Some m
+    → new ≡ old ++ placed_in plan place m m.tests → old ++ map (placed_live plan) (live_from place (drop place ms)) ≡ whole → new ++ map (placed_live plan) (live_from next (drop next ms)) ≡ whole
+unfolding live_from
+module_more plan old new whole place next ms m is at added before =
+    let here : map (placed_live plan) (live_of place m) ≡ placed_in plan place m m.tests = map_twice (placed_live plan) (the_live place m) (filter is_live m.tests) in
+    let step : suc place ≡ next = omega (arith, is) in
+    let split : map (placed_live plan) (live_from place (drop place ms)) ≡ placed_in plan place m m.tests ++ map (placed_live plan) (live_from next (drop next ms)) =
+    ap (λ (l : List ModuleValue). map (placed_live plan) (live_from place l)) (drop_at ms place m at)
+    ∙ map-append (placed_live plan) (live_of place m) (live_from (place + 1) (drop (suc place) ms))
+    ∙ ap (λ l. l ++ map (placed_live plan) (live_from (place + 1) (drop (suc place) ms))) here
+    ∙ ap (λ n. placed_in plan place m m.tests ++ map (placed_live plan) (live_from n (drop (suc place) ms))) (sym is)
+    ∙ ap (λ n. placed_in plan place m m.tests ++ map (placed_live plan) (live_from next (drop n ms))) step in
+    ap (λ l. l ++ map (placed_live plan) (live_from next (drop next ms))) added
+    ∙ append_assoc old (placed_in plan place m m.tests) (map (placed_live plan) (live_from next (drop next ms)))
+    ∙ ap (λ l. old ++ l) (sym split) ∙ before
+
+-- after the last module
+pub modules_all : (plan : PlanValue) (done whole : List PlacedTest) (place : ℕ) (ms : List ModuleValue) → length ms ≤ place → done ++ map (placed_live plan) (live_from place (drop place ms)) ≡ whole → done ≡ whole
+unfolding live_from
+modules_all plan done whole place ms past before =
+    let none : drop place ms ≡ [] = drop_past ms place past in
+    let before' = rw none at before in
+    sym (append-nil done) ∙ before'
+
+-- ---- by name
+
+-- the names of placed tests are those of the live tests
+names_of : (plan : PlanValue) (ls : List LiveTest) → map (λ (p : PlacedTest). p.id) (map (placed_live plan) ls) ≡ map id_of ls
+unfolding planned_test
+names_of plan [] = refl
+names_of plan (l ∷ ls) = ap (λ ids. id_of l ∷ ids) (names_of plan ls)
+
+pub names_placed : (soc : SocValue) (plan : PlanValue) → map (λ (p : PlacedTest). p.id) (placed_tests soc plan) ≡ live_ids soc
+names_placed soc plan = ap (map (λ (p : PlacedTest). p.id)) (placed_are soc plan) ∙ names_of plan (live_tests soc)
+
+length_names : (ts : List PlacedTest) → length (map (λ (p : PlacedTest). p.id) ts) ≡ length ts
+length_names [] = refl
+length_names (t ∷ ts) = ap suc (length_names ts)
+
+first_named : (id : TestId) (ts : List PlacedTest) → position_or_len (same_test id) (map (λ (p : PlacedTest). p.id) ts) ≡ position_or_len (is_called id) ts
+first_named id [] = refl
+first_named id (t ∷ ts) = elim (cases_Bool (same_test id t.id)) [ inl yes' ↦ rw yes' refl | inr no' ↦ rw no' (ap (λ n. 1 + n) (first_named id ts)) ]
+
+cond_none : {X : Type 0} (b : Bool) (x : X) → cond b (Some x) None ≡ None → b ≡ false
+cond_none true x e = cc
+cond_none false x e = refl
+
+cond_some : {X : Type 0} (b : Bool) (x y : X) → cond b (Some x) None ≡ Some y → (b ≡ true) × (x ≡ y)
+cond_some true x y e = (refl, cc)
+cond_some false x y e = absurd cc
+
+-- a name's place finds the test
+pub found_at : (id : TestId) (ts : List PlacedTest) (names : List TestId) (k : ℕ) (d t : PlacedTest) → names ≡ map (λ (p : PlacedTest). p.id) ts → position (same_test id) names ≡ Some k → t ≡ get_or ts k d → (k < length ts) × (find (is_called id) ts ≡ Some t)
+found_at id ts names k d t are found is =
+    let p = cond_some (nat_lt (position_or_len (same_test id) names) (length names)) (position_or_len (same_test id) names) k found in
+    let first : position_or_len (is_called id) ts ≡ k = sym (first_named id ts) ∙ ap (position_or_len (same_test id)) (sym are) ∙ p.1 in
+    let long : length names ≡ length ts = ap length are ∙ length_names ts in
+    let less : position_or_len (same_test id) names < length names = let t = p.0 in grind (arith, nat_tests) in
+    let within : k < length ts = omega (arith, less, p.1, long) in
+    (within, find_at (is_called id) ts ∙ ap (slice_get ts) first ∙ slice_get-get_or ts k d within ∙ ap Some (sym is))
+
+past_none : {X : Type 0} (xs : List X) (k : ℕ) → length xs ≤ k → slice_get xs k ≡ None
+past_none [] k past = refl
+past_none (x ∷ xs) zero past = absurd (omega (arith, past))
+past_none (x ∷ xs) (suc k) past = past_none xs k (omega (arith, past))
+
+-- where no name has a place, no test is found
+pub none_found : (id : TestId) (ts : List PlacedTest) (names : List TestId) → names ≡ map (λ (p : PlacedTest). p.id) ts → position (same_test id) names ≡ None → find (is_called id) ts ≡ None
+none_found id ts names are none =
+    let past = cond_none (nat_lt (position_or_len (same_test id) names) (length names)) (position_or_len (same_test id) names) none in
+    let first : position_or_len (is_called id) ts ≡ position_or_len (same_test id) names = sym (first_named id ts) ∙ ap (position_or_len (same_test id)) (sym are) in
+    let long : length names ≡ length ts = ap length are ∙ length_names ts in
+    let over : length names ≤ position_or_len (same_test id) names = grind (arith, nat_tests) in
+    find_at (is_called id) ts ∙ past_none ts (position_or_len (is_called id) ts) (omega (arith, over, first, long))

@@ -1,0 +1,28 @@
+-- The live tests of a chip as a plan places them.
+use Rattle.std.specs.Prelude.{ℕ, Bool, Option, None, Some, List, map, if◌then◌else◌}
+use Rattle.std.specs.List.{filter}
+use Rattle.soc_model.specs.declared.Test.{Test}
+use Rattle.soc_model.specs.declared.TestId.{TestId}
+use Rattle.soc_model.specs.Chips.{ModuleValue, SocValue, is_live, same_test}
+use Rattle.plan_model.specs.Plans.{PlanValue, PlannedTest, planned, planned_test, end_of}
+use Rattle.live_tests.specs.declared.placed.PlacedTest.{PlacedTest}
+
+-- the bus of a test over the wires; a self test has none
+abbrev pub bus_over : (tam : Bool) (bus : ℕ) → Option ℕ
+bus_over tam bus = if tam then Some bus else None
+
+-- what a placed test has of its planned one
+abbrev pub placed_of : PlannedTest → PlacedTest
+placed_of t = record { id = t.id; place = t.place; bus = bus_over t.tam t.bus; start = t.start; end = end_of t; power = t.power }
+
+-- the live tests of a chip as a plan places them, in the order of the chip
+abbrev pub placed_tests : SocValue → PlanValue → List PlacedTest
+placed_tests soc plan = map placed_of (planned soc plan)
+
+-- the live ones of some tests of the module at a place
+abbrev pub placed_in : PlanValue → ℕ → ModuleValue → List Test → List PlacedTest
+placed_in plan place m tests = map (λ (t : Test). placed_of (planned_test plan place m t)) (filter is_live tests)
+
+-- the test has the name
+abbrev pub is_called : TestId → PlacedTest → Bool
+is_called id t = same_test id t.id

@@ -1,0 +1,229 @@
+// The live tests of a chip as a plan places them.
+ghost use Rattle.std.specs.Prelude.{◌≡◌, ◌++◌, ◌^◌, ◌<◌, ◌≤◌, ℕ, Some, find, length, map, slice_get, sum, take, unwrap_or, IfOk, OnOk, IsTrue};
+ghost use Rattle.std.specs.Map.{lookup};
+ghost use Rattle.soc_model.specs.declared.TestId.{TestId};
+ghost use Rattle.soc_model.specs.Chips.{is_live, module_value, same_test, soc_value};
+ghost use Rattle.soc_model.specs.SoundChips.{IsSoundChip};
+ghost use Rattle.plan_model.specs.declared.Bus.{Bus};
+ghost use Rattle.plan_model.specs.Plans.{chains_of, operations_of, planned_test};
+ghost use Rattle.plan_model.specs.Rules.{IsGoodAlone};
+ghost use Rattle.plan_model.specs.Views.{plan_value};
+ghost use Rattle.live_tests.specs.Placed.{bus_over as the_bus_over, is_called, placed_in, placed_of, placed_tests};
+
+use crate::LiveTests;
+use indexmap::IndexMap;
+use outside::{NoMemory, push};
+use plan_model::{Bus, Plan, bus_of, test_cycles};
+use soc_model::{Module, Soc, Test, TestId, live, module_at};
+use std::alloc::Global;
+use std::marker::Model;
+
+/// A live test as a plan places it. A test over the wires uses all wires of its bus, from [`first_wire`] of the bus on.
+#[derive(Clone, Copy, PartialEq, Eq, Debug)]
+pub struct PlacedTest {
+    /// The test.
+    pub id: TestId,
+    /// The place of its module in the chip, counted from 0.
+    pub place: usize,
+    /// The place of its bus in the plan, counted from 0. A self test has none.
+    pub bus: Option<usize>,
+    /// The cycle at which it starts.
+    pub start: u64,
+    /// The first cycle after it.
+    pub end: u64,
+    /// What it draws at every cycle, where it has no profile.
+    pub power: u64,
+}
+
+/// The live tests of a chip as a plan places them, in the order of the chip, each found by its name.
+#[derive(Drop)]
+pub struct PlacedTests {
+    names: LiveTests,
+    tests: Vec<PlacedTest>,
+}
+
+impl Model for PlacedTests {
+    ghost use Rattle.std.specs.Prelude.{◌≡◌, List, map};
+    ghost use Rattle.live_tests.specs.declared.placed.PlacedTest.{PlacedTest};
+
+    ghost Value = { List PlacedTest };
+
+    ghost view = { λ t. t.tests.items };
+
+    ghost invariant = { λ t. t.names ≡ map (λ (p : PlacedTest). p.id) t.tests.items };
+}
+
+impl PlacedTests {
+    /// The live tests of a chip as a good plan places them. `NoMemory` where there is none.
+    pub fn new(alloc: Global, soc: &Soc, plan: &Plan) -> Result<PlacedTests, NoMemory>
+        requires sound { IsSoundChip (soc_value soc.now) }
+        requires good { IsGoodAlone (soc_value soc.now) (plan_value plan.now) }
+        ensures { IfOk result (λ tests. tests ≡ placed_tests (soc_value soc.now) (plan_value plan.now)) }
+    {
+        let names = LiveTests::new(alloc, soc)?;
+        let tests = place_all(alloc, soc, plan)?;
+        Ok(PlacedTests { names, tests })
+    }
+
+    /// The live test of that name. None comes exactly where the chip has none.
+    pub fn find(&self, id: TestId) -> Option<PlacedTest>
+        ensures { result ≡ find (is_called id) self.now }
+    {
+        let place = self.names.place(id)?;
+        Some(self.tests[place])
+    }
+
+    /// The tests, in the order of the chip.
+    pub fn tests(&self) -> &[PlacedTest]
+        ensures { result.now ≡ self.now }
+    {
+        &self.tests
+    }
+}
+
+/// The first wire of a bus: its wires come after those of the buses before it.
+pub fn first_wire(buses: &[Bus], bus: usize) -> usize
+    requires bus { bus ≤ length buses.now }
+    requires fit { sum (map (λ (b : Bus). b.width) buses.now) < 2 ^ 64 }
+    ensures { result ≡ sum (take bus (map (λ (b : Bus). b.width) buses.now)) }
+{
+    let mut wires: usize = 0;
+    for place in 0..bus {
+        wires += buses[place].width as usize;
+    }
+    wires
+}
+
+/// The starts by the names of their tests; of two starts of a test the first.
+fn starts_by_name(
+    alloc: Global,
+    starts: &[(TestId, u64)],
+) -> Result<IndexMap<TestId, u64>, NoMemory>
+    ensures { IfOk result (λ named. (id : TestId) → lookup (same_test id) named.entries ≡ lookup (same_test id) starts.now) }
+{
+    let mut named = IndexMap::new(alloc);
+    for place in (0..starts.len()).rev() {
+        let (id, start) = starts[place];
+        named.insert(id, start)?;
+    }
+    Ok(named)
+}
+
+/// The start of a test, 0 where it has none.
+fn start_of(starts: &IndexMap<TestId, u64>, id: TestId) -> u64
+    ensures { result ≡ unwrap_or (lookup (same_test id) starts.now.entries) 0 }
+{
+    starts.get(&id).copied().unwrap_or(0)
+}
+
+/// The bus of a test over the wires; a self test has none.
+fn bus_over(tam: bool, bus: usize) -> Option<usize>
+    ensures { result ≡ the_bus_over tam bus }
+{
+    if tam { Some(bus) } else { None }
+}
+
+/// The cycles of a plan. The call tells that they are a machine's number.
+fn plan_cycles(plan: &Plan) -> u64
+    ensures { result ≡ (plan_value plan.now).cycles }
+{
+    plan.cycles
+}
+
+/// What tests are placed by: a chip, a plan, and the starts of the plan by name.
+#[derive(Clone, Copy, Drop)]
+struct Placing<'a> {
+    soc: &'a Soc,
+    plan: &'a Plan,
+    starts: &'a IndexMap<TestId, u64>,
+}
+
+impl<'a> Placing<'a> {
+    /// The cycles of a live test.
+    fn cycles_of(&self, module: &Module, test: &Test) -> u64
+        requires sound { IsSoundChip (soc_value self.now.soc.now) }
+        requires good { IsGoodAlone (soc_value self.now.soc.now) (plan_value self.now.plan.now) }
+        requires module_there { (p : ℕ) × (slice_get (soc_value self.now.soc.now).modules p ≡ Some (module_value «module».now)) }
+        requires test_there { (k : ℕ) × (slice_get «module».now.tests.items k ≡ Some test.now) }
+        requires live { IsTrue (is_live test.now) }
+        ensures { result ≡ length (operations_of (module_value «module».now) test.now (chains_of (plan_value self.now.plan.now) (module_value «module».now) test.now)) }
+    {
+        test_cycles(&self.plan.wrappers, module, test)
+    }
+
+    /// A live test of the module at a place.
+    fn test(&self, place: usize, module: &Module, test: &Test) -> PlacedTest
+        requires sound { IsSoundChip (soc_value self.now.soc.now) }
+        requires good { IsGoodAlone (soc_value self.now.soc.now) (plan_value self.now.plan.now) }
+        requires starts { (id : TestId) → lookup (same_test id) self.now.starts.now.entries ≡ lookup (same_test id) (plan_value self.now.plan.now).starts }
+        requires module_there { slice_get (soc_value self.now.soc.now).modules place ≡ Some (module_value «module».now) }
+        requires test_there { (k : ℕ) × (slice_get «module».now.tests.items k ≡ Some test.now) }
+        requires live { IsTrue (is_live test.now) }
+        ensures { result ≡ placed_of (planned_test (plan_value self.now.plan.now) place (module_value «module».now) test.now) }
+    {
+        let id = TestId {
+            module: module.number,
+            test: test.number,
+        };
+        let bus = bus_of(&self.plan.buses, module.number);
+        let start = start_of(self.starts, id);
+        let length = self.cycles_of(module, test);
+        // no test of a good plan ends later
+        let _cycles = plan_cycles(self.plan);
+        PlacedTest {
+            id,
+            place,
+            bus: bus_over(test.tam, bus),
+            start,
+            end: start + length,
+            power: test.power,
+        }
+    }
+
+    /// Adds the live tests of the module at a place.
+    fn push_module(
+        &self,
+        tests: &mut Vec<PlacedTest>,
+        place: usize,
+        module: &Module,
+    ) -> Result<(), NoMemory>
+        requires sound { IsSoundChip (soc_value self.now.soc.now) }
+        requires good { IsGoodAlone (soc_value self.now.soc.now) (plan_value self.now.plan.now) }
+        requires starts { (id : TestId) → lookup (same_test id) self.now.starts.now.entries ≡ lookup (same_test id) (plan_value self.now.plan.now).starts }
+        requires module_there { slice_get (soc_value self.now.soc.now).modules place ≡ Some (module_value «module».now) }
+        ensures { OnOk result (tests.new.items ≡ tests.old.items ++ placed_in (plan_value self.now.plan.now) place (module_value «module».now) «module».now.tests.items) }
+    {
+        for test in &module.tests {
+            if live(test) {
+                push(tests, self.test(place, module, test))?;
+            }
+        }
+        Ok(())
+    }
+}
+
+/// How many modules a chip has.
+fn module_count(soc: &Soc) -> usize
+    ensures { result ≡ length (soc_value soc.now).modules }
+{
+    soc.modules.len()
+}
+
+/// The live tests as the plan places them, in the order of the chip.
+fn place_all(alloc: Global, soc: &Soc, plan: &Plan) -> Result<Vec<PlacedTest>, NoMemory>
+    requires sound { IsSoundChip (soc_value soc.now) }
+    requires good { IsGoodAlone (soc_value soc.now) (plan_value plan.now) }
+    ensures { IfOk result (λ tests. tests.items ≡ placed_tests (soc_value soc.now) (plan_value plan.now)) }
+{
+    let starts = starts_by_name(alloc, &plan.starts)?;
+    let placing = Placing {
+        soc,
+        plan,
+        starts: &starts,
+    };
+    let mut tests = Vec::new(alloc);
+    for place in 0..module_count(soc) {
+        placing.push_module(&mut tests, place, module_at(soc, place))?;
+    }
+    Ok(tests)
+}
