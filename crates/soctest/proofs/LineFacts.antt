@@ -1,9 +1,10 @@
 -- Texts without a line feed, and with one at the end.
 use Rattle.std.proofs.Common.{lit≤, Result, Ok, Err, OnOk, ◌≡◌, ℕ, ◌+◌, ◌%◌, ◌^◌, ◌<◌, ◌≤◌, List, [], ◌∷◌, ◌++◌, Bool, true, false, decimal, refl, ◌∙◌, arith}
-use Rattle.std.specs.Prelude.{not, ◌&&◌, nat_eq, IsTrue}
+use Rattle.std.specs.Prelude.{not, ◌&&◌, nat_eq, codes, IsTrue}
 use Rattle.std.proofs.lemmas.Grind.{common_steps}
 use Rattle.std.proofs.lemmas.List.Folds.{list_all-append}
 use Rattle.std.proofs.lemmas.Fmt.{decimal_by_steps_wide}
+use Rattle.outside.specs.Decimal.{dotted_numbers}
 use Rattle.soctest.specs.Texts.{is_line, no_feed}
 
 pub no_feed-append : (xs ys : List ℕ) → no_feed (xs ++ ys) ≡ (no_feed xs && no_feed ys)
@@ -37,6 +38,20 @@ number_plain (Ok u) old new n small e = λ plain. rw e (rw (no_feed-append old (
     fits : 2 ^ 128 ≤ 10 ^ 64
     fits = lit≤ tt
 number_plain (Err e) old new n small h = tt
+
+-- the same of two numbers with a dot between them
+pub dotted_plain : {E : Type 0} (r : Result (Unit {0}) E) (old new : List ℕ) (a b : ℕ) → a < 2 ^ 64 → b < 2 ^ 64 → OnOk r (new ≡ old ++ dotted_numbers a b) → OnOk r (IsTrue (no_feed old) → IsTrue (no_feed new))
+dotted_plain (Ok u) old new a b small few e = λ plain.
+    rw e (rw (no_feed-append old (dotted_numbers a b)) (both (no_feed old) (no_feed (dotted_numbers a b)) plain dotted))
+  where
+    fits : 2 ^ 64 ≤ 10 ^ 64
+    fits = lit≤ tt
+
+    dotted : no_feed (dotted_numbers a b) ≡ true
+    dotted =
+        no_feed-append (decimal a ++ codes ".") (decimal b)
+        ∙ both (no_feed (decimal a ++ codes ".")) (no_feed (decimal b)) (no_feed-append (decimal a) (codes ".") ∙ both (no_feed (decimal a)) true (no_feed-decimal a (omega (arith, fits))) refl) (no_feed-decimal b (omega (arith, fits)))
+dotted_plain (Err e) old new a b small few h = tt
 
 pub line_from : (xs line : List ℕ) → line ≡ xs ++ 10 ∷ [] → IsTrue (no_feed xs) → IsTrue (is_line line)
 line_from xs line e plain = rw e (line_of xs plain)

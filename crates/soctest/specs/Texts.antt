@@ -1,6 +1,7 @@
 -- The lines that are written.
 use Rattle.std.specs.Prelude.{ℕ, ◌++◌, List, [], ◌∷◌, Bool, false, not, ◌&&◌, nat_eq, codes, decimal, if◌then◌else◌}
 use Rattle.std.specs.List.{list_all, flat_map}
+use Rattle.outside.specs.Decimal.{dotted_numbers}
 use Rattle.soc_model.specs.declared.TestId.{TestId}
 use Rattle.soc_model.specs.declared.SocLimit.{SocLimit}
 use Rattle.soc_model.specs.declared.Which.{Which}
@@ -59,7 +60,7 @@ accepted_line plan = codes "accepted " ++ two_numbers plan.cycles plan.bound.cyc
 
 -- a test, as its module's number and its own
 abbrev pub test_text : TestId → List ℕ
-test_text id = decimal id.module ++ codes "." ++ decimal id.test
+test_text id = dotted_numbers id.module id.test
 
 -- ---- limits that are refused
 

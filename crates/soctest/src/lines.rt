@@ -7,7 +7,7 @@ ghost use Rattle.soctest.specs.Texts.{is_line, no_feed, unread_line as unread_te
 
 use crate::FileKind;
 use bound_certificate::BoundFault;
-use outside::{NoMemory, extend, push_number};
+use outside::{NoMemory, extend, push_dotted, push_number};
 use plan_checker::PlanFault;
 use plan_model::Plan;
 use soc_model::{SocLimit, TestId, Which};
@@ -69,9 +69,7 @@ fn push_test(to: &mut Vec<u8>, id: &TestId) -> Result<(), NoMemory>
     ensures text { OnOk result (to.new.items ≡ to.old.items ++ test_text id.now) }
     ensures plain { OnOk result (IsTrue (no_feed to.old.items) → IsTrue (no_feed to.new.items)) }
 {
-    push_decimal(to, u128::from(id.module))?;
-    push(to, b".")?;
-    push_decimal(to, u128::from(id.test))
+    push_dotted(to, id.module, id.test)
 }
 
 fn push_pair(to: &mut Vec<u8>, a: &TestId, b: &TestId) -> Result<(), NoMemory>
