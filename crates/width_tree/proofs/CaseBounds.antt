@@ -173,7 +173,10 @@ nothing_past soc w p past =
 
     zeros : (ls : List LiveTest) → sum_by (λ (l : LiveTest). 0) ls ≡ 0
     zeros [] = refl
-    zeros (l ∷ ls) = sum_by-cons (λ (l : LiveTest). 0) l ls ∙ zeros ls
+    zeros (l ∷ ls) =
+        let ih : sum_by (λ (l : LiveTest). 0) ls ≡ 0 = zeros ls in
+        let split : sum_by (λ (l : LiveTest). 0) (l ∷ ls) ≡ 0 + sum_by (λ (l : LiveTest). 0) ls = sum_by-cons (λ (l : LiveTest). 0) l ls in
+        omega arith
 
 busy : (soc : SocValue) (limits : LimitsValue) (plan : PlanValue) → IsGood soc limits plan → (i j k : ℕ) (t u : PlannedTest) → i < j → IsAt (planned soc plan) i t → IsAt (planned soc plan) j u → t.place ≡ u.place → IsActive t k → IsActive u k → ⊥
 busy soc limits plan good i j k t u order at at' same active active' = good Busy i j k t u (record { first = at; second = at'; order = order; related = same; meet = (active, active') })
@@ -302,6 +305,11 @@ contained ms i j m at less =
     let within : i < length ms = slice_get_within ms i m at in
     (i, omega (arith, length-take j ms), get_or-take j ms i m less ∙ get_or_from_slice_get ms i m m at)
 
+same_item : (ms : List ℕ) (i j a b : ℕ) → slice_get ms i ≡ Some a → slice_get ms j ≡ Some b → i ≡ j → a ≡ b
+same_item ms i j a b at at' same =
+    let here : slice_get ms j ≡ Some a = rw same at at in
+    cc
+
 -- a module of a list that has a test over the wires
 record IsEntry (soc : SocValue) (c : Case) (m : ℕ) : Type 0 where
   place : module_place soc m ≡ Some (place_or soc m)
@@ -369,8 +377,7 @@ bus_bounds soc limits plan c some good is are ms keeps = value (least_high soc l
         let here : t.place ≡ place_or soc n.0 = eqb-true t.place p.1 p.3 ∙ sym n.2 in
         least_high-ge soc limits.wires t.width c ms ((fit_at soc limits plan good k t o).1) (λ j m jm. elim (cases_order p.0 j) [
           | inl same ↦
-              let jm' = rw (← same) at jm in
-              let one : n.0 ≡ m = cc' n.0 m (sym n.1 ∙ jm') in
+              let one : n.0 ≡ m = same_item ms p.0 j n.0 m n.1 jm same in
               let e : IsEntry soc c m = item j m jm in
               let high = rw (here, one) at (is.high k t at tam) in
               omega (arith, e.high, high)
@@ -383,9 +390,6 @@ bus_bounds soc limits plan c some good is are ms keeps = value (least_high soc l
                 | inr more ↦ omega (arith, e.high, high, one_width soc limits plan good u.i k u.t t u.at at (wide j p.0 u.i k u.t t m n.0 u.at at u.tam tam jm n.1 u.place here more))
               ]
         ])
-      where
-        cc' : (a b : ℕ) → Some a ≡ Some b → a ≡ b
-        cc' a b e = cc
 
     distinct : AreDistinct (places_of soc ms)
     distinct i j x y ix jy less same =
@@ -411,17 +415,13 @@ bus_bounds soc limits plan c some good is are ms keeps = value (least_high soc l
         let there : u.place ≡ place_or soc n.0 = eqb-true u.place q.1 q.3 ∙ sym n.2 in
         elim (cases_order p.0 q.0) [
           | inl same ↦
-              let q' = rw (← same) at n.1 in
-              let one : m.0 ≡ n.0 = same_item m.0 n.0 (sym m.1 ∙ q') in
+              let one : m.0 ≡ n.0 = same_item ms p.0 q.0 m.0 n.0 m.1 n.1 same in
               busy soc limits plan good k l v t u order at at' (here ∙ ap (place_or soc) one ∙ sym there) active active'
           | inr other ↦ elim other [
             | inl less ↦ wires k l v t u order at at' x.0 y.0 active active' (one_bus soc limits plan good k l t u at at' (wide p.0 q.0 k l t u m.0 n.0 at at' x.0 y.0 m.1 n.1 here there less))
             | inr more ↦ wires k l v t u order at at' x.0 y.0 active active' (sym (one_bus soc limits plan good l k u t at' at (wide q.0 p.0 l k u t n.0 m.0 at' at y.0 x.0 n.1 m.1 there here more)))
           ]
         ]
-      where
-        same_item : (a b : ℕ) → Some a ≡ Some b → a ≡ b
-        same_item a b e = cc
 
     value : (h : ℕ) → 1 ≤ h → ((k : ℕ) (t : PlannedTest) → IsAt (planned soc plan) k t → t.tam ≡ true → list_any (nat_eq t.place) (places_of soc ms) ≡ true → t.width ≤ h) → sum_by (tam_time_of soc h) ms ≤ plan.cycles
     value h some_high fits =
