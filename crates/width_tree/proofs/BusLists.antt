@@ -1,9 +1,9 @@
 -- One more module of a list whose modules all need one bus.
-use Rattle.std.proofs.Common.{◌≡◌, ◌≢◌, ℕ, zero, suc, ◌+◌, ◌≤◌, ◌<◌, Some, List, [], ◌∷◌, ◌++◌, length, get_or, take, refl, sym, ap, ◌∙◌, arith, inl, inr, ◌⊎◌}
-use Rattle.std.specs.Prelude.{slice_get, slice_set, slice_index, min}
+use Rattle.std.proofs.Common.{◌≡◌, ◌≢◌, ℕ, zero, suc, ◌+◌, ◌≤◌, ◌<◌, true, false, Some, List, [], ◌∷◌, ◌++◌, length, get_or, take, refl, sym, ap, ◌∙◌, subst, arith, inl, inr, ◌⊎◌}
+use Rattle.std.specs.Prelude.{slice_get, slice_set, slice_index, min, nat_lt}
 use Rattle.std.specs.List.{Contains}
-use Rattle.std.proofs.lemmas.Bool.{cases_lt, cases_eq}
-use Rattle.std.proofs.lemmas.List.{length-take, get_or-take, get_or-set_same, get_or-set_other, take_more, get_or_past, length-set}
+use Rattle.std.proofs.lemmas.Bool.{cases_lt, cases_eq, lt-ltb, ltb-true}
+use Rattle.std.proofs.lemmas.List.{length-take, get_or-take, get_or-set_same, get_or-set_other, take_more, take_all, get_or_past, length-set}
 use Rattle.std.proofs.lemmas.Option.{slice_get_within, get_or_from_slice_get}
 use Rattle.soc_model.specs.Chips.{SocValue}
 use Rattle.soc_model.specs.Lookups.{module_place}
@@ -133,3 +133,27 @@ stamped_older marks p stamp older q = elim (cases_eq q p) [
   where
     outside : length marks ≤ p → q ≡ p → slice_index (slice_set marks p stamp) q < stamp + 1
     outside past same = rw (get_or_past (slice_set marks p stamp) q 0 (omega (arith, length-set marks p stamp))) (omega arith)
+
+pub kept_more : (soc : SocValue) (w : ℕ) (c : Case) (ms : List ℕ) (i x : ℕ) → slice_get ms i ≡ Some x → ((n m : ℕ) → n < i → slice_get ms n ≡ Some m → IsBusItem soc w c (take n ms) m) → IsBusItem soc w c (take i ms) x → (n m : ℕ) → n < i + 1 → slice_get ms n ≡ Some m → IsBusItem soc w c (take n ms) m
+kept_more soc w c ms i x at kept item n m less here = elim (cases_lt n i) [
+  | inl before ↦ kept n m before here
+  | inr last ↦ this (let same : i ≡ n = omega arith in same)
+]
+  where
+    this : i ≡ n → IsBusItem soc w c (take n ms) m
+    this same =
+        let at' : slice_get ms n ≡ Some x = rw same at at in
+        let one : x ≡ m = cc in
+        subst (λ k. IsBusItem soc w c (take k ms) m) same (subst (IsBusItem soc w c (take i ms)) one item)
+
+pub all_high : (soc : SocValue) (w : ℕ) (c : Case) (ms : List ℕ) (n : ℕ) (marks : List ℕ) (stamp : ℕ) (least : Least) → IsBusSoFar soc w c (take n ms) marks stamp least → length ms ≤ n → least.high ≡ least_high soc w c ms
+all_high soc w c ms n marks stamp least so_far past = so_far.high ∙ ap (least_high soc w c) (take_all n ms past)
+
+pub is_few : (w s : ℕ) → false ≡ nat_lt w s → s ≤ w
+is_few w s test = elim (cases_lt w s) [
+  | inl less ↦ let yes' = lt-ltb w s less in absurd cc
+  | inr few ↦ few
+]
+
+pub is_much : (w s : ℕ) → true ≡ nat_lt w s → w < s
+is_much w s test = ltb-true w s (sym test)

@@ -82,3 +82,13 @@ least_over-same f g low (suc n) same =
 
 pub least_over-next : (f : ℕ → ℕ) (low n m : ℕ) → m ≡ n + 1 → least_over f low m ≡ min (least_over f low n) (f (low + m))
 least_over-next f low n m is = let same : m ≡ suc n = omega arith in rw same refl
+
+pub least_over-begins : (f : ℕ → ℕ) (low n : ℕ) → n ≡ 0 → f low ≡ least_over f low n
+least_over-begins f low n none = rw none refl
+
+-- one more value
+pub least_over-goes : (f : ℕ → ℕ) (low n m v least value : ℕ) → m ≡ n + 1 → low + m ≡ v → least ≡ least_over f low n → value ≡ f v → min least value ≡ least_over f low m
+least_over-goes f low n m v least value is at least_is value_is =
+    let next : least_over f low m ≡ min (least_over f low n) (f (low + m)) = least_over-next f low n m is in
+    let last : f (low + m) ≡ value = ap f at ∙ sym value_is in
+    omega arith

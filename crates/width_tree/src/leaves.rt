@@ -33,11 +33,13 @@ fn find_split(table: &Table<'_>, intervals: &[Interval], module: u64, at: u64) -
         None => Finding::Broken,
         Some(place) => {
             let interval = intervals[place];
-            if interval.low <= at && at < interval.high {
-                Finding::Unsaid
-            } else {
-                Finding::Broken
+            if at < interval.low {
+                return Finding::Broken;
             }
+            if interval.high <= at {
+                return Finding::Broken;
+            }
+            Finding::Unsaid
         }
     }
 }
@@ -110,14 +112,19 @@ fn find_apart(table: &Table<'_>, intervals: &[Interval], a: u64, b: u64) -> Find
     };
     let one = intervals[first];
     let other = intervals[second];
-    if a == b || !are_too_wide(table.wires, one.low, other.low) {
+    if a == b {
         return Finding::Broken;
     }
-    if one.high < other.low || other.high < one.low {
-        Finding::Unsaid
-    } else {
-        Finding::Broken
+    if !are_too_wide(table.wires, one.low, other.low) {
+        return Finding::Broken;
     }
+    if one.high < other.low {
+        return Finding::Unsaid;
+    }
+    if other.high < one.low {
+        return Finding::Unsaid;
+    }
+    Finding::Broken
 }
 
 /// What is found at a node in its case. `stamp` is greater than all marks, and serves once.

@@ -74,7 +74,10 @@ fn take_module(
         None => None,
         Some(at) => {
             let interval = intervals[at];
-            if marks[at] == stamp || !are_too_wide(table.wires, least.low, interval.low) {
+            if marks[at] == stamp {
+                return None;
+            }
+            if !are_too_wide(table.wires, least.low, interval.low) {
                 return None;
             }
             marks[at] = stamp;
