@@ -2,6 +2,7 @@
 use Rattle.std.proofs.Common.{◌≡◌, ◌≢◌, ℕ, zero, suc, ◌+◌, ◌-◌, ◌≤◌, ◌<◌, min, Some, List, [], ◌∷◌, ◌++◌, length, map, replicate, get_or, refl, sym, ap, ◌∙◌, subst, arith, inl, inr, ◌⊎◌, append_assoc}
 use Rattle.std.specs.Prelude.{slice_get, slice_set}
 use Rattle.std.proofs.lemmas.Bool.{cases_lt, cases_eq}
+use Rattle.std.proofs.lemmas.Option.{slice_get-get_or, get_or_from_slice_get}
 use Rattle.std.proofs.lemmas.List.{length-set, length-replicate, get_or-replicate, get_or-set_same, get_or-set_other, map-append}
 use Rattle.soc_model.specs.Chips.{SocValue}
 use Rattle.soc_model.specs.Lookups.{module_place}
@@ -92,3 +93,15 @@ least_over-goes f low n m v least value is at least_is value_is =
     let next : least_over f low m ≡ min (least_over f low n) (f (low + m)) = least_over-next f low n m is in
     let last : f (low + m) ≡ value = ap f at ∙ sym value_is in
     omega arith
+
+-- an item that stands within a list doesn't depend on what stands behind its end
+pub item_is : {X : Type 0} (xs : List X) (i : ℕ) (x d : X) → i < length xs → x ≡ get_or xs i x → x ≡ get_or xs i d
+item_is xs i x d within is =
+    let there : slice_get xs i ≡ Some (get_or xs i d) = slice_get-get_or xs i d within in
+    is ∙ get_or_from_slice_get xs i (get_or xs i d) x there
+
+pub set_low : (c : Case) (p width : ℕ) (old : Interval) → old ≡ interval_at c p → slice_set c p (interval old.low width) ≡ narrow_at c width p
+set_low c p width old is = ap (λ (i : Interval). slice_set c p (interval i.low width)) is
+
+pub root_is : (soc : SocValue) (w n : ℕ) → n ≡ length soc.modules → replicate n (interval 1 w) ≡ root_case soc w
+root_is soc w n same = ap (λ k. replicate k (interval 1 w)) same

@@ -11,6 +11,9 @@ use Rattle.width_tree.specs.Cases.{NodeCase, KeepsNode, node_shows}
 use Rattle.width_tree.specs.Bounds.{AreEnough, IsFirstLess, HasFault, all_cases}
 use Rattle.width_tree.specs.Laws.{TreesHaveOneFault, AcceptedTreesHaveNoFault}
 use Rattle.width_tree.proofs.OneTree.{one_tree}
+use Rattle.std.specs.Prelude.{Result, Ok, Err, OnOk}
+use Rattle.width_tree.specs.Trees.{nodes_of, IsOneTree}
+use Rattle.width_tree.specs.Bounds.{IsChecked, IsAcceptedTree}
 
 same_place : (soc : SocValue) (w claim : ℕ) (nodes : List NodeCase) (p q : ℕ) (m n : NodeCase) → IsFirstLess soc w claim nodes p m → IsFirstLess soc w claim nodes q n → p ≡ q
 same_place soc w claim nodes p q m n a b = elim (cases_order p q) [
@@ -56,3 +59,8 @@ pub no_fault : AcceptedTreesHaveNoFault
 no_fault soc limits t f accepted a =
     let same : accepted.tree ≡ a.tree = one_tree accepted.tree a.tree (accepted.nodes ∙ sym a.nodes) in
     none soc limits.wires t.claimed (all_cases soc limits a.tree) f (subst (λ (x : WidthTree). AreEnough soc limits.wires t.claimed (all_cases soc limits x)) same accepted.enough) a.has
+
+-- what is checked of the one tree of some nodes
+pub checked_accepted : (soc : SocValue) (limits : LimitsValue) (t : TreeValue) (r : Result (Unit {0}) TreeFault) → IsOneTree t.nodes → ((tree : WidthTree) → nodes_of tree ≡ t.nodes → IsChecked soc limits.wires t.claimed (all_cases soc limits tree) r) → OnOk r (IsAcceptedTree soc limits t)
+checked_accepted soc limits t (Ok u) one h = record { tree = one.0; nodes = one.1; enough = h one.0 one.1 }
+checked_accepted soc limits t (Err f) one h = tt

@@ -1,6 +1,6 @@
 -- How the splits that are under way change, node by node.
-use Rattle.std.proofs.Common.{◌≡◌, ◌≢◌, ℕ, zero, suc, ◌+◌, ◌-◌, ◌≤◌, ◌<◌, Bool, true, false, Some, Option, List, [], ◌∷◌, ◌++◌, length, map, take, drop, get_or, refl, sym, ap, ◌∙◌, subst, arith, inl, inr, ◌⊎◌, append_assoc}
-use Rattle.std.specs.Prelude.{slice_get, slice_set, MatchBool, Result, Ok, Err}
+use Rattle.std.proofs.Common.{◌≡◌, ◌≢◌, ℕ, zero, suc, ◌+◌, ◌-◌, ◌≤◌, ◌<◌, Bool, true, false, Some, Option, List, [], ◌∷◌, ◌++◌, length, map, take, drop, get_or, refl, sym, ap, ◌∙◌, subst, arith, inl, inr, ◌⊎◌, append_assoc, append-nil}
+use Rattle.std.specs.Prelude.{slice_get, slice_set, not, MatchBool, Result, Ok, Err}
 use Rattle.std.proofs.lemmas.Bool.{cases_lt, cases_eq}
 use Rattle.std.proofs.lemmas.List.{length-set, set-set, set-get_or, get_or-set_same, get_or-set_other, get_or-map, length-map}
 use Rattle.std.proofs.lemmas.Option.{slice_get_within, slice_get-get_or, get_or_from_slice_get}
@@ -14,10 +14,11 @@ use Rattle.width_tree.specs.declared.leaves.Finding.{Finding}
 use Rattle.width_tree.specs.declared.leaves.Finding.TheVariants.{Broken, Unsaid, Shows}
 use Rattle.width_tree.specs.declared.intervals.Interval.{Interval}
 use Rattle.width_tree.specs.declared.walk.Turn.{Turn}
-use Rattle.width_tree.specs.Trees.{LeafValue, NodeValue, OfSplit, OfLeaf, WidthTree, Leaf, Branches, nodes_of, node_value}
+use Rattle.width_tree.specs.Trees.{LeafValue, OfTime, OfArea, OfBus, OfApart, NodeValue, OfSplit, OfLeaf, WidthTree, Leaf, Branches, nodes_of, node_value}
 use Rattle.width_tree.specs.Cases.{Case, interval, interval_at, narrow_at, wide_at, case_at, narrow_case, wide_case, NodeCase, in_case, cases_of, KeepsNode, node_shows}
 use Rattle.width_tree.specs.Bounds.{IsEnough, AreEnough, IsFirstLess, HasFault, IsChecked}
-use Rattle.width_tree.specs.Findings.{area_by, IsInterval, IsFinding}
+use Rattle.width_tree.specs.Findings.{area_by, IsInterval, AreIntervals, IsFinding}
+use Rattle.width_tree.specs.declared.Node.TheVariants.{Split, Time, Area, Bus, Apart}
 use Rattle.width_tree.specs.Walks.{no_turn, turn_at, case_before, case_later, IsTurn, Behind, Awaits, Begins, GoesOn, IsJudged}
 use Rattle.width_tree.proofs.CaseFacts.{cases_leaf}
 
@@ -235,3 +236,122 @@ leaf_from soc w times turns depth c leaf left rest (Branches k v a b) e h =
 
 pub leaf_awaits : (soc : SocValue) (w : ℕ) (times : List ℕ) (turns : List Turn) (depth : ℕ) (c : Case) (leaf : LeafValue) (left : List NodeCase) → Begins soc w times turns depth c (in_case c (OfLeaf leaf) ∷ left) → Awaits soc w times turns depth c left
 leaf_awaits soc w times turns depth c leaf left b = leaf_from soc w times turns depth c leaf left b.rest b.tree b.left_is b.awaits
+
+-- ---- what the check's steps make of it
+
+-- a split that begins
+pub split_begun : (soc : SocValue) (w n : ℕ) (times : List ℕ) (turns turns' : List Turn) (depth : ℕ) (c c' : Case) (p width : ℕ) (old : Interval) (area : ℕ) (wide : WidthTree) (rest : List NodeCase) →
+    AreIntervals w n c → p < n → old ≡ interval_at c p → area ≡ area_by times (interval_at c p) p → (interval_at c p).low ≤ width → width < (interval_at c p).high → depth < length turns →
+    turns' ≡ slice_set turns depth (record { place = p; at = width; old = old; area = area; second = false }) → c' ≡ narrow_at c width p →
+    Awaits soc w times turns depth c rest → Awaits soc w times turns' (depth + 1) c' (cases_of soc (wide_at c width p) wide ++ rest)
+split_begun soc w n times turns turns' depth c c' p width old area wide rest are within old_is area_is some below room turns_is case_is h =
+    first_begins soc w times turns turns' depth c c' (record { place = p; at = width; old = old; area = area; second = false }) (interval (interval_at c p).low width) wide rest turns_is room refl old_is case_is
+    (record {
+      within = omega (arith, ap length case_is, length-set c p (interval (interval_at c p).low width), are.long);
+      old = subst (IsInterval w) (sym old_is) (are.each p within);
+      some = rw old_is some;
+      below = rw old_is below;
+      area = area_is ∙ ap (λ (i : Interval). area_by times i p) (sym old_is);
+    })
+    h
+
+-- behind a split that began
+pub split_goes : (soc : SocValue) (w : ℕ) (times : List ℕ) (turns turns' : List Turn) (depth next : ℕ) (c c' : Case) (m width p : ℕ) (n : NodeValue) (left : List NodeCase) → n ≡ OfSplit m width → module_place soc m ≡ Some p → c' ≡ narrow_at c width p → next ≡ depth + 1 →
+    ((wide : WidthTree) (rest : List NodeCase) → Awaits soc w times turns depth c rest → Awaits soc w times turns' (depth + 1) c' (cases_of soc (wide_at c width p) wide ++ rest)) →
+    Begins soc w times turns depth c (in_case c n ∷ left) → GoesOn soc w times turns' next c' left
+split_goes soc w times turns turns' depth next c c' m width p n left node here case_is next_is goes b =
+    let b' : Begins soc w times turns depth c (in_case c (OfSplit m width) ∷ left) = subst (λ (x : NodeValue). Begins soc w times turns depth c (in_case c x ∷ left)) node b in
+    let s = split_begins soc w times turns depth c m width left b' in
+    let one : narrow_case soc c m width ≡ c' = ap (case_at c (narrow_at c width)) here ∙ sym case_is in
+    let two : wide_case soc c m width ≡ wide_at c width p = ap (case_at c (wide_at c width)) here in
+    inr (record {
+      tree = s.narrow;
+      rest = cases_of soc (wide_at c width p) s.wide ++ s.rest;
+      left_is = s.left_is ∙ ap (λ d. cases_of soc d s.narrow ++ (cases_of soc (wide_case soc c m width) s.wide ++ s.rest)) one ∙ ap (λ d. cases_of soc c' s.narrow ++ (cases_of soc d s.wide ++ s.rest)) two;
+      awaits = subst (λ k. Awaits soc w times turns' k c' (cases_of soc (wide_at c width p) s.wide ++ s.rest)) (sym next_is) (goes s.wide s.rest s.awaits);
+    })
+
+-- a node that is no split is a leaf
+pub is_leaf : (n : Node) → ((m width : ℕ) → n ≡ Split m width → ⊥) → (leaf : LeafValue) × (node_value n ≡ OfLeaf leaf)
+is_leaf (Split m width) no' = absurd (no' m width refl)
+is_leaf (Time m) no' = (OfTime m, refl)
+is_leaf Area no' = (OfArea, refl)
+is_leaf (Bus ms) no' = (OfBus ms.items, refl)
+is_leaf (Apart a b) no' = (OfApart a b, refl)
+
+pub awaits_behind : (soc : SocValue) (w : ℕ) (times : List ℕ) (turns : List Turn) (depth : ℕ) (c : Case) (n : Node) (left : List NodeCase) → ((m width : ℕ) → n ≡ Split m width → ⊥) → Begins soc w times turns depth c (in_case c (node_value n) ∷ left) → Awaits soc w times turns depth c left
+awaits_behind soc w times turns depth c n left no' b =
+    let l = is_leaf n no' in
+    leaf_awaits soc w times turns depth c l.0 left (subst (λ (x : NodeValue). Begins soc w times turns depth c (in_case c x ∷ left)) l.1 b)
+
+-- ---- all nodes
+
+pub not_true : (b : Bool) → not b ≡ true → b ≡ false
+not_true true e = cc
+not_true false e = refl
+
+pub not_false : (b : Bool) → not b ≡ false → b ≡ true
+not_false true e = refl
+not_false false e = cc
+
+pub judged_any : (X Y : Type 0) (soc : SocValue) (w claim place : ℕ) (n : NodeCase) (fault : TreeFault) → IsJudged {X = X} soc w claim place n (Err fault) → IsJudged {X = Y} soc w claim place n (Err fault)
+judged_any X Y soc w claim place n (BadNode p) h = h
+judged_any X Y soc w claim place n (Less p c s) h = h
+
+pub starts : (soc : SocValue) (w : ℕ) (times : List ℕ) (turns : List Turn) (c : Case) (t : WidthTree) → GoesOn soc w times turns 0 c (cases_of soc c t)
+starts soc w times turns c t = inr (record { tree = t; rest = []; left_is = sym (append-nil (cases_of soc c t)); awaits = awaits_start soc w times turns c })
+
+-- the node at a place, where the nodes from it on are left
+pub record Comes (soc : SocValue) (w : ℕ) (times : List ℕ) (turns : List Turn) (depth : ℕ) (c : Case) (cases : List NodeCase) (place : ℕ) (node : NodeValue) : Type 0 where
+  pub there : slice_get cases place ≡ Some (in_case c node)
+  pub begins : Begins soc w times turns depth c (in_case c node ∷ drop (suc place) cases)
+
+pub comes : (soc : SocValue) (w : ℕ) (times : List ℕ) (turns : List Turn) (depth : ℕ) (c r : Case) (t : WidthTree) (place : ℕ) (node : Node) (items : List Node) → nodes_of t ≡ map node_value items → place < length items → node ≡ get_or items place node →
+    GoesOn soc w times turns depth c (drop place (cases_of soc r t)) → Comes soc w times turns depth c (cases_of soc r t) place (node_value node)
+comes soc w times turns depth c r t place node items nodes within is goes = go (cases_of soc r t) (cases_leaf soc r t ∙ nodes) goes
+  where
+    go : (cases : List NodeCase) → map (λ (n : NodeCase). n.node) cases ≡ map node_value items → GoesOn soc w times turns depth c (drop place cases) → Comes soc w times turns depth c cases place (node_value node)
+    go cases same at =
+        let long : length cases ≡ length items = sym (length-map cases (λ (n : NodeCase). n.node)) ∙ ap length same ∙ length-map items node_value in
+        let d : NodeCase = in_case c (node_value node) in
+        let there : slice_get cases place ≡ Some (get_or cases place (in_case c (node_value node))) = slice_get-get_or cases place (in_case c (node_value node)) (omega arith) in
+        let split : drop place cases ≡ get_or cases place (in_case c (node_value node)) ∷ drop (suc place) cases = drop-cons cases place (in_case c (node_value node)) (omega arith) in
+        let node_is : (get_or cases place (in_case c (node_value node))).node ≡ node_value node =
+        sym (get_or-map (λ (n : NodeCase). n.node) cases place (in_case c (node_value node)) (node_value node) (omega arith)) ∙ ap (λ l. get_or l place (node_value node)) same ∙ get_or-map node_value items place node (node_value node) within ∙ ap node_value (sym is) in
+        by (get_or cases place (in_case c (node_value node))) there node_is (subst (GoesOn soc w times turns depth c) split at)
+      where
+        by : (x : NodeCase) → slice_get cases place ≡ Some x → x.node ≡ node_value node → GoesOn soc w times turns depth c (x ∷ drop (suc place) cases) → Comes soc w times turns depth c cases place (node_value node)
+        by x there node_is (inl none) = absurd cc
+        by x there node_is (inr b) =
+            let case_is : x.widths ≡ c = head_case soc w times turns depth c x (drop (suc place) cases) b in
+            let same : x ≡ in_case c (node_value node) = both x node_is case_is in
+            record { there = there ∙ ap Some same; begins = subst (λ (y : NodeCase). Begins soc w times turns depth c (y ∷ drop (suc place) cases)) same b }
+          where
+            both : (x : NodeCase) → x.node ≡ node_value node → x.widths ≡ c → x ≡ in_case c (node_value node)
+            both x a b = ap (λ (m : NodeValue). in_case x.widths m) a ∙ ap (λ (d : Case). in_case d (node_value node)) b
+
+-- the fault of the first node that has one
+pub faulty : (X : Type 0) (soc : SocValue) (w claim : ℕ) (cases : List NodeCase) (place : ℕ) (n : NodeCase) (fault : TreeFault) → slice_get cases place ≡ Some n → ((q : ℕ) (m : NodeCase) → q < place → slice_get cases q ≡ Some m → IsEnough soc w claim m) → IsJudged {X = X} soc w claim place n (Err fault) → HasFault soc w claim cases fault
+faulty X soc w claim cases place n (BadNode p) there earlier h =
+    subst (λ k. HasFault soc w claim cases (BadNode k)) (sym h.0) (record { n = n; first = record { there = there; breaks = λ e. h.1 e.rule; earlier = λ q m less at. earlier q m less at }; broken = h.1 })
+faulty X soc w claim cases place n (Less p c s) there earlier h =
+    subst (λ k. HasFault soc w claim cases (Less k c s)) (sym h.0)
+    (record { n = n; first = record { there = there; breaks = λ e. low (rw h.3 at e.shows) h.4; earlier = λ q m less at. earlier q m less at }; rule = h.2; shows = h.3; claimed_is = h.1; less = h.4 })
+  where
+    low : claim ≤ s → s < claim → ⊥
+    low a b = omega arith
+
+pub enough_more : (soc : SocValue) (w claim : ℕ) (cases : List NodeCase) (place : ℕ) (n : NodeCase) → slice_get cases place ≡ Some n → ((q : ℕ) (m : NodeCase) → q < place → slice_get cases q ≡ Some m → IsEnough soc w claim m) → IsEnough soc w claim n → (q : ℕ) (m : NodeCase) → q < place + 1 → slice_get cases q ≡ Some m → IsEnough soc w claim m
+enough_more soc w claim cases place n there earlier here q m less at = elim (cases_lt q place) [
+  | inl before ↦ earlier q m before at
+  | inr last ↦ this (let same : place ≡ q = omega arith in same)
+]
+  where
+    this : place ≡ q → IsEnough soc w claim m
+    this same =
+        let at' : slice_get cases q ≡ Some n = rw same at there in
+        let one : n ≡ m = cc in
+        subst (IsEnough soc w claim) one here
+
+pub cases_long : (soc : SocValue) (c : Case) (t : WidthTree) (items : List Node) → nodes_of t ≡ map node_value items → length (cases_of soc c t) ≡ length items
+cases_long soc c t items same = sym (length-map (cases_of soc c t) (λ (n : NodeCase). n.node)) ∙ ap length (cases_leaf soc c t ∙ same) ∙ length-map items node_value

@@ -1,5 +1,5 @@
 -- The least areas of modules within their intervals, and their sum.
-use Rattle.std.proofs.Common.{◌≡◌, ◌≢◌, ℕ, zero, suc, ◌+◌, ◌-◌, ◌*◌, ◌≤◌, ◌<◌, ◌^◌, List, [], ◌∷◌, length, get_or, refl, sym, ap, ◌∙◌, subst, arith, inl, inr, ◌⊎◌}
+use Rattle.std.proofs.Common.{◌≡◌, ◌≢◌, ℕ, zero, suc, ◌+◌, ◌-◌, ◌*◌, ◌≤◌, ◌<◌, ◌^◌, Some, List, [], ◌∷◌, length, get_or, refl, sym, ap, ◌∙◌, subst, arith, inl, inr, ◌⊎◌}
 use Rattle.std.specs.Prelude.{slice_index, slice_set, sum}
 use Rattle.std.specs.List.{sum_by}
 use Rattle.std.proofs.lemmas.Bool.{cases_eq}
@@ -8,14 +8,19 @@ use Rattle.std.proofs.lemmas.List.Sums.{sum_by-cons}
 use Rattle.std.proofs.Math.Nat.{mul-le-mul, mul-le-mul_right}
 use Rattle.soc_model.specs.Chips.{SocValue}
 use Rattle.soc_model.proofs.Limits.{modules-le}
-use Rattle.plan_model.specs.Bounds.{sum_below, lower_tam_time}
+use Rattle.plan_model.specs.Bounds.{sum_below, module_bound, lower_tam_time}
 use Rattle.plan_model.proofs.SumsOverCycles.{sum_below-same, sum_below-indices}
 use Rattle.width_tree.specs.declared.areas.Widths.{Widths}
 use Rattle.width_tree.specs.declared.intervals.Interval.{Interval}
 use Rattle.width_tree.specs.declared.tables.Table.{Table}
 use Rattle.width_tree.specs.Cases.{Case, interval, interval_at, area_in, least_over}
-use Rattle.width_tree.specs.Tables.{place_of_time, chip_of, IsTable, HasRow}
-use Rattle.width_tree.specs.Findings.{area_by, IsInterval, AreIntervals, AreWidths}
+use Rattle.width_tree.specs.Tables.{place_of_time, chip_of, IsTable, HasRow, own_time}
+use Rattle.width_tree.specs.Findings.{area_by, IsInterval, AreIntervals, AreWidths, IsFinding}
+use Rattle.width_tree.specs.Trees.{NodeValue, OfLeaf, OfBus}
+use Rattle.width_tree.specs.declared.leaves.Finding.{Finding}
+use Rattle.width_tree.proofs.TableFacts.{bound_splits, place_within}
+use Rattle.soc_model.specs.Lookups.{module_place}
+use Rattle.plan_model.specs.Certificates.{on}
 use Rattle.width_tree.proofs.CaseFacts.{set_same, set_other, set_intervals, least_over-le, least_over-same}
 use Rattle.std.proofs.lemmas.List.{take_all}
 
@@ -29,7 +34,9 @@ area_few t i p is within int =
     let few : i.high ≤ t.wires = int.few in
     let wires : t.wires ≤ 256 = is.few_wires in
     let least : area_by t.times.now i p ≤ i.low * slice_index t.times.now (place_of_time p i.low) = least_over-le (λ v. v * slice_index t.times.now (place_of_time p v)) i.low (i.high - i.low) i.low (omega arith) (omega arith) in
-    let product : i.low * slice_index t.times.now (place_of_time p i.low) ≤ 256 * 10 ^ 18 = mul-le-mul (omega arith) (row.small i.low (omega arith) (omega arith)) in
+    let narrow : i.low ≤ 256 = omega arith in
+    let short : slice_index t.times.now (place_of_time p i.low) ≤ 10 ^ 18 = row.small i.low (omega arith) (omega arith) in
+    let product : i.low * slice_index t.times.now (place_of_time p i.low) ≤ 256 * 10 ^ 18 = mul-le-mul narrow short in
     omega arith
 
 -- by the table or by the times themselves
@@ -96,3 +103,36 @@ put_widths w n times old new p i area are within int area_is intervals areas tot
         let left : slice_index new.areas.items q ≡ slice_index old.areas.items q = ap (λ l. slice_index l q) areas ∙ get_or-set_other old.areas.items p q area 0 other in
         let right : interval_at new.intervals.items q ≡ interval_at old.intervals.items q = ap (λ l. interval_at l q) intervals ∙ set_other old.intervals.items p q i other in
         left ∙ are.areas q less ∙ ap (λ x. area_by times x q) (sym right)
+
+-- ---- what leaves show
+
+pub time_shown : (t : Table) (c : Case) (m p a b : ℕ) → IsTable t → AreIntervals t.wires (length (chip_of t).modules) c → module_place (chip_of t) m ≡ Some p → a ≡ slice_index t.times.now (place_of_time p (interval_at c p).high) → b ≡ slice_index t.own.now p →
+    on (module_place (chip_of t) m) (λ place. module_bound (chip_of t) (interval_at c place).high place) ≡ a + b
+time_shown t c m p a b is ints here a_is b_is =
+    let within : p < length (chip_of t).modules = place_within (chip_of t) is.sound m p here in
+    let row : HasRow (chip_of t) t.wires t.times.now p = is.times p within in
+    let int : IsInterval t.wires (interval_at c p) = ints.each p within in
+    let some : 1 ≤ (interval_at c p).low = int.some in
+    let order : (interval_at c p).low ≤ (interval_at c p).high = int.order in
+    let found : on (module_place (chip_of t) m) (λ place. module_bound (chip_of t) (interval_at c place).high place) ≡ module_bound (chip_of t) (interval_at c p).high p = ap (λ o. on o (λ place. module_bound (chip_of t) (interval_at c place).high place)) here in
+    let split : module_bound (chip_of t) (interval_at c p).high p ≡ lower_tam_time (chip_of t) p (interval_at c p).high + own_time (chip_of t) p = bound_splits (chip_of t) (interval_at c p).high p in
+    omega (arith, found, split, a_is, b_is, row.time (interval_at c p).high (omega arith) int.few, is.own.time p within)
+
+pub bus_found : (soc : SocValue) (w : ℕ) (c c' : Case) (n : NodeValue) (ms ms' : List ℕ) (f : Finding) → n ≡ OfLeaf (OfBus ms) → c' ≡ c → ms' ≡ ms → IsFinding soc w c' (OfLeaf (OfBus ms')) f → IsFinding soc w c n f
+bus_found soc w c c' n ms ms' f node case_is modules_is h =
+    subst (λ (x : NodeValue). IsFinding soc w c x f) (sym node) (subst (λ (d : Case). IsFinding soc w d (OfLeaf (OfBus ms)) f) case_is (subst (λ (l : List ℕ). IsFinding soc w c' (OfLeaf (OfBus l)) f) modules_is h))
+
+-- ---- more room than a sum wants
+
+pub put_fits : (t : Table) (widths : Widths) (i : Interval) (p area : ℕ) → IsTable t → AreWidths t.wires (length (chip_of t).modules) t.times.now widths → p < length (chip_of t).modules → IsInterval t.wires i → area ≡ area_by t.times.now i p → widths.total + area < 2 ^ 128
+put_fits t widths i p area is are within int area_is = omega (arith, total_few t widths is are, area_few t i p is within int)
+
+pub narrow_interval : (w : ℕ) (old i : Interval) (width : ℕ) → IsInterval w i → old ≡ i → i.low ≤ width → width < i.high → IsInterval w (interval old.low width)
+narrow_interval w old i width int is some below =
+    let same : old.low ≡ i.low = ap (λ (x : Interval). x.low) is in
+    let a : 1 ≤ i.low = int.some in
+    let b : i.high ≤ w = int.few in
+    record { some = omega arith; order = omega arith; few = omega arith }
+
+pub wide_interval : (w : ℕ) (old : Interval) (width : ℕ) → IsInterval w old → width < old.high → IsInterval w (interval (width + 1) old.high)
+wide_interval w old width int below = record { some = omega arith; order = omega arith; few = int.few }

@@ -118,6 +118,20 @@ fn sum_of(areas: &[u128]) -> u128
     areas.iter().sum()
 }
 
+/// Writes the intervals of the root and the least areas within them. The answer is the sum of the areas.
+fn fill_slices(table: &Table<'_>, intervals: &mut [Interval], areas: &mut [u128]) -> u128
+    requires table { IsTable table.now }
+    requires intervals { length intervals.old ≡ length (chip_of table.now).modules }
+    requires areas { length areas.old ≡ length (chip_of table.now).modules }
+    ensures root { intervals.new ≡ root_case (chip_of table.now) table.now.wires }
+    ensures areas { AreAreas (length (chip_of table.now).modules) table.now.times.now intervals.new areas.new }
+    ensures total { result ≡ sum areas.new }
+{
+    fill_root(intervals, table.wires);
+    fill_areas(table, intervals, areas);
+    sum_of(areas)
+}
+
 /// The widths of the root, with their areas.
 fn fill_widths(table: &Table<'_>, widths: &mut Widths)
     requires table { IsTable table.now }
@@ -126,9 +140,7 @@ fn fill_widths(table: &Table<'_>, widths: &mut Widths)
     ensures widths { AreWidths table.now.wires (length (chip_of table.now).modules) table.now.times.now widths.new }
     ensures root { widths.new.intervals.items ≡ root_case (chip_of table.now) table.now.wires }
 {
-    fill_root(&mut widths.intervals, table.wires);
-    fill_areas(table, &widths.intervals, &mut widths.areas);
-    widths.total = sum_of(&widths.areas);
+    widths.total = fill_slices(table, &mut widths.intervals, &mut widths.areas);
 }
 
 /// The check over rooms that are as long as they have to be.

@@ -1,6 +1,6 @@
 // Goes over the nodes of a tree in the order of the text, with the case of each. Splits are kept in a list, so that nothing
 // recurses over the tree.
-ghost use Rattle.std.specs.Prelude.{◌≡◌, ℕ, ◌+◌, ◌^◌, ◌<◌, ◌≤◌, ◌++◌, ◌∷◌, List, IfOk, length, map, slice_set};
+ghost use Rattle.std.specs.Prelude.{◌≡◌, true, ℕ, ◌+◌, ◌^◌, ◌<◌, ◌≤◌, ◌++◌, ◌∷◌, List, IfOk, length, map, slice_set};
 ghost use Rattle.soc_model.specs.Chips.{SocValue};
 ghost use Rattle.width_tree.specs.Trees.{WidthTree, NodeValue, nodes_of, node_value, IsOneTree};
 ghost use Rattle.width_tree.specs.Cases.{Case, interval_at, narrow_at, wide_at, NodeCase, in_case, cases_of, KeepsNode};
@@ -201,8 +201,10 @@ fn check_node(
         IfOk result (λ next. GoesOn (chip_of table.now) table.now.wires table.now.times.now turns.new next widths.new.intervals.items left) }
 {
     let finding = find(table, widths, node, place + 1, marks);
-    judge(claimed, place, finding)?;
-    Ok(go_on(table, node, widths, turns, depth))
+    match judge(claimed, place, finding) {
+        Ok(()) => Ok(go_on(table, node, widths, turns, depth)),
+        Err(fault) => Err(fault),
+    }
 }
 
 /// Checks the nodes of a tree one after another, the widths being those of its root. An error is the fault of the first
@@ -226,7 +228,7 @@ pub fn check_nodes(
     let mut depth = 0;
     for place in 0..tree.nodes.len() {
         let node = &tree.nodes[place];
-        depth = check_node(
+        match check_node(
             table,
             tree.claimed,
             node,
@@ -235,7 +237,10 @@ pub fn check_nodes(
             marks,
             turns,
             depth,
-        )?;
+        ) {
+            Ok(next) => depth = next,
+            Err(fault) => return Err(fault),
+        }
     }
     Ok(())
 }
