@@ -1,6 +1,6 @@
 -- No good plan has fewer cycles than an accepted tree claims.
-use Rattle.std.proofs.Common.{◌≡◌, ◌≢◌, ℕ, zero, suc, ◌+◌, ◌-◌, ◌*◌, ◌≤◌, ◌<◌, max, min, Bool, true, false, Option, Some, None, List, [], ◌∷◌, ◌++◌, length, get_or, map, take, refl, sym, ap, ◌∙◌, subst, arith, inl, inr, ◌⊎◌}
-use Rattle.std.specs.Prelude.{slice_get, slice_index, slice_set, nat_eq, ◌&&◌, ◌||◌, IsTrue, IfSome, if◌then◌else◌}
+use Rattle.std.proofs.Common.{◌≡◌, ◌≢◌, ℕ, zero, suc, ◌+◌, ◌-◌, ◌*◌, ◌≤◌, ◌<◌, max, min, Bool, true, false, Option, Some, None, List, [], ◌∷◌, ◌++◌, length, get_or, take, refl, sym, ap, ◌∙◌, subst, arith, inl, inr, ◌⊎◌}
+use Rattle.std.specs.Prelude.{slice_get, slice_index, nat_eq, ◌&&◌, IfSome, if◌then◌else◌}
 use Rattle.std.specs.List.{sum, sum_by, filter, list_any, Contains}
 use Rattle.std.proofs.lemmas.Bool.{cases_lt, cases_Bool, cases_eq, cases_order, eqb-true, and_parts}
 use Rattle.std.proofs.lemmas.List.Sums.{sum_by-cons, sum_by-take-le, sum_by_more, get_or-le-sum_by}
@@ -13,11 +13,11 @@ use Rattle.soc_model.specs.Lookups.{module_place}
 use Rattle.soc_model.specs.Modes.{is_tam, has_tam}
 use Rattle.soc_model.proofs.Places.{slice_get-from_position}
 use Rattle.soc_model.proofs.Sums.{sum_by-map}
-use Rattle.plan_model.specs.Plans.{PlanValue, LimitsValue, PlannedTest, planned, planned_test, widths, bus_place, IsActive}
+use Rattle.plan_model.specs.Plans.{PlanValue, LimitsValue, PlannedTest, planned, planned_test, widths, IsActive}
 use Rattle.plan_model.specs.Right.{IsAt}
-use Rattle.plan_model.specs.Rules.{Each, IsGood, IsBound, Busy, Wires}
-use Rattle.plan_model.specs.Bounds.{sum_below, quotient_up, lower, sum_where, is_of, module_bound, lower_tam_time}
-use Rattle.plan_model.specs.Certificates.{on, passes, has_tam_at, InChip, HasTamTest}
+use Rattle.plan_model.specs.Rules.{Each, IsGood, Busy, Wires}
+use Rattle.plan_model.specs.Bounds.{sum_below, quotient_up, lower, is_of, module_bound, lower_tam_time}
+use Rattle.plan_model.specs.Certificates.{on, passes, has_tam_at, HasTamTest}
 use Rattle.plan_model.proofs.CertificatesByPlace.{forced_bound}
 use Rattle.plan_model.proofs.CertificatesAreBounds.{place_or, places_of, some_place, AreDistinct, forced_sum}
 use Rattle.plan_model.proofs.Finding.{in_filter}
@@ -31,9 +31,9 @@ use Rattle.plan_model.proofs.Sums.{sum_by-le_at, sum_by-times}
 use Rattle.plan_model.proofs.SumsOverCycles.{sum_below-sum_by, sum_below-zero, sum_below-le_by, indicator-le}
 use Rattle.plan_model.proofs.TestsInGoodPlans.{apart, on_bus, planned_tam}
 use Rattle.plan_model.proofs.TurnBounds.{planned_lower, fit_at, live-le-planned, origin_at, place_says}
-use Rattle.width_tree.specs.Trees.{LeafValue, OfTime, OfArea, OfBus, OfApart, OfSplit, OfLeaf, WidthTree, Leaf, Branches, TreeValue}
+use Rattle.width_tree.specs.Trees.{LeafValue, OfTime, OfArea, OfBus, OfApart, OfSplit, OfLeaf, WidthTree, Leaf, Branches}
 use Rattle.width_tree.specs.Cases.{Case, interval, interval_at, root_case, narrow_at, wide_at, case_at, narrow_case, wide_case, NodeCase, in_case, cases_of, low_of, high_of, IsSplit, IsBusItem, AreExclusive, KeepsLeaf, area_in, tam_time_of, least_high, leaf_value}
-use Rattle.width_tree.specs.Bounds.{IsEnough, AreEnough, IsAcceptedTree}
+use Rattle.width_tree.specs.Bounds.{IsEnough, AreEnough}
 use Rattle.width_tree.specs.Findings.{IsInterval, AreIntervals}
 use Rattle.width_tree.specs.Laws.{AcceptedTreesAreBounds}
 use Rattle.width_tree.proofs.CaseFacts.{set_same, set_other, root_at, root_intervals, narrow_intervals, wide_intervals, least_over-le}

@@ -1,14 +1,13 @@
 -- Intervals of cases, and the nodes of trees with their cases.
-use Rattle.std.proofs.Common.{◌≡◌, ◌≢◌, ℕ, zero, suc, ◌+◌, ◌-◌, ◌≤◌, ◌<◌, min, Some, List, [], ◌∷◌, ◌++◌, length, map, replicate, get_or, refl, sym, ap, ◌∙◌, subst, arith, inl, inr, ◌⊎◌, append_assoc}
+use Rattle.std.proofs.Common.{◌≡◌, ◌≢◌, ℕ, zero, suc, ◌+◌, ◌≤◌, ◌<◌, min, Some, List, ◌∷◌, ◌++◌, length, map, replicate, get_or, refl, sym, ap, ◌∙◌, subst, arith, inl, inr, ◌⊎◌}
 use Rattle.std.specs.Prelude.{slice_get, slice_set}
 use Rattle.std.proofs.lemmas.Bool.{cases_lt, cases_eq}
 use Rattle.std.proofs.lemmas.Option.{slice_get-get_or, get_or_from_slice_get}
 use Rattle.std.proofs.lemmas.List.{length-set, length-replicate, get_or-replicate, get_or-set_same, get_or-set_other, map-append}
 use Rattle.soc_model.specs.Chips.{SocValue}
-use Rattle.soc_model.specs.Lookups.{module_place}
 use Rattle.width_tree.specs.declared.intervals.Interval.{Interval}
-use Rattle.width_tree.specs.Trees.{NodeValue, OfSplit, OfLeaf, WidthTree, Leaf, Branches, nodes_of}
-use Rattle.width_tree.specs.Cases.{Case, interval, interval_at, root_case, narrow_at, wide_at, case_at, narrow_case, wide_case, NodeCase, in_case, cases_of, least_over}
+use Rattle.width_tree.specs.Trees.{NodeValue, OfSplit, WidthTree, Leaf, Branches, nodes_of}
+use Rattle.width_tree.specs.Cases.{Case, interval, interval_at, root_case, narrow_at, wide_at, narrow_case, wide_case, NodeCase, cases_of, least_over}
 use Rattle.width_tree.specs.Findings.{IsInterval, AreIntervals}
 
 -- ---- another interval for one module

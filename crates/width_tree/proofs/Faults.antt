@@ -1,5 +1,5 @@
 -- A tree has at most one fault, and none where it is accepted.
-use Rattle.std.proofs.Common.{◌≡◌, ℕ, ◌<◌, Some, List, refl, sym, ap, ◌∙◌, subst, arith, inl, inr}
+use Rattle.std.proofs.Common.{◌≡◌, ℕ, Some, List, sym, ap, ◌∙◌, subst, inl, inr}
 use Rattle.std.specs.Prelude.{slice_get}
 use Rattle.std.proofs.lemmas.Bool.{cases_order}
 use Rattle.soc_model.specs.Chips.{SocValue}

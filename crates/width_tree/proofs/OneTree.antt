@@ -1,7 +1,7 @@
 -- Lists of nodes that trees of some number go on to one tree, and that a list of nodes tells its tree.
-use Rattle.std.proofs.Common.{◌≡◌, ℕ, zero, suc, ◌+◌, ◌≤◌, List, [], ◌∷◌, ◌++◌, length, refl, sym, ap, ◌∙◌, arith, append_assoc, append-nil}
+use Rattle.std.proofs.Common.{◌≡◌, ℕ, ◌+◌, ◌≤◌, List, [], ◌∷◌, ◌++◌, length, refl, sym, ap, ◌∙◌, arith, append_assoc, append-nil}
 use Rattle.std.specs.List.{flat_map}
-use Rattle.width_tree.specs.Trees.{LeafValue, OfArea, NodeValue, OfSplit, OfLeaf, WidthTree, Leaf, Branches, nodes_of, IsOneTree}
+use Rattle.width_tree.specs.Trees.{LeafValue, NodeValue, OfSplit, OfLeaf, WidthTree, Leaf, Branches, nodes_of, IsOneTree}
 
 -- the nodes of all trees of a list
 abbrev pub all_nodes : List WidthTree → List NodeValue

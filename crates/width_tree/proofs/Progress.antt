@@ -1,11 +1,11 @@
 -- How far a text was read.
-use Rattle.std.proofs.Common.{◌≡◌, List, [], ◌∷◌, ◌++◌, map, Option, None, Some, sym, ◌∙◌, ap, subst}
+use Rattle.std.proofs.Common.{◌≡◌, List, [], ◌∷◌, ◌++◌, map, Option, None, Some, sym, ◌∙◌, ap}
 use Rattle.std.specs.Prelude.{Result, Ok, Err}
 use Rattle.std.proofs.lemmas.List.{map-append}
 use Rattle.outside.specs.declared.reading.Stop.{Stop}
 use Rattle.outside.specs.declared.reading.Stop.TheVariants.{Refused, NoMemory}
 use Rattle.outside.specs.Words.{Word}
-use Rattle.outside.specs.Grammars.{Stops, EndsEarly, Steps as Goes, Ends}
+use Rattle.outside.specs.Grammars.{Stops, Steps as Goes, Ends}
 use Rattle.outside.proofs.Runs.{run-one_more}
 use Rattle.width_tree.specs.declared.Tree.{Tree}
 use Rattle.width_tree.specs.declared.parts.Draft.{Draft}

@@ -1,16 +1,16 @@
 -- Places of times in a table, and the cycles of self tests.
-use Rattle.std.proofs.Common.{◌≡◌, ◌≢◌, ℕ, suc, ◌+◌, ◌-◌, ◌*◌, ◌≤◌, ◌<◌, ◌^◌, Bool, true, false, List, [], ◌∷◌, length, refl, ◌∙◌, sym, ap, subst, arith, inl, inr, ◌⊎◌}
+use Rattle.std.proofs.Common.{◌≡◌, ◌≢◌, ℕ, ◌+◌, ◌*◌, ◌≤◌, ◌<◌, ◌^◌, Bool, true, false, List, [], ◌∷◌, length, refl, ◌∙◌, sym, ap, subst, arith, inl, inr, ◌⊎◌}
 use Rattle.std.proofs.lemmas.Bool.{cases_eq, cases_lt}
 use Rattle.std.proofs.lemmas.List.{get_or-set_same, get_or-set_other, length-map}
 use Rattle.std.proofs.lemmas.Option.{slice_get_within}
 use Rattle.soc_model.specs.Lookups.{module_place}
 use Rattle.soc_model.specs.SoundChips.{IsSoundChip}
 use Rattle.soc_model.proofs.Places.{slice_get-from_position}
-use Rattle.std.specs.Prelude.{slice_get, slice_index, slice_set, nat_eq, not, ◌&&◌, if◌then◌else◌, Some}
+use Rattle.std.specs.Prelude.{slice_get, slice_index, slice_set, not, ◌&&◌, if◌then◌else◌, Some}
 use Rattle.std.specs.List.{sum_by}
 use Rattle.std.proofs.lemmas.List.Sums.{sum_by-cons}
 use Rattle.soc_model.specs.Chips.{ModuleValue, SocValue, LiveTest, live_tests}
-use Rattle.plan_model.specs.Bounds.{lower, sum_where, is_of, module_bound, lower_tam_time}
+use Rattle.plan_model.specs.Bounds.{lower, is_of, module_bound, lower_tam_time}
 use Rattle.plan_model.proofs.LowerTimes.{least_self_test}
 use Rattle.width_tree.specs.Tables.{place_of_time, HasRow, own_time}
 

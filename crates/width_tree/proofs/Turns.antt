@@ -1,23 +1,21 @@
 -- How the splits that are under way change, node by node.
-use Rattle.std.proofs.Common.{◌≡◌, ◌≢◌, ℕ, zero, suc, ◌+◌, ◌-◌, ◌≤◌, ◌<◌, Bool, true, false, Some, Option, List, [], ◌∷◌, ◌++◌, length, map, take, drop, get_or, refl, sym, ap, ◌∙◌, subst, arith, inl, inr, ◌⊎◌, append_assoc, append-nil}
-use Rattle.std.specs.Prelude.{slice_get, slice_set, not, MatchBool, Result, Ok, Err}
-use Rattle.std.proofs.lemmas.Bool.{cases_lt, cases_eq}
+use Rattle.std.proofs.Common.{◌≡◌, ℕ, zero, suc, ◌+◌, ◌≤◌, ◌<◌, Bool, true, false, Some, List, [], ◌∷◌, ◌++◌, length, map, drop, get_or, refl, sym, ap, ◌∙◌, subst, arith, inl, inr, append_assoc, append-nil}
+use Rattle.std.specs.Prelude.{slice_get, slice_set, not, MatchBool, Err}
+use Rattle.std.proofs.lemmas.Bool.{cases_lt}
 use Rattle.std.proofs.lemmas.List.{length-set, set-set, set-get_or, get_or-set_same, get_or-set_other, get_or-map, length-map}
-use Rattle.std.proofs.lemmas.Option.{slice_get_within, slice_get-get_or, get_or_from_slice_get}
+use Rattle.std.proofs.lemmas.Option.{slice_get-get_or}
 use Rattle.std.proofs.Math.Seq.{drop-cons}
 use Rattle.soc_model.specs.Chips.{SocValue}
 use Rattle.soc_model.specs.Lookups.{module_place}
 use Rattle.width_tree.specs.declared.Node.{Node}
 use Rattle.width_tree.specs.declared.TreeFault.{TreeFault}
 use Rattle.width_tree.specs.declared.TreeFault.TheVariants.{BadNode, Less}
-use Rattle.width_tree.specs.declared.leaves.Finding.{Finding}
-use Rattle.width_tree.specs.declared.leaves.Finding.TheVariants.{Broken, Unsaid, Shows}
 use Rattle.width_tree.specs.declared.intervals.Interval.{Interval}
 use Rattle.width_tree.specs.declared.walk.Turn.{Turn}
 use Rattle.width_tree.specs.Trees.{LeafValue, OfTime, OfArea, OfBus, OfApart, NodeValue, OfSplit, OfLeaf, WidthTree, Leaf, Branches, nodes_of, node_value}
-use Rattle.width_tree.specs.Cases.{Case, interval, interval_at, narrow_at, wide_at, case_at, narrow_case, wide_case, NodeCase, in_case, cases_of, KeepsNode, node_shows}
-use Rattle.width_tree.specs.Bounds.{IsEnough, AreEnough, IsFirstLess, HasFault, IsChecked}
-use Rattle.width_tree.specs.Findings.{area_by, IsInterval, AreIntervals, IsFinding}
+use Rattle.width_tree.specs.Cases.{Case, interval, interval_at, narrow_at, wide_at, case_at, narrow_case, wide_case, NodeCase, in_case, cases_of}
+use Rattle.width_tree.specs.Bounds.{IsEnough, HasFault}
+use Rattle.width_tree.specs.Findings.{area_by, IsInterval, AreIntervals}
 use Rattle.width_tree.specs.declared.Node.TheVariants.{Split, Time, Area, Bus, Apart}
 use Rattle.width_tree.specs.Walks.{no_turn, turn_at, case_before, case_later, IsTurn, Behind, Awaits, Begins, GoesOn, IsJudged}
 use Rattle.width_tree.proofs.CaseFacts.{cases_leaf}

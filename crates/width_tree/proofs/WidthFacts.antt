@@ -1,7 +1,6 @@
 -- The least areas of modules within their intervals, and their sum.
-use Rattle.std.proofs.Common.{◌≡◌, ◌≢◌, ℕ, zero, suc, ◌+◌, ◌-◌, ◌*◌, ◌≤◌, ◌<◌, ◌^◌, Some, List, [], ◌∷◌, length, get_or, refl, sym, ap, ◌∙◌, subst, arith, inl, inr, ◌⊎◌}
+use Rattle.std.proofs.Common.{◌≡◌, ◌≢◌, ℕ, suc, ◌+◌, ◌-◌, ◌*◌, ◌≤◌, ◌<◌, ◌^◌, Some, List, [], ◌∷◌, length, sym, ap, ◌∙◌, subst, arith, inl, inr, ◌⊎◌}
 use Rattle.std.specs.Prelude.{slice_index, slice_set, sum}
-use Rattle.std.specs.List.{sum_by}
 use Rattle.std.proofs.lemmas.Bool.{cases_eq}
 use Rattle.std.proofs.lemmas.List.{length-set, get_or-set_same, get_or-set_other}
 use Rattle.std.proofs.lemmas.List.Sums.{sum_by-cons}
@@ -13,7 +12,7 @@ use Rattle.plan_model.proofs.SumsOverCycles.{sum_below-same, sum_below-indices}
 use Rattle.width_tree.specs.declared.areas.Widths.{Widths}
 use Rattle.width_tree.specs.declared.intervals.Interval.{Interval}
 use Rattle.width_tree.specs.declared.tables.Table.{Table}
-use Rattle.width_tree.specs.Cases.{Case, interval, interval_at, area_in, least_over}
+use Rattle.width_tree.specs.Cases.{Case, interval, interval_at, area_in}
 use Rattle.width_tree.specs.Tables.{place_of_time, chip_of, IsTable, HasRow, own_time}
 use Rattle.width_tree.specs.Findings.{area_by, IsInterval, AreIntervals, AreWidths, IsFinding}
 use Rattle.width_tree.specs.Trees.{NodeValue, OfLeaf, OfBus}

@@ -1,14 +1,13 @@
 -- Cases on the widths of buses, the rules of a tree's nodes in their cases, and what the leaves show.
-use Rattle.std.specs.Prelude.{◌≡◌, ◌⊎◌, ℕ, zero, suc, ◌+◌, ◌-◌, ◌*◌, ◌<◌, ◌≤◌, min, Option, None, Some, List, [], ◌∷◌, ◌++◌, length, replicate, slice_index_or, slice_set, IfSome}
+use Rattle.std.specs.Prelude.{◌≡◌, ◌⊎◌, ℕ, zero, suc, ◌+◌, ◌-◌, ◌*◌, ◌<◌, ◌≤◌, min, Option, None, Some, List, [], ◌∷◌, ◌++◌, length, replicate, slice_index_or, slice_set}
 use Rattle.std.specs.List.{sum_by, Contains}
 use Rattle.soc_model.specs.Chips.{SocValue}
 use Rattle.soc_model.specs.Lookups.{module_place}
-use Rattle.plan_model.specs.Plans.{LimitsValue}
-use Rattle.plan_model.specs.Rules.{Each, IsFirstBreach, IsNew}
+use Rattle.plan_model.specs.Rules.{Each, IsNew}
 use Rattle.plan_model.specs.Bounds.{sum_below, quotient_up, module_bound, lower_tam_time}
 use Rattle.plan_model.specs.Certificates.{on, InChip, HasTamTest}
 use Rattle.width_tree.specs.declared.intervals.Interval.{Interval}
-use Rattle.width_tree.specs.Trees.{LeafValue, OfTime, OfArea, OfBus, OfApart, NodeValue, OfSplit, OfLeaf, WidthTree, Leaf, Branches, nodes_of, TreeValue}
+use Rattle.width_tree.specs.Trees.{LeafValue, OfTime, OfArea, OfBus, OfApart, NodeValue, OfSplit, OfLeaf, WidthTree, Leaf, Branches}
 
 -- a case: the widths that the bus of each module may have, by the module's place in the chip
 abbrev pub Case : Type 0

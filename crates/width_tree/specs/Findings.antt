@@ -1,5 +1,5 @@
 -- What the check of a tree keeps of a case, and what it finds at a node.
-use Rattle.std.specs.Prelude.{◌≡◌, ◌⊎◌, ℕ, ◌+◌, ◌-◌, ◌*◌, ◌<◌, ◌≤◌, Option, None, Some, List, length, sum, slice_index}
+use Rattle.std.specs.Prelude.{◌≡◌, ◌⊎◌, ℕ, ◌+◌, ◌-◌, ◌*◌, ◌<◌, ◌≤◌, None, Some, List, length, sum, slice_index}
 use Rattle.std.specs.List.{Contains}
 use Rattle.soc_model.specs.Chips.{SocValue}
 use Rattle.soc_model.specs.Lookups.{module_place}
@@ -8,7 +8,7 @@ use Rattle.width_tree.specs.declared.areas.Widths.{Widths}
 use Rattle.width_tree.specs.declared.leaves.Finding.{Finding}
 use Rattle.width_tree.specs.declared.leaves.Finding.TheVariants.{Broken, Unsaid, Shows}
 use Rattle.width_tree.specs.declared.lists.Least.{Least}
-use Rattle.width_tree.specs.Trees.{LeafValue, NodeValue}
+use Rattle.width_tree.specs.Trees.{NodeValue}
 use Rattle.width_tree.specs.Cases.{Case, interval_at, least_over, low_of, least_high, KeepsNode, node_shows}
 use Rattle.width_tree.specs.Tables.{place_of_time}
 

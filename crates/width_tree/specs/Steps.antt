@@ -1,7 +1,7 @@
 -- Reading word by word: the nodes that were read, how many more are wanted, and what was read of the next. Only the
 -- reader's own contracts speak of it.
 use Rattle.std.specs.Prelude.{◌≡◌, ℕ, zero, suc, ◌+◌, ◌++◌, List, [], ◌∷◌, Bool, true, false, nat_eq, map, Option, None, Some, Result, Ok, Err}
-use Rattle.outside.specs.Runs.{step_after, run_by}
+use Rattle.outside.specs.Runs.{run_by}
 use Rattle.outside.specs.declared.reading.Stop.{Stop}
 use Rattle.outside.specs.declared.reading.Stop.TheVariants.{Refused, NoMemory}
 use Rattle.width_tree.specs.declared.tokens.Keyword.{Keyword}
@@ -11,7 +11,7 @@ use Rattle.width_tree.specs.declared.tokens.Token.TheVariants.{Key, Number}
 use Rattle.width_tree.specs.declared.parts.Draft.{Draft}
 use Rattle.width_tree.specs.declared.parts.Part.{Part}
 use Rattle.width_tree.specs.declared.parts.Part.TheVariants as read
-use Rattle.width_tree.specs.Trees.{LeafValue, OfTime, OfArea, OfBus, OfApart, NodeValue, OfSplit, OfLeaf, TreeValue, node_value}
+use Rattle.width_tree.specs.Trees.{OfTime, OfArea, OfBus, OfApart, NodeValue, OfSplit, OfLeaf, TreeValue, node_value}
 
 -- the claim and the nodes that were read whole, and how many nodes are still to begin
 pub record DraftValue : Type 0 where

@@ -1,7 +1,6 @@
 -- Tables of the times of modules.
-use Rattle.std.specs.Prelude.{◌≡◌, ℕ, ◌+◌, ◌-◌, ◌*◌, ◌^◌, ◌<◌, ◌≤◌, ◌&&◌, not, List, length, slice_index, if◌then◌else◌}
-use Rattle.std.specs.List.{sum, sum_by}
-use Rattle.soc_model.specs.Chips.{SocValue, LiveTest, soc_value}
+use Rattle.std.specs.Prelude.{◌≡◌, ℕ, ◌+◌, ◌-◌, ◌*◌, ◌^◌, ◌<◌, ◌≤◌, ◌&&◌, not, List, length, slice_index}
+use Rattle.soc_model.specs.Chips.{SocValue, soc_value}
 use Rattle.soc_model.specs.SoundChips.{IsSoundChip}
 use Rattle.plan_model.specs.Bounds.{sum_where, is_of, lower_tam_time}
 use Rattle.width_tree.specs.declared.tables.Table.{Table}

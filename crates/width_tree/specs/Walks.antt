@@ -1,14 +1,13 @@
 -- How the check goes over the nodes of a tree: the splits whose second branch is to come, or is under way.
-use Rattle.std.specs.Prelude.{◌≡◌, ◌⊎◌, ℕ, zero, suc, ◌+◌, ◌<◌, ◌≤◌, Bool, true, false, MatchBool, Some, Result, Ok, Err, List, [], ◌∷◌, ◌++◌, length, slice_index_or, slice_set}
+use Rattle.std.specs.Prelude.{◌≡◌, ◌⊎◌, ℕ, zero, suc, ◌+◌, ◌<◌, ◌≤◌, false, MatchBool, Some, Result, Ok, Err, List, [], ◌++◌, length, slice_index_or, slice_set}
 use Rattle.soc_model.specs.Chips.{SocValue}
 use Rattle.width_tree.specs.declared.TreeFault.{TreeFault}
 use Rattle.width_tree.specs.declared.TreeFault.TheVariants.{BadNode, Less}
-use Rattle.width_tree.specs.declared.areas.Widths.{Widths}
 use Rattle.width_tree.specs.declared.walk.Turn.{Turn}
 use Rattle.width_tree.specs.Trees.{WidthTree, TreeValue}
-use Rattle.width_tree.specs.Cases.{Case, interval, NodeCase, in_case, cases_of, KeepsNode, node_shows}
+use Rattle.width_tree.specs.Cases.{Case, interval, NodeCase, cases_of, KeepsNode, node_shows}
 use Rattle.width_tree.specs.Bounds.{IsEnough}
-use Rattle.width_tree.specs.Findings.{area_by, IsInterval, AreWidths}
+use Rattle.width_tree.specs.Findings.{area_by, IsInterval}
 
 abbrev pub no_turn : Turn
 no_turn = record { place = 0; at = 0; old = interval 0 0; area = 0; second = false }

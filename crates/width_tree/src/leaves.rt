@@ -64,7 +64,8 @@ fn divided_up(total: u128, parts: u64) -> u128
     requires { 1 ≤ parts }
     ensures { result ≡ quotient_up total parts }
 {
-    total.div_ceil(u128::from(parts))
+    let parts = u128::from(parts);
+    total.div_ceil(parts)
 }
 
 /// What is found at a leaf by the areas of all modules: the cycles that they take on all wires.

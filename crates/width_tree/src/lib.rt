@@ -66,7 +66,9 @@ pub enum TreeTextFault {
 #[derive(Clone, Copy, PartialEq, Eq, Debug)]
 pub enum TreeFault {
     /// The node at this place breaks its rule, and every node before it is as it should be.
-    BadNode { place: usize },
+    BadNode {
+        place: usize,
+    },
     /// The leaf at this place keeps its rule, and the cycles that it shows are less than `claimed`; every node before it is
     /// as it should be.
     Less {

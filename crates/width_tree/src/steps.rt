@@ -84,12 +84,7 @@ fn begin(alloc: Global, draft: &mut Draft, key: Keyword) -> Result<Part, Stop>
 }
 
 /// A keyword after modules on a bus.
-fn end_bus(
-    alloc: Global,
-    draft: &mut Draft,
-    modules: Vec<u64>,
-    key: Keyword,
-) -> Result<Part, Stop>
+fn end_bus(alloc: Global, draft: &mut Draft, modules: Vec<u64>, key: Keyword) -> Result<Part, Stop>
     ensures { Steps (steps_key (draft_value draft.old) (in_bus modules.items) key) result draft.new }
 {
     push_node(draft, Node::Bus { modules })?;

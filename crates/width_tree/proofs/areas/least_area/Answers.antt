@@ -1,5 +1,5 @@
-use Rattle.std.proofs.Common.{◌≡◌, ◌+◌, ◌-◌, ◌*◌, ◌∙◌, ap, arith}
-use Rattle.std.specs.Prelude.{slice_index, min}
+use Rattle.std.proofs.Common.{◌+◌, ◌-◌, ◌*◌, ◌∙◌, ap, arith}
+use Rattle.std.specs.Prelude.{slice_index}
 use Rattle.width_tree.specs.Tables.{place_of_time}
 use Rattle.width_tree.specs.Cases.{least_over}
 use Rattle.width_tree.proofs.CaseFacts.{least_over-begins, least_over-goes}

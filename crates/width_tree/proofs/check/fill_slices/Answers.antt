@@ -1,7 +1,6 @@
-use Rattle.std.proofs.Common.{◌≡◌, length, ◌∙◌, ap, sym, subst, arith}
-use Rattle.width_tree.specs.Cases.{Case, root_case}
+use Rattle.std.proofs.Common.{length, ◌∙◌, sym, subst, arith}
 use Rattle.width_tree.specs.Tables.{chip_of}
-use Rattle.width_tree.specs.Findings.{AreIntervals, AreAreas}
+use Rattle.width_tree.specs.Findings.{AreIntervals}
 use Rattle.width_tree.proofs.CaseFacts.{root_intervals, root_is}
 use Rattle.width_tree.proofs.WidthFacts.{areas_few}
 use Rattle.width_tree.proofs.check.fill_slices.Goals as goal

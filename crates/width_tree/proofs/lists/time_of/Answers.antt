@@ -1,6 +1,4 @@
 use Rattle.std.proofs.Common.{◌≡◌, ◌<◌, Some, length, ◌∙◌, sym, ap, arith}
-use Rattle.std.specs.Prelude.{slice_get}
-use Rattle.soc_model.specs.Chips.{module_value}
 use Rattle.soc_model.specs.Lookups.{module_place}
 use Rattle.plan_model.specs.Bounds.{lower_tam_time}
 use Rattle.plan_model.specs.Certificates.{on}

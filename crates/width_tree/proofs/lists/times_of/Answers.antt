@@ -1,4 +1,4 @@
-use Rattle.std.proofs.Common.{ℕ, arith}
+use Rattle.std.proofs.Common.{arith}
 use Rattle.std.proofs.lemmas.List.Sums.{sum_by_more}
 use Rattle.width_tree.specs.Cases.{tam_time_of}
 use Rattle.width_tree.specs.Tables.{chip_of}

@@ -1,7 +1,6 @@
-use Rattle.std.proofs.Common.{◌≡◌, ◌<◌, length, refl, ◌∙◌, ap, arith}
+use Rattle.std.proofs.Common.{◌≡◌, ◌<◌, length, refl, ◌∙◌, arith}
 use Rattle.width_tree.specs.Cases.{interval, interval_at}
 use Rattle.width_tree.specs.Tables.{chip_of}
-use Rattle.width_tree.specs.Findings.{area_by, IsInterval}
 use Rattle.width_tree.proofs.CaseFacts.{item_is, set_low}
 use Rattle.width_tree.proofs.WidthFacts.{put_fits, narrow_interval}
 use Rattle.width_tree.proofs.Turns.{split_begun}

@@ -1,10 +1,10 @@
-use Rattle.std.proofs.Common.{◌≡◌, ◌+◌, ◌<◌, ◌≤◌, ℕ, suc, List, drop, length, map, refl, ◌∙◌, sym, subst, arith}
+use Rattle.std.proofs.Common.{◌≡◌, ◌+◌, ℕ, suc, drop, subst, arith}
 use Rattle.std.proofs.lemmas.Option.{slice_get_within}
-use Rattle.width_tree.specs.Trees.{WidthTree, nodes_of, node_value}
-use Rattle.width_tree.specs.Cases.{NodeCase, in_case, cases_of}
+use Rattle.width_tree.specs.Trees.{node_value}
+use Rattle.width_tree.specs.Cases.{in_case, cases_of}
 use Rattle.width_tree.specs.Tables.{chip_of}
 use Rattle.width_tree.specs.Walks.{GoesOn}
-use Rattle.width_tree.proofs.Turns.{starts, Comes, comes, faulty, enough_more, cases_long}
+use Rattle.width_tree.proofs.Turns.{starts, comes, faulty, enough_more, cases_long}
 use Rattle.width_tree.proofs.walk.check_nodes.Goals as goal
 
 pub loop-place-init : goal.loop-place-init

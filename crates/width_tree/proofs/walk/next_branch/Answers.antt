@@ -1,7 +1,7 @@
-use Rattle.std.proofs.Common.{◌≡◌, ◌-◌, ◌<◌, suc, length, refl, ◌∙◌, sym, subst, inl, inr, arith}
+use Rattle.std.proofs.Common.{◌-◌, length, refl, sym, subst, inl, inr, arith}
 use Rattle.width_tree.specs.Cases.{Case}
 use Rattle.width_tree.specs.Tables.{chip_of}
-use Rattle.width_tree.specs.Walks.{turn_at, case_before, IsTurn, Awaits}
+use Rattle.width_tree.specs.Walks.{turn_at, IsTurn, Awaits}
 use Rattle.width_tree.proofs.WidthFacts.{put_fits, put_widths}
 use Rattle.width_tree.proofs.Turns.{not_true, not_false, awaits_turn, awaits_second, awaits_none, second_begins}
 use Rattle.width_tree.proofs.walk.next_branch.Goals as goal

@@ -1,4 +1,4 @@
-use Rattle.std.proofs.Common.{◌≡◌, ◌≤◌, List, length}
+use Rattle.std.proofs.Common.{◌≤◌, List, length}
 use Rattle.width_tree.specs.Cases.{NodeCase}
 use Rattle.width_tree.specs.Tables.{chip_of}
 use Rattle.width_tree.specs.Findings.{AreWidths}
