@@ -24,7 +24,7 @@ use Rattle.plan_text.specs.PlanLines.{plan_text}
 use Rattle.chart.specs.ChartText.{chart_text}
 use Rattle.bit_machine.specs.Chips.{made_content}
 use Rattle.tester_vectors.specs.VectorText.{vector_text}
-use Rattle.soctest.specs.Commands.{CommandValue, Print, Widths, MakePlan, Check, Chart, Vectors}
+use Rattle.soctest.specs.Commands.{CommandValue, Print, Widths, MakePlan, Check, Chart, Vectors, TreeBound}
 use Rattle.soctest.specs.Texts.{too_long_line, bad_words_line, accepted_line}
 use Rattle.soctest.specs.Readings.{most_of, IsRead, RefusesChip, SaysLimits, RefusesLimits, SaysAccepted, RefusesPlan}
 use Rattle.soctest.specs.Procedures.{Procedure, Unless, with_limits, with_accepted, with_both, with_all, done_with, done_with_plan, run_refusal}
@@ -32,7 +32,7 @@ use Rattle.soctest.specs.Answers.{Stage, Answers, IsAnswer}
 use Rattle.soctest.specs.Ends.{MayAnswer, Ends, PlanUse, plan_use, IsTrustworthy, Headline, SaysBadWords}
 
 -- a stage that ends with Done has read its file
-stage_done : {V : Type 0} (file : FileKind) (Says : List ℕ → V → Type 0) (Refuses : List ℕ → List ℕ → Type 0) (Next : V → Status → List ℕ → Type 0) (held : Option (List ℕ)) (text : List ℕ) → Stage file Says Refuses Next held Done text → (v : V) × IsRead file Says held v × Next v Done text
+pub stage_done : {V : Type 0} (file : FileKind) (Says : List ℕ → V → Type 0) (Refuses : List ℕ → List ℕ → Type 0) (Next : V → Status → List ℕ → Type 0) (held : Option (List ℕ)) (text : List ℕ) → Stage file Says Refuses Next held Done text → (v : V) × IsRead file Says held v × Next v Done text
 stage_done file Says Refuses Next None text stage = absurd stage
 stage_done {V} file Says Refuses Next (Some bytes) text stage = go (nat_lt (most_of file) (length bytes)) refl stage where
   go : (long : Bool) → nat_lt (most_of file) (length bytes) ≡ long → MatchBool long ((Done ≡ TooLong) × (text ≡ too_long_line file)) (((v : V) × Says bytes v × Next v Done text) ⊎ ((Done ≡ Refused) × Refuses bytes text)) → (v : V) × IsRead file Says (Some bytes) v × Next v Done text
@@ -46,11 +46,11 @@ pub record Laws : Type 0 where
   pub bound : (soc : SocValue) (limits : LimitsValue) (bound : BoundValue) → 1 ≤ limits.wires → IsAccepted soc limits bound → IsBound soc limits bound.cycles
 
 -- a file whose bytes say a value says what follows of that
-read_as_well : {V : Type 0} (file : FileKind) (A B : List ℕ → V → Type 0) (held : Option (List ℕ)) (value : V) → ((bytes : List ℕ) → A bytes value → B bytes value) → IsRead file A held value → IsRead file B held value
+pub read_as_well : {V : Type 0} (file : FileKind) (A B : List ℕ → V → Type 0) (held : Option (List ℕ)) (value : V) → ((bytes : List ℕ) → A bytes value → B bytes value) → IsRead file A held value → IsRead file B held value
 read_as_well file A B held value follows read = record { bytes = read.bytes; held_is = read.held_is; within = read.within; says = follows read.bytes read.says }
 
 -- what is answered after a chip and limits was answered for those that were read
-after_both : (files : Files) (soc limits text : List ℕ) (next : SocValue → LimitsValue → Procedure) → Answers (with_both soc limits next) files Done text →
+pub after_both : (files : Files) (soc limits text : List ℕ) (next : SocValue → LimitsValue → Procedure) → Answers (with_both soc limits next) files Done text →
     (chip : SocValue) × (bounds : LimitsValue) × IsRead Soc SaysChip (get files soc) chip × IsRead Limits (SaysLimits chip) (get files limits) bounds × Answers (next chip bounds) files Done text
 after_both files soc limits text next answer =
     let a = stage_done Soc SaysChip RefusesChip (λ chip. Answers (with_limits chip limits (next chip)) files) (get files soc) text answer in
@@ -114,6 +114,7 @@ some_one a b same = cc
 trusted : Laws → (files : Files) (command : CommandValue) (over : PlanUse) (text : List ℕ) (old new : Option (List ℕ)) → plan_use command ≡ Some over → IsAnswer (Some command) files Done text → Appended old text new → IsTrustworthy files over old new
 trusted laws files (Print soc) over text old new is answer put = absurd cc
 trusted laws files (Widths soc wires) over text old new is answer put = absurd cc
+trusted laws files (TreeBound soc limits tree) over text old new is answer put = absurd cc
 trusted laws files (MakePlan soc limits) over text old new is answer put = subst (λ u. IsTrustworthy files u old new) (some_one _ _ is) (printed laws files soc limits text old new answer put)
 trusted laws files (Check soc limits plan) over text old new is answer put =
     subst (λ u. IsTrustworthy files u old new) (some_one _ _ is)

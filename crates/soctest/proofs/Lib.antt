@@ -6,4 +6,5 @@ pub mod LineFacts
 pub mod Refusals
 mod Rows
 pub mod Settled
+pub mod TreeFiles
 pub mod WidthLines

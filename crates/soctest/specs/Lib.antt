@@ -5,4 +5,8 @@ pub mod Ends
 pub mod Procedures
 pub mod Readings
 pub mod Texts
+pub mod TreeBounds
+pub mod TreeDecides
+pub mod TreeReadings
+pub mod TreeTexts
 pub mod WidthsText

@@ -8,6 +8,8 @@ mod deciding;
 mod lines;
 mod loading;
 mod top;
+mod tree_lines;
+mod trees;
 mod widths;
 mod words;
 
@@ -43,6 +45,7 @@ pub enum FileKind {
     Soc,
     Limits,
     Plan,
+    Tree,
 }
 
 /// A command, with the names of its files.
@@ -80,6 +83,12 @@ pub enum Command<'a> {
         limits: &'a str,
         plan: &'a str,
         seed: u64,
+    },
+    /// The bound of a width tree that is accepted, in cycles.
+    Tree {
+        soc: &'a str,
+        limits: &'a str,
+        tree: &'a str,
     },
 }
 
