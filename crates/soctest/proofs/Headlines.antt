@@ -27,6 +27,7 @@ use Rattle.tester_vectors.specs.VectorText.{vector_text}
 use Rattle.soctest.specs.Commands.{CommandValue, Print, Widths, MakePlan, Check, Chart, Vectors, Sample}
 use Rattle.sample_maker.specs.Samples.{made_chip}
 use Rattle.soctest.specs.Samples.{sample_limits, sample_text}
+use Rattle.soctest.specs.Commands.{CommandValue, Print, Widths, MakePlan, Check, Chart, Vectors, TreeBound}
 use Rattle.soctest.specs.Texts.{too_long_line, bad_words_line, accepted_line}
 use Rattle.soctest.specs.Readings.{most_of, IsRead, RefusesChip, SaysLimits, RefusesLimits, SaysAccepted, RefusesPlan}
 use Rattle.soctest.specs.Procedures.{Procedure, Unless, with_limits, with_accepted, with_both, with_all, done_with, done_with_plan, done_with_sample, run_refusal, sample_refusal}
@@ -34,7 +35,7 @@ use Rattle.soctest.specs.Answers.{Stage, Answers, IsAnswer}
 use Rattle.soctest.specs.Ends.{MayAnswer, Ends, IsChipIn, AreLimitsIn, IsPlanIn, IsMade, IsTrustworthy, Trusts, Headline}
 
 -- a stage that ends with Done has read its file
-stage_done : {V : Type 0} (file : FileKind) (Says : List ℕ → V → Type 0) (Refuses : List ℕ → List ℕ → Type 0) (Next : V → Status → List ℕ → Type 0) (held : Option (List ℕ)) (text : List ℕ) → Stage file Says Refuses Next held Done text → (v : V) × IsRead file Says held v × Next v Done text
+pub stage_done : {V : Type 0} (file : FileKind) (Says : List ℕ → V → Type 0) (Refuses : List ℕ → List ℕ → Type 0) (Next : V → Status → List ℕ → Type 0) (held : Option (List ℕ)) (text : List ℕ) → Stage file Says Refuses Next held Done text → (v : V) × IsRead file Says held v × Next v Done text
 stage_done file Says Refuses Next None text stage = absurd stage
 stage_done {V} file Says Refuses Next (Some bytes) text stage = go (nat_lt (most_of file) (length bytes)) refl stage where
   go : (long : Bool) → nat_lt (most_of file) (length bytes) ≡ long → MatchBool long ((Done ≡ TooLong) × (text ≡ too_long_line file)) (((v : V) × Says bytes v × Next v Done text) ⊎ ((Done ≡ Refused) × Refuses bytes text)) → (v : V) × IsRead file Says (Some bytes) v × Next v Done text
@@ -48,11 +49,11 @@ pub record Laws : Type 0 where
   pub bound : (soc : SocValue) (limits : LimitsValue) (bound : BoundValue) → 1 ≤ limits.wires → IsAccepted soc limits bound → IsBound soc limits bound.cycles
 
 -- a file whose bytes say a value says what follows of that
-read_as_well : {V : Type 0} (file : FileKind) (A B : List ℕ → V → Type 0) (held : Option (List ℕ)) (value : V) → ((bytes : List ℕ) → A bytes value → B bytes value) → IsRead file A held value → IsRead file B held value
+pub read_as_well : {V : Type 0} (file : FileKind) (A B : List ℕ → V → Type 0) (held : Option (List ℕ)) (value : V) → ((bytes : List ℕ) → A bytes value → B bytes value) → IsRead file A held value → IsRead file B held value
 read_as_well file A B held value follows read = record { bytes = read.bytes; held_is = read.held_is; within = read.within; says = follows read.bytes read.says }
 
 -- what is answered after a chip and limits was answered for those that were read
-after_both : (files : Files) (soc limits text : List ℕ) (next : SocValue → LimitsValue → Procedure) → Answers (with_both soc limits next) files Done text →
+pub after_both : (files : Files) (soc limits text : List ℕ) (next : SocValue → LimitsValue → Procedure) → Answers (with_both soc limits next) files Done text →
     (chip : SocValue) × (bounds : LimitsValue) × IsRead Soc SaysChip (get files soc) chip × IsRead Limits (SaysLimits chip) (get files limits) bounds × Answers (next chip bounds) files Done text
 after_both files soc limits text next answer =
     let a = stage_done Soc SaysChip RefusesChip (λ chip. Answers (with_limits chip limits (next chip)) files) (get files soc) text answer in
@@ -132,6 +133,22 @@ trusted laws files (Vectors soc limits plan seed) text old new answer put =
     accepted laws files soc limits plan (λ chip value t. t ≡ vector_text chip value (made_content chip seed)) (λ chip bounds value. Unless (run_refusal value) (done_with (vector_text chip value (made_content chip seed))))
     (λ chip bounds value text a. (not_refused files (run_refusal value) (done_with (vector_text chip value (made_content chip seed))) text a).1) text old new answer put
 trusted laws files (Sample n seed) text old new answer put = sampled laws files n seed text old new (not_refused files (sample_refusal n) (done_with_sample n seed) text answer) put
+-- each command over a plan
+trusted : Laws → (files : Files) (command : CommandValue) (over : PlanUse) (text : List ℕ) (old new : Option (List ℕ)) → plan_use command ≡ Some over → IsAnswer (Some command) files Done text → Appended old text new → IsTrustworthy files over old new
+trusted laws files (Print soc) over text old new is answer put = absurd cc
+trusted laws files (Widths soc wires) over text old new is answer put = absurd cc
+trusted laws files (TreeBound soc limits tree) over text old new is answer put = absurd cc
+trusted laws files (MakePlan soc limits) over text old new is answer put = subst (λ u. IsTrustworthy files u old new) (some_one _ _ is) (printed laws files soc limits text old new answer put)
+trusted laws files (Check soc limits plan) over text old new is answer put =
+    subst (λ u. IsTrustworthy files u old new) (some_one _ _ is)
+    (accepted laws files soc limits plan (λ chip value. accepted_line value) (λ chip bounds value. done_with (accepted_line value)) (λ chip bounds value text a. a.1) text old new answer put)
+trusted laws files (Chart soc limits plan) over text old new is answer put =
+    subst (λ u. IsTrustworthy files u old new) (some_one _ _ is)
+    (accepted laws files soc limits plan chart_text (λ chip bounds value. done_with (chart_text chip value)) (λ chip bounds value text a. a.1) text old new answer put)
+trusted laws files (Vectors soc limits plan seed) over text old new is answer put =
+    subst (λ u. IsTrustworthy files u old new) (some_one _ _ is)
+    (accepted laws files soc limits plan (λ chip value. vector_text chip value (made_content chip seed)) (λ chip bounds value. Unless (run_refusal value) (done_with (vector_text chip value (made_content chip seed))))
+    (λ chip bounds value text a. not_refused files (run_refusal value) (vector_text chip value (made_content chip seed)) text a) text old new answer put)
 
 pub headline : Laws → (command : Option CommandValue) (held : Option Files) (sb sa kb ka : ℕ) (old new : Option (List ℕ)) (end : Status) → Ends (MayAnswer command held sb sa) kb ka old end new → Headline command held old end new
 headline laws command held sb sa kb ka old new end ends files given is names done =

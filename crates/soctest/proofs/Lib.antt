@@ -8,4 +8,5 @@ mod MadeLimits
 pub mod Refusals
 mod Rows
 pub mod Settled
+pub mod TreeFiles
 pub mod WidthLines

@@ -16,6 +16,7 @@ pub data CommandValue : Type 0 where
   Chart : (soc limits plan : List ℕ) → CommandValue
   Vectors : (soc limits plan : List ℕ) → (seed : ℕ) → CommandValue
   Sample : (n seed : ℕ) → CommandValue
+  TreeBound : (soc limits tree : List ℕ) → CommandValue
 
 abbrev pub command_value : Command → CommandValue
 command_value (command.Print soc) = Print soc.now
@@ -35,6 +36,17 @@ IsInRange (command.Check soc limits plan) = Unit {0}
 IsInRange (command.Chart soc limits plan) = Unit {0}
 IsInRange (command.Vectors soc limits plan seed) = Unit {0}
 IsInRange (command.Sample n seed) = (n ≤ NUMBER_WORD_MOST) × (seed ≤ NUMBER_WORD_MOST)
+command_value (command.Tree soc limits tree) = TreeBound soc.now limits.now tree.now
+
+-- the number of wires of a command is from 1 to the most
+abbrev pub HasWires : Command → Type 0
+HasWires (command.Print soc) = Unit {0}
+HasWires (command.Widths soc wires) = (1 ≤ wires) × (wires ≤ WIRES_MOST)
+HasWires (command.Plan soc limits) = Unit {0}
+HasWires (command.Check soc limits plan) = Unit {0}
+HasWires (command.Chart soc limits plan) = Unit {0}
+HasWires (command.Vectors soc limits plan seed) = Unit {0}
+HasWires (command.Tree soc limits tree) = Unit {0}
 
 -- `widths` with a number of wires, where it is from 1 to the most
 abbrev pub widths_of : (soc : List ℕ) → Option ℕ → Option CommandValue
@@ -55,6 +67,9 @@ sample_of (Some n) (Some seed) = Some (Sample n seed)
 -- `print SOC`, `widths SOC WIRES`, `plan SOC LIMITS`, `check SOC LIMITS PLAN`, `chart SOC LIMITS PLAN`,
 -- `vectors SOC LIMITS PLAN SEED` and `sample N SEED`; no other words are a command
 unfoldable pub command_of : List (List ℕ) → Option CommandValue
+-- `print SOC`, `widths SOC WIRES`, `plan SOC LIMITS`, `check SOC LIMITS PLAN`, `chart SOC LIMITS PLAN`, `tree SOC LIMITS TREE`
+-- and `vectors SOC LIMITS PLAN SEED`; no other words are a command
+abbrev pub command_of : List (List ℕ) → Option CommandValue
 command_of (word ∷ soc ∷ []) = if pointwise nat_eq word (codes "print") then Some (Print soc) else None
 command_of (word ∷ soc ∷ last ∷ []) =
     if pointwise nat_eq word (codes "widths") then widths_of soc (number_of last WIRES_MOST)
@@ -64,6 +79,7 @@ command_of (word ∷ soc ∷ last ∷ []) =
 command_of (word ∷ soc ∷ limits ∷ plan ∷ []) =
     if pointwise nat_eq word (codes "check") then Some (Check soc limits plan)
     else if pointwise nat_eq word (codes "chart") then Some (Chart soc limits plan)
+    else if pointwise nat_eq word (codes "tree") then Some (TreeBound soc limits plan)
     else None
 command_of (word ∷ soc ∷ limits ∷ plan ∷ seed ∷ []) = if pointwise nat_eq word (codes "vectors") then vectors_of soc limits plan (number_of seed NUMBER_WORD_MOST) else None
 command_of _ = None

@@ -13,6 +13,7 @@ use Rattle.soctest.specs.declared.FileKind.TheVariants.{Soc, Limits, Plan}
 use Rattle.soctest.specs.declared.Status.{Status}
 use Rattle.soctest.specs.declared.Status.TheVariants.{Done, Refused, BadWords, ReadFault, TooLong, WriteFault, NoMemory}
 use Rattle.soctest.specs.Commands.{CommandValue, Print, Widths, MakePlan, Check, Chart, Vectors, Sample}
+use Rattle.soctest.specs.Commands.{CommandValue, Print, Widths, MakePlan, Check, Chart, Vectors, TreeBound}
 use Rattle.plan_text.specs.Answers.{SaysPlan}
 use Rattle.plan_text.specs.PlanLines.{plan_text}
 use Rattle.chart.specs.ChartText.{chart_text}
@@ -71,6 +72,7 @@ fixes_text (Some (Check soc limits plan)) = true
 fixes_text (Some (Chart soc limits plan)) = true
 fixes_text (Some (Vectors soc limits plan seed)) = true
 fixes_text (Some (Sample n seed)) = false
+fixes_text (Some (TreeBound soc limits tree)) = true
 
 -- Where neither count of faults rose and the files give an answer, the call ends with its status, or for want of memory;
 -- where the text is fixed, that is written.
@@ -99,6 +101,15 @@ Finishes (Some command) held shelf_failed sink_failed end =
 -- a file's chip, limits for a chip, and a plan
 abbrev pub IsChipIn : Files → (soc : List ℕ) → SocValue → Type 0
 IsChipIn files soc chip = IsRead Soc SaysChip (get files soc) chip
+-- the commands over a plan that is printed or accepted
+abbrev pub plan_use : CommandValue → Option PlanUse
+plan_use (Print soc) = None
+plan_use (Widths soc wires) = None
+plan_use (MakePlan soc limits) = Some (record { soc = soc; limits = limits; plan = None; text = λ chip value. plan_text value })
+plan_use (Check soc limits plan) = Some (record { soc = soc; limits = limits; plan = Some plan; text = λ chip value. accepted_line value })
+plan_use (Chart soc limits plan) = Some (record { soc = soc; limits = limits; plan = Some plan; text = λ chip value. chart_text chip value })
+plan_use (Vectors soc limits plan seed) = Some (record { soc = soc; limits = limits; plan = Some plan; text = λ chip value. vector_text chip value (made_content chip seed) })
+plan_use (TreeBound soc limits tree) = None
 
 abbrev pub AreLimitsIn : Files → (limits : List ℕ) → SocValue → LimitsValue → Type 0
 AreLimitsIn files limits chip bounds = IsRead Limits (SaysLimits chip) (get files limits) bounds

@@ -6,4 +6,8 @@ pub mod Procedures
 pub mod Readings
 pub mod Samples
 pub mod Texts
+pub mod TreeBounds
+pub mod TreeDecides
+pub mod TreeReadings
+pub mod TreeTexts
 pub mod WidthsText

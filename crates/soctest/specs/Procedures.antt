@@ -5,12 +5,13 @@ use Rattle.plan_model.specs.Plans.{LimitsValue, PlanValue}
 use Rattle.soc_reader.specs.ChipForm.{SaysChip}
 use Rattle.soc_printer.specs.SocText.{soc_text}
 use Rattle.soctest.specs.declared.FileKind.{FileKind}
-use Rattle.soctest.specs.declared.FileKind.TheVariants.{Soc, Limits, Plan}
+use Rattle.soctest.specs.declared.FileKind.TheVariants.{Soc, Limits, Plan, Tree}
 use Rattle.soctest.specs.declared.Status.{Status}
 use Rattle.soctest.specs.declared.Status.TheVariants.{Done}
 use Rattle.chart.specs.ChartText.{chart_text}
 use Rattle.planner.specs.Plans.{IsPlanned}
 use Rattle.plan_text.specs.PlanLines.{plan_text}
+use Rattle.width_tree.specs.Trees.{TreeValue}
 use Rattle.bit_machine.specs.Chips.{made_content}
 use Rattle.tester_vectors.specs.declared.TheConstants.{RUN_MOST}
 use Rattle.tester_vectors.specs.VectorText.{wire_cycles, vector_text}
@@ -18,8 +19,11 @@ use Rattle.soctest.specs.Commands.{CommandValue, Print, Widths, MakePlan, Check,
 use Rattle.sample_maker.specs.Samples.{made_chip}
 use Rattle.sample_maker.specs.declared.TheConstants.{SAMPLE_MODULES_MOST}
 use Rattle.soctest.specs.Samples.{sample_limits, sample_line, sample_text}
+use Rattle.soctest.specs.Commands.{CommandValue, Print, Widths, MakePlan, Check, Chart, Vectors, TreeBound}
 use Rattle.soctest.specs.Texts.{accepted_line, run_line}
 use Rattle.soctest.specs.WidthsText.{widths_text}
+use Rattle.soctest.specs.TreeTexts.{bound_line}
+use Rattle.soctest.specs.TreeReadings.{SaysBound, RefusesTree}
 use Rattle.soctest.specs.Readings.{RefusesChip, SaysLimits, RefusesLimits, SaysAccepted, RefusesPlan}
 
 -- A file of a name is read, where its bytes say a value (`Says bytes value`); what is done next is fixed by that value.
@@ -77,6 +81,14 @@ with_both soc limits next = with_chip soc (λ chip. with_limits chip limits (nex
 abbrev pub with_all : (soc limits plan : List ℕ) → (SocValue → LimitsValue → PlanValue → Procedure) → Procedure
 with_all soc limits plan next = with_both soc limits (λ chip bounds. with_accepted chip bounds plan (next chip bounds))
 
+-- a width tree that is accepted for a chip under limits
+abbrev pub with_tree : SocValue → LimitsValue → (tree : List ℕ) → (TreeValue → Procedure) → Procedure
+with_tree chip bounds tree next = Read Tree (SaysBound chip bounds) (RefusesTree chip bounds) tree next
+
+-- its bound is the answer
+abbrev pub with_bound : (tree : List ℕ) → SocValue → LimitsValue → Procedure
+with_bound tree chip bounds = with_tree chip bounds tree (λ value. done_with (bound_line value))
+
 -- ---- the commands
 
 abbrev pub procedure_of : CommandValue → Procedure
@@ -87,3 +99,4 @@ procedure_of (Check soc limits plan) = with_all soc limits plan (λ chip bounds 
 procedure_of (Chart soc limits plan) = with_all soc limits plan (λ chip bounds value. done_with (chart_text chip value))
 procedure_of (Vectors soc limits plan seed) = with_all soc limits plan (λ chip bounds value. Unless (run_refusal value) (done_with (vector_text chip value (made_content chip seed))))
 procedure_of (Sample n seed) = Unless (sample_refusal n) (done_with_sample n seed)
+procedure_of (TreeBound soc limits tree) = with_both soc limits (with_bound tree)

@@ -9,7 +9,7 @@ ghost use Rattle.plan_text.specs.PlanLines.{plan_text};
 ghost use Rattle.schedule_search.specs.Estimates.{CanAsk, IsAtLeastReady, IsAtMostNow};
 ghost use Rattle.planner.specs.Plans.{IsPlanned};
 ghost use Rattle.plan_model.specs.declared.TheConstants.{WIRES_MOST};
-ghost use Rattle.soctest.specs.Commands.{Print, Widths, MakePlan, Check, Chart, Vectors, command_of};
+ghost use Rattle.soctest.specs.Commands.{Print, Widths, MakePlan, Check, Chart, Vectors, TreeBound, command_of};
 ghost use Rattle.plan_model.specs.Rules.{IsGoodAlone};
 ghost use Rattle.bit_machine.specs.Chips.{wires_of, made_content};
 ghost use Rattle.tester_vectors.specs.VectorText.{vector_text as text_of_vectors};
@@ -19,6 +19,8 @@ ghost use Rattle.soctest.specs.Decides.{Follows, Decides, GivesUnless};
 use crate::lines::{accepted_line, run_line};
 use crate::loading::{answered, answered_with, load_all, load_both, load_chip, refused_with};
 use crate::samples::decide_sample;
+use crate::tree_lines::bound_line;
+use crate::trees::load_accepted_tree;
 use crate::widths::widths_text;
 use crate::words::command;
 use crate::{Command, Status, Verdict};
@@ -174,6 +176,27 @@ fn decide_vectors<H: Shelf>(
     }
 }
 
+/// `tree SOC LIMITS TREE`: the bound of a width tree that is accepted.
+fn decide_tree<H: Shelf>(
+    alloc: Global,
+    soc: &str,
+    limits: &str,
+    tree: &str,
+    shelf: &mut H,
+) -> Verdict
+    ensures held_stays { H.held shelf.new ≡ H.held shelf.old }
+    ensures faults_never_fall { H.faults shelf.old ≤ H.faults shelf.new }
+    ensures follows { Follows (procedure_of (TreeBound soc.now limits.now tree.now)) (H.held shelf.old) (H.faults shelf.old) (H.faults shelf.new) result }
+{
+    match load_both(alloc, soc, limits, shelf) {
+        Ok(both) => match load_accepted_tree(alloc, &both.soc, &both.limits, tree, shelf) {
+            Ok(tree) => answered_with(Status::Done, bound_line(alloc, &tree)),
+            Err(verdict) => verdict,
+        },
+        Err(verdict) => verdict,
+    }
+}
+
 /// Decides how the command of these words ends. Words of no command leave the shelf untouched.
 pub fn decide<H: Shelf>(alloc: Global, words: &[String], shelf: &mut H) -> Verdict
     ensures held_stays { H.held shelf.new ≡ H.held shelf.old }
@@ -200,6 +223,9 @@ pub fn decide<H: Shelf>(alloc: Global, words: &[String], shelf: &mut H) -> Verdi
             },
         ) => decide_vectors(alloc, soc, limits, plan, seed, shelf),
         Some(Command::Sample { n, seed }) => decide_sample(alloc, n, seed),
+        Some(Command::Tree { soc, limits, tree }) => {
+            decide_tree(alloc, soc, limits, tree, shelf)
+        }
         None => answered(alloc, Status::BadWords, b"bad words\n"),
     }
 }

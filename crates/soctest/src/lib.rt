@@ -9,6 +9,8 @@ mod lines;
 mod loading;
 mod samples;
 mod top;
+mod tree_lines;
+mod trees;
 mod widths;
 mod words;
 
@@ -44,6 +46,7 @@ pub enum FileKind {
     Soc,
     Limits,
     Plan,
+    Tree,
 }
 
 /// A command, with the names of its files.
@@ -86,6 +89,11 @@ pub enum Command<'a> {
     Sample {
         n: u64,
         seed: u64,
+    /// The bound of a width tree that is accepted, in cycles.
+    Tree {
+        soc: &'a str,
+        limits: &'a str,
+        tree: &'a str,
     },
 }
 

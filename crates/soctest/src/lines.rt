@@ -22,6 +22,7 @@ pub fn unread_line(file: FileKind) -> &'static [u8]
         FileKind::Soc => b"cannot read SOC\n",
         FileKind::Limits => b"cannot read LIMITS\n",
         FileKind::Plan => b"cannot read PLAN\n",
+        FileKind::Tree => b"cannot read TREE\n",
     }
 }
 
@@ -34,6 +35,7 @@ pub fn too_long_line(file: FileKind) -> &'static [u8]
         FileKind::Soc => b"too long SOC\n",
         FileKind::Limits => b"too long LIMITS\n",
         FileKind::Plan => b"too long PLAN\n",
+        FileKind::Tree => b"too long TREE\n",
     }
 }
 
@@ -102,7 +104,7 @@ fn push_wrapper(to: &mut Vec<u8>, module: u64, scan: bool) -> Result<(), NoMemor
     }
 }
 
-fn push_two(to: &mut Vec<u8>, a: u128, b: u128) -> Result<(), NoMemory>
+pub(crate) fn push_two(to: &mut Vec<u8>, a: u128, b: u128) -> Result<(), NoMemory>
     ensures text { OnOk result (to.new.items ≡ to.old.items ++ two_numbers a b) }
     ensures plain { OnOk result (IsTrue (no_feed to.old.items) → IsTrue (no_feed to.new.items)) }
 {

@@ -87,11 +87,12 @@ fn most_of(file: FileKind) -> u64
     match file {
         FileKind::Soc | FileKind::Limits => FILE_MOST,
         FileKind::Plan => PLAN_FILE_MOST,
+        FileKind::Tree => FILE_MOST,
     }
 }
 
 /// Loads the bytes of a file, else how the command ends: the file is too long, it can't be read, or there is no memory.
-fn load_file<H: Shelf>(
+pub(crate) fn load_file<H: Shelf>(
     alloc: Global,
     file: FileKind,
     name: &str,

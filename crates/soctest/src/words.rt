@@ -48,6 +48,11 @@ pub fn command(words: &[String]) -> Option<Command<'_>>
             limits: limits.as_str(),
             plan: plan.as_str(),
         }),
+        [word, soc, limits, tree] if word.as_str() == "tree" => Some(Command::Tree {
+            soc: soc.as_str(),
+            limits: limits.as_str(),
+            tree: tree.as_str(),
+        }),
         [word, soc, limits, plan, seed] if word.as_str() == "vectors" => Some(Command::Vectors {
             soc: soc.as_str(),
             limits: limits.as_str(),

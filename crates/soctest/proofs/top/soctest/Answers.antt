@@ -6,6 +6,7 @@ use Rattle.soctest.specs.Commands.{command_of}
 use Rattle.soctest.proofs.FileStages.{unread_of, answer_of, ends_answered}
 use Rattle.soctest.proofs.Completeness.{complete, finishes}
 use Rattle.soctest.proofs.Headlines.{headline, bad_words}
+use Rattle.soctest.proofs.TreeFiles.{shows_bound}
 use Rattle.soctest.proofs.top.soctest.Goals as goal
 
 pub returns-in-Ok-clause-ends : goal.returns-in-Ok-clause-ends
@@ -60,3 +61,10 @@ pub returns-in-Ok-clause-bad_words : goal.returns-in-Ok-clause-bad_words
 returns-in-Ok-clause-bad_words g c =
     let all = rw c.as_slice.ensures.value at c.in-Ok.ensures.all in
     λ bad. subst (λ t. Appended (g.K.Sink.written c.args.out.now) t (g.K.Sink.written c.put_all.new.out)) (bad_words (command_of (map string_bytes c.args.words.now)) (g.H.Shelf.held c.args.shelf.now) (g.H.Shelf.faults c.args.shelf.now) (g.H.Shelf.faults c.decide.new.shelf) c.in-Answered.status c.in-Answered.text c.in-Answered.ensures.decides bad) all
+    λ bad. subst (λ t. Appended (g.K.Sink.written c.args.out.now) t (g.K.Sink.written c.put_all.new.out)) (bad_words _ _ _ _ c.in-Answered.status c.in-Answered.text c.in-Answered.ensures.decides bad) all
+
+pub returns-in-Ok-clause-bound : goal.returns-in-Ok-clause-bound
+returns-in-Ok-clause-bound g c =
+    let all = rw c.as_slice.ensures.value at c.in-Ok.ensures.all in
+    shows_bound _ _ (g.H.Shelf.faults c.args.shelf.now) (g.H.Shelf.faults c.decide.new.shelf) (g.K.Sink.faults c.args.out.now) (g.K.Sink.faults c.put_all.new.out) _ _ c.in-Answered.status
+    (ends_answered _ _ _ _ _ _ _ _ c.in-Answered.status c.in-Answered.text.items (answer_of _ _ _ _ c.in-Answered.status c.in-Answered.text c.in-Answered.ensures.decides) all)

@@ -1,0 +1,148 @@
+-- A file with a width tree: its verdicts, that the files give one answer of it, and that the bound that is printed is one.
+use Rattle.std.proofs.Common.{◌≡◌, ◌∙◌, ℕ, ◌≤◌, ◌⊎◌, inl, inr, List, Option, None, Some, IfSome, Result, Ok, Err, IfOk, Bool, true, length, refl, sym, subst, ap, arith}
+use Rattle.std.specs.Prelude.{IsTrue}
+use Rattle.std.specs.FinMap.{get}
+use Rattle.std.specs.Global.{Vec}
+use Rattle.outside.specs.declared.NoMemory.{NoMemory as MemoryFault}
+use Rattle.outside.specs.Held.{Files, WhereTold, Appended}
+use Rattle.outside.specs.Words.{words_of}
+use Rattle.outside.specs.Grammars.{last_line}
+use Rattle.soc_model.specs.Chips.{SocValue, soc_value}
+use Rattle.plan_model.specs.Plans.{LimitsValue}
+use Rattle.plan_model.specs.Views.{limits_value}
+use Rattle.plan_model.specs.Rules.{IsBound}
+use Rattle.soc_reader.specs.ChipForm.{SaysChip}
+use Rattle.width_tree.specs.declared.Tree.{Tree as TreeModel}
+use Rattle.width_tree.specs.declared.TreeFault.{TreeFault}
+use Rattle.width_tree.specs.declared.TreeTextFault.{TreeTextFault}
+use Rattle.width_tree.specs.declared.TreeTextFault.TheVariants as tree_fault
+use Rattle.width_tree.specs.Trees.{TreeValue, tree_value}
+use Rattle.width_tree.specs.Answers.{Says, TreeRead}
+use Rattle.width_tree.specs.Bounds.{IsAcceptedTree, IsTreeFault}
+use Rattle.width_tree.proofs.Viable.{one_text}
+use Rattle.width_tree.proofs.Exact.{trees_not_refused, trees_refused_once}
+use Rattle.width_tree.proofs.Faults.{one_fault, no_fault}
+use Rattle.width_tree.proofs.CaseBounds.{accepted_bounds}
+use Rattle.soctest.specs.declared.FileKind.TheVariants.{Soc, Limits, Tree}
+use Rattle.soctest.specs.declared.Status.{Status}
+use Rattle.soctest.specs.declared.Status.TheVariants.{Done, Refused}
+use Rattle.soctest.specs.declared.Verdict.{Verdict}
+use Rattle.soctest.specs.declared.Verdict.TheVariants.{Answered, CannotRead, NoMemory as OutOfMemory}
+use Rattle.soctest.specs.declared.loading.Both.{Both}
+use Rattle.soctest.specs.Texts.{is_line}
+use Rattle.soctest.specs.TreeTexts.{bound_line, tree_line, tree_fault_line}
+use Rattle.soctest.specs.Readings.{most_of, IsRead, SaysLimits}
+use Rattle.soctest.specs.TreeReadings.{SaysBound, RefusesTree}
+use Rattle.soctest.specs.Procedures.{nothing, with_tree, with_bound, with_both, done_with}
+use Rattle.soctest.specs.Answers.{Answers, IsAnswer}
+use Rattle.soctest.specs.Decides.{Follows, GivesText, LoadsBytes, BothRead}
+use Rattle.soctest.specs.TreeDecides.{LoadsTree, RefusesTreeText, AnswersTree}
+use Rattle.soctest.specs.Commands.{CommandValue, TreeBound}
+use Rattle.soctest.specs.Ends.{MayAnswer, Ends}
+use Rattle.soctest.specs.TreeBounds.{IsShownBound, ShowsBound}
+use Rattle.soctest.proofs.FileStages.{without_bytes, refused, read_from, after_file, no_value, done_of}
+use Rattle.soctest.proofs.AllFiles.{not_both, after_both}
+use Rattle.soctest.proofs.Settled.{SaysOne, RefusesOne, IsSettled, done_once}
+use Rattle.soctest.proofs.Headlines.{stage_done, read_as_well, after_both as both_of_done}
+
+-- ---- verdicts
+
+-- bytes that aren't there
+pub tree_unread : (chip : SocValue) (bounds : LimitsValue) (name : List ℕ) (held : Option Files) (before after : ℕ) (verdict : Verdict) (result : Result TreeModel Verdict) → LoadsBytes Tree name held before after (Err verdict) → result ≡ Err verdict → LoadsTree chip bounds name held before after result
+tree_unread chip bounds name held before after verdict result none is = rw is (without_bytes Tree (SaysBound chip bounds) (RefusesTree chip bounds) name held before after verdict none)
+
+-- a text that is refused
+pub tree_refused : (chip : SocValue) (bounds : LimitsValue) (name bytes : List ℕ) (held : Option Files) (before after : ℕ) (fault : TreeTextFault) (verdict : Verdict) →
+    WhereTold held name (λ o. o ≡ Some bytes) → length bytes ≤ most_of Tree → TreeRead bytes (Err fault) → RefusesTreeText fault verdict → Follows (with_tree chip bounds name (λ value. nothing)) held before after verdict
+tree_refused chip bounds name bytes held before after (tree_fault.Text line) verdict told within why d =
+    refused Tree (SaysBound chip bounds) (RefusesTree chip bounds) name (λ value. nothing) held before after bytes (tree_line line) verdict told within (inl (line, why, refl)) d
+tree_refused chip bounds name bytes held before after tree_fault.NoMemory verdict told within why d = rw d tt
+
+-- a tree that is checked: it is accepted, or its fault is the refusal
+pub tree_checked : (chip : SocValue) (bounds : LimitsValue) (name bytes : List ℕ) (held : Option Files) (before after : ℕ) (value : TreeValue) (result : Result TreeModel Verdict) →
+    WhereTold held name (λ o. o ≡ Some bytes) → length bytes ≤ most_of Tree → Says bytes value → AnswersTree chip bounds value result → LoadsTree chip bounds name held before after result
+tree_checked chip bounds name bytes held before after value (Ok tree) told within says d =
+    read_from Tree (SaysBound chip bounds) held name bytes (tree_value tree) told within (subst (SaysBound chip bounds bytes) (sym d.0) (says, d.1))
+tree_checked chip bounds name bytes held before after value (Err verdict) told within says (inl d) =
+    refused Tree (SaysBound chip bounds) (RefusesTree chip bounds) name (λ value. nothing) held before after bytes (tree_fault_line d.0) verdict told within (inr (value, says, (d.0, d.1, refl))) d.2
+tree_checked chip bounds name bytes held before after value (Err verdict) told within says (inr d) = rw d tt
+
+-- the answer to a tree with a fault
+pub faulty_tree : (chip : SocValue) (bounds : LimitsValue) (value : TreeValue) (fault : TreeFault) (made : Result (Vec ℕ) MemoryFault) (verdict : Verdict) → IsTreeFault chip bounds value fault → IfOk made (λ text. text.items ≡ tree_fault_line fault) →
+    IfOk made (λ text. IsTrue (is_line text.items)) → GivesText Refused made verdict → AnswersTree chip bounds value (Err verdict)
+faulty_tree chip bounds value fault (Ok text) (Answered status bytes) is says line d = inl (fault, is, (d.0, d.1 ∙ says, rw d.1 line))
+faulty_tree chip bounds value fault (Ok text) (CannotRead missed) is says line d = absurd d
+faulty_tree chip bounds value fault (Ok text) OutOfMemory is says line d = inr refl
+faulty_tree chip bounds value fault (Err none) verdict is says line d = inr d
+
+-- ---- the command, after a chip and limits
+
+-- a verdict without both
+pub bound_without : (soc limits tree : List ℕ) (held : Option Files) (before after : ℕ) (verdict : Verdict) →
+    Follows (with_both soc limits (λ chip bounds. nothing)) held before after verdict → Follows (with_both soc limits (with_bound tree)) held before after verdict
+bound_without soc limits tree held before after verdict d = not_both soc limits (with_bound tree) held before after verdict d
+
+-- and one without the tree
+pub bound_unread : (soc limits tree : List ℕ) (held : Option Files) (before mid after : ℕ) (both : Both) (verdict : Verdict) → before ≤ mid → IfSome held (λ files. BothRead files soc limits both) →
+    LoadsTree (soc_value both.soc) (limits_value both.limits) tree held mid after (Err verdict) → Follows (with_both soc limits (with_bound tree)) held before after verdict
+bound_unread soc limits tree held before mid after both verdict order read d =
+    after_both soc limits (with_bound tree) held before mid after both verdict order read
+    (no_value Tree (SaysBound (soc_value both.soc) (limits_value both.limits)) (RefusesTree (soc_value both.soc) (limits_value both.limits)) tree (λ value. done_with (bound_line value)) held mid after verdict d)
+
+-- the bound of a tree that was read
+pub bound_read : (soc limits tree : List ℕ) (held : Option Files) (before mid after : ℕ) (both : Both) (value : TreeModel) (made : Result (Vec ℕ) MemoryFault) (verdict : Verdict) → before ≤ mid → mid ≤ after → IfSome held (λ files. BothRead files soc limits both) →
+    LoadsTree (soc_value both.soc) (limits_value both.limits) tree held mid after (Ok value) → IfOk made (λ text. text.items ≡ bound_line (tree_value value)) → GivesText Done made verdict →
+    Follows (with_both soc limits (with_bound tree)) held before after verdict
+bound_read soc limits tree held before mid after both value made verdict order later read tree_read is d =
+    after_both soc limits (with_bound tree) held before mid after both verdict order read
+    (after_file Tree (SaysBound (soc_value both.soc) (limits_value both.limits)) (RefusesTree (soc_value both.soc) (limits_value both.limits)) tree (λ value. done_with (bound_line value)) held mid after after (tree_value value) verdict later tree_read
+    (done_of (bound_line (tree_value value)) made held after after verdict is d))
+
+-- ---- one answer
+
+tree_one : (chip : SocValue) (bounds : LimitsValue) → SaysOne (SaysBound chip bounds)
+tree_one chip bounds bytes v w a b = one_text (words_of bytes) v w a.0 b.0
+
+tree_refused_one : (chip : SocValue) (bounds : LimitsValue) → RefusesOne (SaysBound chip bounds) (RefusesTree chip bounds)
+tree_refused_one chip bounds = record { one = lines; none = no_tree } where
+  same_fault : (bytes : List ℕ) (v w : TreeValue) (f g : TreeFault) → Says bytes v → Says bytes w → IsTreeFault chip bounds v f → IsTreeFault chip bounds w g → f ≡ g
+  same_fault bytes v w f g a b is_f is_g = one_fault chip bounds w f g (subst (λ x. IsTreeFault chip bounds x f) (one_text (words_of bytes) v w a b) is_f) is_g
+
+  lines : (bytes t t' : List ℕ) → RefusesTree chip bounds bytes t → RefusesTree chip bounds bytes t' → t ≡ t'
+  lines bytes t t' (inl a) (inl b) = a.2 ∙ ap tree_line (trees_refused_once (words_of bytes) (last_line bytes) a.0 b.0 a.1 b.1) ∙ sym b.2
+  lines bytes t t' (inl a) (inr b) = absurd (trees_not_refused (words_of bytes) (last_line bytes) a.0 (b.0, b.1) a.1)
+  lines bytes t t' (inr a) (inl b) = absurd (trees_not_refused (words_of bytes) (last_line bytes) b.0 (a.0, a.1) b.1)
+  lines bytes t t' (inr a) (inr b) = a.2.2 ∙ ap tree_fault_line (same_fault bytes a.0 b.0 a.2.0 b.2.0 a.1 b.1 a.2.1 b.2.1) ∙ sym b.2.2
+
+  no_tree : (bytes t : List ℕ) (v : TreeValue) → RefusesTree chip bounds bytes t → SaysBound chip bounds bytes v → ⊥
+  no_tree bytes t v (inl a) says = trees_not_refused (words_of bytes) (last_line bytes) a.0 (v, says.0) a.1
+  no_tree bytes t v (inr a) says = no_fault chip bounds a.0 a.2.0 (subst (IsAcceptedTree chip bounds) (one_text (words_of bytes) v a.0 says.0 a.1) says.1) a.2.1
+
+pub bound_settled : (tree : List ℕ) (chip : SocValue) (bounds : LimitsValue) → IsSettled true (with_bound tree chip bounds)
+bound_settled tree chip bounds = (tree_one chip bounds, tree_refused_one chip bounds, λ value. done_once true (bound_line value))
+
+-- ---- the bound that is printed
+
+shown : (files : Files) (soc limits tree text : List ℕ) (old new : Option (List ℕ)) → Answers (with_both soc limits (with_bound tree)) files Done text → Appended old text new → IsShownBound files soc limits tree old new
+shown files soc limits tree text old new answer put =
+    let b = both_of_done files soc limits text (with_bound tree) answer in
+    let c = stage_done Tree (SaysBound b.0 b.1) (RefusesTree b.0 b.1) (λ value. Answers (done_with (bound_line value)) files) (get files tree) text b.4 in
+    go b.0 b.1 c.0 b.2 b.3 c.1 c.2.1
+  where
+    go : (chip : SocValue) (bounds : LimitsValue) (value : TreeValue) → IsRead Soc SaysChip (get files soc) chip → IsRead Limits (SaysLimits chip) (get files limits) bounds → IsRead Tree (SaysBound chip bounds) (get files tree) value → text ≡ bound_line value → IsShownBound files soc limits tree old new
+    go chip bounds value a b c is = record {
+      chip = chip;
+      bounds = bounds;
+      value = value;
+      chip_read = a;
+      limits_read = b;
+      tree_read = read_as_well Tree (SaysBound chip bounds) Says (get files tree) value (λ bytes says. says.0) c;
+      bound = accepted_bounds chip bounds value b.says.sound.some_wire c.says.1;
+      written = subst (λ t. Appended old t new) is put;
+    }
+
+pub shows_bound : (command : Option CommandValue) (held : Option Files) (sb sa kb ka : ℕ) (old new : Option (List ℕ)) (end : Status) → Ends (MayAnswer command held sb sa) kb ka old end new → ShowsBound command held old end new
+shows_bound command held sb sa kb ka old new end ends files soc limits tree is names done =
+    let ends' = rw done at ends in
+    let answer = rw (is, names) at ends'.1 in
+    shown files soc limits tree ends'.0 old new answer ends'.2

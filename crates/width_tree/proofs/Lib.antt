@@ -1,0 +1,14 @@
+pub mod OneTree
+pub mod Sound
+pub mod Complete
+pub mod Viable
+pub mod Progress
+pub mod EachText
+pub mod Exact
+pub mod CaseFacts
+pub mod CaseBounds
+pub mod Faults
+pub mod TableFacts
+pub mod BusLists
+pub mod WidthFacts
+pub mod Turns

@@ -1,0 +1,10 @@
+use Rattle.std.proofs.Common.{arith}
+use Rattle.soc_model.specs.Chips.{soc_value}
+use Rattle.width_tree.proofs.TableFacts.{bound_splits}
+use Rattle.width_tree.proofs.tables.own_time.Goals as goal
+
+pub overflow_sub-result : goal.overflow_sub-result
+overflow_sub-result c = omega (arith, c.module_bound.ensures.sum, c.lower_tam_time.ensures.sum, bound_splits (soc_value c.args.soc.now) c.args.wires c.args.place)
+
+pub returns-clause-time : goal.returns-clause-time
+returns-clause-time c = omega (arith, c.module_bound.ensures.sum, c.lower_tam_time.ensures.sum, bound_splits (soc_value c.args.soc.now) c.args.wires c.args.place)

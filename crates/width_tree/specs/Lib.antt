@@ -1,0 +1,12 @@
+pub mod Trees
+pub mod Cases
+pub mod Bounds
+pub mod Tokens
+pub mod TreeText
+pub mod Steps
+pub mod Reads
+pub mod Answers
+pub mod Laws
+pub mod Tables
+pub mod Findings
+pub mod Walks
