@@ -15,4 +15,5 @@ pub mod SumSteps
 pub mod FirstBest
 pub mod WayBack
 pub mod NamedProfiles
+mod NamesPut
 pub mod Neighbours

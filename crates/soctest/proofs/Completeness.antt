@@ -18,14 +18,13 @@ use Rattle.soctest.specs.declared.Status.{Status}
 use Rattle.soctest.specs.declared.Status.TheVariants.{Done, Refused, BadWords, ReadFault, TooLong, WriteFault, NoMemory}
 use Rattle.bit_machine.specs.Chips.{made_content}
 use Rattle.tester_vectors.specs.VectorText.{vector_text}
-use Rattle.soctest.specs.Commands.{CommandValue, Print, Widths, MakePlan, Check, Chart, Vectors, Sample}
-use Rattle.soctest.specs.Commands.{CommandValue, Print, Widths, MakePlan, Check, Chart, Vectors, TreeBound}
+use Rattle.soctest.specs.Commands.{CommandValue, Print, Widths, MakePlan, Check, Chart, Vectors, Sample, TreeBound}
 use Rattle.soctest.specs.Texts.{chip_line, chip_limit_line, plan_line, fault_line, accepted_line}
 use Rattle.soc_printer.specs.SocText.{soc_text}
 use Rattle.soctest.specs.WidthsText.{widths_text}
 use Rattle.soctest.specs.Readings.{RefusesChip, SaysLimits, refusal_of, RefusesLimits, SaysAccepted, RefusesPlan}
 use Rattle.chart.specs.ChartText.{chart_text}
-use Rattle.soctest.specs.Procedures.{Procedure, Unless, run_refusal, procedure_of, with_both, with_accepted, with_all, done_with, done_with_plan}
+use Rattle.soctest.specs.Procedures.{Procedure, Unless, run_refusal, procedure_of, with_both, with_accepted, with_all, with_bound, done_with, done_with_plan}
 use Rattle.planner.specs.Plans.{IsPlanned}
 use Rattle.plan_text.specs.PlanLines.{plan_text}
 use Rattle.sample_maker.specs.Samples.{made_chip}
@@ -33,13 +32,8 @@ use Rattle.soctest.specs.Samples.{sample_limits, sample_text}
 use Rattle.soctest.specs.Answers.{IsAnswer}
 use Rattle.soctest.specs.Decides.{IsUnread, IsUnreadOf}
 use Rattle.soctest.specs.Ends.{MayAnswer, Ends, fixes_text, EndsAsWanted, Complete, AreTaken, Finishes}
-use Rattle.soctest.proofs.Settled.{AreOne, SaysOne, RefusesOne, IsSettled, one_answer, no_answer, only_done, none_unread, done_once, left_open}
-use Rattle.soctest.specs.Procedures.{Procedure, Unless, run_refusal, procedure_of, with_both, with_accepted, with_all, with_bound, done_with, done_with_plan}
-use Rattle.soctest.specs.Answers.{IsAnswer}
-use Rattle.soctest.specs.Decides.{IsUnread, IsUnreadOf}
-use Rattle.soctest.specs.Ends.{MayAnswer, Ends, fixes_text, EndsAsWanted, Complete, AreTaken, Finishes}
-use Rattle.soctest.proofs.Settled.{AreOne, SaysOne, RefusesOne, IsSettled, one_answer, no_answer, only_done, none_unread, done_once, plan_once}
 use Rattle.soctest.proofs.TreeFiles.{bound_settled}
+use Rattle.soctest.proofs.Settled.{AreOne, SaysOne, RefusesOne, IsSettled, one_answer, no_answer, only_done, none_unread, done_once, left_open}
 
 -- the laws that completeness rests on
 pub record Laws : Type 0 where
@@ -126,8 +120,8 @@ settled laws (MakePlan soc limits) = settled_both laws false soc limits done_wit
 settled laws (Check soc limits plan) = settled_all laws soc limits plan (λ chip bounds value. done_with (accepted_line value)) (λ chip bounds value. done_once true (accepted_line value))
 settled laws (Chart soc limits plan) = settled_all laws soc limits plan (λ chip bounds value. done_with (chart_text chip value)) (λ chip bounds value. done_once true (chart_text chip value))
 settled laws (Vectors soc limits plan seed) = settled_all laws soc limits plan (λ chip bounds value. Unless (run_refusal value) (done_with (vector_text chip value (made_content chip seed)))) (λ chip bounds value. done_once true (vector_text chip value (made_content chip seed)))
-settled laws (Sample n seed) = left_open (λ text. (value : PlanValue) × IsPlanned (made_chip n seed) sample_limits value × (text ≡ sample_text n seed (made_chip n seed) value))
 settled laws (TreeBound soc limits tree) = settled_both laws true soc limits (with_bound tree) (bound_settled tree)
+settled laws (Sample n seed) = left_open (λ text. (value : PlanValue) × IsPlanned (made_chip n seed) sample_limits value × (text ≡ sample_text n seed (made_chip n seed) value))
 
 one : Laws → (command : Option CommandValue) (files : Files) (s : Status) (t : List ℕ) (s' : Status) (t' : List ℕ) → IsAnswer command files s t → IsAnswer command files s' t' → AreOne (fixes_text command) s t s' t'
 one laws None files s t s' t' a b = (a.0 ∙ sym b.0, λ fixed. a.1 ∙ sym b.1)

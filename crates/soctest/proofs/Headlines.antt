@@ -24,10 +24,9 @@ use Rattle.plan_text.specs.PlanLines.{plan_text}
 use Rattle.chart.specs.ChartText.{chart_text}
 use Rattle.bit_machine.specs.Chips.{made_content}
 use Rattle.tester_vectors.specs.VectorText.{vector_text}
-use Rattle.soctest.specs.Commands.{CommandValue, Print, Widths, MakePlan, Check, Chart, Vectors, Sample}
+use Rattle.soctest.specs.Commands.{CommandValue, Print, Widths, MakePlan, Check, Chart, Vectors, Sample, TreeBound}
 use Rattle.sample_maker.specs.Samples.{made_chip}
 use Rattle.soctest.specs.Samples.{sample_limits, sample_text}
-use Rattle.soctest.specs.Commands.{CommandValue, Print, Widths, MakePlan, Check, Chart, Vectors, TreeBound}
 use Rattle.soctest.specs.Texts.{too_long_line, bad_words_line, accepted_line}
 use Rattle.soctest.specs.Readings.{most_of, IsRead, RefusesChip, SaysLimits, RefusesLimits, SaysAccepted, RefusesPlan}
 use Rattle.soctest.specs.Procedures.{Procedure, Unless, with_limits, with_accepted, with_both, with_all, done_with, done_with_plan, done_with_sample, run_refusal, sample_refusal}
@@ -133,22 +132,7 @@ trusted laws files (Vectors soc limits plan seed) text old new answer put =
     accepted laws files soc limits plan (λ chip value t. t ≡ vector_text chip value (made_content chip seed)) (λ chip bounds value. Unless (run_refusal value) (done_with (vector_text chip value (made_content chip seed))))
     (λ chip bounds value text a. (not_refused files (run_refusal value) (done_with (vector_text chip value (made_content chip seed))) text a).1) text old new answer put
 trusted laws files (Sample n seed) text old new answer put = sampled laws files n seed text old new (not_refused files (sample_refusal n) (done_with_sample n seed) text answer) put
--- each command over a plan
-trusted : Laws → (files : Files) (command : CommandValue) (over : PlanUse) (text : List ℕ) (old new : Option (List ℕ)) → plan_use command ≡ Some over → IsAnswer (Some command) files Done text → Appended old text new → IsTrustworthy files over old new
-trusted laws files (Print soc) over text old new is answer put = absurd cc
-trusted laws files (Widths soc wires) over text old new is answer put = absurd cc
-trusted laws files (TreeBound soc limits tree) over text old new is answer put = absurd cc
-trusted laws files (MakePlan soc limits) over text old new is answer put = subst (λ u. IsTrustworthy files u old new) (some_one _ _ is) (printed laws files soc limits text old new answer put)
-trusted laws files (Check soc limits plan) over text old new is answer put =
-    subst (λ u. IsTrustworthy files u old new) (some_one _ _ is)
-    (accepted laws files soc limits plan (λ chip value. accepted_line value) (λ chip bounds value. done_with (accepted_line value)) (λ chip bounds value text a. a.1) text old new answer put)
-trusted laws files (Chart soc limits plan) over text old new is answer put =
-    subst (λ u. IsTrustworthy files u old new) (some_one _ _ is)
-    (accepted laws files soc limits plan chart_text (λ chip bounds value. done_with (chart_text chip value)) (λ chip bounds value text a. a.1) text old new answer put)
-trusted laws files (Vectors soc limits plan seed) over text old new is answer put =
-    subst (λ u. IsTrustworthy files u old new) (some_one _ _ is)
-    (accepted laws files soc limits plan (λ chip value. vector_text chip value (made_content chip seed)) (λ chip bounds value. Unless (run_refusal value) (done_with (vector_text chip value (made_content chip seed))))
-    (λ chip bounds value text a. not_refused files (run_refusal value) (vector_text chip value (made_content chip seed)) text a) text old new answer put)
+trusted laws files (TreeBound soc limits tree) text old new answer put = tt
 
 pub headline : Laws → (command : Option CommandValue) (held : Option Files) (sb sa kb ka : ℕ) (old new : Option (List ℕ)) (end : Status) → Ends (MayAnswer command held sb sa) kb ka old end new → Headline command held old end new
 headline laws command held sb sa kb ka old new end ends files given is names done =

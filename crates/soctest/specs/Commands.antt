@@ -16,7 +16,10 @@ pub data CommandValue : Type 0 where
   Chart : (soc limits plan : List ℕ) → CommandValue
   Vectors : (soc limits plan : List ℕ) → (seed : ℕ) → CommandValue
   Sample : (n seed : ℕ) → CommandValue
+  Locate : (soc limits plan log : List ℕ) → CommandValue
   TreeBound : (soc limits tree : List ℕ) → CommandValue
+  SplitTests : (soc limits : List ℕ) → (most : ℕ) → CommandValue
+  Shift : (soc limits plan program : List ℕ) → CommandValue
 
 abbrev pub command_value : Command → CommandValue
 command_value (command.Print soc) = Print soc.now
@@ -26,6 +29,10 @@ command_value (command.Check soc limits plan) = Check soc.now limits.now plan.no
 command_value (command.Chart soc limits plan) = Chart soc.now limits.now plan.now
 command_value (command.Vectors soc limits plan seed) = Vectors soc.now limits.now plan.now seed
 command_value (command.Sample n seed) = Sample n seed
+command_value (command.Locate soc limits plan log) = Locate soc.now limits.now plan.now log.now
+command_value (command.Tree soc limits tree) = TreeBound soc.now limits.now tree.now
+command_value (command.Split soc limits most) = SplitTests soc.now limits.now most
+command_value (command.Shift soc limits plan program) = Shift soc.now limits.now plan.now program.now
 
 -- the numbers of a command are in their ranges
 abbrev pub IsInRange : Command → Type 0
@@ -36,17 +43,10 @@ IsInRange (command.Check soc limits plan) = Unit {0}
 IsInRange (command.Chart soc limits plan) = Unit {0}
 IsInRange (command.Vectors soc limits plan seed) = Unit {0}
 IsInRange (command.Sample n seed) = (n ≤ NUMBER_WORD_MOST) × (seed ≤ NUMBER_WORD_MOST)
-command_value (command.Tree soc limits tree) = TreeBound soc.now limits.now tree.now
-
--- the number of wires of a command is from 1 to the most
-abbrev pub HasWires : Command → Type 0
-HasWires (command.Print soc) = Unit {0}
-HasWires (command.Widths soc wires) = (1 ≤ wires) × (wires ≤ WIRES_MOST)
-HasWires (command.Plan soc limits) = Unit {0}
-HasWires (command.Check soc limits plan) = Unit {0}
-HasWires (command.Chart soc limits plan) = Unit {0}
-HasWires (command.Vectors soc limits plan seed) = Unit {0}
-HasWires (command.Tree soc limits tree) = Unit {0}
+IsInRange (command.Locate soc limits plan log) = Unit {0}
+IsInRange (command.Tree soc limits tree) = Unit {0}
+IsInRange (command.Split soc limits most) = 1 ≤ most
+IsInRange (command.Shift soc limits plan program) = Unit {0}
 
 -- `widths` with a number of wires, where it is from 1 to the most
 abbrev pub widths_of : (soc : List ℕ) → Option ℕ → Option CommandValue
@@ -64,22 +64,30 @@ sample_of None seed = None
 sample_of (Some n) None = None
 sample_of (Some n) (Some seed) = Some (Sample n seed)
 
+-- `split` with the patterns of a part, where these are at least 1
+abbrev pub split_of : (soc limits : List ℕ) → Option ℕ → Option CommandValue
+split_of soc limits None = None
+split_of soc limits (Some most) = if nat_le 1 most then Some (SplitTests soc limits most) else None
+
 -- `print SOC`, `widths SOC WIRES`, `plan SOC LIMITS`, `check SOC LIMITS PLAN`, `chart SOC LIMITS PLAN`,
--- `vectors SOC LIMITS PLAN SEED` and `sample N SEED`; no other words are a command
+-- `vectors SOC LIMITS PLAN SEED`, `sample N SEED`, `locate SOC LIMITS PLAN LOG`, `tree SOC LIMITS TREE`, `split SOC LIMITS MOST`
+-- and `shift SOC LIMITS PLAN PROGRAM`; no other words are a command
 unfoldable pub command_of : List (List ℕ) → Option CommandValue
--- `print SOC`, `widths SOC WIRES`, `plan SOC LIMITS`, `check SOC LIMITS PLAN`, `chart SOC LIMITS PLAN`, `tree SOC LIMITS TREE`
--- and `vectors SOC LIMITS PLAN SEED`; no other words are a command
-abbrev pub command_of : List (List ℕ) → Option CommandValue
 command_of (word ∷ soc ∷ []) = if pointwise nat_eq word (codes "print") then Some (Print soc) else None
 command_of (word ∷ soc ∷ last ∷ []) =
     if pointwise nat_eq word (codes "widths") then widths_of soc (number_of last WIRES_MOST)
     else if pointwise nat_eq word (codes "plan") then Some (MakePlan soc last)
     else if pointwise nat_eq word (codes "sample") then sample_of (number_of soc NUMBER_WORD_MOST) (number_of last NUMBER_WORD_MOST)
     else None
-command_of (word ∷ soc ∷ limits ∷ plan ∷ []) =
-    if pointwise nat_eq word (codes "check") then Some (Check soc limits plan)
-    else if pointwise nat_eq word (codes "chart") then Some (Chart soc limits plan)
-    else if pointwise nat_eq word (codes "tree") then Some (TreeBound soc limits plan)
+command_of (word ∷ soc ∷ limits ∷ last ∷ []) =
+    if pointwise nat_eq word (codes "check") then Some (Check soc limits last)
+    else if pointwise nat_eq word (codes "chart") then Some (Chart soc limits last)
+    else if pointwise nat_eq word (codes "tree") then Some (TreeBound soc limits last)
+    else if pointwise nat_eq word (codes "split") then split_of soc limits (number_of last NUMBER_WORD_MOST)
     else None
-command_of (word ∷ soc ∷ limits ∷ plan ∷ seed ∷ []) = if pointwise nat_eq word (codes "vectors") then vectors_of soc limits plan (number_of seed NUMBER_WORD_MOST) else None
+command_of (word ∷ soc ∷ limits ∷ plan ∷ last ∷ []) =
+    if pointwise nat_eq word (codes "vectors") then vectors_of soc limits plan (number_of last NUMBER_WORD_MOST)
+    else if pointwise nat_eq word (codes "locate") then Some (Locate soc limits plan last)
+    else if pointwise nat_eq word (codes "shift") then Some (Shift soc limits plan last)
+    else None
 command_of _ = None

@@ -12,8 +12,7 @@ use Rattle.soctest.specs.declared.FileKind.{FileKind}
 use Rattle.soctest.specs.declared.FileKind.TheVariants.{Soc, Limits, Plan}
 use Rattle.soctest.specs.declared.Status.{Status}
 use Rattle.soctest.specs.declared.Status.TheVariants.{Done, Refused, BadWords, ReadFault, TooLong, WriteFault, NoMemory}
-use Rattle.soctest.specs.Commands.{CommandValue, Print, Widths, MakePlan, Check, Chart, Vectors, Sample}
-use Rattle.soctest.specs.Commands.{CommandValue, Print, Widths, MakePlan, Check, Chart, Vectors, TreeBound}
+use Rattle.soctest.specs.Commands.{CommandValue, Print, Widths, MakePlan, Check, Chart, Vectors, Sample, TreeBound}
 use Rattle.plan_text.specs.Answers.{SaysPlan}
 use Rattle.plan_text.specs.PlanLines.{plan_text}
 use Rattle.chart.specs.ChartText.{chart_text}
@@ -101,15 +100,6 @@ Finishes (Some command) held shelf_failed sink_failed end =
 -- a file's chip, limits for a chip, and a plan
 abbrev pub IsChipIn : Files → (soc : List ℕ) → SocValue → Type 0
 IsChipIn files soc chip = IsRead Soc SaysChip (get files soc) chip
--- the commands over a plan that is printed or accepted
-abbrev pub plan_use : CommandValue → Option PlanUse
-plan_use (Print soc) = None
-plan_use (Widths soc wires) = None
-plan_use (MakePlan soc limits) = Some (record { soc = soc; limits = limits; plan = None; text = λ chip value. plan_text value })
-plan_use (Check soc limits plan) = Some (record { soc = soc; limits = limits; plan = Some plan; text = λ chip value. accepted_line value })
-plan_use (Chart soc limits plan) = Some (record { soc = soc; limits = limits; plan = Some plan; text = λ chip value. chart_text chip value })
-plan_use (Vectors soc limits plan seed) = Some (record { soc = soc; limits = limits; plan = Some plan; text = λ chip value. vector_text chip value (made_content chip seed) })
-plan_use (TreeBound soc limits tree) = None
 
 abbrev pub AreLimitsIn : Files → (limits : List ℕ) → SocValue → LimitsValue → Type 0
 AreLimitsIn files limits chip bounds = IsRead Limits (SaysLimits chip) (get files limits) bounds
@@ -146,6 +136,7 @@ Trusts (Check soc limits plan) files old new = IsTrustworthy (IsChipIn files soc
 Trusts (Chart soc limits plan) files old new = IsTrustworthy (IsChipIn files soc) (AreLimitsIn files limits) (IsPlanIn files plan) (λ chip value text. text ≡ chart_text chip value) old new
 Trusts (Vectors soc limits plan seed) files old new = IsTrustworthy (IsChipIn files soc) (AreLimitsIn files limits) (IsPlanIn files plan) (λ chip value text. text ≡ vector_text chip value (made_content chip seed)) old new
 Trusts (Sample n seed) files old new = IsTrustworthy (λ chip. chip ≡ made_chip n seed) (λ chip bounds. bounds ≡ sample_limits) IsMade (λ chip value text. text ≡ sample_text n seed chip value) old new
+Trusts (TreeBound soc limits tree) files old new = Unit {0}
 
 -- The headline, for each command over a plan, where the shelf tells what it holds.
 abbrev pub Headline : Option CommandValue → Option Files → Option (List ℕ) → Status → Option (List ℕ) → Type 0

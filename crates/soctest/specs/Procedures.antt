@@ -15,11 +15,10 @@ use Rattle.width_tree.specs.Trees.{TreeValue}
 use Rattle.bit_machine.specs.Chips.{made_content}
 use Rattle.tester_vectors.specs.declared.TheConstants.{RUN_MOST}
 use Rattle.tester_vectors.specs.VectorText.{wire_cycles, vector_text}
-use Rattle.soctest.specs.Commands.{CommandValue, Print, Widths, MakePlan, Check, Chart, Vectors, Sample}
+use Rattle.soctest.specs.Commands.{CommandValue, Print, Widths, MakePlan, Check, Chart, Vectors, Sample, TreeBound}
 use Rattle.sample_maker.specs.Samples.{made_chip}
 use Rattle.sample_maker.specs.declared.TheConstants.{SAMPLE_MODULES_MOST}
 use Rattle.soctest.specs.Samples.{sample_limits, sample_line, sample_text}
-use Rattle.soctest.specs.Commands.{CommandValue, Print, Widths, MakePlan, Check, Chart, Vectors, TreeBound}
 use Rattle.soctest.specs.Texts.{accepted_line, run_line}
 use Rattle.soctest.specs.WidthsText.{widths_text}
 use Rattle.soctest.specs.TreeTexts.{bound_line}

@@ -89,6 +89,7 @@ pub enum Command<'a> {
     Sample {
         n: u64,
         seed: u64,
+    },
     /// The bound of a width tree that is accepted, in cycles.
     Tree {
         soc: &'a str,

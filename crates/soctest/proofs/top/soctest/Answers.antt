@@ -29,6 +29,12 @@ returns-in-Ok-clause-headline g c =
     (command_of (map string_bytes c.args.words.now)) (g.H.Shelf.held c.args.shelf.now) (g.H.Shelf.faults c.args.shelf.now) (g.H.Shelf.faults c.decide.new.shelf) (g.K.Sink.faults c.args.out.now) (g.K.Sink.faults c.put_all.new.out) (g.K.Sink.written c.args.out.now) (g.K.Sink.written c.put_all.new.out) c.in-Answered.status
     (ends_answered (command_of (map string_bytes c.args.words.now)) (g.H.Shelf.held c.args.shelf.now) (g.H.Shelf.faults c.args.shelf.now) (g.H.Shelf.faults c.decide.new.shelf) (g.K.Sink.faults c.args.out.now) (g.K.Sink.faults c.put_all.new.out) (g.K.Sink.written c.args.out.now) (g.K.Sink.written c.put_all.new.out) c.in-Answered.status c.in-Answered.text.items (answer_of (command_of (map string_bytes c.args.words.now)) (g.H.Shelf.held c.args.shelf.now) (g.H.Shelf.faults c.args.shelf.now) (g.H.Shelf.faults c.decide.new.shelf) c.in-Answered.status c.in-Answered.text c.in-Answered.ensures.decides) all)
 
+pub returns-in-Ok-clause-bound : goal.returns-in-Ok-clause-bound
+returns-in-Ok-clause-bound g c =
+    let all = rw c.as_slice.ensures.value at c.in-Ok.ensures.all in
+    shows_bound (command_of (map string_bytes c.args.words.now)) (g.H.Shelf.held c.args.shelf.now) (g.H.Shelf.faults c.args.shelf.now) (g.H.Shelf.faults c.decide.new.shelf) (g.K.Sink.faults c.args.out.now) (g.K.Sink.faults c.put_all.new.out) (g.K.Sink.written c.args.out.now) (g.K.Sink.written c.put_all.new.out) c.in-Answered.status
+    (ends_answered (command_of (map string_bytes c.args.words.now)) (g.H.Shelf.held c.args.shelf.now) (g.H.Shelf.faults c.args.shelf.now) (g.H.Shelf.faults c.decide.new.shelf) (g.K.Sink.faults c.args.out.now) (g.K.Sink.faults c.put_all.new.out) (g.K.Sink.written c.args.out.now) (g.K.Sink.written c.put_all.new.out) c.in-Answered.status c.in-Answered.text.items (answer_of (command_of (map string_bytes c.args.words.now)) (g.H.Shelf.held c.args.shelf.now) (g.H.Shelf.faults c.args.shelf.now) (g.H.Shelf.faults c.decide.new.shelf) c.in-Answered.status c.in-Answered.text c.in-Answered.ensures.decides) all)
+
 pub returns-in-CannotRead-clause-ends : goal.returns-in-CannotRead-clause-ends
 returns-in-CannotRead-clause-ends g c =
     (c.in-Err-put_all.ensures.fault, (ReadFault, c.unread_line.result.now, (c.in-CannotRead.file, c.unread_line.ensures.text, unread_of (command_of (map string_bytes c.args.words.now)) (g.H.Shelf.held c.args.shelf.now) (g.H.Shelf.faults c.args.shelf.now) (g.H.Shelf.faults c.decide.new.shelf) c.in-CannotRead.file c.in-CannotRead.ensures.decides), c.in-Err-put_all.ensures.front))
@@ -61,10 +67,3 @@ pub returns-in-Ok-clause-bad_words : goal.returns-in-Ok-clause-bad_words
 returns-in-Ok-clause-bad_words g c =
     let all = rw c.as_slice.ensures.value at c.in-Ok.ensures.all in
     λ bad. subst (λ t. Appended (g.K.Sink.written c.args.out.now) t (g.K.Sink.written c.put_all.new.out)) (bad_words (command_of (map string_bytes c.args.words.now)) (g.H.Shelf.held c.args.shelf.now) (g.H.Shelf.faults c.args.shelf.now) (g.H.Shelf.faults c.decide.new.shelf) c.in-Answered.status c.in-Answered.text c.in-Answered.ensures.decides bad) all
-    λ bad. subst (λ t. Appended (g.K.Sink.written c.args.out.now) t (g.K.Sink.written c.put_all.new.out)) (bad_words _ _ _ _ c.in-Answered.status c.in-Answered.text c.in-Answered.ensures.decides bad) all
-
-pub returns-in-Ok-clause-bound : goal.returns-in-Ok-clause-bound
-returns-in-Ok-clause-bound g c =
-    let all = rw c.as_slice.ensures.value at c.in-Ok.ensures.all in
-    shows_bound _ _ (g.H.Shelf.faults c.args.shelf.now) (g.H.Shelf.faults c.decide.new.shelf) (g.K.Sink.faults c.args.out.now) (g.K.Sink.faults c.put_all.new.out) _ _ c.in-Answered.status
-    (ends_answered _ _ _ _ _ _ _ _ c.in-Answered.status c.in-Answered.text.items (answer_of _ _ _ _ c.in-Answered.status c.in-Answered.text c.in-Answered.ensures.decides) all)
