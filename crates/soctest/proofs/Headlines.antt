@@ -24,7 +24,7 @@ use Rattle.plan_text.specs.PlanLines.{plan_text}
 use Rattle.chart.specs.ChartText.{chart_text}
 use Rattle.bit_machine.specs.Chips.{made_content}
 use Rattle.tester_vectors.specs.VectorText.{vector_text}
-use Rattle.soctest.specs.Commands.{CommandValue, Print, Widths, MakePlan, Check, Chart, Vectors}
+use Rattle.soctest.specs.Commands.{CommandValue, Print, Widths, MakePlan, Check, Chart, Vectors, SplitTests}
 use Rattle.soctest.specs.Texts.{too_long_line, bad_words_line, accepted_line}
 use Rattle.soctest.specs.Readings.{most_of, IsRead, RefusesChip, SaysLimits, RefusesLimits, SaysAccepted, RefusesPlan}
 use Rattle.soctest.specs.Procedures.{Procedure, Unless, with_limits, with_accepted, with_both, with_all, done_with, done_with_plan, run_refusal}
@@ -50,7 +50,7 @@ read_as_well : {V : Type 0} (file : FileKind) (A B : List ℕ → V → Type 0) 
 read_as_well file A B held value follows read = record { bytes = read.bytes; held_is = read.held_is; within = read.within; says = follows read.bytes read.says }
 
 -- what is answered after a chip and limits was answered for those that were read
-after_both : (files : Files) (soc limits text : List ℕ) (next : SocValue → LimitsValue → Procedure) → Answers (with_both soc limits next) files Done text →
+pub after_both : (files : Files) (soc limits text : List ℕ) (next : SocValue → LimitsValue → Procedure) → Answers (with_both soc limits next) files Done text →
     (chip : SocValue) × (bounds : LimitsValue) × IsRead Soc SaysChip (get files soc) chip × IsRead Limits (SaysLimits chip) (get files limits) bounds × Answers (next chip bounds) files Done text
 after_both files soc limits text next answer =
     let a = stage_done Soc SaysChip RefusesChip (λ chip. Answers (with_limits chip limits (next chip)) files) (get files soc) text answer in
@@ -114,6 +114,7 @@ some_one a b same = cc
 trusted : Laws → (files : Files) (command : CommandValue) (over : PlanUse) (text : List ℕ) (old new : Option (List ℕ)) → plan_use command ≡ Some over → IsAnswer (Some command) files Done text → Appended old text new → IsTrustworthy files over old new
 trusted laws files (Print soc) over text old new is answer put = absurd cc
 trusted laws files (Widths soc wires) over text old new is answer put = absurd cc
+trusted laws files (SplitTests soc limits most) over text old new is answer put = absurd cc
 trusted laws files (MakePlan soc limits) over text old new is answer put = subst (λ u. IsTrustworthy files u old new) (some_one _ _ is) (printed laws files soc limits text old new answer put)
 trusted laws files (Check soc limits plan) over text old new is answer put =
     subst (λ u. IsTrustworthy files u old new) (some_one _ _ is)

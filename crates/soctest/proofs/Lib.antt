@@ -7,3 +7,4 @@ pub mod Refusals
 mod Rows
 pub mod Settled
 pub mod WidthLines
+pub mod PartsServed

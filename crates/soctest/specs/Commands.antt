@@ -15,6 +15,7 @@ pub data CommandValue : Type 0 where
   Check : (soc limits plan : List ℕ) → CommandValue
   Chart : (soc limits plan : List ℕ) → CommandValue
   Vectors : (soc limits plan : List ℕ) → (seed : ℕ) → CommandValue
+  SplitTests : (soc limits : List ℕ) → (most : ℕ) → CommandValue
 
 abbrev pub command_value : Command → CommandValue
 command_value (command.Print soc) = Print soc.now
@@ -23,15 +24,17 @@ command_value (command.Plan soc limits) = MakePlan soc.now limits.now
 command_value (command.Check soc limits plan) = Check soc.now limits.now plan.now
 command_value (command.Chart soc limits plan) = Chart soc.now limits.now plan.now
 command_value (command.Vectors soc limits plan seed) = Vectors soc.now limits.now plan.now seed
+command_value (command.Split soc limits most) = SplitTests soc.now limits.now most
 
--- the number of wires of a command is from 1 to the most
-abbrev pub HasWires : Command → Type 0
-HasWires (command.Print soc) = Unit {0}
-HasWires (command.Widths soc wires) = (1 ≤ wires) × (wires ≤ WIRES_MOST)
-HasWires (command.Plan soc limits) = Unit {0}
-HasWires (command.Check soc limits plan) = Unit {0}
-HasWires (command.Chart soc limits plan) = Unit {0}
-HasWires (command.Vectors soc limits plan seed) = Unit {0}
+-- the numbers of a command are in their ranges
+abbrev pub IsInRange : Command → Type 0
+IsInRange (command.Print soc) = Unit {0}
+IsInRange (command.Widths soc wires) = (1 ≤ wires) × (wires ≤ WIRES_MOST)
+IsInRange (command.Plan soc limits) = Unit {0}
+IsInRange (command.Check soc limits plan) = Unit {0}
+IsInRange (command.Chart soc limits plan) = Unit {0}
+IsInRange (command.Vectors soc limits plan seed) = Unit {0}
+IsInRange (command.Split soc limits most) = 1 ≤ most
 
 -- `widths` with a number of wires, where it is from 1 to the most
 abbrev pub widths_of : (soc : List ℕ) → Option ℕ → Option CommandValue
@@ -43,8 +46,13 @@ abbrev pub vectors_of : (soc limits plan : List ℕ) → Option ℕ → Option C
 vectors_of soc limits plan None = None
 vectors_of soc limits plan (Some seed) = Some (Vectors soc limits plan seed)
 
--- `print SOC`, `widths SOC WIRES`, `plan SOC LIMITS`, `check SOC LIMITS PLAN`, `chart SOC LIMITS PLAN` and
--- `vectors SOC LIMITS PLAN SEED`; no other words are a command
+-- `split` with the patterns of a part, where these are at least 1
+abbrev pub split_of : (soc limits : List ℕ) → Option ℕ → Option CommandValue
+split_of soc limits None = None
+split_of soc limits (Some most) = if nat_le 1 most then Some (SplitTests soc limits most) else None
+
+-- `print SOC`, `widths SOC WIRES`, `plan SOC LIMITS`, `check SOC LIMITS PLAN`, `chart SOC LIMITS PLAN`,
+-- `vectors SOC LIMITS PLAN SEED` and `split SOC LIMITS MOST`; no other words are a command
 abbrev pub command_of : List (List ℕ) → Option CommandValue
 command_of (word ∷ soc ∷ []) = if pointwise nat_eq word (codes "print") then Some (Print soc) else None
 command_of (word ∷ soc ∷ last ∷ []) =
@@ -54,6 +62,7 @@ command_of (word ∷ soc ∷ last ∷ []) =
 command_of (word ∷ soc ∷ limits ∷ plan ∷ []) =
     if pointwise nat_eq word (codes "check") then Some (Check soc limits plan)
     else if pointwise nat_eq word (codes "chart") then Some (Chart soc limits plan)
+    else if pointwise nat_eq word (codes "split") then split_of soc limits (number_of plan NUMBER_WORD_MOST)
     else None
 command_of (word ∷ soc ∷ limits ∷ plan ∷ seed ∷ []) = if pointwise nat_eq word (codes "vectors") then vectors_of soc limits plan (number_of seed NUMBER_WORD_MOST) else None
 command_of _ = None

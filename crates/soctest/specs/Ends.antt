@@ -12,7 +12,7 @@ use Rattle.soctest.specs.declared.FileKind.{FileKind}
 use Rattle.soctest.specs.declared.FileKind.TheVariants.{Soc, Limits, Plan}
 use Rattle.soctest.specs.declared.Status.{Status}
 use Rattle.soctest.specs.declared.Status.TheVariants.{Done, Refused, BadWords, ReadFault, TooLong, WriteFault, NoMemory}
-use Rattle.soctest.specs.Commands.{CommandValue, Print, Widths, MakePlan, Check, Chart, Vectors}
+use Rattle.soctest.specs.Commands.{CommandValue, Print, Widths, MakePlan, Check, Chart, Vectors, SplitTests}
 use Rattle.plan_text.specs.Answers.{SaysPlan}
 use Rattle.plan_text.specs.PlanLines.{plan_text}
 use Rattle.chart.specs.ChartText.{chart_text}
@@ -59,7 +59,7 @@ abbrev pub EndsByWords : Option CommandValue → Type 0 → Status → Type 0
 EndsByWords None sink_failed end = (end ≡ BadWords) ⊎ (end ≡ NoMemory) ⊎ ((end ≡ WriteFault) × sink_failed)
 EndsByWords (Some command) sink_failed end = end ≢ BadWords
 
--- the files fix the text of an answer; that of `plan` may be any plan's that the planner may make
+-- the files fix the text of an answer; that of `plan` and of `split` may be of any plan that the planner may make
 abbrev pub fixes_text : Option CommandValue → Bool
 fixes_text None = true
 fixes_text (Some (Print soc)) = true
@@ -68,6 +68,7 @@ fixes_text (Some (MakePlan soc limits)) = false
 fixes_text (Some (Check soc limits plan)) = true
 fixes_text (Some (Chart soc limits plan)) = true
 fixes_text (Some (Vectors soc limits plan seed)) = true
+fixes_text (Some (SplitTests soc limits most)) = false
 
 -- Where neither count of faults rose and the files give an answer, the call ends with its status, or for want of memory;
 -- where the text is fixed, that is written.
@@ -107,6 +108,7 @@ plan_use (MakePlan soc limits) = Some (record { soc = soc; limits = limits; plan
 plan_use (Check soc limits plan) = Some (record { soc = soc; limits = limits; plan = Some plan; text = λ chip value. accepted_line value })
 plan_use (Chart soc limits plan) = Some (record { soc = soc; limits = limits; plan = Some plan; text = λ chip value. chart_text chip value })
 plan_use (Vectors soc limits plan seed) = Some (record { soc = soc; limits = limits; plan = Some plan; text = λ chip value. vector_text chip value (made_content chip seed) })
+plan_use (SplitTests soc limits most) = None
 
 -- What a plan is that is printed or accepted: the chip and the limits that it is for were read from the held files, and so was
 -- the plan where a file is named for it; it runs right for every content and ends in exactly the cycles that it states; no

@@ -6,3 +6,5 @@ pub mod Procedures
 pub mod Readings
 pub mod Texts
 pub mod WidthsText
+pub mod SplitText
+pub mod SplitEnds

@@ -14,7 +14,9 @@ use Rattle.plan_text.specs.PlanLines.{plan_text}
 use Rattle.bit_machine.specs.Chips.{made_content}
 use Rattle.tester_vectors.specs.declared.TheConstants.{RUN_MOST}
 use Rattle.tester_vectors.specs.VectorText.{wire_cycles, vector_text}
-use Rattle.soctest.specs.Commands.{CommandValue, Print, Widths, MakePlan, Check, Chart, Vectors}
+use Rattle.split_plan.specs.Parts.{split_chip, split_limits, split_of}
+use Rattle.soctest.specs.Commands.{CommandValue, Print, Widths, MakePlan, Check, Chart, Vectors, SplitTests}
+use Rattle.soctest.specs.SplitText.{split_text, split_refusal}
 use Rattle.soctest.specs.Texts.{accepted_line, run_line}
 use Rattle.soctest.specs.WidthsText.{widths_text}
 use Rattle.soctest.specs.Readings.{RefusesChip, SaysLimits, RefusesLimits, SaysAccepted, RefusesPlan}
@@ -42,6 +44,10 @@ done_with_plan chip bounds = Answer (λ status text. (status ≡ Done) × ((valu
 -- the line that refuses the vectors of a plan whose run is too long
 abbrev pub run_refusal : PlanValue → Option (List ℕ)
 run_refusal value = if nat_lt RUN_MOST (wire_cycles value) then Some (run_line (wire_cycles value)) else None
+
+-- the answer is the text of the parts of a chip and of any plan that the planner may make for them
+abbrev pub done_with_split : SocValue → LimitsValue → (most : ℕ) → Procedure
+done_with_split chip bounds most = Answer (λ status text. (status ≡ Done) × ((value : PlanValue) × IsPlanned (split_chip bounds most chip) (split_limits bounds most chip) value × (text ≡ split_text (split_of chip bounds most) value)))
 
 -- ---- what commands have in common
 
@@ -75,3 +81,4 @@ procedure_of (MakePlan soc limits) = with_both soc limits done_with_plan
 procedure_of (Check soc limits plan) = with_all soc limits plan (λ chip bounds value. done_with (accepted_line value))
 procedure_of (Chart soc limits plan) = with_all soc limits plan (λ chip bounds value. done_with (chart_text chip value))
 procedure_of (Vectors soc limits plan seed) = with_all soc limits plan (λ chip bounds value. Unless (run_refusal value) (done_with (vector_text chip value (made_content chip seed))))
+procedure_of (SplitTests soc limits most) = with_both soc limits (λ chip bounds. Unless (split_refusal chip bounds most) (done_with_split chip bounds most))

@@ -1,5 +1,5 @@
 // Decides how a command ends before anything is written.
-ghost use Rattle.std.specs.Prelude.{◌≡◌, ◌≤◌, None, IfOk, map, string_bytes};
+ghost use Rattle.std.specs.Prelude.{◌≡◌, ◌≤◌, ℕ, List, None, Some, IfOk, map, string_bytes};
 ghost use Rattle.soc_model.specs.Chips.{soc_value};
 ghost use Rattle.soc_model.specs.SoundChips.{IsSoundChip};
 ghost use Rattle.plan_model.specs.Plans.{PlanValue};
@@ -9,7 +9,7 @@ ghost use Rattle.plan_text.specs.PlanLines.{plan_text};
 ghost use Rattle.schedule_search.specs.Estimates.{CanAsk, IsAtLeastReady, IsAtMostNow};
 ghost use Rattle.planner.specs.Plans.{IsPlanned};
 ghost use Rattle.plan_model.specs.declared.TheConstants.{WIRES_MOST};
-ghost use Rattle.soctest.specs.Commands.{Print, Widths, MakePlan, Check, Chart, Vectors, command_of};
+ghost use Rattle.soctest.specs.Commands.{Print, Widths, MakePlan, Check, Chart, Vectors, SplitTests, command_of};
 ghost use Rattle.plan_model.specs.Rules.{IsGoodAlone};
 ghost use Rattle.bit_machine.specs.Chips.{wires_of, made_content};
 ghost use Rattle.tester_vectors.specs.VectorText.{vector_text as text_of_vectors};
@@ -18,6 +18,7 @@ ghost use Rattle.soctest.specs.Decides.{Follows, Decides, GivesUnless};
 
 use crate::lines::{accepted_line, run_line};
 use crate::loading::{answered, answered_with, load_all, load_both, load_chip, refused_with};
+use crate::splitting::decide_split;
 use crate::widths::widths_text;
 use crate::words::command;
 use crate::{Command, Status, Verdict};
@@ -59,12 +60,12 @@ fn decide_widths<H: Shelf>(alloc: Global, soc: &str, wires: u64, shelf: &mut H) 
     }
 }
 
-/// The text of the planner's plan, whose search estimates by the ends of the tests before. `NoMemory` where memory runs out,
-/// and for no other reason.
-fn text_of_plan(alloc: Global, soc: &Soc, limits: &Limits) -> Result<Vec<u8>, NoMemory>
+/// The planner's plan, whose search estimates by the ends of the tests before. `NoMemory` where memory runs out, and for no
+/// other reason.
+pub(crate) fn planned(alloc: Global, soc: &Soc, limits: &Limits) -> Result<Plan, NoMemory>
     requires chip { IsSoundChip (soc_value soc.now) }
     requires limits { IsSoundLimits (soc_value soc.now) (limits_value limits.now) }
-    ensures { IfOk result (λ text. (value : PlanValue) × IsPlanned (soc_value soc.now) (limits_value limits.now) value × (text.items ≡ plan_text value)) }
+    ensures { IfOk result (λ plan. IsPlanned (soc_value soc.now) (limits_value limits.now) (plan_value plan)) }
 {
     let ahead = Ahead::new(
         |table: &Table<'_>, test: usize| -> u64
@@ -73,7 +74,16 @@ fn text_of_plan(alloc: Global, soc: &Soc, limits: &Limits) -> Result<Vec<u8>, No
             ensures most { IsAtMostNow table.now test result }
         { table.ready_end(test) },
     );
-    let plan = plan(alloc, soc, limits, ahead)?;
+    plan(alloc, soc, limits, ahead)
+}
+
+/// The text of the planner's plan.
+fn text_of_plan(alloc: Global, soc: &Soc, limits: &Limits) -> Result<Vec<u8>, NoMemory>
+    requires chip { IsSoundChip (soc_value soc.now) }
+    requires limits { IsSoundLimits (soc_value soc.now) (limits_value limits.now) }
+    ensures { IfOk result (λ text. (value : PlanValue) × IsPlanned (soc_value soc.now) (limits_value limits.now) value × (text.items ≡ plan_text value)) }
+{
+    let plan = planned(alloc, soc, limits)?;
     print_plan(alloc, &plan)
 }
 
@@ -170,6 +180,7 @@ pub fn decide<H: Shelf>(alloc: Global, words: &[String], shelf: &mut H) -> Verdi
     ensures faults_never_fall { H.faults shelf.old ≤ H.faults shelf.new }
     ensures decides { Decides (command_of (map string_bytes words.now)) (H.held shelf.old) (H.faults shelf.old) (H.faults shelf.new) result }
     ensures untouched { command_of (map string_bytes words.now) ≡ None → shelf.new ≡ shelf.old }
+    ensures patterns { (soc limits : List ℕ) (most : ℕ) → command_of (map string_bytes words.now) ≡ Some (SplitTests soc limits most) → 1 ≤ most }
 {
     match command(words) {
         Some(Command::Print { soc }) => decide_print(alloc, soc, shelf),
@@ -189,6 +200,7 @@ pub fn decide<H: Shelf>(alloc: Global, words: &[String], shelf: &mut H) -> Verdi
                 seed,
             },
         ) => decide_vectors(alloc, soc, limits, plan, seed, shelf),
+        Some(Command::Split { soc, limits, most }) => decide_split(alloc, soc, limits, most, shelf),
         None => answered(alloc, Status::BadWords, b"bad words\n"),
     }
 }

@@ -7,6 +7,7 @@ ghost use Rattle.std.specs.Prelude.{◌≡◌};
 mod deciding;
 mod lines;
 mod loading;
+mod splitting;
 mod top;
 mod widths;
 mod words;
@@ -80,6 +81,12 @@ pub enum Command<'a> {
         limits: &'a str,
         plan: &'a str,
         seed: u64,
+    },
+    /// The tests cut into parts of so many patterns, and a plan of the parts.
+    Split {
+        soc: &'a str,
+        limits: &'a str,
+        most: u64,
     },
 }
 

@@ -3,6 +3,7 @@ ghost use Rattle.std.specs.Prelude.{◌≡◌, ◌≤◌, None, map, string_byte
 ghost use Rattle.outside.specs.Held.{Rose};
 ghost use Rattle.soctest.specs.Commands.{command_of};
 ghost use Rattle.soctest.specs.Ends.{MayAnswer, Ends, OneLine, EndsByWords, Complete, Finishes, SaysBadWords, Headline};
+ghost use Rattle.soctest.specs.SplitEnds.{SplitHeadline};
 
 use crate::deciding::decide;
 use crate::lines::unread_line;
@@ -41,6 +42,9 @@ pub fn soctest<H: Shelf, K: Sink>(
 
     // The headline: a plan that is printed or accepted, by any command, runs right, and its bound is one.
     ensures headline { Headline (command_of (map string_bytes words.now)) (H.held shelf.old) (K.written out.old) result (K.written out.new) }
+
+    // The headline of a plan of parts, for the chip that was cut: each pattern is loaded and read exactly once.
+    ensures parts { SplitHeadline (command_of (map string_bytes words.now)) (H.held shelf.old) (K.written out.old) result (K.written out.new) }
 {
     good_plans_run_right();
     certificates_are_bounds();

@@ -1,9 +1,10 @@
 use Rattle.soctest.specs.declared.Status.TheVariants.{ReadFault}
-use Rattle.soctest.proofs.FileStages.{unread_of, answer_of, ends_answered}
+use Rattle.soctest.proofs.FileStages.{unread_of, answer_of, ends_answered, one_line_of}
 use Rattle.soctest.proofs.Completeness.{complete, finishes}
 use Rattle.std.proofs.Common.{subst}
 use Rattle.outside.specs.Held.{Appended}
 use Rattle.soctest.proofs.Headlines.{headline, bad_words}
+use Rattle.soctest.proofs.PartsServed.{split_headline}
 use Rattle.soctest.proofs.top.soctest.Goals as goal
 
 pub returns-in-Ok-clause-ends : goal.returns-in-Ok-clause-ends
@@ -52,3 +53,15 @@ pub returns-in-Ok-clause-bad_words : goal.returns-in-Ok-clause-bad_words
 returns-in-Ok-clause-bad_words g c =
     let all = rw c.as_slice.ensures.value at c.in-Ok.ensures.all in
     λ bad. subst (λ t. Appended (g.K.Sink.written c.args.out.now) t (g.K.Sink.written c.put_all.new.out)) (bad_words _ _ _ _ c.in-Answered.status c.in-Answered.text c.in-Answered.ensures.decides bad) all
+
+pub returns-in-Ok-clause-parts : goal.returns-in-Ok-clause-parts
+returns-in-Ok-clause-parts g c =
+    let all = rw c.as_slice.ensures.value at c.in-Ok.ensures.all in
+    split_headline (record { right = c.good_plans_run_right.ensures; bound = c.certificates_are_bounds.ensures.accepted }) _ _ (g.H.Shelf.faults c.args.shelf.now) (g.H.Shelf.faults c.decide.new.shelf) (g.K.Sink.faults c.args.out.now) (g.K.Sink.faults c.put_all.new.out) _ _ c.in-Answered.status
+    c.decide.ensures.patterns
+    (ends_answered _ _ _ _ _ _ _ _ c.in-Answered.status c.in-Answered.text.items (answer_of _ _ _ _ c.in-Answered.status c.in-Answered.text c.in-Answered.ensures.decides) all)
+
+pub returns-in-Ok-clause-one_line : goal.returns-in-Ok-clause-one_line
+returns-in-Ok-clause-one_line g c =
+    let all = rw c.as_slice.ensures.value at c.in-Ok.ensures.all in
+    one_line_of _ _ _ _ c.in-Answered.status c.in-Answered.text _ _ c.in-Answered.ensures.decides all
