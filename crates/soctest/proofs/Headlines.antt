@@ -1,6 +1,6 @@
 -- A plan that is printed or accepted runs right, its bound is one, and it is for the chip and the limits in the held files.
 use Rattle.std.proofs.Common.{◌≡◌, ℕ, ◌≤◌, ◌⊎◌, inl, inr, List, Option, None, Some, Bool, true, false, length, refl, subst}
-use Rattle.std.specs.Prelude.{nat_lt, MatchBool, IfSome}
+use Rattle.std.specs.Prelude.{nat_lt, MatchBool}
 use Rattle.std.specs.FinMap.{get}
 use Rattle.std.proofs.lemmas.Bool.{ltb-false}
 use Rattle.outside.specs.Held.{Files, Appended}
@@ -29,7 +29,7 @@ use Rattle.soctest.specs.Texts.{too_long_line, bad_words_line, accepted_line}
 use Rattle.soctest.specs.Readings.{most_of, IsRead, RefusesChip, SaysLimits, RefusesLimits, SaysAccepted, RefusesPlan}
 use Rattle.soctest.specs.Procedures.{Procedure, Unless, with_limits, with_accepted, with_both, with_all, done_with, done_with_plan, run_refusal}
 use Rattle.soctest.specs.Answers.{Stage, Answers, IsAnswer}
-use Rattle.soctest.specs.Ends.{MayAnswer, Ends, PlanUse, plan_use, IsTrustworthy, Headline, SaysBadWords}
+use Rattle.soctest.specs.Ends.{MayAnswer, Ends, PlanUse, plan_use, IsTrustworthy, Headline}
 
 -- a stage that ends with Done has read its file
 stage_done : {V : Type 0} (file : FileKind) (Says : List ℕ → V → Type 0) (Refuses : List ℕ → List ℕ → Type 0) (Next : V → Status → List ℕ → Type 0) (held : Option (List ℕ)) (text : List ℕ) → Stage file Says Refuses Next held Done text → (v : V) × IsRead file Says held v × Next v Done text

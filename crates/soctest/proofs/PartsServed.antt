@@ -1,7 +1,6 @@
 -- The command over parts: its refusal, its answer, and that each pattern of the chip that was cut is loaded and read once.
-use Rattle.std.proofs.Common.{◌≡◌, ◌⊎◌, inl, inr, ℕ, ◌+◌, ◌-◌, ◌<◌, ◌≤◌, Bool, true, false, List, Option, None, Some, IfSome, IfOk, Result, Ok, Err, length, option_map, refl, sym, ap, ◌∙◌, subst, arith}
+use Rattle.std.proofs.Common.{◌≡◌, ℕ, ◌+◌, ◌-◌, ◌≤◌, true, List, Option, None, Some, IfSome, IfOk, Result, Ok, Err, option_map, refl, sym, ap, ◌∙◌, subst, arith}
 use Rattle.std.specs.Prelude.{slice_get, IsTrue}
-use Rattle.std.specs.List.{Contains}
 use Rattle.std.specs.FinMap.{get}
 use Rattle.std.specs.Global.{Vec}
 use Rattle.std.proofs.lemmas.Option.{same_Some}
@@ -12,21 +11,19 @@ use Rattle.soc_model.specs.declared.TestId.{TestId}
 use Rattle.soc_model.specs.declared.Which.{Which}
 use Rattle.soc_model.specs.declared.Which.TheVariants.{Modules, Tests, Chains, Power, Work}
 use Rattle.soc_model.specs.Chips.{SocValue, LiveTest, live_tests, id_of}
-use Rattle.soc_model.specs.Sizes.{IsWithinSize, IsFirstPassed, passed, rank_of}
+use Rattle.soc_model.specs.Sizes.{IsWithinSize, IsFirstPassed, passed}
 use Rattle.soc_model.specs.SoundChips.{IsSoundChip}
-use Rattle.plan_model.specs.Cells.{Cell, is_loaded, is_read}
+use Rattle.plan_model.specs.Cells.{Cell}
 use Rattle.plan_model.specs.Plans.{LimitsValue, PlanValue, PlannedTest, planned, planned_test}
-use Rattle.plan_model.specs.Right.{IsAt, IsReadAt, Loads, IsRight}
-use Rattle.plan_model.specs.Rules.{live_ids}
-use Rattle.plan_model.specs.Runs.{Content, operation_at, state_at, bits_at, shown}
+use Rattle.plan_model.specs.Right.{IsAt, Loads, IsRight}
+use Rattle.plan_model.specs.Runs.{Content}
 use Rattle.plan_model.proofs.TestsInGoodPlans.{planned_tam}
 use Rattle.soc_reader.specs.ChipForm.{SaysChip}
 use Rattle.soc_reader.proofs.ChipsSaid.{sound_chip}
 use Rattle.planner.specs.Plans.{IsPlanned}
 use Rattle.live_tests.proofs.LiveIds.{ids_differ}
 use Rattle.split_plan.specs.declared.Part.{Part}
-use Rattle.split_plan.specs.declared.SplitFault.TheVariants as split_fault
-use Rattle.split_plan.specs.Laws.{HasPattern, IsInOnePart, IsPart, AreParts, IsRefusal}
+use Rattle.split_plan.specs.Laws.{IsInOnePart, IsPart}
 use Rattle.split_plan.specs.Parts.{split_chip, split_limits, split_parts, split_of}
 use Rattle.split_plan.proofs.Lists.{at_map}
 use Rattle.split_plan.proofs.PartLaws.{each_once, are_parts}
@@ -44,7 +41,7 @@ use Rattle.soctest.specs.Ends.{MayAnswer, Ends}
 use Rattle.soctest.specs.Procedures.{Unless, Answer, done_with_split}
 use Rattle.soctest.specs.Readings.{IsRead, SaysLimits}
 use Rattle.soctest.specs.SplitEnds.{HasPatternsOf, IsLoadedAndRead, IsServedOnce, IsTrustworthySplit, SplitHeadline}
-use Rattle.soctest.specs.SplitText.{passed_as, first_passed, split_line, split_refusal, split_text}
+use Rattle.soctest.specs.SplitText.{passed_as, first_passed, split_refusal, split_text}
 use Rattle.soctest.specs.Texts.{is_line}
 use Rattle.soctest.proofs.Headlines.{Laws, after_both}
 

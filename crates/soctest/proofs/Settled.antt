@@ -6,8 +6,6 @@ use Rattle.std.proofs.lemmas.Bool.{le-ltb}
 use Rattle.outside.specs.Held.{Files, Rose}
 use Rattle.soctest.specs.declared.FileKind.{FileKind}
 use Rattle.soctest.specs.declared.Status.{Status}
-use Rattle.soc_model.specs.Chips.{SocValue}
-use Rattle.plan_model.specs.Plans.{LimitsValue}
 use Rattle.soctest.specs.declared.Status.TheVariants.{Done, Refused, TooLong}
 use Rattle.soctest.specs.Texts.{too_long_line}
 use Rattle.soctest.specs.Readings.{most_of, IsRead}

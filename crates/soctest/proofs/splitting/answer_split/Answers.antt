@@ -1,6 +1,4 @@
-use Rattle.std.proofs.Common.{◌≡◌, None, Some, List, ℕ, Result, IfOk, option_map, sym, ap, subst}
-use Rattle.std.specs.Global.{Vec}
-use Rattle.outside.specs.declared.NoMemory.{NoMemory as MemoryFault}
+use Rattle.std.proofs.Common.{◌≡◌, None, Some, List, ℕ, IfOk, option_map, ap, subst}
 use Rattle.soc_model.specs.Chips.{soc_value}
 use Rattle.soc_model.specs.SoundChips.{IsSoundChip}
 use Rattle.plan_model.specs.Plans.{PlanValue}
