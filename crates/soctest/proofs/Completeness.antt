@@ -18,13 +18,13 @@ use Rattle.soctest.specs.declared.Status.{Status}
 use Rattle.soctest.specs.declared.Status.TheVariants.{Done, Refused, BadWords, ReadFault, TooLong, WriteFault, NoMemory}
 use Rattle.bit_machine.specs.Chips.{made_content}
 use Rattle.tester_vectors.specs.VectorText.{vector_text}
-use Rattle.soctest.specs.Commands.{CommandValue, Print, Widths, MakePlan, Check, Chart, Vectors, Sample, TreeBound}
+use Rattle.soctest.specs.Commands.{CommandValue, Print, Widths, MakePlan, Check, Chart, Vectors, Sample, TreeBound, SplitTests}
 use Rattle.soctest.specs.Texts.{chip_line, chip_limit_line, plan_line, fault_line, accepted_line}
 use Rattle.soc_printer.specs.SocText.{soc_text}
 use Rattle.soctest.specs.WidthsText.{widths_text}
 use Rattle.soctest.specs.Readings.{RefusesChip, SaysLimits, refusal_of, RefusesLimits, SaysAccepted, RefusesPlan}
 use Rattle.chart.specs.ChartText.{chart_text}
-use Rattle.soctest.specs.Procedures.{Procedure, Unless, run_refusal, procedure_of, with_both, with_accepted, with_all, with_bound, done_with, done_with_plan}
+use Rattle.soctest.specs.Procedures.{Procedure, Unless, run_refusal, procedure_of, with_both, with_accepted, with_all, with_bound, done_with, done_with_plan, done_with_split}
 use Rattle.planner.specs.Plans.{IsPlanned}
 use Rattle.plan_text.specs.PlanLines.{plan_text}
 use Rattle.sample_maker.specs.Samples.{made_chip}
@@ -32,6 +32,8 @@ use Rattle.soctest.specs.Samples.{sample_limits, sample_text}
 use Rattle.soctest.specs.Answers.{IsAnswer}
 use Rattle.soctest.specs.Decides.{IsUnread, IsUnreadOf}
 use Rattle.soctest.specs.Ends.{MayAnswer, Ends, fixes_text, EndsAsWanted, Complete, AreTaken, Finishes}
+use Rattle.split_plan.specs.Parts.{split_chip, split_limits, split_of}
+use Rattle.soctest.specs.SplitText.{split_text, split_refusal}
 use Rattle.soctest.proofs.TreeFiles.{bound_settled}
 use Rattle.soctest.proofs.Settled.{AreOne, SaysOne, RefusesOne, IsSettled, one_answer, no_answer, only_done, none_unread, done_once, left_open}
 
@@ -121,6 +123,8 @@ settled laws (Check soc limits plan) = settled_all laws soc limits plan (λ chip
 settled laws (Chart soc limits plan) = settled_all laws soc limits plan (λ chip bounds value. done_with (chart_text chip value)) (λ chip bounds value. done_once true (chart_text chip value))
 settled laws (Vectors soc limits plan seed) = settled_all laws soc limits plan (λ chip bounds value. Unless (run_refusal value) (done_with (vector_text chip value (made_content chip seed)))) (λ chip bounds value. done_once true (vector_text chip value (made_content chip seed)))
 settled laws (TreeBound soc limits tree) = settled_both laws true soc limits (with_bound tree) (bound_settled tree)
+settled laws (SplitTests soc limits most) = settled_both laws false soc limits (λ chip bounds. Unless (split_refusal chip bounds most) (done_with_split chip bounds most))
+    (λ chip bounds. left_open (λ text. (value : PlanValue) × IsPlanned (split_chip bounds most chip) (split_limits bounds most chip) value × (text ≡ split_text (split_of chip bounds most) value)))
 settled laws (Sample n seed) = left_open (λ text. (value : PlanValue) × IsPlanned (made_chip n seed) sample_limits value × (text ≡ sample_text n seed (made_chip n seed) value))
 
 one : Laws → (command : Option CommandValue) (files : Files) (s : Status) (t : List ℕ) (s' : Status) (t' : List ℕ) → IsAnswer command files s t → IsAnswer command files s' t' → AreOne (fixes_text command) s t s' t'

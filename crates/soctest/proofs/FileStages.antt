@@ -17,7 +17,7 @@ use Rattle.soctest.specs.Readings.{most_of, IsRead}
 use Rattle.soctest.specs.Procedures.{Procedure, Read, Unless, Answer, nothing, with_bytes, done_with}
 use Rattle.soctest.specs.Answers.{Stage, Answers}
 use Rattle.soctest.specs.Decides.{MayFail, IsUnread, IsUnreadOf, Follows, Decides, Gives, GivesUnless, GivesText, Refuses}
-use Rattle.soctest.specs.Ends.{MayAnswer, Ends}
+use Rattle.soctest.specs.Ends.{MayAnswer, Ends, OneLine}
 
 within_case : (A B : Type 0) (b : Bool) → b ≡ false → B → MatchBool b A B
 within_case A B true e x = absurd cc
@@ -216,3 +216,14 @@ ends_answered command held sb sa kb ka old new ReadFault text may put = (text, m
 ends_answered command held sb sa kb ka old new TooLong text may put = (text, may, put)
 ends_answered command held sb sa kb ka old new WriteFault text may put = absurd may
 ends_answered command held sb sa kb ka old new NoMemory text may put = absurd may
+
+-- an answer but Done is one line
+pub one_line_of : (command : Option CommandValue) (held : Option Files) (sb sa : ℕ) (status : Status) (text : Vec ℕ) (old new : Option (List ℕ)) → Decides command held sb sa (Answered status text) → Appended old text.items new → OneLine old status new
+one_line_of None held sb sa status text old new d put = subst (λ s. OneLine old s new) (sym d.0) (text.items, rw d.1 refl, put)
+one_line_of (Some command) held sb sa Done text old new d put = tt
+one_line_of (Some command) held sb sa Refused text old new d put = (text.items, d.0, put)
+one_line_of (Some command) held sb sa BadWords text old new d put = absurd d.0
+one_line_of (Some command) held sb sa ReadFault text old new d put = absurd d.0
+one_line_of (Some command) held sb sa TooLong text old new d put = (text.items, d.0, put)
+one_line_of (Some command) held sb sa WriteFault text old new d put = absurd d.0
+one_line_of (Some command) held sb sa NoMemory text old new d put = absurd d.0

@@ -24,7 +24,7 @@ use Rattle.plan_text.specs.PlanLines.{plan_text}
 use Rattle.chart.specs.ChartText.{chart_text}
 use Rattle.bit_machine.specs.Chips.{made_content}
 use Rattle.tester_vectors.specs.VectorText.{vector_text}
-use Rattle.soctest.specs.Commands.{CommandValue, Print, Widths, MakePlan, Check, Chart, Vectors, Sample, TreeBound}
+use Rattle.soctest.specs.Commands.{CommandValue, Print, Widths, MakePlan, Check, Chart, Vectors, Sample, TreeBound, SplitTests}
 use Rattle.sample_maker.specs.Samples.{made_chip}
 use Rattle.soctest.specs.Samples.{sample_limits, sample_text}
 use Rattle.soctest.specs.Texts.{too_long_line, bad_words_line, accepted_line}
@@ -133,6 +133,7 @@ trusted laws files (Vectors soc limits plan seed) text old new answer put =
     (λ chip bounds value text a. (not_refused files (run_refusal value) (done_with (vector_text chip value (made_content chip seed))) text a).1) text old new answer put
 trusted laws files (Sample n seed) text old new answer put = sampled laws files n seed text old new (not_refused files (sample_refusal n) (done_with_sample n seed) text answer) put
 trusted laws files (TreeBound soc limits tree) text old new answer put = tt
+trusted laws files (SplitTests soc limits most) text old new answer put = tt
 
 pub headline : Laws → (command : Option CommandValue) (held : Option Files) (sb sa kb ka : ℕ) (old new : Option (List ℕ)) (end : Status) → Ends (MayAnswer command held sb sa) kb ka old end new → Headline command held old end new
 headline laws command held sb sa kb ka old new end ends files given is names done =

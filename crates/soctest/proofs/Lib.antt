@@ -10,3 +10,4 @@ mod Rows
 pub mod Settled
 pub mod TreeFiles
 pub mod WidthLines
+pub mod PartsServed

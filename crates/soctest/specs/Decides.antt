@@ -142,6 +142,13 @@ abbrev pub GivesUnless : Option (List ℕ) → List ℕ → Verdict → Type 0
 GivesUnless None answer verdict = Gives Done answer verdict
 GivesUnless (Some line) answer verdict = Refuses line verdict
 
+-- a verdict is the line that refuses, or else any text that is allowed, or wants memory
+abbrev pub GivesAny : Option (List ℕ) → (List ℕ → Type 0) → Verdict → Type 0
+GivesAny None May (Answered given bytes) = (given ≡ Done) × May bytes.items
+GivesAny None May (CannotRead file) = ⊥
+GivesAny None May OutOfMemory = Unit {0}
+GivesAny (Some line) May verdict = Refuses line verdict
+
 -- the verdict on a chip's text
 abbrev pub RefusesSoc : SocFault → Verdict → Type 0
 RefusesSoc (soc_fault.Text line) verdict = Refuses (chip_line line) verdict

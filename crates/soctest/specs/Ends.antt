@@ -12,7 +12,7 @@ use Rattle.soctest.specs.declared.FileKind.{FileKind}
 use Rattle.soctest.specs.declared.FileKind.TheVariants.{Soc, Limits, Plan}
 use Rattle.soctest.specs.declared.Status.{Status}
 use Rattle.soctest.specs.declared.Status.TheVariants.{Done, Refused, BadWords, ReadFault, TooLong, WriteFault, NoMemory}
-use Rattle.soctest.specs.Commands.{CommandValue, Print, Widths, MakePlan, Check, Chart, Vectors, Sample, TreeBound}
+use Rattle.soctest.specs.Commands.{CommandValue, Print, Widths, MakePlan, Check, Chart, Vectors, Sample, TreeBound, SplitTests}
 use Rattle.plan_text.specs.Answers.{SaysPlan}
 use Rattle.plan_text.specs.PlanLines.{plan_text}
 use Rattle.chart.specs.ChartText.{chart_text}
@@ -61,7 +61,7 @@ abbrev pub EndsByWords : Option CommandValue → Type 0 → Status → Type 0
 EndsByWords None sink_failed end = (end ≡ BadWords) ⊎ (end ≡ NoMemory) ⊎ ((end ≡ WriteFault) × sink_failed)
 EndsByWords (Some command) sink_failed end = end ≢ BadWords
 
--- the files fix the text of an answer; that of `plan` and of `sample` may be of any plan that the planner may make
+-- the files fix the text of an answer; that of `plan`, `sample` and `split` may be of any plan that the planner may make
 abbrev pub fixes_text : Option CommandValue → Bool
 fixes_text None = true
 fixes_text (Some (Print soc)) = true
@@ -72,6 +72,7 @@ fixes_text (Some (Chart soc limits plan)) = true
 fixes_text (Some (Vectors soc limits plan seed)) = true
 fixes_text (Some (Sample n seed)) = false
 fixes_text (Some (TreeBound soc limits tree)) = true
+fixes_text (Some (SplitTests soc limits most)) = false
 
 -- Where neither count of faults rose and the files give an answer, the call ends with its status, or for want of memory;
 -- where the text is fixed, that is written.
@@ -137,6 +138,7 @@ Trusts (Chart soc limits plan) files old new = IsTrustworthy (IsChipIn files soc
 Trusts (Vectors soc limits plan seed) files old new = IsTrustworthy (IsChipIn files soc) (AreLimitsIn files limits) (IsPlanIn files plan) (λ chip value text. text ≡ vector_text chip value (made_content chip seed)) old new
 Trusts (Sample n seed) files old new = IsTrustworthy (λ chip. chip ≡ made_chip n seed) (λ chip bounds. bounds ≡ sample_limits) IsMade (λ chip value text. text ≡ sample_text n seed chip value) old new
 Trusts (TreeBound soc limits tree) files old new = Unit {0}
+Trusts (SplitTests soc limits most) files old new = Unit {0}
 
 -- The headline, for each command over a plan, where the shelf tells what it holds.
 abbrev pub Headline : Option CommandValue → Option Files → Option (List ℕ) → Status → Option (List ℕ) → Type 0

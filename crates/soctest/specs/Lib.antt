@@ -11,3 +11,5 @@ pub mod TreeDecides
 pub mod TreeReadings
 pub mod TreeTexts
 pub mod WidthsText
+pub mod SplitText
+pub mod SplitEnds

@@ -15,10 +15,12 @@ use Rattle.width_tree.specs.Trees.{TreeValue}
 use Rattle.bit_machine.specs.Chips.{made_content}
 use Rattle.tester_vectors.specs.declared.TheConstants.{RUN_MOST}
 use Rattle.tester_vectors.specs.VectorText.{wire_cycles, vector_text}
-use Rattle.soctest.specs.Commands.{CommandValue, Print, Widths, MakePlan, Check, Chart, Vectors, Sample, TreeBound}
+use Rattle.soctest.specs.Commands.{CommandValue, Print, Widths, MakePlan, Check, Chart, Vectors, Sample, TreeBound, SplitTests}
 use Rattle.sample_maker.specs.Samples.{made_chip}
 use Rattle.sample_maker.specs.declared.TheConstants.{SAMPLE_MODULES_MOST}
 use Rattle.soctest.specs.Samples.{sample_limits, sample_line, sample_text}
+use Rattle.split_plan.specs.Parts.{split_chip, split_limits, split_of}
+use Rattle.soctest.specs.SplitText.{split_text, split_refusal}
 use Rattle.soctest.specs.Texts.{accepted_line, run_line}
 use Rattle.soctest.specs.WidthsText.{widths_text}
 use Rattle.soctest.specs.TreeTexts.{bound_line}
@@ -56,6 +58,9 @@ done_with_sample n seed = Answer (λ status text. (status ≡ Done) × ((value :
 -- the line that refuses a number of modules
 abbrev pub sample_refusal : (n : ℕ) → Option (List ℕ)
 sample_refusal n = if nat_eq n 0 || nat_lt SAMPLE_MODULES_MOST n then Some (sample_line n) else None
+-- the answer is the text of the parts of a chip and of any plan that the planner may make for them
+abbrev pub done_with_split : SocValue → LimitsValue → (most : ℕ) → Procedure
+done_with_split chip bounds most = Answer (λ status text. (status ≡ Done) × ((value : PlanValue) × IsPlanned (split_chip bounds most chip) (split_limits bounds most chip) value × (text ≡ split_text (split_of chip bounds most) value)))
 
 -- ---- what commands have in common
 
@@ -99,3 +104,4 @@ procedure_of (Chart soc limits plan) = with_all soc limits plan (λ chip bounds 
 procedure_of (Vectors soc limits plan seed) = with_all soc limits plan (λ chip bounds value. Unless (run_refusal value) (done_with (vector_text chip value (made_content chip seed))))
 procedure_of (Sample n seed) = Unless (sample_refusal n) (done_with_sample n seed)
 procedure_of (TreeBound soc limits tree) = with_both soc limits (with_bound tree)
+procedure_of (SplitTests soc limits most) = with_both soc limits (λ chip bounds. Unless (split_refusal chip bounds most) (done_with_split chip bounds most))

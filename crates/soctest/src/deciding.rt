@@ -1,5 +1,5 @@
 // Decides how a command ends before anything is written.
-ghost use Rattle.std.specs.Prelude.{◌≡◌, ◌≤◌, None, IfOk, map, string_bytes};
+ghost use Rattle.std.specs.Prelude.{◌≡◌, ◌≤◌, ℕ, List, None, Some, IfOk, map, string_bytes};
 ghost use Rattle.soc_model.specs.Chips.{soc_value};
 ghost use Rattle.soc_model.specs.SoundChips.{IsSoundChip};
 ghost use Rattle.plan_model.specs.Plans.{PlanValue};
@@ -9,7 +9,7 @@ ghost use Rattle.plan_text.specs.PlanLines.{plan_text};
 ghost use Rattle.schedule_search.specs.Estimates.{CanAsk, IsAtLeastReady, IsAtMostNow};
 ghost use Rattle.planner.specs.Plans.{IsPlanned};
 ghost use Rattle.plan_model.specs.declared.TheConstants.{WIRES_MOST};
-ghost use Rattle.soctest.specs.Commands.{Print, Widths, MakePlan, Check, Chart, Vectors, TreeBound, command_of};
+ghost use Rattle.soctest.specs.Commands.{Print, Widths, MakePlan, Check, Chart, Vectors, TreeBound, command_of, SplitTests};
 ghost use Rattle.plan_model.specs.Rules.{IsGoodAlone};
 ghost use Rattle.bit_machine.specs.Chips.{wires_of, made_content};
 ghost use Rattle.tester_vectors.specs.VectorText.{vector_text as text_of_vectors};
@@ -21,6 +21,7 @@ use crate::loading::{answered, answered_with, load_all, load_both, load_chip, re
 use crate::samples::decide_sample;
 use crate::tree_lines::bound_line;
 use crate::trees::load_accepted_tree;
+use crate::splitting::decide_split;
 use crate::widths::widths_text;
 use crate::words::command;
 use crate::{Command, Status, Verdict};
@@ -203,6 +204,7 @@ pub fn decide<H: Shelf>(alloc: Global, words: &[String], shelf: &mut H) -> Verdi
     ensures faults_never_fall { H.faults shelf.old ≤ H.faults shelf.new }
     ensures decides { Decides (command_of (map string_bytes words.now)) (H.held shelf.old) (H.faults shelf.old) (H.faults shelf.new) result }
     ensures untouched { command_of (map string_bytes words.now) ≡ None → shelf.new ≡ shelf.old }
+    ensures patterns { (soc limits : List ℕ) (most : ℕ) → command_of (map string_bytes words.now) ≡ Some (SplitTests soc limits most) → 1 ≤ most }
 {
     match command(words) {
         Some(Command::Print { soc }) => decide_print(alloc, soc, shelf),
@@ -226,6 +228,7 @@ pub fn decide<H: Shelf>(alloc: Global, words: &[String], shelf: &mut H) -> Verdi
         Some(Command::Tree { soc, limits, tree }) => {
             decide_tree(alloc, soc, limits, tree, shelf)
         }
+        Some(Command::Split { soc, limits, most }) => decide_split(alloc, soc, limits, most, shelf),
         None => answered(alloc, Status::BadWords, b"bad words\n"),
     }
 }

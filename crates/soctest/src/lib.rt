@@ -8,6 +8,7 @@ mod deciding;
 mod lines;
 mod loading;
 mod samples;
+mod splitting;
 mod top;
 mod tree_lines;
 mod trees;
@@ -95,6 +96,12 @@ pub enum Command<'a> {
         soc: &'a str,
         limits: &'a str,
         tree: &'a str,
+    },
+    /// The tests cut into parts of so many patterns, and a plan of the parts.
+    Split {
+        soc: &'a str,
+        limits: &'a str,
+        most: u64,
     },
 }
 

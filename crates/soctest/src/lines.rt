@@ -40,7 +40,7 @@ pub fn too_long_line(file: FileKind) -> &'static [u8]
 }
 
 /// The name of a limit on the size of a chip, with a space behind it.
-fn limit_word(which: Which) -> &'static [u8]
+pub(crate) fn limit_word(which: Which) -> &'static [u8]
     ensures text { result.now ≡ limit_name which }
     ensures plain { IsTrue (no_feed result.now) }
 {
@@ -67,7 +67,7 @@ pub(crate) fn push_decimal(to: &mut Vec<u8>, n: u128) -> Result<(), NoMemory>
     push_number(to, n)
 }
 
-fn push_test(to: &mut Vec<u8>, id: &TestId) -> Result<(), NoMemory>
+pub(crate) fn push_test(to: &mut Vec<u8>, id: &TestId) -> Result<(), NoMemory>
     ensures text { OnOk result (to.new.items ≡ to.old.items ++ test_text id.now) }
     ensures plain { OnOk result (IsTrue (no_feed to.old.items) → IsTrue (no_feed to.new.items)) }
 {

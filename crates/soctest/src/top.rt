@@ -4,6 +4,7 @@ ghost use Rattle.outside.specs.Held.{Rose};
 ghost use Rattle.soctest.specs.Commands.{command_of};
 ghost use Rattle.soctest.specs.Ends.{MayAnswer, Ends, OneLine, EndsByWords, Complete, Finishes, SaysBadWords, Headline};
 ghost use Rattle.soctest.specs.TreeBounds.{ShowsBound};
+ghost use Rattle.soctest.specs.SplitEnds.{SplitHeadline};
 
 use crate::deciding::decide;
 use crate::lines::unread_line;
@@ -45,6 +46,9 @@ pub fn soctest<H: Shelf, K: Sink>(
 
     // The bound of a tree that is accepted is one: no good plan has fewer cycles.
     ensures bound { ShowsBound (command_of (map string_bytes words.now)) (H.held shelf.old) (K.written out.old) result (K.written out.new) }
+
+    // The headline of a plan of parts, for the chip that was cut: each pattern is loaded and read exactly once.
+    ensures parts { SplitHeadline (command_of (map string_bytes words.now)) (H.held shelf.old) (K.written out.old) result (K.written out.new) }
 {
     good_plans_run_right();
     certificates_are_bounds();

@@ -1,8 +1,9 @@
 // The words of the command line.
-ghost use Rattle.std.specs.Prelude.{◌≡◌, map, string_bytes, option_map, IfSome};
+ghost use Rattle.std.specs.Prelude.{◌≡◌, ◌≤◌, ℕ, List, Some, map, string_bytes, option_map, IfSome};
 ghost use Rattle.outside.specs.Decimal.{number_of};
+ghost use Rattle.soc_model.specs.declared.TheConstants.{NUMBER_WORD_MOST};
 ghost use Rattle.plan_model.specs.declared.TheConstants.{WIRES_MOST};
-ghost use Rattle.soctest.specs.Commands.{command_of, command_value, widths_of, IsInRange};
+ghost use Rattle.soctest.specs.Commands.{command_of, command_value, widths_of, IsInRange, SplitTests, split_of};
 
 use crate::Command;
 use outside::number;
@@ -21,11 +22,24 @@ fn widths<'a>(soc: &'a str, wires: &str) -> Option<Command<'a>>
     Some(Command::Widths { soc, wires })
 }
 
+/// `split` with a word for the patterns of a part, where that is a number of at least 1.
+fn split<'a>(soc: &'a str, limits: &'a str, most: &str) -> Option<Command<'a>>
+    ensures value { option_map command_value result ≡ split_of soc.now limits.now (number_of most.now NUMBER_WORD_MOST) }
+    ensures range { IfSome result IsInRange }
+{
+    let most = number(most.as_bytes(), NUMBER_WORD_MOST)?;
+    if most < 1 {
+        return None;
+    }
+    Some(Command::Split { soc, limits, most })
+}
+
 /// The command that the words are, where they are one.
 #[tactic(auto, unfolding(crate::specs::Commands::command_of))]
 pub fn command(words: &[String]) -> Option<Command<'_>>
     ensures value { option_map command_value result ≡ command_of (map string_bytes words.now) }
     ensures wires { IfSome result IsInRange }
+    ensures patterns { (soc limits : List ℕ) (most : ℕ) → command_of (map string_bytes words.now) ≡ Some (SplitTests soc limits most) → 1 ≤ most }
 {
     match words {
         [word, soc] if word.as_str() == "print" => Some(Command::Print { soc: soc.as_str() }),
@@ -53,6 +67,9 @@ pub fn command(words: &[String]) -> Option<Command<'_>>
             limits: limits.as_str(),
             tree: tree.as_str(),
         }),
+        [word, soc, limits, most] if word.as_str() == "split" => {
+            split(soc.as_str(), limits.as_str(), most.as_str())
+        }
         [word, soc, limits, plan, seed] if word.as_str() == "vectors" => Some(Command::Vectors {
             soc: soc.as_str(),
             limits: limits.as_str(),

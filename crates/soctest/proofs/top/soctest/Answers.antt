@@ -3,10 +3,11 @@ use Rattle.std.specs.Prelude.{string_bytes}
 use Rattle.outside.specs.Held.{Appended}
 use Rattle.soctest.specs.declared.Status.TheVariants.{ReadFault}
 use Rattle.soctest.specs.Commands.{command_of}
-use Rattle.soctest.proofs.FileStages.{unread_of, answer_of, ends_answered}
+use Rattle.soctest.proofs.FileStages.{unread_of, answer_of, ends_answered, one_line_of}
 use Rattle.soctest.proofs.Completeness.{complete, finishes}
 use Rattle.soctest.proofs.Headlines.{headline, bad_words}
 use Rattle.soctest.proofs.TreeFiles.{shows_bound}
+use Rattle.soctest.proofs.PartsServed.{split_headline}
 use Rattle.soctest.proofs.top.soctest.Goals as goal
 
 pub returns-in-Ok-clause-ends : goal.returns-in-Ok-clause-ends
@@ -28,6 +29,19 @@ returns-in-Ok-clause-headline g c =
     headline (record { right = c.good_plans_run_right.ensures; bound = c.certificates_are_bounds.ensures.accepted })
     (command_of (map string_bytes c.args.words.now)) (g.H.Shelf.held c.args.shelf.now) (g.H.Shelf.faults c.args.shelf.now) (g.H.Shelf.faults c.decide.new.shelf) (g.K.Sink.faults c.args.out.now) (g.K.Sink.faults c.put_all.new.out) (g.K.Sink.written c.args.out.now) (g.K.Sink.written c.put_all.new.out) c.in-Answered.status
     (ends_answered (command_of (map string_bytes c.args.words.now)) (g.H.Shelf.held c.args.shelf.now) (g.H.Shelf.faults c.args.shelf.now) (g.H.Shelf.faults c.decide.new.shelf) (g.K.Sink.faults c.args.out.now) (g.K.Sink.faults c.put_all.new.out) (g.K.Sink.written c.args.out.now) (g.K.Sink.written c.put_all.new.out) c.in-Answered.status c.in-Answered.text.items (answer_of (command_of (map string_bytes c.args.words.now)) (g.H.Shelf.held c.args.shelf.now) (g.H.Shelf.faults c.args.shelf.now) (g.H.Shelf.faults c.decide.new.shelf) c.in-Answered.status c.in-Answered.text c.in-Answered.ensures.decides) all)
+
+pub returns-in-Ok-clause-parts : goal.returns-in-Ok-clause-parts
+returns-in-Ok-clause-parts g c =
+    let all = rw c.as_slice.ensures.value at c.in-Ok.ensures.all in
+    split_headline (record { right = c.good_plans_run_right.ensures; bound = c.certificates_are_bounds.ensures.accepted })
+    (command_of (map string_bytes c.args.words.now)) (g.H.Shelf.held c.args.shelf.now) (g.H.Shelf.faults c.args.shelf.now) (g.H.Shelf.faults c.decide.new.shelf) (g.K.Sink.faults c.args.out.now) (g.K.Sink.faults c.put_all.new.out) (g.K.Sink.written c.args.out.now) (g.K.Sink.written c.put_all.new.out) c.in-Answered.status
+    c.decide.ensures.patterns
+    (ends_answered (command_of (map string_bytes c.args.words.now)) (g.H.Shelf.held c.args.shelf.now) (g.H.Shelf.faults c.args.shelf.now) (g.H.Shelf.faults c.decide.new.shelf) (g.K.Sink.faults c.args.out.now) (g.K.Sink.faults c.put_all.new.out) (g.K.Sink.written c.args.out.now) (g.K.Sink.written c.put_all.new.out) c.in-Answered.status c.in-Answered.text.items (answer_of (command_of (map string_bytes c.args.words.now)) (g.H.Shelf.held c.args.shelf.now) (g.H.Shelf.faults c.args.shelf.now) (g.H.Shelf.faults c.decide.new.shelf) c.in-Answered.status c.in-Answered.text c.in-Answered.ensures.decides) all)
+
+pub returns-in-Ok-clause-one_line : goal.returns-in-Ok-clause-one_line
+returns-in-Ok-clause-one_line g c =
+    let all = rw c.as_slice.ensures.value at c.in-Ok.ensures.all in
+    one_line_of (command_of (map string_bytes c.args.words.now)) (g.H.Shelf.held c.args.shelf.now) (g.H.Shelf.faults c.args.shelf.now) (g.H.Shelf.faults c.decide.new.shelf) c.in-Answered.status c.in-Answered.text (g.K.Sink.written c.args.out.now) (g.K.Sink.written c.put_all.new.out) c.in-Answered.ensures.decides all
 
 pub returns-in-Ok-clause-bound : goal.returns-in-Ok-clause-bound
 returns-in-Ok-clause-bound g c =

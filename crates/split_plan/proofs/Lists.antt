@@ -1,0 +1,119 @@
+-- Lists by what stands at a place: ranges of numbers, lists whose items differ, sums over ranges.
+use Rattle.std.proofs.Common.{◌≡◌, ◌⊎◌, inl, inr, ℕ, zero, suc, ◌+◌, ◌-◌, ◌*◌, ◌<◌, Bool, true, false, Some, None, List, [], ◌∷◌, ◌++◌, length, get_or, map, min, refl, sym, ap, ◌∙◌, subst, arith}
+use Rattle.std.specs.Prelude.{slice_get}
+use Rattle.std.specs.List.{find, range_with_len, sum_by, All}
+use Rattle.std.proofs.lemmas.Bool.{cases_Bool}
+use Rattle.std.proofs.lemmas.List.Elements.{All-contains}
+use Rattle.std.proofs.lemmas.List.FromFn.{length-range_with_len, get_or-range_with_len}
+use Rattle.std.proofs.lemmas.List.Sums.{sum_by-cons}
+use Rattle.std.proofs.lemmas.Option.{slice_get-get_or}
+use Rattle.plan_model.proofs.Lists.{from_append, from_map, at_contains}
+use Rattle.live_tests.specs.Names.{AllDiffer}
+
+-- ---- items
+
+pub all_at : {X : Type 0} (P : X → Type 0) (xs : List X) → ((i : ℕ) (x : X) → slice_get xs i ≡ Some x → P x) → All P xs
+all_at P xs h = λ k d lt. h k (get_or xs k d) (slice_get-get_or xs k d lt)
+
+pub item_of : {X : Type 0} (P : X → Type 0) (xs : List X) (i : ℕ) (x : X) → All P xs → slice_get xs i ≡ Some x → P x
+item_of P xs i x all at = All-contains P xs x all (at_contains xs i x at)
+
+pub map_twice : {X Y Z : Type 0} (f : Y → Z) (g : X → Y) (xs : List X) → map f (map g xs) ≡ map (λ x. f (g x)) xs
+map_twice f g [] = refl
+map_twice f g (x ∷ xs) = ap (λ ys. f (g x) ∷ ys) (map_twice f g xs)
+
+pub at_map : {X Y : Type 0} (f : X → Y) (xs : List X) (i : ℕ) (x : X) → slice_get xs i ≡ Some x → slice_get (map f xs) i ≡ Some (f x)
+at_map f [] i x at = absurd cc
+at_map f (y ∷ xs) zero x at = let same : y ≡ x = cc in ap (λ z. Some (f z)) same
+at_map f (y ∷ xs) (suc i) x at = at_map f xs i x at
+
+-- ---- ranges
+
+pub range_at : (a n i x : ℕ) → slice_get (range_with_len a n) i ≡ Some x → (i < n) × (x ≡ a + i)
+range_at a zero i x e = absurd cc
+range_at a (suc n) zero x e = let same : a ≡ x = cc in (omega arith, omega (arith, same))
+range_at a (suc n) (suc i) x e = let r = range_at (a + 1) n i x e in (omega (arith, r.0), omega (arith, r.1))
+
+pub at_range : (a n i : ℕ) → i < n → slice_get (range_with_len a n) i ≡ Some (a + i)
+at_range a n i less =
+    let long : length (range_with_len a n) ≡ n = length-range_with_len a n in
+    slice_get-get_or (range_with_len a n) i 0 (omega (arith, long, less)) ∙ ap Some (get_or-range_with_len a n i 0 less)
+
+pub range_differs : (a n : ℕ) → AllDiffer (range_with_len a n)
+range_differs a n p q x at there =
+    let e = (range_at a n p x at).1 in
+    let f = (range_at a n q x there).1 in
+    omega (arith, e, f)
+
+-- a number more for each
+pub range_moved : (a b c n : ℕ) → a + b ≡ c → map (λ (k : ℕ). a + k) (range_with_len b n) ≡ range_with_len c n
+range_moved a b c zero e = refl
+range_moved a b c (suc n) e =
+    let rest : map (λ (k : ℕ). a + k) (range_with_len (b + 1) n) ≡ range_with_len (c + 1) n = range_moved a (b + 1) (c + 1) n (omega (arith, e)) in
+    ap (λ (l : List ℕ). (a + b) ∷ l) rest ∙ ap (λ (x : ℕ). x ∷ range_with_len (c + 1) n) e
+
+pub range_joined : (a m b k t : ℕ) → a + m ≡ b → m + k ≡ t → range_with_len a m ++ range_with_len b k ≡ range_with_len a t
+range_joined a zero b k t e f =
+    let same : a ≡ b = omega (arith, e) in
+    let all : k ≡ t = omega (arith, f) in
+    ap (λ (x : ℕ). range_with_len x k) (sym same) ∙ ap (range_with_len a) all
+range_joined a (suc m) b k zero e f = absurd (omega (arith, f))
+range_joined a (suc m) b k (suc t) e f = ap (λ (l : List ℕ). a ∷ l) (range_joined (a + 1) m b k t (omega (arith, e)) (omega (arith, f)))
+
+-- ---- lists whose items differ
+
+pub differ_append : {X : Type 0} (xs ys : List X) → AllDiffer xs → AllDiffer ys → ((p q : ℕ) (x : X) → slice_get xs p ≡ Some x → slice_get ys q ≡ Some x → ⊥) → AllDiffer (xs ++ ys)
+differ_append {X} xs ys first second apart p q x at there = by (from_append xs ys p x at) (from_append xs ys q x there)
+  where
+    by : (slice_get xs p ≡ Some x) ⊎ ((j : ℕ) × (p ≡ length xs + j) × (slice_get ys j ≡ Some x)) → (slice_get xs q ≡ Some x) ⊎ ((j : ℕ) × (q ≡ length xs + j) × (slice_get ys j ≡ Some x)) → p ≡ q
+    by (inl a) (inl b) = first p q x a b
+    by (inl a) (inr b) = absurd (apart p b.0 x a b.2)
+    by (inr a) (inl b) = absurd (apart q a.0 x b a.2)
+    by (inr a) (inr b) = let same : a.0 ≡ b.0 = second a.0 b.0 x a.2 b.2 in omega (arith, same, a.1, b.1)
+
+pub differ_tail : {X : Type 0} (x : X) (xs : List X) → AllDiffer (x ∷ xs) → AllDiffer xs
+differ_tail x xs differ p q y at there = let same : suc p ≡ suc q = differ (suc p) (suc q) y at there in omega (arith, same)
+
+-- items that differ in what is seen of them
+pub differ_map : {X Y : Type 0} (f : X → Y) (xs : List X) → ((x y : X) → f x ≡ f y → x ≡ y) → AllDiffer xs → AllDiffer (map f xs)
+differ_map f xs inj differ p q y at there =
+    let a = from_map f xs p y at in
+    let b = from_map f xs q y there in
+    let same : a.0 ≡ b.0 = inj a.0 b.0 (a.2 ∙ sym b.2) in
+    differ p q b.0 (a.1 ∙ ap Some same) b.1
+
+-- ---- sums over a range
+
+-- what is left of p, taken s by s
+pub sum_left : (p s a n : ℕ) → sum_by (λ (k : ℕ). min s (p - k * s)) (range_with_len a n) ≡ min (p - a * s) (n * s)
+sum_left p s a zero = let none : 0 * s ≡ 0 = omega arith in omega (arith, none)
+sum_left p s a (suc n) =
+    let rest : sum_by (λ (k : ℕ). min s (p - k * s)) (range_with_len (a + 1) n) ≡ min (p - (a + 1) * s) (n * s) = sum_left p s (a + 1) n in
+    let next : (a + 1) * s ≡ a * s + s = omega arith in
+    let more : suc n * s ≡ n * s + s = omega arith in
+    let first = sum_by-cons (λ (k : ℕ). min s (p - k * s)) a (range_with_len (a + 1) n) in
+    omega (arith, rest, next, more, first)
+
+-- ---- found first
+
+pub find_is : {X : Type 0} (p : X → Bool) (xs : List X) (i : ℕ) (x : X) → slice_get xs i ≡ Some x → p x ≡ true → ((j : ℕ) (y : X) → slice_get xs j ≡ Some y → p y ≡ true → j ≡ i) → find p xs ≡ Some x
+find_is p [] i x at passes only = absurd cc
+find_is p (y ∷ xs) zero x at passes only =
+    let same : y ≡ x = cc in
+    let here : p y ≡ true = rw same passes in
+    rw here (ap Some same)
+find_is p (y ∷ xs) (suc i) x at passes only = elim (cases_Bool (p y)) [
+  | inl yes' ↦ let same : 0 ≡ suc i = only 0 y refl yes' in absurd (omega (arith, same))
+  | inr no' ↦ rw no' (find_is p xs i x at passes (λ j z there ok. let same : suc j ≡ suc i = only (suc j) z there ok in omega (arith, same)))
+]
+
+pub find_at : {X : Type 0} (p : X → Bool) (xs : List X) (x : X) → find p xs ≡ Some x → (i : ℕ) × (slice_get xs i ≡ Some x) × (p x ≡ true)
+find_at p [] x e = absurd cc
+find_at p (y ∷ xs) x e = elim (cases_Bool (p y)) [
+  | inl yes' ↦ let e' = rw yes' at e in let same : y ≡ x = cc in (0, e', subst (λ z. p z ≡ true) same yes')
+  | inr no' ↦ let e' = rw no' at e in let r = find_at p xs x e' in (suc r.0, r.1, r.2)
+]
+
+pub find_none : {X : Type 0} (p : X → Bool) (xs : List X) → ((i : ℕ) (x : X) → slice_get xs i ≡ Some x → p x ≡ false) → find p xs ≡ None
+find_none p [] none = refl
+find_none p (x ∷ xs) none = let here : p x ≡ false = none 0 x refl in rw here (find_none p xs (λ i y at. none (suc i) y at))

@@ -1,0 +1,7 @@
+use Rattle.std.proofs.Common.{◌≡◌, ◌++◌, take}
+use Rattle.std.specs.List.{flat_map}
+use Rattle.split_plan.specs.Parts.{chain}
+use Rattle.split_plan.proofs.bounds.push_chains.Given as goal
+
+abbrev pub invariant-loop-cut : goal.invariant-loop-cut
+invariant-loop-cut l = l.before.items ≡ l.initial.before.items ++ flat_map chain (take l.cut-index l.cuts)
