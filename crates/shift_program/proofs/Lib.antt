@@ -1,0 +1,13 @@
+pub mod Blocks
+pub mod Runs
+pub mod Entries
+pub mod Patterns
+pub mod Lengths
+pub mod Faultless
+pub mod RightOnes
+pub mod Chains
+pub mod Counts
+pub mod Exact
+pub mod TextsRead
+pub mod TextsViable
+pub mod Texts
