@@ -1,10 +1,9 @@
 -- What is settled of programs for the chains of a wrapper.
-use Rattle.std.proofs.Common.{List, [], get_or, subst}
-use Rattle.std.specs.Prelude.{slice_get}
+use Rattle.std.proofs.Common.{[], subst}
 use Rattle.std.proofs.lemmas.Option.{get_or_from_slice_get}
 use Rattle.soc_model.specs.declared.Test.{Test}
 use Rattle.soc_model.specs.Chips.{ModuleValue}
-use Rattle.plan_model.specs.Cells.{Cell, scan_lengths}
+use Rattle.plan_model.specs.Cells.{scan_lengths}
 use Rattle.plan_model.specs.OneTest.{ReadsEnd}
 use Rattle.plan_model.specs.Plans.{WrapperValue}
 use Rattle.plan_model.proofs.CellOrder.{LoadsFront, dealt_loads_front, dealt_reads_end}

@@ -1,8 +1,8 @@
 -- What is counted entry by entry, and the fault that it shows.
-use Rattle.std.proofs.Common.{◌≡◌, ◌⊎◌, inl, inr, ℕ, zero, suc, ◌+◌, ◌-◌, ◌≤◌, ◌<◌, Bool, true, false, ◌&&◌, ◌||◌, not, cond, Option, None, Some, List, [], ◌∷◌, ◌++◌, length, replicate, take, drop, get_or, nat_eq, refl, ap, ◌∙◌, sym, subst, arith, append-nil}
+use Rattle.std.proofs.Common.{◌≡◌, ◌⊎◌, inl, inr, ℕ, zero, suc, ◌+◌, ◌≤◌, ◌<◌, Bool, true, false, ◌||◌, not, Option, None, Some, List, [], ◌∷◌, ◌++◌, length, replicate, take, get_or, nat_eq, refl, ap, ◌∙◌, sym, subst, arith, append-nil}
 use Rattle.std.specs.Prelude.{slice_get, nat_lt, if◌then◌else◌}
 use Rattle.std.specs.List.{All, list_any}
-use Rattle.std.proofs.lemmas.Bool.{cases_lt, ltb-true, ltb-false, lt-ltb, le-ltb, and_parts, and_from, or_cases, or_parts, eqb-true, eq-eqb}
+use Rattle.std.proofs.lemmas.Bool.{cases_lt, ltb-true, ltb-false, lt-ltb, and_parts, and_from, or_cases, or_parts, eqb-true, eq-eqb}
 use Rattle.std.proofs.lemmas.List.{length-append, length-replicate}
 use Rattle.std.proofs.lemmas.List.Concat.{flat_map-append}
 use Rattle.std.proofs.lemmas.List.Elements.{All-nil, All-push, All-head, All-tail}
@@ -16,7 +16,7 @@ use Rattle.shift_program.specs.declared.ProgramFault.TheVariants as fault
 use Rattle.shift_program.specs.declared.counting.Need.{Need}
 use Rattle.shift_program.specs.declared.counting.Passed.{Passed}
 use Rattle.shift_program.specs.Programs.{entry_operations, operations}
-use Rattle.shift_program.specs.Faults.{Needed, shifts_since, shifts_before, patterns_of, captured, is_rest, Rests, StartsEarly, CapturesWrong, LoadsFew, EndsBlock, UnloadsFew, MissesPatterns, Has, place_of, rank, Before, IsFault, IsFaultless}
+use Rattle.shift_program.specs.Faults.{Needed, shifts_since, patterns_of, captured, is_rest, Rests, StartsEarly, CapturesWrong, LoadsFew, EndsBlock, UnloadsFew, MissesPatterns, Has, place_of, rank, Before, IsFault, IsFaultless}
 use Rattle.shift_program.specs.Counting.{needed_by, AreCounted, passed_more, starts_early, is_wrong, unloads_few, shift_fault, capture_fault, entry_fault, end_fault}
 use Rattle.shift_program.proofs.Entries.{in_front, of_front, CaptureBefore}
 

@@ -1,15 +1,13 @@
 -- Where the operations of an entry stand, and what the entries before it did.
-use Rattle.std.proofs.Common.{◌≡◌, ◌⊎◌, inl, inr, ℕ, zero, suc, ◌+◌, ◌≤◌, ◌<◌, Bool, true, false, Some, List, [], ◌∷◌, ◌++◌, length, replicate, take, drop, refl, ap, ◌∙◌, sym, subst, arith}
+use Rattle.std.proofs.Common.{◌≡◌, ◌⊎◌, inl, inr, ℕ, zero, suc, ◌+◌, ◌<◌, Bool, true, false, Some, List, [], ◌∷◌, ◌++◌, length, replicate, take, drop, refl, ap, ◌∙◌, sym, subst, arith}
 use Rattle.std.specs.Prelude.{slice_get}
-use Rattle.std.specs.List.{flat_map}
-use Rattle.std.proofs.lemmas.List.{length-append, length-replicate}
+use Rattle.std.proofs.lemmas.List.{length-append}
 use Rattle.std.proofs.lemmas.List.Concat.{flat_map-append}
 use Rattle.plan_model.specs.Operations.{Operation, Setup, Shift, Capture, SelfTest}
 use Rattle.plan_model.proofs.Lists.{from_append}
 use Rattle.shift_program.specs.declared.Entry.{Entry}
 use Rattle.shift_program.specs.declared.Entry.TheVariants as entry
 use Rattle.shift_program.specs.Programs.{entry_operations, operations}
-use Rattle.shift_program.specs.Faults.{shifts_since}
 use Rattle.shift_program.proofs.Blocks.{has_capture}
 
 -- ---- lists

@@ -1,13 +1,13 @@
 -- A program without a fault is right.
-use Rattle.std.proofs.Common.{◌≡◌, ◌⊎◌, inl, inr, ℕ, zero, suc, ◌+◌, ◌-◌, ◌≤◌, ◌<◌, Bool, true, false, Some, List, [], ◌∷◌, ◌++◌, length, replicate, take, drop, reverse, get_or, refl, ap, ◌∙◌, sym, subst, arith}
+use Rattle.std.proofs.Common.{◌≡◌, ◌⊎◌, inl, inr, ℕ, zero, suc, ◌+◌, ◌-◌, ◌≤◌, ◌<◌, true, false, Some, List, [], ◌∷◌, ◌++◌, length, replicate, take, drop, get_or, refl, ap, ◌∙◌, sym, subst, arith}
 use Rattle.std.specs.Prelude.{slice_get}
-use Rattle.std.specs.List.{All, count_by}
+use Rattle.std.specs.List.{All}
 use Rattle.std.proofs.lemmas.Bool.{cases_lt, cases_order}
 use Rattle.std.proofs.lemmas.List.{take_all, length-append, length-replicate}
 use Rattle.std.proofs.lemmas.List.Elements.{All-nil, All-cons, All-head, All-tail}
-use Rattle.std.proofs.lemmas.Option.{slice_get_within, get_or_from_slice_get}
+use Rattle.std.proofs.lemmas.Option.{get_or_from_slice_get}
 use Rattle.plan_model.specs.Cells.{Cell, in_length, out_length}
-use Rattle.plan_model.specs.Operations.{Operation, Setup, Shift, Capture, SelfTest, ops_of}
+use Rattle.plan_model.specs.Operations.{Operation, Setup, Capture, ops_of}
 use Rattle.plan_model.specs.Plans.{si_of, so_of}
 use Rattle.plan_model.specs.OneTest.{ReadsEnd}
 use Rattle.plan_model.proofs.CellOrder.{LoadsFront}
@@ -17,11 +17,11 @@ use Rattle.shift_program.specs.declared.Entry.{Entry}
 use Rattle.shift_program.specs.declared.Entry.TheVariants as entry
 use Rattle.shift_program.specs.declared.ProgramFault.TheVariants as fault
 use Rattle.shift_program.specs.Programs.{entry_operations, operations, WrappedTest}
-use Rattle.shift_program.specs.RightPrograms.{TestContent, bits_before, Drive, Loads, Reads, IsShiftBehind, IsCapturedOnce, AreRight, between, is_shift, is_capture}
+use Rattle.shift_program.specs.RightPrograms.{TestContent, Drive, Loads, Reads, IsShiftBehind, IsCapturedOnce, AreRight}
 use Rattle.shift_program.specs.Faults.{needed_for, shifts_since, is_rest, Rests, captured, IsFaultless}
 use Rattle.shift_program.proofs.Blocks.{AreSpaced, enough_behind, has_capture, ShiftAt, find_shift}
 use Rattle.shift_program.proofs.Runs.{driven, loaded, shown}
-use Rattle.shift_program.proofs.Entries.{at_drop, CaptureAt, capture_at, EntryOf, entry_of, CaptureBefore, captured_before, parted_at}
+use Rattle.shift_program.proofs.Entries.{at_drop, capture_at, EntryOf, entry_of, CaptureBefore, captured_before, parted_at}
 use Rattle.shift_program.proofs.Patterns.{AreApart, AreWithin, all_captured}
 use Rattle.shift_program.proofs.Lengths.{long_enough, captures_of}
 

@@ -7,7 +7,9 @@ pub mod Faultless
 pub mod RightOnes
 pub mod Chains
 pub mod Counts
+pub mod Passing
 pub mod Exact
+pub mod Checked
 pub mod TextsRead
 pub mod TextsViable
 pub mod Texts

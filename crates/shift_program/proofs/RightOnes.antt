@@ -1,24 +1,23 @@
 -- A right program has no fault.
-use Rattle.std.proofs.Common.{◌≡◌, ◌⊎◌, inl, inr, ℕ, zero, suc, ◌+◌, ◌-◌, ◌≤◌, ◌<◌, max, Bool, true, false, Some, List, [], ◌∷◌, ◌++◌, length, map, replicate, take, drop, reverse, get_or, nat_eq, refl, ap, ◌∙◌, sym, subst, arith}
+use Rattle.std.proofs.Common.{◌≡◌, ◌⊎◌, inl, inr, ℕ, zero, suc, ◌+◌, ◌-◌, ◌≤◌, ◌<◌, true, false, Some, List, [], ◌∷◌, ◌++◌, length, map, replicate, take, drop, reverse, get_or, refl, ap, ◌∙◌, sym, subst, arith}
 use Rattle.std.specs.Prelude.{slice_get}
-use Rattle.std.specs.List.{All, count_by}
+use Rattle.std.specs.List.{All}
 use Rattle.std.proofs.lemmas.Bool.{cases_lt, ne_eqb}
 use Rattle.std.proofs.lemmas.List.{take_all, length-reverse}
 use Rattle.std.proofs.lemmas.Option.{slice_get-get_or, slice_get_within, get_or_from_slice_get}
 use Rattle.std.proofs.lemmas.List.Sums.{count_by-le-length}
-use Rattle.plan_model.specs.Cells.{Cell, In, is_loaded, is_read, in_length, out_length}
-use Rattle.plan_model.specs.Operations.{Operation, Setup, Shift, Capture, SelfTest, ops_of}
-use Rattle.plan_model.specs.Plans.{greatest, si_of, so_of}
+use Rattle.plan_model.specs.Cells.{In, is_read, in_length, out_length}
+use Rattle.plan_model.specs.Operations.{Operation, Setup, Shift, Capture}
+use Rattle.plan_model.specs.Plans.{greatest, so_of}
 use Rattle.shift_program.specs.declared.Entry.{Entry}
 use Rattle.shift_program.specs.declared.Entry.TheVariants as entry
-use Rattle.shift_program.specs.declared.ProgramFault.{ProgramFault}
 use Rattle.shift_program.specs.declared.ProgramFault.TheVariants as fault
 use Rattle.shift_program.specs.Programs.{entry_operations, operations, IsLasting, WrappedTest}
-use Rattle.shift_program.specs.RightPrograms.{TestContent, bits_before, Drive, IsShiftBehind, IsCapturedOnce, AreRight, is_shift, is_capture}
+use Rattle.shift_program.specs.RightPrograms.{Drive, AreRight}
 use Rattle.shift_program.specs.Faults.{needed_for, shifts_since, is_rest, StartsEarly, CapturesWrong, LoadsFew, UnloadsFew, MissesPatterns, EndsBlock, captured, IsFaultless}
-use Rattle.shift_program.proofs.Blocks.{block, has_capture, AreUnloaded, since_enough, since_enough_at, ShiftAt, within_block}
+use Rattle.shift_program.proofs.Blocks.{block, has_capture, AreUnloaded, since_enough, since_enough_at, within_block}
 use Rattle.shift_program.proofs.Runs.{zero_but, too_few}
-use Rattle.shift_program.proofs.Entries.{at_seam, at_drop, CaptureAt, capture_at, EntryOf, entry_of, earlier_capture, CaptureBefore, before_captured, parted_at}
+use Rattle.shift_program.proofs.Entries.{at_seam, at_drop, CaptureAt, capture_at, entry_of, earlier_capture, before_captured, parted_at}
 use Rattle.shift_program.proofs.Patterns.{enough_captured}
 
 -- ---- greatest lengths are those of some chain

@@ -1,19 +1,19 @@
 -- A chain over any operations, with any driven bits.
-use Rattle.std.proofs.Common.{◌≡◌, ℕ, zero, suc, ◌+◌, ◌-◌, ◌≤◌, ◌<◌, Bool, true, false, Option, Some, None, List, [], ◌∷◌, ◌++◌, length, map, take, drop, reverse, get_or, refl, ap, ◌∙◌, sym, subst, arith, nat_eq, cond}
+use Rattle.std.proofs.Common.{◌≡◌, ℕ, zero, suc, ◌+◌, ◌-◌, ◌≤◌, ◌<◌, Bool, true, false, Option, Some, None, List, [], ◌∷◌, length, map, take, drop, reverse, get_or, refl, ap, ◌∙◌, sym, arith, nat_eq, cond}
 use Rattle.std.specs.Prelude.{slice_get}
 use Rattle.std.specs.List.{count_by}
-use Rattle.std.proofs.lemmas.List.{length-map, length-reverse}
+use Rattle.std.proofs.lemmas.List.{length-map}
 use Rattle.std.proofs.lemmas.Bool.{eq-eqb}
 use Rattle.std.proofs.lemmas.Option.{slice_get-get_or, slice_get_within, get_or_from_slice_get}
 use Rattle.std.proofs.lemmas.List.Sums.{count_by-le-length}
 use Rattle.plan_model.specs.Cells.{Cell, In, Flop, Out, is_loaded, is_read, in_length, out_length}
 use Rattle.plan_model.specs.Operations.{Operation, Setup, Shift, Capture, SelfTest}
 use Rattle.plan_model.specs.Runs.{captured, next_bits, last_bit}
-use Rattle.plan_model.specs.OneTest.{from_end, ReadsEnd}
+use Rattle.plan_model.specs.OneTest.{ReadsEnd}
 use Rattle.plan_model.proofs.ChainShifts.{at_head, length-next_bits, shifted, shifted_in, get_or-captured}
 use Rattle.plan_model.proofs.CellOrder.{LoadsFront}
 use Rattle.plan_model.proofs.LawOfOneTest.{reverse_is}
-use Rattle.shift_program.specs.RightPrograms.{TestContent, bits_before, is_shift, is_capture}
+use Rattle.shift_program.specs.RightPrograms.{TestContent, bits_before, is_shift}
 use Rattle.shift_program.specs.Faults.{shifts_since}
 use Rattle.shift_program.proofs.Blocks.{ShiftAt, rest_of, count_cons, since_more, past_end}
 

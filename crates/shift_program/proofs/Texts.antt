@@ -1,5 +1,5 @@
 -- How far a text was read, and that what it says is settled.
-use Rattle.std.proofs.Common.{◌≡◌, ◌⊎◌, inl, inr, ℕ, ◌≤◌, Bool, true, false, List, [], ◌∷◌, ◌++◌, length, map, Option, None, Some, refl, sym, ◌∙◌, ap, subst, arith}
+use Rattle.std.proofs.Common.{◌≡◌, ◌⊎◌, inl, inr, ℕ, false, List, [], ◌∷◌, ◌++◌, length, map, Option, None, Some, refl, sym, ◌∙◌, ap, subst, arith}
 use Rattle.std.specs.Prelude.{Ok, Err}
 use Rattle.std.proofs.lemmas.List.{map-append}
 use Rattle.outside.specs.declared.reading.Stop.{Stop}
@@ -14,13 +14,13 @@ use Rattle.shift_program.specs.declared.steps.Draft.{Draft}
 use Rattle.shift_program.specs.declared.steps.Part.{Part}
 use Rattle.shift_program.specs.declared.steps.Part.TheVariants as part
 use Rattle.shift_program.specs.declared.tokens.Token.{Token}
-use Rattle.shift_program.specs.Programs.{ProgramValue, program_value}
+use Rattle.shift_program.specs.Programs.{program_value}
 use Rattle.shift_program.specs.Tokens.{token_of, program_tokens}
 use Rattle.shift_program.specs.Grammar.{Spells, IsProgramText, IsInRange, InGrammar}
 use Rattle.shift_program.specs.Steps.{State, at, start, step, run, is_whole}
 use Rattle.shift_program.specs.PartValues.{draft_value, Steps}
 use Rattle.shift_program.specs.Reads.{state_of, HasRead, SaysInRange}
-use Rattle.shift_program.specs.Answers.{RefusesText, IsReadProgram, TextMeaning, Says, RefusedAt, Means}
+use Rattle.shift_program.specs.Answers.{TextMeaning, Says, RefusedAt, Means}
 use Rattle.shift_program.specs.Laws.{EachTextHasAnAnswer, TextsHaveOneAnswer}
 use Rattle.shift_program.proofs.TextsRead.{spelled_small, range_of}
 use Rattle.shift_program.proofs.TextsViable.{Refuses, read_text, read_viable, stops_here, ends_here, one_program}

@@ -1,5 +1,5 @@
 -- What was read so far is the words of the state, and the words of a program are read whole.
-use Rattle.std.proofs.Common.{◌≡◌, ◌≤◌, ℕ, List, [], ◌∷◌, ◌++◌, length, map, Bool, true, false, ◌&&◌, not, nat_eq, decimal, Option, None, Some, refl, sym, ◌∙◌, ap, subst, arith, append_assoc, append-nil}
+use Rattle.std.proofs.Common.{◌≡◌, ◌≤◌, ℕ, List, [], ◌∷◌, ◌++◌, length, Bool, true, false, ◌&&◌, not, nat_eq, decimal, Option, None, Some, refl, sym, ◌∙◌, ap, subst, arith, append_assoc, append-nil}
 use Rattle.std.specs.Prelude.{nat_le}
 use Rattle.std.specs.List.{All, flat_map}
 use Rattle.std.specs.Str.{all_ascii_digits}
@@ -23,7 +23,7 @@ use Rattle.shift_program.specs.declared.steps.Part.TheVariants as part
 use Rattle.shift_program.specs.Programs.{ProgramValue, IsLasting}
 use Rattle.shift_program.specs.Tokens.{spelling, keywords, named, number_or_key, token_of, entry_tokens, program_tokens}
 use Rattle.shift_program.specs.Grammar.{Spells, IsSmallEntry, IsInRange}
-use Rattle.shift_program.specs.Steps.{State, at, start, with_entry, with_test, lasting_entry, next_if, step_number, begin, begin_program, begin_test, begun, step_key, step, run}
+use Rattle.shift_program.specs.Steps.{State, at, start, with_entry, lasting_entry, next_if, step_number, begin, begin_program, begin_test, begun, step_key, step, run}
 
 -- ---- the words of a state
 

@@ -1,5 +1,5 @@
 -- What is answered of a program's text.
-use Rattle.std.specs.Prelude.{◌≡◌, ℕ, List, Result, Ok, Err}
+use Rattle.std.specs.Prelude.{ℕ, List, Result, Ok, Err}
 use Rattle.outside.specs.Words.{words_of}
 use Rattle.outside.specs.Grammars.{IsRefused}
 use Rattle.shift_program.specs.declared.Program.{Program}

@@ -1,5 +1,5 @@
 -- What the checker counts, entry by entry. Only its own contracts speak of it.
-use Rattle.std.specs.Prelude.{◌≡◌, ℕ, suc, ◌+◌, ◌≤◌, Bool, true, false, ◌&&◌, ◌||◌, not, nat_eq, nat_lt, Option, None, Some, List, [], ◌∷◌, length, if◌then◌else◌}
+use Rattle.std.specs.Prelude.{◌≡◌, ℕ, ◌+◌, Bool, true, false, ◌&&◌, ◌||◌, not, nat_eq, nat_lt, Option, None, Some, List, length, if◌then◌else◌}
 use Rattle.std.specs.List.{All, list_any}
 use Rattle.shift_program.specs.declared.Entry.{Entry}
 use Rattle.shift_program.specs.declared.Entry.TheVariants as entry
@@ -8,7 +8,7 @@ use Rattle.shift_program.specs.declared.ProgramFault.TheVariants as fault
 use Rattle.shift_program.specs.declared.counting.Need.{Need}
 use Rattle.shift_program.specs.declared.counting.Passed.{Passed}
 use Rattle.shift_program.specs.Programs.{operations}
-use Rattle.shift_program.specs.Faults.{Needed, shifts_since, is_rest, captured, Rests}
+use Rattle.shift_program.specs.Faults.{Needed, shifts_since, Rests}
 
 abbrev pub needed_by : Need → Needed
 needed_by need = record { setup = need.setup; si = need.si; so = need.so; patterns = need.patterns }

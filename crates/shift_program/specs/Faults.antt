@@ -1,5 +1,5 @@
 -- What shows that a program isn't right, entry by entry.
-use Rattle.std.specs.Prelude.{◌≡◌, ◌⊎◌, ℕ, zero, suc, ◌<◌, ◌≤◌, Bool, true, false, Some, List, [], ◌∷◌, take, length, slice_get}
+use Rattle.std.specs.Prelude.{◌≡◌, ◌⊎◌, ℕ, suc, ◌<◌, Bool, true, false, Some, List, [], ◌∷◌, take, length, slice_get}
 use Rattle.std.specs.List.{flat_map, All}
 use Rattle.plan_model.specs.Operations.{Operation, Setup, Shift, Capture, SelfTest}
 use Rattle.plan_model.specs.Plans.{si_of, so_of}

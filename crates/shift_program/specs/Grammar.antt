@@ -1,5 +1,5 @@
 -- The grammar of a program's text: a set of whole lists of words.
-use Rattle.std.specs.Prelude.{◌≡◌, ◌≤◌, ℕ, List, Option, Some, map}
+use Rattle.std.specs.Prelude.{◌≡◌, ◌≤◌, List, Option, Some, map}
 use Rattle.std.specs.List.{All}
 use Rattle.outside.specs.Words.{Word}
 use Rattle.plan_model.specs.declared.TheConstants.{PLAN_NUMBER_MOST}

@@ -3,12 +3,11 @@ use Rattle.std.specs.Prelude.{◌≡◌, ◌⊎◌, ℕ, ◌≤◌, List, length
 use Rattle.std.specs.List.{All}
 use Rattle.soc_model.specs.declared.Test.{Test}
 use Rattle.soc_model.specs.Chips.{ModuleValue}
-use Rattle.plan_model.specs.Cells.{IsProper}
-use Rattle.plan_model.specs.Operations.{Operation, ops_of}
+use Rattle.plan_model.specs.Operations.{ops_of}
 use Rattle.plan_model.specs.Plans.{WrapperValue, si_of, so_of}
 use Rattle.shift_program.specs.declared.Entry.{Entry}
 use Rattle.shift_program.specs.declared.ProgramFault.{ProgramFault}
-use Rattle.shift_program.specs.Programs.{WrappedTest, wrapped_test, operations, IsLasting}
+use Rattle.shift_program.specs.Programs.{wrapped_test, operations, IsLasting}
 use Rattle.shift_program.specs.RightPrograms.{AreRight}
 use Rattle.shift_program.specs.Faults.{Needed, needed_for, IsFault, IsFaultless}
 use Rattle.shift_program.specs.Answers.{TextMeaning, Means}

@@ -1,5 +1,5 @@
 -- When a program is right for a test: said of its run, bit by bit, for every content and every list of driven bits.
-use Rattle.std.specs.Prelude.{◌≡◌, ℕ, zero, suc, ◌-◌, ◌<◌, ◌≤◌, Bool, true, false, Some, List, map, length, reverse, take, drop, slice_get}
+use Rattle.std.specs.Prelude.{◌≡◌, ℕ, zero, suc, ◌-◌, ◌<◌, ◌≤◌, Bool, true, false, Some, List, map, reverse, take, drop, slice_get}
 use Rattle.std.specs.List.{count_by}
 use Rattle.plan_model.specs.Cells.{Cell, is_loaded, out_length}
 use Rattle.plan_model.specs.Operations.{Operation, Setup, Shift, Capture, SelfTest}

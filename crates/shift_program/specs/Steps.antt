@@ -2,7 +2,6 @@
 -- contracts speak of it.
 use Rattle.std.specs.Prelude.{ℕ, ◌++◌, List, [], ◌∷◌, Bool, true, false, nat_eq, nat_le, Option, None, Some}
 use Rattle.outside.specs.Runs.{run_by}
-use Rattle.soc_model.specs.declared.TestId.{TestId}
 use Rattle.shift_program.specs.declared.Entry.{Entry}
 use Rattle.shift_program.specs.declared.Entry.TheVariants as entry
 use Rattle.shift_program.specs.declared.tokens.Keyword.{Keyword}

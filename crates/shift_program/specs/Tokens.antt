@@ -1,5 +1,5 @@
 -- The words of a program's text, as what they stand for.
-use Rattle.std.specs.Prelude.{ℕ, List, [], ◌∷◌, Option, None, Some, codes, decimal, if◌then◌else◌}
+use Rattle.std.specs.Prelude.{ℕ, List, [], ◌∷◌, Option, None, Some, codes, if◌then◌else◌}
 use Rattle.std.specs.List.{flat_map}
 use Rattle.outside.specs.Decimal.{number_of}
 use Rattle.outside.specs.Words.{same_letters}

@@ -168,7 +168,7 @@ fn note(seen: &mut IndexSet<u64>, entry: Entry)
     requires new { (k : ℕ) → patterns_of entry ≡ k ∷ [] → list_any (nat_eq k) (keys seen.old) ≡ false }
     requires space { 0 < spare seen.old }
     ensures filled { keys seen.new ≡ keys seen.old ++ patterns_of entry }
-    ensures space_left { spare seen.old ≤ spare seen.new + 1 }
+    ensures space_left { length (keys seen.old) + spare seen.old ≤ length (keys seen.new) + spare seen.new }
 {
     match entry {
         Entry::Rest { .. } | Entry::Shift { .. } => {}

@@ -1,4 +1,4 @@
-use Rattle.std.proofs.Common.{refl, sym}
+use Rattle.std.proofs.Common.{refl}
 use Rattle.shift_program.proofs.Texts.{whole_read, ends, not_whole}
 use Rattle.shift_program.proofs.reading.ProgramTextReader.end.Goals as goal
 
