@@ -13,7 +13,7 @@ use Rattle.plan_model.specs.Certificates.{IsAccepted}
 use Rattle.soc_reader.specs.ChipForm.{SaysChip}
 use Rattle.plan_text.specs.Answers.{SaysPlan}
 use Rattle.soctest.specs.declared.FileKind.{FileKind}
-use Rattle.soctest.specs.declared.FileKind.TheVariants.{Soc, Limits, Plan}
+use Rattle.soctest.specs.declared.FileKind.TheVariants.{Soc, Limits, Plan, Program}
 use Rattle.soctest.specs.declared.Status.{Status}
 use Rattle.soctest.specs.declared.Status.TheVariants.{Done, Refused, BadWords, TooLong}
 use Rattle.soctest.specs.declared.Verdict.TheVariants.{Answered}
@@ -24,12 +24,14 @@ use Rattle.plan_text.specs.PlanLines.{plan_text}
 use Rattle.chart.specs.ChartText.{chart_text}
 use Rattle.bit_machine.specs.Chips.{made_content}
 use Rattle.tester_vectors.specs.VectorText.{vector_text}
-use Rattle.soctest.specs.Commands.{CommandValue, Print, Widths, MakePlan, Check, Chart, Vectors}
+use Rattle.soctest.specs.Commands.{CommandValue, Print, Widths, MakePlan, Check, Chart, Vectors, Shift}
 use Rattle.soctest.specs.Texts.{too_long_line, bad_words_line, accepted_line}
 use Rattle.soctest.specs.Readings.{most_of, IsRead, RefusesChip, SaysLimits, RefusesLimits, SaysAccepted, RefusesPlan}
-use Rattle.soctest.specs.Procedures.{Procedure, Unless, with_limits, with_accepted, with_both, with_all, done_with, done_with_plan, run_refusal}
+use Rattle.soctest.specs.Procedures.{Procedure, Unless, with_limits, with_accepted, with_both, with_all, with_program, done_with, done_with_plan, run_refusal}
+use Rattle.shift_program.specs.Programs.{ProgramValue}
+use Rattle.soctest.specs.ShiftPrograms.{SaysRight, RefusesProgram, accepted_program}
 use Rattle.soctest.specs.Answers.{Stage, Answers, IsAnswer}
-use Rattle.soctest.specs.Ends.{MayAnswer, Ends, PlanUse, plan_use, IsTrustworthy, Headline, SaysBadWords}
+use Rattle.soctest.specs.Ends.{MayAnswer, Ends, PlanUse, plan_use, IsTrustworthy, Headline, IsTrustworthyProgram, ProgramHeadline, SaysBadWords}
 
 -- a stage that ends with Done has read its file
 stage_done : {V : Type 0} (file : FileKind) (Says : List ℕ → V → Type 0) (Refuses : List ℕ → List ℕ → Type 0) (Next : V → Status → List ℕ → Type 0) (held : Option (List ℕ)) (text : List ℕ) → Stage file Says Refuses Next held Done text → (v : V) × IsRead file Says held v × Next v Done text
@@ -114,6 +116,7 @@ some_one a b same = cc
 trusted : Laws → (files : Files) (command : CommandValue) (over : PlanUse) (text : List ℕ) (old new : Option (List ℕ)) → plan_use command ≡ Some over → IsAnswer (Some command) files Done text → Appended old text new → IsTrustworthy files over old new
 trusted laws files (Print soc) over text old new is answer put = absurd cc
 trusted laws files (Widths soc wires) over text old new is answer put = absurd cc
+trusted laws files (Shift soc limits plan program) over text old new is answer put = absurd cc
 trusted laws files (MakePlan soc limits) over text old new is answer put = subst (λ u. IsTrustworthy files u old new) (some_one _ _ is) (printed laws files soc limits text old new answer put)
 trusted laws files (Check soc limits plan) over text old new is answer put =
     subst (λ u. IsTrustworthy files u old new) (some_one _ _ is)
@@ -131,6 +134,39 @@ headline laws command held sb sa kb ka old new end ends files given over is name
     let ends' = rw done at ends in
     let answer = rw (is, names) at ends'.1 in
     trusted laws files given over ends'.0 old new of_plan answer ends'.2
+
+-- ---- a program that is accepted
+
+program_trusted : Laws → (files : Files) (soc limits plan program text : List ℕ) (old new : Option (List ℕ)) →
+    Answers (with_all soc limits plan (λ chip bounds value. with_program chip value program (λ shifts. done_with (accepted_program chip value shifts)))) files Done text → Appended old text new → IsTrustworthyProgram files soc limits plan program old new
+program_trusted laws files soc limits plan program text old new answer put =
+    let b = after_both files soc limits text (λ chip bounds. with_accepted chip bounds plan (λ value. with_program chip value program (λ shifts. done_with (accepted_program chip value shifts)))) answer in
+    let c = stage_done Plan (SaysAccepted b.0 b.1) (RefusesPlan b.0 b.1) (λ value. Answers (with_program b.0 value program (λ shifts. done_with (accepted_program b.0 value shifts))) files) (get files plan) text b.4 in
+    let d = stage_done Program (SaysRight b.0 c.0) (RefusesProgram b.0 c.0) (λ shifts. Answers (done_with (accepted_program b.0 c.0 shifts)) files) (get files program) text c.2 in
+    go b.0 b.1 c.0 d.0 b.2 b.3 c.1 d.1 d.2.1
+  where
+    go : (chip : SocValue) (bounds : LimitsValue) (value : PlanValue) (shifts : ProgramValue) → IsRead Soc SaysChip (get files soc) chip → IsRead Limits (SaysLimits chip) (get files limits) bounds → IsRead Plan (SaysAccepted chip bounds) (get files plan) value → IsRead Program (SaysRight chip value) (get files program) shifts →
+        text ≡ accepted_program chip value shifts → IsTrustworthyProgram files soc limits plan program old new
+    go chip bounds value shifts a b c d is = record {
+      chip = chip;
+      bounds = bounds;
+      value = value;
+      shifts = shifts;
+      chip_read = a;
+      limits_read = b;
+      plan_read = read_as_well Plan (SaysAccepted chip bounds) SaysPlan (get files plan) value (λ bytes says. says.0) c;
+      program_read = d;
+      right = λ content. laws.right chip bounds value content c.says.1.0;
+      bound = laws.bound chip bounds value.bound b.says.sound.some_wire c.says.1.1;
+      program_right = d.says.1;
+      written = subst (λ t. Appended old t new) is put;
+    }
+
+pub program_headline : Laws → (command : Option CommandValue) (held : Option Files) (sb sa kb ka : ℕ) (old new : Option (List ℕ)) (end : Status) → Ends (MayAnswer command held sb sa) kb ka old end new → ProgramHeadline command held old end new
+program_headline laws command held sb sa kb ka old new end ends files soc limits plan program is names done =
+    let ends' = rw done at ends in
+    let answer = rw (is, names) at ends'.1 in
+    program_trusted laws files soc limits plan program ends'.0 old new answer ends'.2
 
 -- ---- words that are no command
 

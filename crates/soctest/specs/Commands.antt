@@ -15,6 +15,7 @@ pub data CommandValue : Type 0 where
   Check : (soc limits plan : List ℕ) → CommandValue
   Chart : (soc limits plan : List ℕ) → CommandValue
   Vectors : (soc limits plan : List ℕ) → (seed : ℕ) → CommandValue
+  Shift : (soc limits plan program : List ℕ) → CommandValue
 
 abbrev pub command_value : Command → CommandValue
 command_value (command.Print soc) = Print soc.now
@@ -23,6 +24,7 @@ command_value (command.Plan soc limits) = MakePlan soc.now limits.now
 command_value (command.Check soc limits plan) = Check soc.now limits.now plan.now
 command_value (command.Chart soc limits plan) = Chart soc.now limits.now plan.now
 command_value (command.Vectors soc limits plan seed) = Vectors soc.now limits.now plan.now seed
+command_value (command.Shift soc limits plan program) = Shift soc.now limits.now plan.now program.now
 
 -- the number of wires of a command is from 1 to the most
 abbrev pub HasWires : Command → Type 0
@@ -32,6 +34,7 @@ HasWires (command.Plan soc limits) = Unit {0}
 HasWires (command.Check soc limits plan) = Unit {0}
 HasWires (command.Chart soc limits plan) = Unit {0}
 HasWires (command.Vectors soc limits plan seed) = Unit {0}
+HasWires (command.Shift soc limits plan program) = Unit {0}
 
 -- `widths` with a number of wires, where it is from 1 to the most
 abbrev pub widths_of : (soc : List ℕ) → Option ℕ → Option CommandValue
@@ -43,8 +46,8 @@ abbrev pub vectors_of : (soc limits plan : List ℕ) → Option ℕ → Option C
 vectors_of soc limits plan None = None
 vectors_of soc limits plan (Some seed) = Some (Vectors soc limits plan seed)
 
--- `print SOC`, `widths SOC WIRES`, `plan SOC LIMITS`, `check SOC LIMITS PLAN`, `chart SOC LIMITS PLAN` and
--- `vectors SOC LIMITS PLAN SEED`; no other words are a command
+-- `print SOC`, `widths SOC WIRES`, `plan SOC LIMITS`, `check SOC LIMITS PLAN`, `chart SOC LIMITS PLAN`,
+-- `vectors SOC LIMITS PLAN SEED` and `shift SOC LIMITS PLAN PROGRAM`; no other words are a command
 abbrev pub command_of : List (List ℕ) → Option CommandValue
 command_of (word ∷ soc ∷ []) = if pointwise nat_eq word (codes "print") then Some (Print soc) else None
 command_of (word ∷ soc ∷ last ∷ []) =
@@ -55,5 +58,8 @@ command_of (word ∷ soc ∷ limits ∷ plan ∷ []) =
     if pointwise nat_eq word (codes "check") then Some (Check soc limits plan)
     else if pointwise nat_eq word (codes "chart") then Some (Chart soc limits plan)
     else None
-command_of (word ∷ soc ∷ limits ∷ plan ∷ seed ∷ []) = if pointwise nat_eq word (codes "vectors") then vectors_of soc limits plan (number_of seed NUMBER_WORD_MOST) else None
+command_of (word ∷ soc ∷ limits ∷ plan ∷ last ∷ []) =
+    if pointwise nat_eq word (codes "vectors") then vectors_of soc limits plan (number_of last NUMBER_WORD_MOST)
+    else if pointwise nat_eq word (codes "shift") then Some (Shift soc limits plan last)
+    else None
 command_of _ = None

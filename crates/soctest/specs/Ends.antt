@@ -9,10 +9,10 @@ use Rattle.plan_model.specs.Right.{IsRight}
 use Rattle.plan_model.specs.Rules.{IsBound}
 use Rattle.soc_reader.specs.ChipForm.{SaysChip}
 use Rattle.soctest.specs.declared.FileKind.{FileKind}
-use Rattle.soctest.specs.declared.FileKind.TheVariants.{Soc, Limits, Plan}
+use Rattle.soctest.specs.declared.FileKind.TheVariants.{Soc, Limits, Plan, Program}
 use Rattle.soctest.specs.declared.Status.{Status}
 use Rattle.soctest.specs.declared.Status.TheVariants.{Done, Refused, BadWords, ReadFault, TooLong, WriteFault, NoMemory}
-use Rattle.soctest.specs.Commands.{CommandValue, Print, Widths, MakePlan, Check, Chart, Vectors}
+use Rattle.soctest.specs.Commands.{CommandValue, Print, Widths, MakePlan, Check, Chart, Vectors, Shift}
 use Rattle.plan_text.specs.Answers.{SaysPlan}
 use Rattle.plan_text.specs.PlanLines.{plan_text}
 use Rattle.chart.specs.ChartText.{chart_text}
@@ -20,6 +20,8 @@ use Rattle.bit_machine.specs.Chips.{made_content}
 use Rattle.tester_vectors.specs.VectorText.{vector_text}
 use Rattle.soctest.specs.Procedures.{Procedure, Read, Unless, Answer, procedure_of}
 use Rattle.soctest.specs.Texts.{is_line, unread_line, bad_words_line, accepted_line}
+use Rattle.shift_program.specs.Programs.{ProgramValue}
+use Rattle.soctest.specs.ShiftPrograms.{SaysRight, IsRightProgram, accepted_program}
 use Rattle.soctest.specs.Readings.{IsRead, SaysLimits}
 use Rattle.soctest.specs.Answers.{IsAnswer}
 use Rattle.soctest.specs.Decides.{IsUnreadOf}
@@ -68,6 +70,7 @@ fixes_text (Some (MakePlan soc limits)) = false
 fixes_text (Some (Check soc limits plan)) = true
 fixes_text (Some (Chart soc limits plan)) = true
 fixes_text (Some (Vectors soc limits plan seed)) = true
+fixes_text (Some (Shift soc limits plan program)) = true
 
 -- Where neither count of faults rose and the files give an answer, the call ends with its status, or for want of memory;
 -- where the text is fixed, that is written.
@@ -99,7 +102,7 @@ pub record PlanUse : Type 0 where
   pub plan : Option (List ℕ)
   pub text : SocValue → PlanValue → List ℕ
 
--- the commands over a plan that is printed or accepted
+-- the commands over a plan that is printed or accepted; `shift`, which writes of a program too, has a clause of its own
 abbrev pub plan_use : CommandValue → Option PlanUse
 plan_use (Print soc) = None
 plan_use (Widths soc wires) = None
@@ -107,6 +110,7 @@ plan_use (MakePlan soc limits) = Some (record { soc = soc; limits = limits; plan
 plan_use (Check soc limits plan) = Some (record { soc = soc; limits = limits; plan = Some plan; text = λ chip value. accepted_line value })
 plan_use (Chart soc limits plan) = Some (record { soc = soc; limits = limits; plan = Some plan; text = λ chip value. chart_text chip value })
 plan_use (Vectors soc limits plan seed) = Some (record { soc = soc; limits = limits; plan = Some plan; text = λ chip value. vector_text chip value (made_content chip seed) })
+plan_use (Shift soc limits plan program) = None
 
 -- What a plan is that is printed or accepted: the chip and the limits that it is for were read from the held files, and so was
 -- the plan where a file is named for it; it runs right for every content and ends in exactly the cycles that it states; no
@@ -126,6 +130,28 @@ pub record IsTrustworthy (files : Files) (over : PlanUse) (old new : Option (Lis
 abbrev pub Headline : Option CommandValue → Option Files → Option (List ℕ) → Status → Option (List ℕ) → Type 0
 Headline command held old end new =
     (files : Files) (given : CommandValue) (over : PlanUse) → held ≡ Some files → command ≡ Some given → plan_use given ≡ Some over → end ≡ Done → IsTrustworthy files over old new
+
+-- What a program is that is accepted: the chip, the limits, the plan and the program were read from the held files; the plan
+-- runs right for every content, and no good plan ends before its bound; the program is right for its test for every content,
+-- and takes at least the test's cycles; and both numbers of cycles were written.
+pub record IsTrustworthyProgram (files : Files) (soc limits plan program : List ℕ) (old new : Option (List ℕ)) : Type 0 where
+  pub chip : SocValue
+  pub bounds : LimitsValue
+  pub value : PlanValue
+  pub shifts : ProgramValue
+  pub chip_read : IsRead Soc SaysChip (get files soc) chip
+  pub limits_read : IsRead Limits (SaysLimits chip) (get files limits) bounds
+  pub plan_read : IsRead Plan SaysPlan (get files plan) value
+  pub program_read : IsRead Program (SaysRight chip value) (get files program) shifts
+  pub right : (content : Content) → IsRight chip bounds value content
+  pub bound : IsBound chip bounds value.bound.cycles
+  pub program_right : IsRightProgram chip value shifts
+  pub written : Appended old (accepted_program chip value shifts) new
+
+-- The headline of `shift`, where the shelf tells what it holds.
+abbrev pub ProgramHeadline : Option CommandValue → Option Files → Option (List ℕ) → Status → Option (List ℕ) → Type 0
+ProgramHeadline command held old end new =
+    (files : Files) (soc limits plan program : List ℕ) → held ≡ Some files → command ≡ Some (Shift soc limits plan program) → end ≡ Done → IsTrustworthyProgram files soc limits plan program old new
 
 -- BadWords comes with its line, also where the shelf tells nothing.
 abbrev pub SaysBadWords : Option (List ℕ) → Status → Option (List ℕ) → Type 0

@@ -5,4 +5,5 @@ pub mod Ends
 pub mod Procedures
 pub mod Readings
 pub mod Texts
+pub mod ShiftPrograms
 pub mod WidthsText

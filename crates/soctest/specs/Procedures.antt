@@ -5,7 +5,7 @@ use Rattle.plan_model.specs.Plans.{LimitsValue, PlanValue}
 use Rattle.soc_reader.specs.ChipForm.{SaysChip}
 use Rattle.soc_printer.specs.SocText.{soc_text}
 use Rattle.soctest.specs.declared.FileKind.{FileKind}
-use Rattle.soctest.specs.declared.FileKind.TheVariants.{Soc, Limits, Plan}
+use Rattle.soctest.specs.declared.FileKind.TheVariants.{Soc, Limits, Plan, Program}
 use Rattle.soctest.specs.declared.Status.{Status}
 use Rattle.soctest.specs.declared.Status.TheVariants.{Done}
 use Rattle.chart.specs.ChartText.{chart_text}
@@ -14,9 +14,11 @@ use Rattle.plan_text.specs.PlanLines.{plan_text}
 use Rattle.bit_machine.specs.Chips.{made_content}
 use Rattle.tester_vectors.specs.declared.TheConstants.{RUN_MOST}
 use Rattle.tester_vectors.specs.VectorText.{wire_cycles, vector_text}
-use Rattle.soctest.specs.Commands.{CommandValue, Print, Widths, MakePlan, Check, Chart, Vectors}
+use Rattle.soctest.specs.Commands.{CommandValue, Print, Widths, MakePlan, Check, Chart, Vectors, Shift}
 use Rattle.soctest.specs.Texts.{accepted_line, run_line}
 use Rattle.soctest.specs.WidthsText.{widths_text}
+use Rattle.shift_program.specs.Programs.{ProgramValue}
+use Rattle.soctest.specs.ShiftPrograms.{SaysRight, RefusesProgram, accepted_program}
 use Rattle.soctest.specs.Readings.{RefusesChip, SaysLimits, RefusesLimits, SaysAccepted, RefusesPlan}
 
 -- A file of a name is read, where its bytes say a value (`Says bytes value`); what is done next is fixed by that value.
@@ -66,6 +68,10 @@ with_both soc limits next = with_chip soc (λ chip. with_limits chip limits (nex
 abbrev pub with_all : (soc limits plan : List ℕ) → (SocValue → LimitsValue → PlanValue → Procedure) → Procedure
 with_all soc limits plan next = with_both soc limits (λ chip bounds. with_accepted chip bounds plan (next chip bounds))
 
+-- a program that is right for its test in an accepted plan
+abbrev pub with_program : SocValue → PlanValue → (program : List ℕ) → (ProgramValue → Procedure) → Procedure
+with_program chip value program next = Read Program (SaysRight chip value) (RefusesProgram chip value) program next
+
 -- ---- the commands
 
 abbrev pub procedure_of : CommandValue → Procedure
@@ -75,3 +81,4 @@ procedure_of (MakePlan soc limits) = with_both soc limits done_with_plan
 procedure_of (Check soc limits plan) = with_all soc limits plan (λ chip bounds value. done_with (accepted_line value))
 procedure_of (Chart soc limits plan) = with_all soc limits plan (λ chip bounds value. done_with (chart_text chip value))
 procedure_of (Vectors soc limits plan seed) = with_all soc limits plan (λ chip bounds value. Unless (run_refusal value) (done_with (vector_text chip value (made_content chip seed))))
+procedure_of (Shift soc limits plan program) = with_all soc limits plan (λ chip bounds value. with_program chip value program (λ shifts. done_with (accepted_program chip value shifts)))

@@ -22,6 +22,7 @@ pub fn unread_line(file: FileKind) -> &'static [u8]
         FileKind::Soc => b"cannot read SOC\n",
         FileKind::Limits => b"cannot read LIMITS\n",
         FileKind::Plan => b"cannot read PLAN\n",
+        FileKind::Program => b"cannot read PROGRAM\n",
     }
 }
 
@@ -34,6 +35,7 @@ pub fn too_long_line(file: FileKind) -> &'static [u8]
         FileKind::Soc => b"too long SOC\n",
         FileKind::Limits => b"too long LIMITS\n",
         FileKind::Plan => b"too long PLAN\n",
+        FileKind::Program => b"too long PROGRAM\n",
     }
 }
 
@@ -65,7 +67,7 @@ pub(crate) fn push_decimal(to: &mut Vec<u8>, n: u128) -> Result<(), NoMemory>
     push_number(to, n)
 }
 
-fn push_test(to: &mut Vec<u8>, id: &TestId) -> Result<(), NoMemory>
+pub(crate) fn push_test(to: &mut Vec<u8>, id: &TestId) -> Result<(), NoMemory>
     ensures text { OnOk result (to.new.items ≡ to.old.items ++ test_text id.now) }
     ensures plain { OnOk result (IsTrue (no_feed to.old.items) → IsTrue (no_feed to.new.items)) }
 {
@@ -104,7 +106,7 @@ fn push_wrapper(to: &mut Vec<u8>, module: u64, scan: bool) -> Result<(), NoMemor
     }
 }
 
-fn push_two(to: &mut Vec<u8>, a: u128, b: u128) -> Result<(), NoMemory>
+pub(crate) fn push_two(to: &mut Vec<u8>, a: u128, b: u128) -> Result<(), NoMemory>
     ensures text { OnOk result (to.new.items ≡ to.old.items ++ two_numbers a b) }
     ensures plain { OnOk result (IsTrue (no_feed to.old.items) → IsTrue (no_feed to.new.items)) }
 {
@@ -176,7 +178,7 @@ fn push_carried(to: &mut Vec<u8>, fault: &PlanFault) -> Result<(), NoMemory>
 }
 
 /// A line of words and a number.
-fn numbered(alloc: Global, words: &[u8], number: u128) -> Result<Vec<u8>, NoMemory>
+pub(crate) fn numbered(alloc: Global, words: &[u8], number: u128) -> Result<Vec<u8>, NoMemory>
     requires { IsTrue (no_feed words.now) }
     ensures text { IfOk result (λ text. text.items ≡ words.now ++ decimal number ++ codes "\n") }
     ensures line { IfOk result (λ text. IsTrue (is_line text.items)) }

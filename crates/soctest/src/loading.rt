@@ -85,13 +85,13 @@ fn most_of(file: FileKind) -> u64
     ensures { result ≡ most_bytes file }
 {
     match file {
-        FileKind::Soc | FileKind::Limits => FILE_MOST,
+        FileKind::Soc | FileKind::Limits | FileKind::Program => FILE_MOST,
         FileKind::Plan => PLAN_FILE_MOST,
     }
 }
 
 /// Loads the bytes of a file, else how the command ends: the file is too long, it can't be read, or there is no memory.
-fn load_file<H: Shelf>(
+pub(crate) fn load_file<H: Shelf>(
     alloc: Global,
     file: FileKind,
     name: &str,

@@ -2,7 +2,7 @@
 ghost use Rattle.std.specs.Prelude.{◌≡◌, ◌≤◌, None, map, string_bytes};
 ghost use Rattle.outside.specs.Held.{Rose};
 ghost use Rattle.soctest.specs.Commands.{command_of};
-ghost use Rattle.soctest.specs.Ends.{MayAnswer, Ends, OneLine, EndsByWords, Complete, Finishes, SaysBadWords, Headline};
+ghost use Rattle.soctest.specs.Ends.{MayAnswer, Ends, OneLine, EndsByWords, Complete, Finishes, SaysBadWords, Headline, ProgramHeadline};
 
 use crate::deciding::decide;
 use crate::lines::unread_line;
@@ -11,6 +11,9 @@ use limits_text::texts_have_one_answer;
 use outside::{Shelf, Sink, WriteFault, put_all};
 use plan_model::{certificates_are_bounds, faults_are_exact, good_plans_run_right};
 use plan_text::{plans_are_not_refused, refused_once, say_one_plan};
+use shift_program::{
+    faultless_programs_are_right, program_faults_are_exact, program_texts_have_one_answer,
+};
 use std::alloc::Global;
 
 /// Runs the command of these words over the files of a shelf, and writes its answer.
@@ -41,6 +44,9 @@ pub fn soctest<H: Shelf, K: Sink>(
 
     // The headline: a plan that is printed or accepted, by any command, runs right, and its bound is one.
     ensures headline { Headline (command_of (map string_bytes words.now)) (H.held shelf.old) (K.written out.old) result (K.written out.new) }
+
+    // And so a program of Shifts that is accepted is right for its test, in a plan that runs right.
+    ensures program_headline { ProgramHeadline (command_of (map string_bytes words.now)) (H.held shelf.old) (K.written out.old) result (K.written out.new) }
 {
     good_plans_run_right();
     certificates_are_bounds();
@@ -49,6 +55,9 @@ pub fn soctest<H: Shelf, K: Sink>(
     say_one_plan();
     plans_are_not_refused();
     refused_once();
+    faultless_programs_are_right();
+    program_faults_are_exact();
+    program_texts_have_one_answer();
     match decide(alloc, words, shelf) {
         Verdict::Answered { status, text } => match put_all(out, text.as_slice()) {
             Ok(()) => status,
