@@ -1,14 +1,22 @@
 -- What is answered of a program: a text says one, or is refused in one line.
-use Rattle.std.proofs.Common.{◌≡◌, ◌⊎◌, inl, inr, ℕ, ◌≤◌, ◌<◌, List, Option, None, Some, Result, Ok, Err, IfOk, length, refl, ap, sym, ◌∙◌, subst, arith}
-use Rattle.std.specs.Prelude.{IsTrue}
+use Rattle.std.proofs.Common.{◌≡◌, ◌⊎◌, inl, inr, ℕ, ◌≤◌, ◌<◌, List, map, get_or, true, Option, None, Some, Result, Ok, Err, IfOk, length, refl, ap, sym, ◌∙◌, subst, arith}
+use Rattle.std.specs.Prelude.{IsTrue, slice_get}
+use Rattle.std.proofs.lemmas.Bool.{and_parts}
+use Rattle.std.proofs.lemmas.Option.{get_or_from_slice_get}
 use Rattle.std.specs.Global.{Vec}
 use Rattle.outside.specs.declared.NoMemory.{NoMemory as MemoryFault}
 use Rattle.outside.specs.Held.{Files, WhereTold}
 use Rattle.soc_model.specs.declared.Test.{Test}
-use Rattle.soc_model.specs.Chips.{ModuleValue, SocValue}
-use Rattle.plan_model.specs.Plans.{PlanValue}
+use Rattle.soc_model.specs.Chips.{ModuleValue, SocValue, is_live}
+use Rattle.soc_model.specs.Modes.{is_tam}
+use Rattle.plan_model.specs.declared.Wrapper.{Wrapper}
+use Rattle.plan_model.specs.Operations.{ops_of}
+use Rattle.plan_model.specs.Plans.{PlanValue, WrapperValue, si_of, so_of}
+use Rattle.plan_model.specs.Views.{wrapper_value}
+use Rattle.plan_model.proofs.FoundWrappers.{IsFound}
 use Rattle.shift_program.specs.declared.ProgramFault.{ProgramFault}
-use Rattle.shift_program.specs.Programs.{ProgramValue, operations}
+use Rattle.shift_program.specs.Programs.{ProgramValue, WrappedTest, wrapped_test, operations}
+use Rattle.shift_program.specs.RightPrograms.{AreRight}
 use Rattle.shift_program.specs.Faults.{needed_for, IsFault}
 use Rattle.shift_program.specs.Answers.{TextMeaning, Says, RefusedAt, Means, IsReadProgram}
 use Rattle.shift_program.specs.Laws.{RightAreFaultless, OneFault, TextsHaveOneAnswer}
@@ -117,3 +125,57 @@ judged_right plan program m t did cycles (Ok text) (Answered status given) right
 judged_right plan program m t did cycles (Ok text) (CannotRead file) right says same same' d = absurd d
 judged_right plan program m t did cycles (Ok text) OutOfMemory right says same same' d = tt
 judged_right plan program m t did cycles (Err fault) verdict right says same same' d = rw d tt
+
+-- ---- the wrapper that is found
+
+-- a test in the wrapper that is found is the test in the plan's
+pub same_wrapped : (plan : PlanValue) (m : ModuleValue) (t : Test) (ws : List Wrapper) (k : ℕ) (w : Wrapper) → plan.wrappers ≡ map wrapper_value ws → IsFound m t.scan ws k w → wrapped_test m t (wrapper_value w) ≡ planned_for plan m t
+same_wrapped plan m t ws k w are found = rw (are, found.first, found.scan_is) refl
+
+-- what is right in the wrapper that is found is right in the plan's
+pub right_for : (plan : PlanValue) (program : ProgramValue) (m : ModuleValue) (t : Test) (w : WrapperValue) (did : ℕ) → wrapped_test m t w ≡ planned_for plan m t → t.tam ≡ true → AreRight (wrapped_test m t w) (operations program.entries) → did ≡ length (operations program.entries) →
+    length (ops_of m.setup (si_of (wrapped_test m t w).chains) (so_of (wrapped_test m t w).chains) t.patterns) ≤ did → IsRightFor plan program m t
+right_for plan program m t w did same tam right all least =
+    let time : test_cycles plan m t ≡ length (ops_of m.setup (si_of (planned_for plan m t).chains) (so_of (planned_for plan m t).chains) t.patterns) = rw tam refl in
+    let least' = subst (λ (x : WrappedTest). length (ops_of m.setup (si_of x.chains) (so_of x.chains) t.patterns) ≤ did) same least in
+    record { right = subst (λ (x : WrappedTest). AreRight x (operations program.entries)) same right; least = omega (arith, least', all, time) }
+
+-- a fault in the wrapper that is found is one in the plan's
+pub fault_for : (plan : PlanValue) (program : ProgramValue) (m : ModuleValue) (t : Test) (w : WrapperValue) (f : ProgramFault) → wrapped_test m t w ≡ planned_for plan m t → IsFault (needed_for (wrapped_test m t w)) program.entries f → RefusedIn plan program (Some (m, t)) (program_fault_line f)
+fault_for plan program m t w f same is = (f, subst (λ (x : WrappedTest). IsFault (needed_for x) program.entries f) same is, refl)
+
+-- ---- the test that is found
+
+-- a module and a test that were read at their places are those that stand there
+pub found_there : (ms : List ModuleValue) (place at : ℕ) (m read : ModuleValue) (t test : Test) → slice_get ms place ≡ Some m → slice_get m.tests at ≡ Some t → slice_get ms place ≡ Some read → test ≡ get_or read.tests at test → (m ≡ read) × (t ≡ test)
+found_there ms place at m read t test here there here' there' =
+    let same : m ≡ read = cc in
+    (same, sym (get_or_from_slice_get m.tests at t test there) ∙ ap (λ (x : ModuleValue). get_or x.tests at test) same ∙ sym there')
+
+-- it is a live test over the wires, and stands there
+pub record IsThere (ms : List ModuleValue) (place at : ℕ) (m : ModuleValue) (t : Test) : Type 0 where
+  pub here : slice_get ms place ≡ Some m
+  pub there : slice_get m.tests at ≡ Some t
+  pub tam : is_tam t ≡ true
+  pub live : is_live t ≡ true
+  pub wires : t.tam ≡ true
+
+pub read_there : (ms : List ModuleValue) (place at : ℕ) (m read : ModuleValue) (t test : Test) → slice_get ms place ≡ Some m → slice_get m.tests at ≡ Some t → is_tam t ≡ true → slice_get ms place ≡ Some read → test ≡ get_or read.tests at test → IsThere ms place at read test
+read_there ms place at m read t test here there tam here' there' =
+    let same = found_there ms place at m read t test here there here' there' in
+    let tam' : is_tam test ≡ true = subst (λ (x : Test). is_tam x ≡ true) same.1 tam in
+    let parts = and_parts (is_live test) test.tam tam' in
+    record {
+      here = here';
+      there = subst (λ (x : ModuleValue). slice_get x.tests at ≡ Some test) same.0 (subst (λ (x : Test). slice_get m.tests at ≡ Some x) same.1 there);
+      tam = tam';
+      live = parts.0;
+      wires = parts.1;
+    }
+
+-- a verdict on the test that was read is one on the test of that name
+pub judged_there : (chip : SocValue) (plan : PlanValue) (program : ProgramValue) (place at : ℕ) (m read : ModuleValue) (t test : Test) (verdict : Verdict) → slice_get chip.modules place ≡ Some m → slice_get m.tests at ≡ Some t → slice_get chip.modules place ≡ Some read → test ≡ get_or read.tests at test →
+    named_test chip program.test ≡ Some (m, t) → Judges plan program (Some (read, test)) verdict → Judges plan program (named_test chip program.test) verdict
+judged_there chip plan program place at m read t test verdict here there here' there' named is =
+    let same = found_there chip.modules place at m read t test here there here' there' in
+    subst (λ o. Judges plan program o verdict) (sym (named ∙ ap (λ (x : ModuleValue). Some (x, t)) same.0 ∙ ap (λ (x : Test). Some (read, x)) same.1)) is
