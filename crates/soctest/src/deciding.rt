@@ -17,9 +17,11 @@ ghost use Rattle.soctest.specs.Procedures.{procedure_of, run_refusal};
 ghost use Rattle.soctest.specs.Decides.{Follows, Decides, GivesUnless};
 
 use crate::lines::{accepted_line, run_line};
-use crate::loading::{answered, answered_with, load_all, load_both, load_chip, load_file, refused_with};
-use crate::widths::widths_text;
+use crate::loading::{
+    answered, answered_with, load_all, load_both, load_chip, load_file, refused_with,
+};
 use crate::programs::answer_program;
+use crate::widths::widths_text;
 use crate::words::command;
 use crate::{Command, FileKind, Status, Verdict};
 use chart::print_chart;

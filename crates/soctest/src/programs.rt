@@ -144,13 +144,7 @@ fn judge(alloc: Global, plan: &Plan, module: &Module, test: &Test, program: &Pro
 }
 
 /// What is answered of a program that was read.
-fn judge_named(
-    alloc: Global,
-    soc: &Soc,
-    limits: &Limits,
-    plan: &Plan,
-    program: &Program,
-) -> Verdict
+fn judge_named(alloc: Global, soc: &Soc, limits: &Limits, plan: &Plan, program: &Program) -> Verdict
     requires chip { IsSoundChip (soc_value soc.now) }
     requires good { IsGood (soc_value soc.now) (limits_value limits.now) (plan_value plan.now) }
     requires lasting { All IsLasting program.now.entries.items }
