@@ -13,7 +13,7 @@ use Rattle.soctest.specs.declared.loading.Accepted.{Accepted}
 use Rattle.soctest.specs.Readings.{IsRead, RefusesChip, SaysLimits, RefusesLimits, SaysAccepted, RefusesPlan}
 use Rattle.soctest.specs.Procedures.{Procedure, nothing, with_limits, with_accepted, with_both, with_all}
 use Rattle.soctest.specs.Decides.{Follows, BothRead, LoadsBoth, AreRead, LoadsAll}
-use Rattle.soctest.proofs.FileStages.{after_file, no_value, covered, covers_read, covers_nothing}
+use Rattle.soctest.proofs.FileStages.{after_file, covered, covers_read, covers_nothing}
 
 -- ---- a chip and limits
 

@@ -18,20 +18,24 @@ use Rattle.soctest.specs.declared.Status.{Status}
 use Rattle.soctest.specs.declared.Status.TheVariants.{Done, Refused, BadWords, ReadFault, TooLong, WriteFault, NoMemory}
 use Rattle.bit_machine.specs.Chips.{made_content}
 use Rattle.tester_vectors.specs.VectorText.{vector_text}
-use Rattle.soctest.specs.Commands.{CommandValue, Print, Widths, MakePlan, Check, Chart, Vectors, Shift}
+use Rattle.soctest.specs.Commands.{CommandValue, Print, Widths, MakePlan, Check, Chart, Vectors, Sample, Shift}
 use Rattle.soctest.specs.Texts.{chip_line, chip_limit_line, plan_line, fault_line, accepted_line}
 use Rattle.soc_printer.specs.SocText.{soc_text}
 use Rattle.soctest.specs.WidthsText.{widths_text}
 use Rattle.soctest.specs.Readings.{RefusesChip, SaysLimits, refusal_of, RefusesLimits, SaysAccepted, RefusesPlan}
 use Rattle.chart.specs.ChartText.{chart_text}
 use Rattle.soctest.specs.Procedures.{Procedure, Unless, run_refusal, procedure_of, with_both, with_accepted, with_all, with_program, done_with, done_with_plan}
+use Rattle.planner.specs.Plans.{IsPlanned}
+use Rattle.plan_text.specs.PlanLines.{plan_text}
+use Rattle.sample_maker.specs.Samples.{made_chip}
+use Rattle.soctest.specs.Samples.{sample_limits, sample_text}
 use Rattle.soctest.specs.Answers.{IsAnswer}
 use Rattle.soctest.specs.Decides.{IsUnread, IsUnreadOf}
 use Rattle.soctest.specs.Ends.{MayAnswer, Ends, fixes_text, EndsAsWanted, Complete, AreTaken, Finishes}
 use Rattle.shift_program.specs.Programs.{ProgramValue}
 use Rattle.soctest.specs.ShiftPrograms.{accepted_program}
 use Rattle.soctest.proofs.ProgramAnswers.{ProgramLaws, program_one, program_refused_one}
-use Rattle.soctest.proofs.Settled.{AreOne, SaysOne, RefusesOne, IsSettled, one_answer, no_answer, only_done, none_unread, done_once, plan_once}
+use Rattle.soctest.proofs.Settled.{AreOne, SaysOne, RefusesOne, IsSettled, one_answer, no_answer, only_done, none_unread, done_once, left_open}
 
 -- the laws that completeness rests on
 pub record Laws : Type 0 where
@@ -121,10 +125,11 @@ settled_all laws soc limits plan next last =
 settled : Laws → (command : CommandValue) → IsSettled (fixes_text (Some command)) (procedure_of command)
 settled laws (Print soc) = (one_chip, chip_refused_one, λ chip. done_once true (soc_text chip))
 settled laws (Widths soc wires) = (one_chip, chip_refused_one, λ chip. done_once true (widths_text chip wires))
-settled laws (MakePlan soc limits) = settled_both laws false soc limits done_with_plan plan_once
+settled laws (MakePlan soc limits) = settled_both laws false soc limits done_with_plan (λ chip bounds. left_open (λ text. (value : PlanValue) × IsPlanned chip bounds value × (text ≡ plan_text value)))
 settled laws (Check soc limits plan) = settled_all laws soc limits plan (λ chip bounds value. done_with (accepted_line value)) (λ chip bounds value. done_once true (accepted_line value))
 settled laws (Chart soc limits plan) = settled_all laws soc limits plan (λ chip bounds value. done_with (chart_text chip value)) (λ chip bounds value. done_once true (chart_text chip value))
 settled laws (Vectors soc limits plan seed) = settled_all laws soc limits plan (λ chip bounds value. Unless (run_refusal value) (done_with (vector_text chip value (made_content chip seed)))) (λ chip bounds value. done_once true (vector_text chip value (made_content chip seed)))
+settled laws (Sample n seed) = left_open (λ text. (value : PlanValue) × IsPlanned (made_chip n seed) sample_limits value × (text ≡ sample_text n seed (made_chip n seed) value))
 settled laws (Shift soc limits plan program) =
     settled_all laws soc limits plan (λ chip bounds value. with_program chip value program (λ shifts. done_with (accepted_program chip value shifts)))
     (λ chip bounds value. settled_program laws chip value program (λ shifts. done_with (accepted_program chip value shifts)) (λ shifts. done_once true (accepted_program chip value shifts)))

@@ -1,5 +1,5 @@
 -- From the verdict on what comes after a file to the verdict from that file on.
-use Rattle.std.proofs.Common.{◌≡◌, ◌⊎◌, ℕ, ◌≤◌, inl, inr, List, Option, None, Some, IfSome, Result, Ok, Err, IfOk, Bool, true, false, length, refl, arith}
+use Rattle.std.proofs.Common.{◌≡◌, ◌⊎◌, ℕ, ◌≤◌, inl, inr, List, Option, None, Some, IfSome, Result, Ok, Err, IfOk, Bool, true, false, length, refl, sym, subst, arith, IsTrue}
 use Rattle.std.specs.Prelude.{nat_lt, MatchBool}
 use Rattle.std.specs.FinMap.{get}
 use Rattle.std.specs.Global.{Vec}
@@ -12,7 +12,7 @@ use Rattle.soctest.specs.declared.Status.TheVariants.{Done, Refused, BadWords, R
 use Rattle.soctest.specs.declared.Verdict.{Verdict}
 use Rattle.soctest.specs.declared.Verdict.TheVariants.{Answered, CannotRead, NoMemory as OutOfMemory}
 use Rattle.soctest.specs.Commands.{CommandValue}
-use Rattle.soctest.specs.Texts.{bad_words_line, too_long_line}
+use Rattle.soctest.specs.Texts.{is_line, bad_words_line, too_long_line}
 use Rattle.soctest.specs.Readings.{most_of, IsRead}
 use Rattle.soctest.specs.Procedures.{Procedure, Read, Unless, Answer, nothing, with_bytes, done_with}
 use Rattle.soctest.specs.Answers.{Stage, Answers}
@@ -82,6 +82,26 @@ unless_refused (Some line) answer None before after (Answered status text) d = (
 unless_refused (Some line) answer (Some files) before after (Answered status text) d = (rw d.0 d.2, (d.0, d.1))
 unless_refused (Some line) answer held before after (CannotRead missed) d = absurd d
 unless_refused (Some line) answer held before after OutOfMemory d = tt
+
+-- a line that a call made refuses
+pub line_refuses : (line : List ℕ) (made : Result (Vec ℕ) MemoryFault) (verdict : Verdict) → IfOk made (λ text. text.items ≡ line) → IfOk made (λ text. IsTrue (is_line text.items)) → GivesText Refused made verdict → Refuses line verdict
+line_refuses line (Err fault) verdict is one d = rw d tt
+line_refuses line (Ok text) (Answered status bytes) is one d = (d.0, rw d.1 is, rw d.1 one)
+line_refuses line (Ok text) (CannotRead missed) is one d = absurd d
+line_refuses line (Ok text) OutOfMemory is one d = tt
+
+-- a line that refuses, whatever comes next
+pub unless_line : (refusal : Option (List ℕ)) (line : List ℕ) (next : Procedure) (held : Option Files) (before after : ℕ) (verdict : Verdict) → refusal ≡ Some line → Refuses line verdict → Follows (Unless refusal next) held before after verdict
+unless_line refusal line next held before after verdict is d = subst (λ r. Follows (Unless r next) held before after verdict) (sym is) (go held verdict d) where
+  go : (held : Option Files) (verdict : Verdict) → Refuses line verdict → Follows (Unless (Some line) next) held before after verdict
+  go None (Answered status text) d = (rw d.0 d.2, tt)
+  go (Some files) (Answered status text) d = (rw d.0 d.2, (d.0, d.1))
+  go held (CannotRead missed) d = absurd d
+  go held OutOfMemory d = tt
+
+-- what comes next, where nothing refuses
+pub unless_none : (refusal : Option (List ℕ)) (next : Procedure) (held : Option Files) (before after : ℕ) (verdict : Verdict) → refusal ≡ None → Follows next held before after verdict → Follows (Unless refusal next) held before after verdict
+unless_none refusal next held before after verdict is d = subst (λ r. Follows (Unless r next) held before after verdict) (sym is) d
 
 -- an answer of any text that is allowed with Done, or want of memory for it
 pub may_be_done : (May : Status → List ℕ → Type 0) (made : Result (Vec ℕ) MemoryFault) (held : Option Files) (before after : ℕ) (verdict : Verdict) → IfOk made (λ text. May Done text.items) → GivesText Done made verdict → Follows (Answer May) held before after verdict

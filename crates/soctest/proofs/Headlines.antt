@@ -1,6 +1,6 @@
 -- A plan that is printed or accepted runs right, its bound is one, and it is for the chip and the limits in the held files.
-use Rattle.std.proofs.Common.{◌≡◌, ℕ, ◌≤◌, ◌⊎◌, inl, inr, List, Option, None, Some, Bool, true, false, length, refl, subst}
-use Rattle.std.specs.Prelude.{nat_lt, MatchBool, IfSome}
+use Rattle.std.proofs.Common.{◌≡◌, ℕ, ◌≤◌, ◌⊎◌, inl, inr, List, Option, None, Some, Bool, true, false, length, refl, subst, arith}
+use Rattle.std.specs.Prelude.{nat_lt, MatchBool}
 use Rattle.std.specs.FinMap.{get}
 use Rattle.std.proofs.lemmas.Bool.{ltb-false}
 use Rattle.outside.specs.Held.{Files, Appended}
@@ -24,14 +24,15 @@ use Rattle.plan_text.specs.PlanLines.{plan_text}
 use Rattle.chart.specs.ChartText.{chart_text}
 use Rattle.bit_machine.specs.Chips.{made_content}
 use Rattle.tester_vectors.specs.VectorText.{vector_text}
-use Rattle.soctest.specs.Commands.{CommandValue, Print, Widths, MakePlan, Check, Chart, Vectors, Shift}
+use Rattle.soctest.specs.Commands.{CommandValue, Print, Widths, MakePlan, Check, Chart, Vectors, Sample, Shift}
+use Rattle.sample_maker.specs.Samples.{made_chip}
+use Rattle.soctest.specs.Samples.{sample_limits, sample_text}
 use Rattle.soctest.specs.Texts.{too_long_line, bad_words_line, accepted_line}
 use Rattle.soctest.specs.Readings.{most_of, IsRead, RefusesChip, SaysLimits, RefusesLimits, SaysAccepted, RefusesPlan}
-use Rattle.soctest.specs.Procedures.{Procedure, Unless, with_limits, with_accepted, with_both, with_all, with_program, done_with, done_with_plan, run_refusal}
-use Rattle.shift_program.specs.Programs.{ProgramValue}
+use Rattle.soctest.specs.Procedures.{Procedure, Unless, with_limits, with_accepted, with_both, with_all, with_program, done_with, done_with_plan, done_with_sample, run_refusal, sample_refusal}
 use Rattle.soctest.specs.ShiftPrograms.{SaysRight, RefusesProgram, accepted_program}
 use Rattle.soctest.specs.Answers.{Stage, Answers, IsAnswer}
-use Rattle.soctest.specs.Ends.{MayAnswer, Ends, PlanUse, plan_use, IsTrustworthy, Headline, IsTrustworthyProgram, ProgramHeadline, SaysBadWords}
+use Rattle.soctest.specs.Ends.{MayAnswer, Ends, IsChipIn, AreLimitsIn, IsPlanIn, IsMade, TellsProgram, IsTrustworthy, Trusts, Headline}
 
 -- a stage that ends with Done has read its file
 stage_done : {V : Type 0} (file : FileKind) (Says : List ℕ → V → Type 0) (Refuses : List ℕ → List ℕ → Type 0) (Next : V → Status → List ℕ → Type 0) (held : Option (List ℕ)) (text : List ℕ) → Stage file Says Refuses Next held Done text → (v : V) × IsRead file Says held v × Next v Done text
@@ -59,114 +60,94 @@ after_both files soc limits text next answer =
     let b = stage_done Limits (SaysLimits a.0) (RefusesLimits a.0) (λ bounds. Answers (next a.0 bounds) files) (get files limits) text a.2 in
     (a.0, b.0, a.1, b.1, b.2)
 
--- the use of a plan that is read from a file
-abbrev from_file : (soc limits plan : List ℕ) → (SocValue → PlanValue → List ℕ) → PlanUse
-from_file soc limits plan text_of = record { soc = soc; limits = limits; plan = Some plan; text = text_of }
-
 -- an accepted plan, of which a command writes a text
-accepted : Laws → (files : Files) (soc limits plan : List ℕ) (text_of : SocValue → PlanValue → List ℕ) (next : SocValue → LimitsValue → PlanValue → Procedure) →
-    ((chip : SocValue) (bounds : LimitsValue) (value : PlanValue) (text : List ℕ) → Answers (next chip bounds value) files Done text → text ≡ text_of chip value) →
-    (text : List ℕ) (old new : Option (List ℕ)) → Answers (with_all soc limits plan next) files Done text → Appended old text new → IsTrustworthy files (from_file soc limits plan text_of) old new
-accepted laws files soc limits plan text_of next writes text old new answer put =
+accepted : Laws → (files : Files) (soc limits plan : List ℕ) (Tells : SocValue → PlanValue → List ℕ → Type 0) (next : SocValue → LimitsValue → PlanValue → Procedure) →
+    ((chip : SocValue) (bounds : LimitsValue) (value : PlanValue) (text : List ℕ) → Answers (next chip bounds value) files Done text → Tells chip value text) →
+    (text : List ℕ) (old new : Option (List ℕ)) → Answers (with_all soc limits plan next) files Done text → Appended old text new → IsTrustworthy (IsChipIn files soc) (AreLimitsIn files limits) (IsPlanIn files plan) Tells old new
+accepted laws files soc limits plan Tells next tells text old new answer put =
     let b = after_both files soc limits text (λ chip bounds. with_accepted chip bounds plan (next chip bounds)) answer in
     let c = stage_done Plan (SaysAccepted b.0 b.1) (RefusesPlan b.0 b.1) (λ value. Answers (next b.0 b.1 value) files) (get files plan) text b.4 in
-    go b.0 b.1 c.0 b.2 b.3 c.1 (writes b.0 b.1 c.0 text c.2)
+    go b.0 b.1 c.0 b.2 b.3 c.1 (tells b.0 b.1 c.0 text c.2)
   where
-    go : (chip : SocValue) (bounds : LimitsValue) (value : PlanValue) → IsRead Soc SaysChip (get files soc) chip → IsRead Limits (SaysLimits chip) (get files limits) bounds → IsRead Plan (SaysAccepted chip bounds) (get files plan) value → text ≡ text_of chip value → IsTrustworthy files (from_file soc limits plan text_of) old new
-    go chip bounds value a b c is = record {
+    go : (chip : SocValue) (bounds : LimitsValue) (value : PlanValue) → IsRead Soc SaysChip (get files soc) chip → IsRead Limits (SaysLimits chip) (get files limits) bounds → IsRead Plan (SaysAccepted chip bounds) (get files plan) value → Tells chip value text → IsTrustworthy (IsChipIn files soc) (AreLimitsIn files limits) (IsPlanIn files plan) Tells old new
+    go chip bounds value a b c of_plan = record {
       chip = chip;
       bounds = bounds;
       value = value;
-      chip_read = a;
-      limits_read = b;
-      plan_read = read_as_well Plan (SaysAccepted chip bounds) SaysPlan (get files plan) value (λ bytes says. says.0) c;
+      text = text;
+      chip_is = a;
+      limits_are = b;
+      plan_is = read_as_well Plan (SaysAccepted chip bounds) SaysPlan (get files plan) value (λ bytes says. says.0) c;
       right = λ content. laws.right chip bounds value content c.says.1.0;
       bound = laws.bound chip bounds value.bound b.says.sound.some_wire c.says.1.1;
-      written = subst (λ t. Appended old t new) is put;
+      tells = of_plan;
+      written = put;
     }
 
--- the planner's plan, whose text is written
-printed : Laws → (files : Files) (soc limits : List ℕ) (text : List ℕ) (old new : Option (List ℕ)) → Answers (with_both soc limits done_with_plan) files Done text → Appended old text new → IsTrustworthy files (record { soc = soc; limits = limits; plan = None; text = λ chip value. plan_text value }) old new
+-- a plan of the planner for a chip under limits, of which a text is written
+made : Laws → (IsChip : SocValue → Type 0) (AreLimits : SocValue → LimitsValue → Type 0) (Tells : SocValue → PlanValue → List ℕ → Type 0) (chip : SocValue) (bounds : LimitsValue) (value : PlanValue) (text : List ℕ) (old new : Option (List ℕ)) →
+    IsChip chip → AreLimits chip bounds → 1 ≤ bounds.wires → IsPlanned chip bounds value → Tells chip value text → Appended old text new → IsTrustworthy IsChip AreLimits IsMade Tells old new
+made laws IsChip AreLimits Tells chip bounds value text old new a b wires planned of_plan put = record {
+  chip = chip;
+  bounds = bounds;
+  value = value;
+  text = text;
+  chip_is = a;
+  limits_are = b;
+  plan_is = tt;
+  right = λ content. laws.right chip bounds value content planned.good;
+  bound = laws.bound chip bounds value.bound wires planned.accepted;
+  tells = of_plan;
+  written = put;
+}
+
+-- the planner's plan for a chip and limits that are read, whose text is written
+printed : Laws → (files : Files) (soc limits : List ℕ) (text : List ℕ) (old new : Option (List ℕ)) → Answers (with_both soc limits done_with_plan) files Done text → Appended old text new →
+    IsTrustworthy (IsChipIn files soc) (AreLimitsIn files limits) IsMade (λ chip value t. t ≡ plan_text value) old new
 printed laws files soc limits text old new answer put =
     let b = after_both files soc limits text done_with_plan answer in
-    go b.0 b.1 b.4.1.0 b.2 b.3 b.4.1.1 b.4.1.2
-  where
-    go : (chip : SocValue) (bounds : LimitsValue) (value : PlanValue) → IsRead Soc SaysChip (get files soc) chip → IsRead Limits (SaysLimits chip) (get files limits) bounds → IsPlanned chip bounds value → text ≡ plan_text value → IsTrustworthy files (record { soc = soc; limits = limits; plan = None; text = λ chip value. plan_text value }) old new
-    go chip bounds value a b planned is = record {
-      chip = chip;
-      bounds = bounds;
-      value = value;
-      chip_read = a;
-      limits_read = b;
-      plan_read = tt;
-      right = λ content. laws.right chip bounds value content planned.good;
-      bound = laws.bound chip bounds value.bound b.says.sound.some_wire planned.accepted;
-      written = subst (λ t. Appended old t new) is put;
-    }
+    made laws (IsChipIn files soc) (AreLimitsIn files limits) (λ chip value t. t ≡ plan_text value) b.0 b.1 b.4.1.0 text old new b.2 b.3 b.3.says.sound.some_wire b.4.1.1 b.4.1.2 put
 
--- the vectors of a run that isn't refused
-not_refused : (files : Files) (refusal : Option (List ℕ)) (vectors text : List ℕ) → Answers (Unless refusal (done_with vectors)) files Done text → text ≡ vectors
-not_refused files None vectors text answer = answer.1
-not_refused files (Some line) vectors text answer = let wrong : Done ≡ Refused = answer.0 in absurd cc
+-- what is answered where a command has no refusal
+not_refused : (files : Files) (refusal : Option (List ℕ)) (next : Procedure) (text : List ℕ) → Answers (Unless refusal next) files Done text → Answers next files Done text
+not_refused files None next text answer = answer
+not_refused files (Some line) next text answer = let wrong : Done ≡ Refused = answer.0 in absurd cc
 
-some_one : (a b : PlanUse) → Some a ≡ Some b → a ≡ b
-some_one a b same = cc
+-- the plan of a made chip, which is summed up
+sampled : Laws → (files : Files) (n seed : ℕ) (text : List ℕ) (old new : Option (List ℕ)) → Answers (done_with_sample n seed) files Done text → Appended old text new →
+    IsTrustworthy (λ chip. chip ≡ made_chip n seed) (λ chip bounds. bounds ≡ sample_limits) IsMade (λ chip value t. t ≡ sample_text n seed chip value) old new
+sampled laws files n seed text old new answer put =
+    made laws (λ chip. chip ≡ made_chip n seed) (λ chip bounds. bounds ≡ sample_limits) (λ chip value t. t ≡ sample_text n seed chip value)
+    (made_chip n seed) sample_limits answer.1.0 text old new refl refl (omega arith) answer.1.1 answer.1.2 put
 
--- each command over a plan
-trusted : Laws → (files : Files) (command : CommandValue) (over : PlanUse) (text : List ℕ) (old new : Option (List ℕ)) → plan_use command ≡ Some over → IsAnswer (Some command) files Done text → Appended old text new → IsTrustworthy files over old new
-trusted laws files (Print soc) over text old new is answer put = absurd cc
-trusted laws files (Widths soc wires) over text old new is answer put = absurd cc
-trusted laws files (Shift soc limits plan program) over text old new is answer put = absurd cc
-trusted laws files (MakePlan soc limits) over text old new is answer put = subst (λ u. IsTrustworthy files u old new) (some_one _ _ is) (printed laws files soc limits text old new answer put)
-trusted laws files (Check soc limits plan) over text old new is answer put =
-    subst (λ u. IsTrustworthy files u old new) (some_one _ _ is)
-    (accepted laws files soc limits plan (λ chip value. accepted_line value) (λ chip bounds value. done_with (accepted_line value)) (λ chip bounds value text a. a.1) text old new answer put)
-trusted laws files (Chart soc limits plan) over text old new is answer put =
-    subst (λ u. IsTrustworthy files u old new) (some_one _ _ is)
-    (accepted laws files soc limits plan chart_text (λ chip bounds value. done_with (chart_text chip value)) (λ chip bounds value text a. a.1) text old new answer put)
-trusted laws files (Vectors soc limits plan seed) over text old new is answer put =
-    subst (λ u. IsTrustworthy files u old new) (some_one _ _ is)
-    (accepted laws files soc limits plan (λ chip value. vector_text chip value (made_content chip seed)) (λ chip bounds value. Unless (run_refusal value) (done_with (vector_text chip value (made_content chip seed))))
-    (λ chip bounds value text a. not_refused files (run_refusal value) (vector_text chip value (made_content chip seed)) text a) text old new answer put)
+-- what is answered for a program is the text of one that is right
+told_program : (files : Files) (program : List ℕ) (chip : SocValue) (value : PlanValue) (text : List ℕ) → Answers (with_program chip value program (λ shifts. done_with (accepted_program chip value shifts))) files Done text → TellsProgram files program chip value text
+told_program files program chip value text answer =
+    let d = stage_done Program (SaysRight chip value) (RefusesProgram chip value) (λ shifts. Answers (done_with (accepted_program chip value shifts)) files) (get files program) text answer in
+    (d.0, d.1, d.2.1)
+
+-- each command
+trusted : Laws → (files : Files) (command : CommandValue) (text : List ℕ) (old new : Option (List ℕ)) → IsAnswer (Some command) files Done text → Appended old text new → Trusts command files old new
+trusted laws files (Print soc) text old new answer put = tt
+trusted laws files (Widths soc wires) text old new answer put = tt
+trusted laws files (MakePlan soc limits) text old new answer put = printed laws files soc limits text old new answer put
+trusted laws files (Check soc limits plan) text old new answer put =
+    accepted laws files soc limits plan (λ chip value t. t ≡ accepted_line value) (λ chip bounds value. done_with (accepted_line value)) (λ chip bounds value text a. a.1) text old new answer put
+trusted laws files (Chart soc limits plan) text old new answer put =
+    accepted laws files soc limits plan (λ chip value t. t ≡ chart_text chip value) (λ chip bounds value. done_with (chart_text chip value)) (λ chip bounds value text a. a.1) text old new answer put
+trusted laws files (Vectors soc limits plan seed) text old new answer put =
+    accepted laws files soc limits plan (λ chip value t. t ≡ vector_text chip value (made_content chip seed)) (λ chip bounds value. Unless (run_refusal value) (done_with (vector_text chip value (made_content chip seed))))
+    (λ chip bounds value text a. (not_refused files (run_refusal value) (done_with (vector_text chip value (made_content chip seed))) text a).1) text old new answer put
+trusted laws files (Sample n seed) text old new answer put = sampled laws files n seed text old new (not_refused files (sample_refusal n) (done_with_sample n seed) text answer) put
+trusted laws files (Shift soc limits plan program) text old new answer put =
+    accepted laws files soc limits plan (TellsProgram files program) (λ chip bounds value. with_program chip value program (λ shifts. done_with (accepted_program chip value shifts)))
+    (λ chip bounds value text a. told_program files program chip value text a) text old new answer put
 
 pub headline : Laws → (command : Option CommandValue) (held : Option Files) (sb sa kb ka : ℕ) (old new : Option (List ℕ)) (end : Status) → Ends (MayAnswer command held sb sa) kb ka old end new → Headline command held old end new
-headline laws command held sb sa kb ka old new end ends files given over is names of_plan done =
+headline laws command held sb sa kb ka old new end ends files given is names done =
     let ends' = rw done at ends in
     let answer = rw (is, names) at ends'.1 in
-    trusted laws files given over ends'.0 old new of_plan answer ends'.2
-
--- ---- a program that is accepted
-
-program_trusted : Laws → (files : Files) (soc limits plan program text : List ℕ) (old new : Option (List ℕ)) →
-    Answers (with_all soc limits plan (λ chip bounds value. with_program chip value program (λ shifts. done_with (accepted_program chip value shifts)))) files Done text → Appended old text new → IsTrustworthyProgram files soc limits plan program old new
-program_trusted laws files soc limits plan program text old new answer put =
-    let b = after_both files soc limits text (λ chip bounds. with_accepted chip bounds plan (λ value. with_program chip value program (λ shifts. done_with (accepted_program chip value shifts)))) answer in
-    let c = stage_done Plan (SaysAccepted b.0 b.1) (RefusesPlan b.0 b.1) (λ value. Answers (with_program b.0 value program (λ shifts. done_with (accepted_program b.0 value shifts))) files) (get files plan) text b.4 in
-    let d = stage_done Program (SaysRight b.0 c.0) (RefusesProgram b.0 c.0) (λ shifts. Answers (done_with (accepted_program b.0 c.0 shifts)) files) (get files program) text c.2 in
-    go b.0 b.1 c.0 d.0 b.2 b.3 c.1 d.1 d.2.1
-  where
-    go : (chip : SocValue) (bounds : LimitsValue) (value : PlanValue) (shifts : ProgramValue) → IsRead Soc SaysChip (get files soc) chip → IsRead Limits (SaysLimits chip) (get files limits) bounds → IsRead Plan (SaysAccepted chip bounds) (get files plan) value → IsRead Program (SaysRight chip value) (get files program) shifts →
-        text ≡ accepted_program chip value shifts → IsTrustworthyProgram files soc limits plan program old new
-    go chip bounds value shifts a b c d is = record {
-      chip = chip;
-      bounds = bounds;
-      value = value;
-      shifts = shifts;
-      chip_read = a;
-      limits_read = b;
-      plan_read = read_as_well Plan (SaysAccepted chip bounds) SaysPlan (get files plan) value (λ bytes says. says.0) c;
-      program_read = d;
-      right = λ content. laws.right chip bounds value content c.says.1.0;
-      bound = laws.bound chip bounds value.bound b.says.sound.some_wire c.says.1.1;
-      program_right = d.says.1;
-      written = subst (λ t. Appended old t new) is put;
-    }
-
-pub program_headline : Laws → (command : Option CommandValue) (held : Option Files) (sb sa kb ka : ℕ) (old new : Option (List ℕ)) (end : Status) → Ends (MayAnswer command held sb sa) kb ka old end new → ProgramHeadline command held old end new
-program_headline laws command held sb sa kb ka old new end ends files soc limits plan program is names done =
-    let ends' = rw done at ends in
-    let answer = rw (is, names) at ends'.1 in
-    program_trusted laws files soc limits plan program ends'.0 old new answer ends'.2
+    trusted laws files given ends'.0 old new answer ends'.2
 
 -- ---- words that are no command
 

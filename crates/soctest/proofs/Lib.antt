@@ -4,6 +4,8 @@ pub mod Completeness
 pub mod FileStages
 pub mod Headlines
 pub mod LineFacts
+mod LiveCounts
+mod MadeLimits
 pub mod Refusals
 mod Rows
 pub mod Settled

@@ -1,5 +1,5 @@
 -- What is answered of a program: a text says one, or is refused in one line.
-use Rattle.std.proofs.Common.{◌≡◌, ◌⊎◌, inl, inr, ℕ, ◌≤◌, ◌<◌, List, map, get_or, true, Option, None, Some, Result, Ok, Err, IfOk, length, refl, ap, sym, ◌∙◌, subst, arith}
+use Rattle.std.proofs.Common.{◌≡◌, inl, inr, ℕ, ◌≤◌, List, map, get_or, true, Option, None, Some, Result, Ok, Err, IfOk, length, refl, ap, sym, ◌∙◌, subst, arith}
 use Rattle.std.specs.Prelude.{IsTrue, slice_get}
 use Rattle.std.proofs.lemmas.Bool.{and_parts}
 use Rattle.std.proofs.lemmas.Option.{get_or_from_slice_get}
@@ -18,18 +18,17 @@ use Rattle.shift_program.specs.declared.ProgramFault.{ProgramFault}
 use Rattle.shift_program.specs.Programs.{ProgramValue, WrappedTest, wrapped_test, operations}
 use Rattle.shift_program.specs.RightPrograms.{AreRight}
 use Rattle.shift_program.specs.Faults.{needed_for, IsFault}
-use Rattle.shift_program.specs.Answers.{TextMeaning, Says, RefusedAt, Means, IsReadProgram}
+use Rattle.shift_program.specs.Answers.{Says, RefusedAt, Means, IsReadProgram}
 use Rattle.shift_program.specs.Laws.{RightAreFaultless, OneFault, TextsHaveOneAnswer}
 use Rattle.soctest.specs.declared.FileKind.TheVariants.{Program}
-use Rattle.soctest.specs.declared.Status.{Status}
 use Rattle.soctest.specs.declared.Status.TheVariants.{Done, Refused}
 use Rattle.soctest.specs.declared.Verdict.{Verdict}
 use Rattle.soctest.specs.declared.Verdict.TheVariants.{Answered, CannotRead, NoMemory as OutOfMemory}
 use Rattle.soctest.specs.Texts.{is_line}
-use Rattle.soctest.specs.Readings.{most_of, IsRead}
+use Rattle.soctest.specs.Readings.{most_of}
 use Rattle.soctest.specs.ShiftPrograms.{named_test, test_cycles, wrapper_for, planned_for, IsRightFor, RightIn, SaysRight, RefusedIn, RefusesProgram, program_line, program_fault_line, accepted_with, accepted_program, Judges, AnswersProgram}
-use Rattle.soctest.specs.Procedures.{Procedure, nothing, done_with, with_program}
-use Rattle.soctest.specs.Decides.{Follows, Gives, GivesText, Refuses, LoadsBytes}
+use Rattle.soctest.specs.Procedures.{done_with, with_program}
+use Rattle.soctest.specs.Decides.{Follows, GivesText, LoadsBytes}
 use Rattle.soctest.proofs.FileStages.{after_file, read_from, done, refused, without_bytes, no_value}
 use Rattle.soctest.proofs.Settled.{SaysOne, RefusesOne}
 

@@ -6,12 +6,10 @@ use Rattle.std.proofs.lemmas.Bool.{le-ltb}
 use Rattle.outside.specs.Held.{Files, Rose}
 use Rattle.soctest.specs.declared.FileKind.{FileKind}
 use Rattle.soctest.specs.declared.Status.{Status}
-use Rattle.soc_model.specs.Chips.{SocValue}
-use Rattle.plan_model.specs.Plans.{LimitsValue}
 use Rattle.soctest.specs.declared.Status.TheVariants.{Done, Refused, TooLong}
 use Rattle.soctest.specs.Texts.{too_long_line}
 use Rattle.soctest.specs.Readings.{most_of, IsRead}
-use Rattle.soctest.specs.Procedures.{Procedure, Read, Unless, Answer, done_with, done_with_plan}
+use Rattle.soctest.specs.Procedures.{Procedure, Read, Unless, Answer, done_with}
 use Rattle.soctest.specs.Answers.{Stage, Answers}
 use Rattle.soctest.specs.Decides.{IsUnread}
 use Rattle.soctest.specs.Ends.{AreTaken}
@@ -121,6 +119,6 @@ none_unread fixed (Read {V} file Says Refuses name next) settled files missed be
 pub done_once : (fixed : Bool) (text : List ℕ) → IsSettled fixed (done_with text)
 done_once fixed text = (λ s t s' t' a b. (a.0 ∙ sym b.0, λ one. a.1 ∙ sym b.1), λ s t a. a.0)
 
--- the text of a plan isn't fixed
-pub plan_once : (chip : SocValue) (bounds : LimitsValue) → IsSettled false (done_with_plan chip bounds)
-plan_once chip bounds = (λ s t s' t' a b. (a.0 ∙ sym b.0, λ one. let wrong : false ≡ true = one in absurd cc), λ s t a. a.0)
+-- where the text isn't fixed
+pub left_open : (MayBe : List ℕ → Type 0) → IsSettled false (Answer (λ status text. (status ≡ Done) × MayBe text))
+left_open MayBe = (λ s t s' t' a b. (a.0 ∙ sym b.0, λ one. let wrong : false ≡ true = one in absurd cc), λ s t a. a.0)

@@ -15,6 +15,7 @@ pub data CommandValue : Type 0 where
   Check : (soc limits plan : List ℕ) → CommandValue
   Chart : (soc limits plan : List ℕ) → CommandValue
   Vectors : (soc limits plan : List ℕ) → (seed : ℕ) → CommandValue
+  Sample : (n seed : ℕ) → CommandValue
   Shift : (soc limits plan program : List ℕ) → CommandValue
 
 abbrev pub command_value : Command → CommandValue
@@ -24,17 +25,19 @@ command_value (command.Plan soc limits) = MakePlan soc.now limits.now
 command_value (command.Check soc limits plan) = Check soc.now limits.now plan.now
 command_value (command.Chart soc limits plan) = Chart soc.now limits.now plan.now
 command_value (command.Vectors soc limits plan seed) = Vectors soc.now limits.now plan.now seed
+command_value (command.Sample n seed) = Sample n seed
 command_value (command.Shift soc limits plan program) = Shift soc.now limits.now plan.now program.now
 
--- the number of wires of a command is from 1 to the most
-abbrev pub HasWires : Command → Type 0
-HasWires (command.Print soc) = Unit {0}
-HasWires (command.Widths soc wires) = (1 ≤ wires) × (wires ≤ WIRES_MOST)
-HasWires (command.Plan soc limits) = Unit {0}
-HasWires (command.Check soc limits plan) = Unit {0}
-HasWires (command.Chart soc limits plan) = Unit {0}
-HasWires (command.Vectors soc limits plan seed) = Unit {0}
-HasWires (command.Shift soc limits plan program) = Unit {0}
+-- the numbers of a command are in their ranges
+abbrev pub IsInRange : Command → Type 0
+IsInRange (command.Print soc) = Unit {0}
+IsInRange (command.Widths soc wires) = (1 ≤ wires) × (wires ≤ WIRES_MOST)
+IsInRange (command.Plan soc limits) = Unit {0}
+IsInRange (command.Check soc limits plan) = Unit {0}
+IsInRange (command.Chart soc limits plan) = Unit {0}
+IsInRange (command.Vectors soc limits plan seed) = Unit {0}
+IsInRange (command.Sample n seed) = (n ≤ NUMBER_WORD_MOST) × (seed ≤ NUMBER_WORD_MOST)
+IsInRange (command.Shift soc limits plan program) = Unit {0}
 
 -- `widths` with a number of wires, where it is from 1 to the most
 abbrev pub widths_of : (soc : List ℕ) → Option ℕ → Option CommandValue
@@ -46,13 +49,20 @@ abbrev pub vectors_of : (soc limits plan : List ℕ) → Option ℕ → Option C
 vectors_of soc limits plan None = None
 vectors_of soc limits plan (Some seed) = Some (Vectors soc limits plan seed)
 
+-- `sample` with a number of modules and a seed, where both are number words
+abbrev pub sample_of : Option ℕ → Option ℕ → Option CommandValue
+sample_of None seed = None
+sample_of (Some n) None = None
+sample_of (Some n) (Some seed) = Some (Sample n seed)
+
 -- `print SOC`, `widths SOC WIRES`, `plan SOC LIMITS`, `check SOC LIMITS PLAN`, `chart SOC LIMITS PLAN`,
--- `vectors SOC LIMITS PLAN SEED` and `shift SOC LIMITS PLAN PROGRAM`; no other words are a command
-abbrev pub command_of : List (List ℕ) → Option CommandValue
+-- `vectors SOC LIMITS PLAN SEED`, `sample N SEED` and `shift SOC LIMITS PLAN PROGRAM`; no other words are a command
+unfoldable pub command_of : List (List ℕ) → Option CommandValue
 command_of (word ∷ soc ∷ []) = if pointwise nat_eq word (codes "print") then Some (Print soc) else None
 command_of (word ∷ soc ∷ last ∷ []) =
     if pointwise nat_eq word (codes "widths") then widths_of soc (number_of last WIRES_MOST)
     else if pointwise nat_eq word (codes "plan") then Some (MakePlan soc last)
+    else if pointwise nat_eq word (codes "sample") then sample_of (number_of soc NUMBER_WORD_MOST) (number_of last NUMBER_WORD_MOST)
     else None
 command_of (word ∷ soc ∷ limits ∷ plan ∷ []) =
     if pointwise nat_eq word (codes "check") then Some (Check soc limits plan)

@@ -12,16 +12,18 @@ use Rattle.soctest.specs.declared.FileKind.{FileKind}
 use Rattle.soctest.specs.declared.FileKind.TheVariants.{Soc, Limits, Plan, Program}
 use Rattle.soctest.specs.declared.Status.{Status}
 use Rattle.soctest.specs.declared.Status.TheVariants.{Done, Refused, BadWords, ReadFault, TooLong, WriteFault, NoMemory}
-use Rattle.soctest.specs.Commands.{CommandValue, Print, Widths, MakePlan, Check, Chart, Vectors, Shift}
+use Rattle.soctest.specs.Commands.{CommandValue, Print, Widths, MakePlan, Check, Chart, Vectors, Sample, Shift}
 use Rattle.plan_text.specs.Answers.{SaysPlan}
 use Rattle.plan_text.specs.PlanLines.{plan_text}
 use Rattle.chart.specs.ChartText.{chart_text}
 use Rattle.bit_machine.specs.Chips.{made_content}
 use Rattle.tester_vectors.specs.VectorText.{vector_text}
 use Rattle.soctest.specs.Procedures.{Procedure, Read, Unless, Answer, procedure_of}
+use Rattle.sample_maker.specs.Samples.{made_chip}
+use Rattle.soctest.specs.Samples.{sample_limits, sample_text}
 use Rattle.soctest.specs.Texts.{is_line, unread_line, bad_words_line, accepted_line}
 use Rattle.shift_program.specs.Programs.{ProgramValue}
-use Rattle.soctest.specs.ShiftPrograms.{SaysRight, IsRightProgram, accepted_program}
+use Rattle.soctest.specs.ShiftPrograms.{SaysRight, accepted_program}
 use Rattle.soctest.specs.Readings.{IsRead, SaysLimits}
 use Rattle.soctest.specs.Answers.{IsAnswer}
 use Rattle.soctest.specs.Decides.{IsUnreadOf}
@@ -61,7 +63,7 @@ abbrev pub EndsByWords : Option CommandValue → Type 0 → Status → Type 0
 EndsByWords None sink_failed end = (end ≡ BadWords) ⊎ (end ≡ NoMemory) ⊎ ((end ≡ WriteFault) × sink_failed)
 EndsByWords (Some command) sink_failed end = end ≢ BadWords
 
--- the files fix the text of an answer; that of `plan` may be any plan's that the planner may make
+-- the files fix the text of an answer; that of `plan` and of `sample` may be of any plan that the planner may make
 abbrev pub fixes_text : Option CommandValue → Bool
 fixes_text None = true
 fixes_text (Some (Print soc)) = true
@@ -70,6 +72,7 @@ fixes_text (Some (MakePlan soc limits)) = false
 fixes_text (Some (Check soc limits plan)) = true
 fixes_text (Some (Chart soc limits plan)) = true
 fixes_text (Some (Vectors soc limits plan seed)) = true
+fixes_text (Some (Sample n seed)) = false
 fixes_text (Some (Shift soc limits plan program)) = true
 
 -- Where neither count of faults rose and the files give an answer, the call ends with its status, or for want of memory;
@@ -94,64 +97,57 @@ Finishes None held shelf_failed sink_failed end = Unit {0}
 Finishes (Some command) held shelf_failed sink_failed end =
     (files : Files) → held ≡ Some files → ¬ shelf_failed → ¬ sink_failed → AreTaken (procedure_of command) files → (end ≡ Done) ⊎ (end ≡ NoMemory)
 
--- What a command writes of a plan: the names of the files of the chip and the limits, that of the plan where it is read from a
--- file (the planner makes it where none is named), and the text that is written of it.
-pub record PlanUse : Type 0 where
-  pub soc : List ℕ
-  pub limits : List ℕ
-  pub plan : Option (List ℕ)
-  pub text : SocValue → PlanValue → List ℕ
+-- ---- the headline
 
--- the commands over a plan that is printed or accepted; `shift`, which writes of a program too, has a clause of its own
-abbrev pub plan_use : CommandValue → Option PlanUse
-plan_use (Print soc) = None
-plan_use (Widths soc wires) = None
-plan_use (MakePlan soc limits) = Some (record { soc = soc; limits = limits; plan = None; text = λ chip value. plan_text value })
-plan_use (Check soc limits plan) = Some (record { soc = soc; limits = limits; plan = Some plan; text = λ chip value. accepted_line value })
-plan_use (Chart soc limits plan) = Some (record { soc = soc; limits = limits; plan = Some plan; text = λ chip value. chart_text chip value })
-plan_use (Vectors soc limits plan seed) = Some (record { soc = soc; limits = limits; plan = Some plan; text = λ chip value. vector_text chip value (made_content chip seed) })
-plan_use (Shift soc limits plan program) = None
+-- a file's chip, limits for a chip, and a plan
+abbrev pub IsChipIn : Files → (soc : List ℕ) → SocValue → Type 0
+IsChipIn files soc chip = IsRead Soc SaysChip (get files soc) chip
 
--- What a plan is that is printed or accepted: the chip and the limits that it is for were read from the held files, and so was
--- the plan where a file is named for it; it runs right for every content and ends in exactly the cycles that it states; no
--- good plan of the chip under the limits ends before its bound; and its text was written.
-pub record IsTrustworthy (files : Files) (over : PlanUse) (old new : Option (List ℕ)) : Type 0 where
+abbrev pub AreLimitsIn : Files → (limits : List ℕ) → SocValue → LimitsValue → Type 0
+AreLimitsIn files limits chip bounds = IsRead Limits (SaysLimits chip) (get files limits) bounds
+
+abbrev pub IsPlanIn : Files → (plan : List ℕ) → PlanValue → Type 0
+IsPlanIn files plan value = IsRead Plan SaysPlan (get files plan) value
+
+-- What a plan is that is printed or accepted: it runs right for every content and ends in exactly the cycles that it states, no
+-- good plan of its chip under its limits ends before its bound, and what is written is a text of it. Where the chip, the limits
+-- and the plan come from, and which texts are the plan's, is said of each command.
+pub record IsTrustworthy (IsChip : SocValue → Type 0) (AreLimits : SocValue → LimitsValue → Type 0) (IsPlan : PlanValue → Type 0) (Tells : SocValue → PlanValue → List ℕ → Type 0) (old new : Option (List ℕ)) : Type 0 where
   pub chip : SocValue
   pub bounds : LimitsValue
   pub value : PlanValue
-  pub chip_read : IsRead Soc SaysChip (get files over.soc) chip
-  pub limits_read : IsRead Limits (SaysLimits chip) (get files over.limits) bounds
-  pub plan_read : IfSome over.plan (λ name. IsRead Plan SaysPlan (get files name) value)
+  pub text : List ℕ
+  pub chip_is : IsChip chip
+  pub limits_are : AreLimits chip bounds
+  pub plan_is : IsPlan value
   pub right : (content : Content) → IsRight chip bounds value content
   pub bound : IsBound chip bounds value.bound.cycles
-  pub written : Appended old (over.text chip value) new
+  pub tells : Tells chip value text
+  pub written : Appended old text new
+
+-- a plan that the command makes itself
+abbrev pub IsMade : PlanValue → Type 0
+IsMade value = Unit {0}
+
+-- the text is that of a file's program, which is right for its test in the plan and takes at least the test's cycles
+abbrev pub TellsProgram : Files → (program : List ℕ) → SocValue → PlanValue → List ℕ → Type 0
+TellsProgram files program chip value text = (shifts : ProgramValue) × IsRead Program (SaysRight chip value) (get files program) shifts × (text ≡ accepted_program chip value shifts)
+
+-- what the commands over a plan promise of it, over the files that they name
+abbrev pub Trusts : CommandValue → Files → Option (List ℕ) → Option (List ℕ) → Type 0
+Trusts (Print soc) files old new = Unit {0}
+Trusts (Widths soc wires) files old new = Unit {0}
+Trusts (MakePlan soc limits) files old new = IsTrustworthy (IsChipIn files soc) (AreLimitsIn files limits) IsMade (λ chip value text. text ≡ plan_text value) old new
+Trusts (Check soc limits plan) files old new = IsTrustworthy (IsChipIn files soc) (AreLimitsIn files limits) (IsPlanIn files plan) (λ chip value text. text ≡ accepted_line value) old new
+Trusts (Chart soc limits plan) files old new = IsTrustworthy (IsChipIn files soc) (AreLimitsIn files limits) (IsPlanIn files plan) (λ chip value text. text ≡ chart_text chip value) old new
+Trusts (Vectors soc limits plan seed) files old new = IsTrustworthy (IsChipIn files soc) (AreLimitsIn files limits) (IsPlanIn files plan) (λ chip value text. text ≡ vector_text chip value (made_content chip seed)) old new
+Trusts (Sample n seed) files old new = IsTrustworthy (λ chip. chip ≡ made_chip n seed) (λ chip bounds. bounds ≡ sample_limits) IsMade (λ chip value text. text ≡ sample_text n seed chip value) old new
+Trusts (Shift soc limits plan program) files old new = IsTrustworthy (IsChipIn files soc) (AreLimitsIn files limits) (IsPlanIn files plan) (TellsProgram files program) old new
 
 -- The headline, for each command over a plan, where the shelf tells what it holds.
 abbrev pub Headline : Option CommandValue → Option Files → Option (List ℕ) → Status → Option (List ℕ) → Type 0
 Headline command held old end new =
-    (files : Files) (given : CommandValue) (over : PlanUse) → held ≡ Some files → command ≡ Some given → plan_use given ≡ Some over → end ≡ Done → IsTrustworthy files over old new
-
--- What a program is that is accepted: the chip, the limits, the plan and the program were read from the held files; the plan
--- runs right for every content, and no good plan ends before its bound; the program is right for its test for every content,
--- and takes at least the test's cycles; and both numbers of cycles were written.
-pub record IsTrustworthyProgram (files : Files) (soc limits plan program : List ℕ) (old new : Option (List ℕ)) : Type 0 where
-  pub chip : SocValue
-  pub bounds : LimitsValue
-  pub value : PlanValue
-  pub shifts : ProgramValue
-  pub chip_read : IsRead Soc SaysChip (get files soc) chip
-  pub limits_read : IsRead Limits (SaysLimits chip) (get files limits) bounds
-  pub plan_read : IsRead Plan SaysPlan (get files plan) value
-  pub program_read : IsRead Program (SaysRight chip value) (get files program) shifts
-  pub right : (content : Content) → IsRight chip bounds value content
-  pub bound : IsBound chip bounds value.bound.cycles
-  pub program_right : IsRightProgram chip value shifts
-  pub written : Appended old (accepted_program chip value shifts) new
-
--- The headline of `shift`, where the shelf tells what it holds.
-abbrev pub ProgramHeadline : Option CommandValue → Option Files → Option (List ℕ) → Status → Option (List ℕ) → Type 0
-ProgramHeadline command held old end new =
-    (files : Files) (soc limits plan program : List ℕ) → held ≡ Some files → command ≡ Some (Shift soc limits plan program) → end ≡ Done → IsTrustworthyProgram files soc limits plan program old new
+    (files : Files) (given : CommandValue) → held ≡ Some files → command ≡ Some given → end ≡ Done → Trusts given files old new
 
 -- BadWords comes with its line, also where the shelf tells nothing.
 abbrev pub SaysBadWords : Option (List ℕ) → Status → Option (List ℕ) → Type 0

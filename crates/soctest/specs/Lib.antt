@@ -4,6 +4,7 @@ pub mod Decides
 pub mod Ends
 pub mod Procedures
 pub mod Readings
+pub mod Samples
 pub mod Texts
 pub mod ShiftPrograms
 pub mod WidthsText

@@ -1,5 +1,5 @@
 -- What a command does: it takes its files one after another, and then answers.
-use Rattle.std.specs.Prelude.{◌≡◌, ℕ, List, Option, None, Some, nat_lt, if◌then◌else◌}
+use Rattle.std.specs.Prelude.{◌≡◌, ℕ, List, Option, None, Some, ◌||◌, nat_eq, nat_lt, if◌then◌else◌}
 use Rattle.soc_model.specs.Chips.{SocValue}
 use Rattle.plan_model.specs.Plans.{LimitsValue, PlanValue}
 use Rattle.soc_reader.specs.ChipForm.{SaysChip}
@@ -14,7 +14,10 @@ use Rattle.plan_text.specs.PlanLines.{plan_text}
 use Rattle.bit_machine.specs.Chips.{made_content}
 use Rattle.tester_vectors.specs.declared.TheConstants.{RUN_MOST}
 use Rattle.tester_vectors.specs.VectorText.{wire_cycles, vector_text}
-use Rattle.soctest.specs.Commands.{CommandValue, Print, Widths, MakePlan, Check, Chart, Vectors, Shift}
+use Rattle.soctest.specs.Commands.{CommandValue, Print, Widths, MakePlan, Check, Chart, Vectors, Sample, Shift}
+use Rattle.sample_maker.specs.Samples.{made_chip}
+use Rattle.sample_maker.specs.declared.TheConstants.{SAMPLE_MODULES_MOST}
+use Rattle.soctest.specs.Samples.{sample_limits, sample_line, sample_text}
 use Rattle.soctest.specs.Texts.{accepted_line, run_line}
 use Rattle.soctest.specs.WidthsText.{widths_text}
 use Rattle.shift_program.specs.Programs.{ProgramValue}
@@ -44,6 +47,14 @@ done_with_plan chip bounds = Answer (λ status text. (status ≡ Done) × ((valu
 -- the line that refuses the vectors of a plan whose run is too long
 abbrev pub run_refusal : PlanValue → Option (List ℕ)
 run_refusal value = if nat_lt RUN_MOST (wire_cycles value) then Some (run_line (wire_cycles value)) else None
+
+-- the answer is the summary of a made chip and of any plan that the planner may make for it
+abbrev pub done_with_sample : (n seed : ℕ) → Procedure
+done_with_sample n seed = Answer (λ status text. (status ≡ Done) × ((value : PlanValue) × IsPlanned (made_chip n seed) sample_limits value × (text ≡ sample_text n seed (made_chip n seed) value)))
+
+-- the line that refuses a number of modules
+abbrev pub sample_refusal : (n : ℕ) → Option (List ℕ)
+sample_refusal n = if nat_eq n 0 || nat_lt SAMPLE_MODULES_MOST n then Some (sample_line n) else None
 
 -- ---- what commands have in common
 
@@ -81,4 +92,5 @@ procedure_of (MakePlan soc limits) = with_both soc limits done_with_plan
 procedure_of (Check soc limits plan) = with_all soc limits plan (λ chip bounds value. done_with (accepted_line value))
 procedure_of (Chart soc limits plan) = with_all soc limits plan (λ chip bounds value. done_with (chart_text chip value))
 procedure_of (Vectors soc limits plan seed) = with_all soc limits plan (λ chip bounds value. Unless (run_refusal value) (done_with (vector_text chip value (made_content chip seed))))
+procedure_of (Sample n seed) = Unless (sample_refusal n) (done_with_sample n seed)
 procedure_of (Shift soc limits plan program) = with_all soc limits plan (λ chip bounds value. with_program chip value program (λ shifts. done_with (accepted_program chip value shifts)))

@@ -21,6 +21,7 @@ use crate::loading::{
     answered, answered_with, load_all, load_both, load_chip, load_file, refused_with,
 };
 use crate::programs::answer_program;
+use crate::samples::decide_sample;
 use crate::widths::widths_text;
 use crate::words::command;
 use crate::{Command, FileKind, Status, Verdict};
@@ -62,12 +63,12 @@ fn decide_widths<H: Shelf>(alloc: Global, soc: &str, wires: u64, shelf: &mut H) 
     }
 }
 
-/// The text of the planner's plan, whose search estimates by the ends of the tests before. `NoMemory` where memory runs out,
-/// and for no other reason.
-fn text_of_plan(alloc: Global, soc: &Soc, limits: &Limits) -> Result<Vec<u8>, NoMemory>
+/// The planner's plan, whose search estimates by the ends of the tests before. `NoMemory` where memory runs out, and for no
+/// other reason.
+pub(crate) fn planned(alloc: Global, soc: &Soc, limits: &Limits) -> Result<Plan, NoMemory>
     requires chip { IsSoundChip (soc_value soc.now) }
     requires limits { IsSoundLimits (soc_value soc.now) (limits_value limits.now) }
-    ensures { IfOk result (λ text. (value : PlanValue) × IsPlanned (soc_value soc.now) (limits_value limits.now) value × (text.items ≡ plan_text value)) }
+    ensures { IfOk result (λ plan. IsPlanned (soc_value soc.now) (limits_value limits.now) (plan_value plan)) }
 {
     let ahead = Ahead::new(
         |table: &Table<'_>, test: usize| -> u64
@@ -76,7 +77,16 @@ fn text_of_plan(alloc: Global, soc: &Soc, limits: &Limits) -> Result<Vec<u8>, No
             ensures most { IsAtMostNow table.now test result }
         { table.ready_end(test) },
     );
-    let plan = plan(alloc, soc, limits, ahead)?;
+    plan(alloc, soc, limits, ahead)
+}
+
+/// The text of the planner's plan.
+fn text_of_plan(alloc: Global, soc: &Soc, limits: &Limits) -> Result<Vec<u8>, NoMemory>
+    requires chip { IsSoundChip (soc_value soc.now) }
+    requires limits { IsSoundLimits (soc_value soc.now) (limits_value limits.now) }
+    ensures { IfOk result (λ text. (value : PlanValue) × IsPlanned (soc_value soc.now) (limits_value limits.now) value × (text.items ≡ plan_text value)) }
+{
+    let plan = planned(alloc, soc, limits)?;
     print_plan(alloc, &plan)
 }
 
@@ -214,6 +224,7 @@ pub fn decide<H: Shelf>(alloc: Global, words: &[String], shelf: &mut H) -> Verdi
                 seed,
             },
         ) => decide_vectors(alloc, soc, limits, plan, seed, shelf),
+        Some(Command::Sample { n, seed }) => decide_sample(alloc, n, seed),
         Some(
             Command::Shift {
                 soc,

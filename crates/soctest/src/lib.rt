@@ -8,6 +8,7 @@ mod deciding;
 mod lines;
 mod loading;
 mod programs;
+mod samples;
 mod top;
 mod widths;
 mod words;
@@ -81,6 +82,11 @@ pub enum Command<'a> {
         soc: &'a str,
         limits: &'a str,
         plan: &'a str,
+        seed: u64,
+    },
+    /// A made chip of so many modules, planned and checked.
+    Sample {
+        n: u64,
         seed: u64,
     },
     /// Whether a program of Shifts, Captures and Rests is right for its test in a plan that is accepted.

@@ -2,7 +2,7 @@
 ghost use Rattle.std.specs.Prelude.{◌≡◌, ◌≤◌, None, map, string_bytes};
 ghost use Rattle.outside.specs.Held.{Rose};
 ghost use Rattle.soctest.specs.Commands.{command_of};
-ghost use Rattle.soctest.specs.Ends.{MayAnswer, Ends, OneLine, EndsByWords, Complete, Finishes, SaysBadWords, Headline, ProgramHeadline};
+ghost use Rattle.soctest.specs.Ends.{MayAnswer, Ends, OneLine, EndsByWords, Complete, Finishes, SaysBadWords, Headline};
 
 use crate::deciding::decide;
 use crate::lines::unread_line;
@@ -44,9 +44,6 @@ pub fn soctest<H: Shelf, K: Sink>(
 
     // The headline: a plan that is printed or accepted, by any command, runs right, and its bound is one.
     ensures headline { Headline (command_of (map string_bytes words.now)) (H.held shelf.old) (K.written out.old) result (K.written out.new) }
-
-    // And so a program of Shifts that is accepted is right for its test, in a plan that runs right.
-    ensures program_headline { ProgramHeadline (command_of (map string_bytes words.now)) (H.held shelf.old) (K.written out.old) result (K.written out.new) }
 {
     good_plans_run_right();
     certificates_are_bounds();

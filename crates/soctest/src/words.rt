@@ -2,7 +2,7 @@
 ghost use Rattle.std.specs.Prelude.{◌≡◌, map, string_bytes, option_map, IfSome};
 ghost use Rattle.outside.specs.Decimal.{number_of};
 ghost use Rattle.plan_model.specs.declared.TheConstants.{WIRES_MOST};
-ghost use Rattle.soctest.specs.Commands.{command_of, command_value, widths_of, HasWires};
+ghost use Rattle.soctest.specs.Commands.{command_of, command_value, widths_of, IsInRange};
 
 use crate::Command;
 use outside::number;
@@ -12,7 +12,7 @@ use soc_model::NUMBER_WORD_MOST;
 /// `widths` with a word for the wires, where that is a number from 1 to 256.
 fn widths<'a>(soc: &'a str, wires: &str) -> Option<Command<'a>>
     ensures value { option_map command_value result ≡ widths_of soc.now (number_of wires.now WIRES_MOST) }
-    ensures wires { IfSome result HasWires }
+    ensures wires { IfSome result IsInRange }
 {
     let wires = number(wires.as_bytes(), WIRES_MOST)?;
     if wires < 1 {
@@ -22,9 +22,10 @@ fn widths<'a>(soc: &'a str, wires: &str) -> Option<Command<'a>>
 }
 
 /// The command that the words are, where they are one.
+#[tactic(auto, unfolding(crate::specs::Commands::command_of))]
 pub fn command(words: &[String]) -> Option<Command<'_>>
     ensures value { option_map command_value result ≡ command_of (map string_bytes words.now) }
-    ensures wires { IfSome result HasWires }
+    ensures wires { IfSome result IsInRange }
 {
     match words {
         [word, soc] if word.as_str() == "print" => Some(Command::Print { soc: soc.as_str() }),
@@ -32,6 +33,10 @@ pub fn command(words: &[String]) -> Option<Command<'_>>
         [word, soc, limits] if word.as_str() == "plan" => Some(Command::Plan {
             soc: soc.as_str(),
             limits: limits.as_str(),
+        }),
+        [word, n, seed] if word.as_str() == "sample" => Some(Command::Sample {
+            n: number(n.as_bytes(), NUMBER_WORD_MOST)?,
+            seed: number(seed.as_bytes(), NUMBER_WORD_MOST)?,
         }),
         [word, soc, limits, plan] if word.as_str() == "check" => Some(Command::Check {
             soc: soc.as_str(),

@@ -1,6 +1,5 @@
-use Rattle.std.proofs.Common.{◌+◌, arith}
-use Rattle.soc_model.specs.declared.Test.{Test}
-use Rattle.soc_model.specs.Chips.{ModuleValue, SocValue, soc_value, module_value}
+use Rattle.std.proofs.Common.{arith}
+use Rattle.soc_model.specs.Chips.{soc_value, module_value}
 use Rattle.soc_model.proofs.Limits.{test_work-le-at, work-le}
 use Rattle.plan_model.specs.Rules.{Wrappers, Proper}
 use Rattle.plan_model.specs.Views.{plan_value}

@@ -1,7 +1,6 @@
-use Rattle.std.proofs.Common.{◌≡◌, ◌∙◌, refl, sym}
+use Rattle.std.proofs.Common.{◌∙◌, refl, sym}
 use Rattle.soc_model.specs.Chips.{module_value}
-use Rattle.plan_model.specs.Plans.{wraps}
-use Rattle.plan_model.specs.Views.{plan_value, wrapper_value}
+use Rattle.plan_model.specs.Views.{plan_value}
 use Rattle.plan_model.proofs.FoundWrappers.{IsFound, found_at, proper_found, always_found}
 use Rattle.soctest.proofs.ProgramAnswers.{same_wrapped}
 use Rattle.soctest.proofs.programs.wrapper_for.Goals as goal

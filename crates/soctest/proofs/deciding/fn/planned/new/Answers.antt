@@ -1,5 +1,5 @@
 use Rattle.schedule_search.proofs.Estimates.{ready_least, ready_most}
-use Rattle.soctest.proofs.deciding.fn.text_of_plan.new.Goals as goal
+use Rattle.soctest.proofs.deciding.fn.planned.new.Goals as goal
 
 pub returns : goal.returns
 returns c = record {
