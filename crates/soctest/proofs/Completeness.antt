@@ -18,13 +18,13 @@ use Rattle.soctest.specs.declared.Status.{Status}
 use Rattle.soctest.specs.declared.Status.TheVariants.{Done, Refused, BadWords, ReadFault, TooLong, WriteFault, NoMemory}
 use Rattle.bit_machine.specs.Chips.{made_content}
 use Rattle.tester_vectors.specs.VectorText.{vector_text}
-use Rattle.soctest.specs.Commands.{CommandValue, Print, Widths, MakePlan, Check, Chart, Vectors, Sample, TreeBound, SplitTests}
+use Rattle.soctest.specs.Commands.{CommandValue, Print, Widths, MakePlan, Check, Chart, Vectors, Sample, TreeBound, SplitTests, Shift}
 use Rattle.soctest.specs.Texts.{chip_line, chip_limit_line, plan_line, fault_line, accepted_line}
 use Rattle.soc_printer.specs.SocText.{soc_text}
 use Rattle.soctest.specs.WidthsText.{widths_text}
 use Rattle.soctest.specs.Readings.{RefusesChip, SaysLimits, refusal_of, RefusesLimits, SaysAccepted, RefusesPlan}
 use Rattle.chart.specs.ChartText.{chart_text}
-use Rattle.soctest.specs.Procedures.{Procedure, Unless, run_refusal, procedure_of, with_both, with_accepted, with_all, with_bound, done_with, done_with_plan, done_with_split}
+use Rattle.soctest.specs.Procedures.{Procedure, Unless, run_refusal, procedure_of, with_both, with_accepted, with_all, with_bound, with_program, done_with, done_with_plan, done_with_split}
 use Rattle.planner.specs.Plans.{IsPlanned}
 use Rattle.plan_text.specs.PlanLines.{plan_text}
 use Rattle.sample_maker.specs.Samples.{made_chip}
@@ -34,6 +34,9 @@ use Rattle.soctest.specs.Decides.{IsUnread, IsUnreadOf}
 use Rattle.soctest.specs.Ends.{MayAnswer, Ends, fixes_text, EndsAsWanted, Complete, AreTaken, Finishes}
 use Rattle.split_plan.specs.Parts.{split_chip, split_limits, split_of}
 use Rattle.soctest.specs.SplitText.{split_text, split_refusal}
+use Rattle.shift_program.specs.Programs.{ProgramValue}
+use Rattle.soctest.specs.ShiftPrograms.{accepted_program}
+use Rattle.soctest.proofs.ProgramAnswers.{ProgramLaws, program_one, program_refused_one}
 use Rattle.soctest.proofs.TreeFiles.{bound_settled}
 use Rattle.soctest.proofs.Settled.{AreOne, SaysOne, RefusesOne, IsSettled, one_answer, no_answer, only_done, none_unread, done_once, left_open}
 
@@ -44,6 +47,7 @@ pub record Laws : Type 0 where
   pub not_refused : PlansAreNotRefused
   pub refused_once : RefusedOnce
   pub one_fault : (soc : SocValue) (limits : LimitsValue) (plan : PlanValue) (f g : FaultValue) → IsFault soc limits plan f → IsFault soc limits plan g → f ≡ g
+  pub programs : ProgramLaws
   pub no_fault : (soc : SocValue) (limits : LimitsValue) (plan : PlanValue) (f : FaultValue) → IsFault soc limits plan f → IsFaultless soc limits plan → ⊥
 
 -- ---- chips
@@ -99,6 +103,12 @@ plan_refused_one laws soc limits = record { one = lines; none = no_plan } where
   no_plan bytes t v (inl a) says = laws.not_refused (words_of bytes) (last_line bytes) a.0 (v, says.0) a.1
   no_plan bytes t v (inr a) says = laws.no_fault soc limits a.0 a.2.0 a.2.1 (subst (IsFaultless soc limits) (laws.one_plan (words_of bytes) v a.0 says.0 a.1) says.1)
 
+-- ---- programs
+
+-- what comes after a chip, limits, an accepted plan and a program that is right
+settled_program : Laws → (chip : SocValue) (value : PlanValue) (program : List ℕ) (next : ProgramValue → Procedure) → ((shifts : ProgramValue) → IsSettled true (next shifts)) → IsSettled true (with_program chip value program next)
+settled_program laws chip value program next last = (program_one laws.programs chip value, program_refused_one laws.programs chip value, last)
+
 -- ---- commands
 
 -- what comes after a chip and limits
@@ -122,6 +132,9 @@ settled laws (MakePlan soc limits) = settled_both laws false soc limits done_wit
 settled laws (Check soc limits plan) = settled_all laws soc limits plan (λ chip bounds value. done_with (accepted_line value)) (λ chip bounds value. done_once true (accepted_line value))
 settled laws (Chart soc limits plan) = settled_all laws soc limits plan (λ chip bounds value. done_with (chart_text chip value)) (λ chip bounds value. done_once true (chart_text chip value))
 settled laws (Vectors soc limits plan seed) = settled_all laws soc limits plan (λ chip bounds value. Unless (run_refusal value) (done_with (vector_text chip value (made_content chip seed)))) (λ chip bounds value. done_once true (vector_text chip value (made_content chip seed)))
+settled laws (Shift soc limits plan program) =
+    settled_all laws soc limits plan (λ chip bounds value. with_program chip value program (λ shifts. done_with (accepted_program chip value shifts)))
+    (λ chip bounds value. settled_program laws chip value program (λ shifts. done_with (accepted_program chip value shifts)) (λ shifts. done_once true (accepted_program chip value shifts)))
 settled laws (TreeBound soc limits tree) = settled_both laws true soc limits (with_bound tree) (bound_settled tree)
 settled laws (SplitTests soc limits most) = settled_both laws false soc limits (λ chip bounds. Unless (split_refusal chip bounds most) (done_with_split chip bounds most))
     (λ chip bounds. left_open (λ text. (value : PlanValue) × IsPlanned (split_chip bounds most chip) (split_limits bounds most chip) value × (text ≡ split_text (split_of chip bounds most) value)))

@@ -13,7 +13,7 @@ use Rattle.plan_model.specs.Certificates.{IsAccepted}
 use Rattle.soc_reader.specs.ChipForm.{SaysChip}
 use Rattle.plan_text.specs.Answers.{SaysPlan}
 use Rattle.soctest.specs.declared.FileKind.{FileKind}
-use Rattle.soctest.specs.declared.FileKind.TheVariants.{Soc, Limits, Plan}
+use Rattle.soctest.specs.declared.FileKind.TheVariants.{Soc, Limits, Plan, Program}
 use Rattle.soctest.specs.declared.Status.{Status}
 use Rattle.soctest.specs.declared.Status.TheVariants.{Done, Refused, BadWords, TooLong}
 use Rattle.soctest.specs.declared.Verdict.TheVariants.{Answered}
@@ -24,14 +24,15 @@ use Rattle.plan_text.specs.PlanLines.{plan_text}
 use Rattle.chart.specs.ChartText.{chart_text}
 use Rattle.bit_machine.specs.Chips.{made_content}
 use Rattle.tester_vectors.specs.VectorText.{vector_text}
-use Rattle.soctest.specs.Commands.{CommandValue, Print, Widths, MakePlan, Check, Chart, Vectors, Sample, TreeBound, SplitTests}
+use Rattle.soctest.specs.Commands.{CommandValue, Print, Widths, MakePlan, Check, Chart, Vectors, Sample, TreeBound, SplitTests, Shift}
 use Rattle.sample_maker.specs.Samples.{made_chip}
 use Rattle.soctest.specs.Samples.{sample_limits, sample_text}
 use Rattle.soctest.specs.Texts.{too_long_line, bad_words_line, accepted_line}
 use Rattle.soctest.specs.Readings.{most_of, IsRead, RefusesChip, SaysLimits, RefusesLimits, SaysAccepted, RefusesPlan}
-use Rattle.soctest.specs.Procedures.{Procedure, Unless, with_limits, with_accepted, with_both, with_all, done_with, done_with_plan, done_with_sample, run_refusal, sample_refusal}
+use Rattle.soctest.specs.Procedures.{Procedure, Unless, with_limits, with_accepted, with_both, with_all, with_program, done_with, done_with_plan, done_with_sample, run_refusal, sample_refusal}
+use Rattle.soctest.specs.ShiftPrograms.{SaysRight, RefusesProgram, accepted_program}
 use Rattle.soctest.specs.Answers.{Stage, Answers, IsAnswer}
-use Rattle.soctest.specs.Ends.{MayAnswer, Ends, IsChipIn, AreLimitsIn, IsPlanIn, IsMade, IsTrustworthy, Trusts, Headline}
+use Rattle.soctest.specs.Ends.{MayAnswer, Ends, IsChipIn, AreLimitsIn, IsPlanIn, IsMade, TellsProgram, IsTrustworthy, Trusts, Headline}
 
 -- a stage that ends with Done has read its file
 pub stage_done : {V : Type 0} (file : FileKind) (Says : List ℕ → V → Type 0) (Refuses : List ℕ → List ℕ → Type 0) (Next : V → Status → List ℕ → Type 0) (held : Option (List ℕ)) (text : List ℕ) → Stage file Says Refuses Next held Done text → (v : V) × IsRead file Says held v × Next v Done text
@@ -119,6 +120,12 @@ sampled laws files n seed text old new answer put =
     made laws (λ chip. chip ≡ made_chip n seed) (λ chip bounds. bounds ≡ sample_limits) (λ chip value t. t ≡ sample_text n seed chip value)
     (made_chip n seed) sample_limits answer.1.0 text old new refl refl (omega arith) answer.1.1 answer.1.2 put
 
+-- what is answered for a program is the text of one that is right
+told_program : (files : Files) (program : List ℕ) (chip : SocValue) (value : PlanValue) (text : List ℕ) → Answers (with_program chip value program (λ shifts. done_with (accepted_program chip value shifts))) files Done text → TellsProgram files program chip value text
+told_program files program chip value text answer =
+    let d = stage_done Program (SaysRight chip value) (RefusesProgram chip value) (λ shifts. Answers (done_with (accepted_program chip value shifts)) files) (get files program) text answer in
+    (d.0, d.1, d.2.1)
+
 -- each command
 trusted : Laws → (files : Files) (command : CommandValue) (text : List ℕ) (old new : Option (List ℕ)) → IsAnswer (Some command) files Done text → Appended old text new → Trusts command files old new
 trusted laws files (Print soc) text old new answer put = tt
@@ -132,6 +139,9 @@ trusted laws files (Vectors soc limits plan seed) text old new answer put =
     accepted laws files soc limits plan (λ chip value t. t ≡ vector_text chip value (made_content chip seed)) (λ chip bounds value. Unless (run_refusal value) (done_with (vector_text chip value (made_content chip seed))))
     (λ chip bounds value text a. (not_refused files (run_refusal value) (done_with (vector_text chip value (made_content chip seed))) text a).1) text old new answer put
 trusted laws files (Sample n seed) text old new answer put = sampled laws files n seed text old new (not_refused files (sample_refusal n) (done_with_sample n seed) text answer) put
+trusted laws files (Shift soc limits plan program) text old new answer put =
+    accepted laws files soc limits plan (TellsProgram files program) (λ chip bounds value. with_program chip value program (λ shifts. done_with (accepted_program chip value shifts)))
+    (λ chip bounds value text a. told_program files program chip value text a) text old new answer put
 trusted laws files (TreeBound soc limits tree) text old new answer put = tt
 trusted laws files (SplitTests soc limits most) text old new answer put = tt
 

@@ -1,4 +1,5 @@
 pub mod AllFiles
+pub mod ProgramAnswers
 pub mod Completeness
 pub mod FileStages
 pub mod Headlines

@@ -9,10 +9,10 @@ use Rattle.plan_model.specs.Right.{IsRight}
 use Rattle.plan_model.specs.Rules.{IsBound}
 use Rattle.soc_reader.specs.ChipForm.{SaysChip}
 use Rattle.soctest.specs.declared.FileKind.{FileKind}
-use Rattle.soctest.specs.declared.FileKind.TheVariants.{Soc, Limits, Plan}
+use Rattle.soctest.specs.declared.FileKind.TheVariants.{Soc, Limits, Plan, Program}
 use Rattle.soctest.specs.declared.Status.{Status}
 use Rattle.soctest.specs.declared.Status.TheVariants.{Done, Refused, BadWords, ReadFault, TooLong, WriteFault, NoMemory}
-use Rattle.soctest.specs.Commands.{CommandValue, Print, Widths, MakePlan, Check, Chart, Vectors, Sample, TreeBound, SplitTests}
+use Rattle.soctest.specs.Commands.{CommandValue, Print, Widths, MakePlan, Check, Chart, Vectors, Sample, TreeBound, SplitTests, Shift}
 use Rattle.plan_text.specs.Answers.{SaysPlan}
 use Rattle.plan_text.specs.PlanLines.{plan_text}
 use Rattle.chart.specs.ChartText.{chart_text}
@@ -22,6 +22,8 @@ use Rattle.soctest.specs.Procedures.{Procedure, Read, Unless, Answer, procedure_
 use Rattle.sample_maker.specs.Samples.{made_chip}
 use Rattle.soctest.specs.Samples.{sample_limits, sample_text}
 use Rattle.soctest.specs.Texts.{is_line, unread_line, bad_words_line, accepted_line}
+use Rattle.shift_program.specs.Programs.{ProgramValue}
+use Rattle.soctest.specs.ShiftPrograms.{SaysRight, accepted_program}
 use Rattle.soctest.specs.Readings.{IsRead, SaysLimits}
 use Rattle.soctest.specs.Answers.{IsAnswer}
 use Rattle.soctest.specs.Decides.{IsUnreadOf}
@@ -72,6 +74,7 @@ fixes_text (Some (Chart soc limits plan)) = true
 fixes_text (Some (Vectors soc limits plan seed)) = true
 fixes_text (Some (Sample n seed)) = false
 fixes_text (Some (TreeBound soc limits tree)) = true
+fixes_text (Some (Shift soc limits plan program)) = true
 fixes_text (Some (SplitTests soc limits most)) = false
 
 -- Where neither count of faults rose and the files give an answer, the call ends with its status, or for want of memory;
@@ -128,6 +131,10 @@ pub record IsTrustworthy (IsChip : SocValue → Type 0) (AreLimits : SocValue �
 abbrev pub IsMade : PlanValue → Type 0
 IsMade value = Unit {0}
 
+-- the text is that of a file's program, which is right for its test in the plan and takes at least the test's cycles
+abbrev pub TellsProgram : Files → (program : List ℕ) → SocValue → PlanValue → List ℕ → Type 0
+TellsProgram files program chip value text = (shifts : ProgramValue) × IsRead Program (SaysRight chip value) (get files program) shifts × (text ≡ accepted_program chip value shifts)
+
 -- what the commands over a plan promise of it, over the files that they name
 abbrev pub Trusts : CommandValue → Files → Option (List ℕ) → Option (List ℕ) → Type 0
 Trusts (Print soc) files old new = Unit {0}
@@ -137,6 +144,7 @@ Trusts (Check soc limits plan) files old new = IsTrustworthy (IsChipIn files soc
 Trusts (Chart soc limits plan) files old new = IsTrustworthy (IsChipIn files soc) (AreLimitsIn files limits) (IsPlanIn files plan) (λ chip value text. text ≡ chart_text chip value) old new
 Trusts (Vectors soc limits plan seed) files old new = IsTrustworthy (IsChipIn files soc) (AreLimitsIn files limits) (IsPlanIn files plan) (λ chip value text. text ≡ vector_text chip value (made_content chip seed)) old new
 Trusts (Sample n seed) files old new = IsTrustworthy (λ chip. chip ≡ made_chip n seed) (λ chip bounds. bounds ≡ sample_limits) IsMade (λ chip value text. text ≡ sample_text n seed chip value) old new
+Trusts (Shift soc limits plan program) files old new = IsTrustworthy (IsChipIn files soc) (AreLimitsIn files limits) (IsPlanIn files plan) (TellsProgram files program) old new
 Trusts (TreeBound soc limits tree) files old new = Unit {0}
 Trusts (SplitTests soc limits most) files old new = Unit {0}
 

@@ -10,6 +10,7 @@ pub mod TreeBounds
 pub mod TreeDecides
 pub mod TreeReadings
 pub mod TreeTexts
+pub mod ShiftPrograms
 pub mod WidthsText
 pub mod SplitText
 pub mod SplitEnds

@@ -10,7 +10,7 @@ use Rattle.plan_model.specs.Plans.{PlanValue}
 use Rattle.plan_model.specs.Certificates.{CertificateFault, BadListFault, LessFault}
 use Rattle.plan_model.specs.Faults.{FaultValue, WidthFault, UnknownModuleFault, ModulePlaceFault, WrapperListFault, CellsFault, TestsFault, WireFault, BusyFault, ParentFault, BeforeFault, PowerFault, CyclesFault, BoundFault}
 use Rattle.soctest.specs.declared.FileKind.{FileKind}
-use Rattle.soctest.specs.declared.FileKind.TheVariants.{Soc, Limits, Plan, Tree}
+use Rattle.soctest.specs.declared.FileKind.TheVariants.{Soc, Limits, Plan, Tree, Program}
 
 -- one line feed, at the end
 abbrev pub is_line : List ℕ → Bool
@@ -27,6 +27,7 @@ file_name Soc = codes "SOC"
 file_name Limits = codes "LIMITS"
 file_name Plan = codes "PLAN"
 file_name Tree = codes "TREE"
+file_name Program = codes "PROGRAM"
 
 abbrev pub unread_line : FileKind → List ℕ
 unread_line file = codes "cannot read " ++ file_name file ++ codes "\n"

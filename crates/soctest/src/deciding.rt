@@ -9,7 +9,7 @@ ghost use Rattle.plan_text.specs.PlanLines.{plan_text};
 ghost use Rattle.schedule_search.specs.Estimates.{CanAsk, IsAtLeastReady, IsAtMostNow};
 ghost use Rattle.planner.specs.Plans.{IsPlanned};
 ghost use Rattle.plan_model.specs.declared.TheConstants.{WIRES_MOST};
-ghost use Rattle.soctest.specs.Commands.{Print, Widths, MakePlan, Check, Chart, Vectors, TreeBound, command_of, SplitTests};
+ghost use Rattle.soctest.specs.Commands.{Print, Widths, MakePlan, Check, Chart, Vectors, TreeBound, command_of, SplitTests, Shift};
 ghost use Rattle.plan_model.specs.Rules.{IsGoodAlone};
 ghost use Rattle.bit_machine.specs.Chips.{wires_of, made_content};
 ghost use Rattle.tester_vectors.specs.VectorText.{vector_text as text_of_vectors};
@@ -17,14 +17,17 @@ ghost use Rattle.soctest.specs.Procedures.{procedure_of, run_refusal};
 ghost use Rattle.soctest.specs.Decides.{Follows, Decides, GivesUnless};
 
 use crate::lines::{accepted_line, run_line};
-use crate::loading::{answered, answered_with, load_all, load_both, load_chip, refused_with};
+use crate::loading::{
+    answered, answered_with, load_all, load_both, load_chip, load_file, refused_with,
+};
+use crate::programs::answer_program;
 use crate::samples::decide_sample;
 use crate::tree_lines::bound_line;
 use crate::trees::load_accepted_tree;
 use crate::splitting::decide_split;
 use crate::widths::widths_text;
 use crate::words::command;
-use crate::{Command, Status, Verdict};
+use crate::{Command, FileKind, Status, Verdict};
 use chart::print_chart;
 use outside::{NoMemory, Shelf};
 use plan_model::{Limits, Plan, good_without_limits};
@@ -198,6 +201,28 @@ fn decide_tree<H: Shelf>(
     }
 }
 
+/// `shift SOC LIMITS PLAN PROGRAM`: whether a program is right for its test in a plan that is accepted.
+fn decide_shift<H: Shelf>(
+    alloc: Global,
+    soc: &str,
+    limits: &str,
+    plan: &str,
+    program: &str,
+    shelf: &mut H,
+) -> Verdict
+    ensures held_stays { H.held shelf.new ≡ H.held shelf.old }
+    ensures faults_never_fall { H.faults shelf.old ≤ H.faults shelf.new }
+    ensures follows { Follows (procedure_of (Shift soc.now limits.now plan.now program.now)) (H.held shelf.old) (H.faults shelf.old) (H.faults shelf.new) result }
+{
+    match load_all(alloc, soc, limits, plan, shelf) {
+        Ok(all) => match load_file(alloc, FileKind::Program, program, shelf) {
+            Ok(bytes) => answer_program(alloc, &all.soc, &all.limits, &all.plan, bytes.as_slice()),
+            Err(verdict) => verdict,
+        },
+        Err(verdict) => verdict,
+    }
+}
+
 /// Decides how the command of these words ends. Words of no command leave the shelf untouched.
 pub fn decide<H: Shelf>(alloc: Global, words: &[String], shelf: &mut H) -> Verdict
     ensures held_stays { H.held shelf.new ≡ H.held shelf.old }
@@ -225,6 +250,14 @@ pub fn decide<H: Shelf>(alloc: Global, words: &[String], shelf: &mut H) -> Verdi
             },
         ) => decide_vectors(alloc, soc, limits, plan, seed, shelf),
         Some(Command::Sample { n, seed }) => decide_sample(alloc, n, seed),
+        Some(
+            Command::Shift {
+                soc,
+                limits,
+                plan,
+                program,
+            },
+        ) => decide_shift(alloc, soc, limits, plan, program, shelf),
         Some(Command::Tree { soc, limits, tree }) => {
             decide_tree(alloc, soc, limits, tree, shelf)
         }

@@ -7,6 +7,7 @@ ghost use Rattle.std.specs.Prelude.{◌≡◌};
 mod deciding;
 mod lines;
 mod loading;
+mod programs;
 mod samples;
 mod splitting;
 mod top;
@@ -17,7 +18,7 @@ mod words;
 
 pub use top::soctest;
 
-/// The greatest length of a .soc file or a limits file, in bytes.
+/// The greatest length of a .soc file, a limits file or a program, in bytes.
 pub const FILE_MOST: u64 = 1_048_576;
 /// The greatest length of a plan file, in bytes.
 pub const PLAN_FILE_MOST: u64 = 33_554_432;
@@ -48,6 +49,7 @@ pub enum FileKind {
     Limits,
     Plan,
     Tree,
+    Program,
 }
 
 /// A command, with the names of its files.
@@ -102,6 +104,13 @@ pub enum Command<'a> {
         soc: &'a str,
         limits: &'a str,
         most: u64,
+    },
+    /// Whether a program of Shifts, Captures and Rests is right for its test in a plan that is accepted.
+    Shift {
+        soc: &'a str,
+        limits: &'a str,
+        plan: &'a str,
+        program: &'a str,
     },
 }
 

@@ -23,6 +23,7 @@ pub fn unread_line(file: FileKind) -> &'static [u8]
         FileKind::Limits => b"cannot read LIMITS\n",
         FileKind::Plan => b"cannot read PLAN\n",
         FileKind::Tree => b"cannot read TREE\n",
+        FileKind::Program => b"cannot read PROGRAM\n",
     }
 }
 
@@ -36,6 +37,7 @@ pub fn too_long_line(file: FileKind) -> &'static [u8]
         FileKind::Limits => b"too long LIMITS\n",
         FileKind::Plan => b"too long PLAN\n",
         FileKind::Tree => b"too long TREE\n",
+        FileKind::Program => b"too long PROGRAM\n",
     }
 }
 

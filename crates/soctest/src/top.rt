@@ -13,6 +13,9 @@ use limits_text::texts_have_one_answer;
 use outside::{Shelf, Sink, WriteFault, put_all};
 use plan_model::{certificates_are_bounds, faults_are_exact, good_plans_run_right};
 use plan_text::{plans_are_not_refused, refused_once, say_one_plan};
+use shift_program::{
+    faultless_programs_are_right, program_faults_are_exact, program_texts_have_one_answer,
+};
 use std::alloc::Global;
 
 /// Runs the command of these words over the files of a shelf, and writes its answer.
@@ -57,6 +60,9 @@ pub fn soctest<H: Shelf, K: Sink>(
     say_one_plan();
     plans_are_not_refused();
     refused_once();
+    faultless_programs_are_right();
+    program_faults_are_exact();
+    program_texts_have_one_answer();
     match decide(alloc, words, shelf) {
         Verdict::Answered { status, text } => match put_all(out, text.as_slice()) {
             Ok(()) => status,

@@ -76,6 +76,12 @@ pub fn command(words: &[String]) -> Option<Command<'_>>
             plan: plan.as_str(),
             seed: number(seed.as_bytes(), NUMBER_WORD_MOST)?,
         }),
+        [word, soc, limits, plan, program] if word.as_str() == "shift" => Some(Command::Shift {
+            soc: soc.as_str(),
+            limits: limits.as_str(),
+            plan: plan.as_str(),
+            program: program.as_str(),
+        }),
         _ => None,
     }
 }

@@ -19,7 +19,7 @@ returns-in-Ok-clause-ends g c =
 pub returns-in-Ok-clause-complete : goal.returns-in-Ok-clause-complete
 returns-in-Ok-clause-complete g c =
     let all = rw c.as_slice.ensures.value at c.in-Ok.ensures.all in
-    complete (record { reading = c.texts_have_one_answer.ensures; one_plan = c.say_one_plan.ensures; not_refused = c.plans_are_not_refused.ensures; refused_once = c.refused_once.ensures; one_fault = c.faults_are_exact.ensures.one; no_fault = c.faults_are_exact.ensures.none })
+    complete (record { reading = c.texts_have_one_answer.ensures; one_plan = c.say_one_plan.ensures; not_refused = c.plans_are_not_refused.ensures; refused_once = c.refused_once.ensures; one_fault = c.faults_are_exact.ensures.one; no_fault = c.faults_are_exact.ensures.none; programs = record { texts = c.program_texts_have_one_answer.ensures; faultless = c.faultless_programs_are_right.ensures.faultless; one_fault = c.program_faults_are_exact.ensures.one } })
     (command_of (map string_bytes c.args.words.now)) (g.H.Shelf.held c.args.shelf.now) (g.H.Shelf.faults c.args.shelf.now) (g.H.Shelf.faults c.decide.new.shelf) (g.K.Sink.faults c.args.out.now) (g.K.Sink.faults c.put_all.new.out) (g.K.Sink.written c.args.out.now) (g.K.Sink.written c.put_all.new.out) c.in-Answered.status
     (ends_answered (command_of (map string_bytes c.args.words.now)) (g.H.Shelf.held c.args.shelf.now) (g.H.Shelf.faults c.args.shelf.now) (g.H.Shelf.faults c.decide.new.shelf) (g.K.Sink.faults c.args.out.now) (g.K.Sink.faults c.put_all.new.out) (g.K.Sink.written c.args.out.now) (g.K.Sink.written c.put_all.new.out) c.in-Answered.status c.in-Answered.text.items (answer_of (command_of (map string_bytes c.args.words.now)) (g.H.Shelf.held c.args.shelf.now) (g.H.Shelf.faults c.args.shelf.now) (g.H.Shelf.faults c.decide.new.shelf) c.in-Answered.status c.in-Answered.text c.in-Answered.ensures.decides) all)
 
@@ -55,7 +55,7 @@ returns-in-CannotRead-clause-ends g c =
 
 pub returns-in-Ok-put_all-clause-complete : goal.returns-in-Ok-put_all-clause-complete
 returns-in-Ok-put_all-clause-complete g c =
-    complete (record { reading = c.texts_have_one_answer.ensures; one_plan = c.say_one_plan.ensures; not_refused = c.plans_are_not_refused.ensures; refused_once = c.refused_once.ensures; one_fault = c.faults_are_exact.ensures.one; no_fault = c.faults_are_exact.ensures.none })
+    complete (record { reading = c.texts_have_one_answer.ensures; one_plan = c.say_one_plan.ensures; not_refused = c.plans_are_not_refused.ensures; refused_once = c.refused_once.ensures; one_fault = c.faults_are_exact.ensures.one; no_fault = c.faults_are_exact.ensures.none; programs = record { texts = c.program_texts_have_one_answer.ensures; faultless = c.faultless_programs_are_right.ensures.faultless; one_fault = c.program_faults_are_exact.ensures.one } })
     (command_of (map string_bytes c.args.words.now)) (g.H.Shelf.held c.args.shelf.now) (g.H.Shelf.faults c.args.shelf.now) (g.H.Shelf.faults c.decide.new.shelf) (g.K.Sink.faults c.args.out.now) (g.K.Sink.faults c.put_all-in-CannotRead.new.out) (g.K.Sink.written c.args.out.now) (g.K.Sink.written c.put_all-in-CannotRead.new.out) ReadFault
     (c.unread_line.result.now, (c.in-CannotRead.file, c.unread_line.ensures.text, unread_of (command_of (map string_bytes c.args.words.now)) (g.H.Shelf.held c.args.shelf.now) (g.H.Shelf.faults c.args.shelf.now) (g.H.Shelf.faults c.decide.new.shelf) c.in-CannotRead.file c.in-CannotRead.ensures.decides), c.in-Ok-put_all.ensures.all)
 
@@ -67,13 +67,13 @@ returns-in-Answered-clause-ends g c =
 pub returns-in-Ok-clause-finishes : goal.returns-in-Ok-clause-finishes
 returns-in-Ok-clause-finishes g c =
     let all = rw c.as_slice.ensures.value at c.in-Ok.ensures.all in
-    finishes (record { reading = c.texts_have_one_answer.ensures; one_plan = c.say_one_plan.ensures; not_refused = c.plans_are_not_refused.ensures; refused_once = c.refused_once.ensures; one_fault = c.faults_are_exact.ensures.one; no_fault = c.faults_are_exact.ensures.none })
+    finishes (record { reading = c.texts_have_one_answer.ensures; one_plan = c.say_one_plan.ensures; not_refused = c.plans_are_not_refused.ensures; refused_once = c.refused_once.ensures; one_fault = c.faults_are_exact.ensures.one; no_fault = c.faults_are_exact.ensures.none; programs = record { texts = c.program_texts_have_one_answer.ensures; faultless = c.faultless_programs_are_right.ensures.faultless; one_fault = c.program_faults_are_exact.ensures.one } })
     (command_of (map string_bytes c.args.words.now)) (g.H.Shelf.held c.args.shelf.now) (g.H.Shelf.faults c.args.shelf.now) (g.H.Shelf.faults c.decide.new.shelf) (g.K.Sink.faults c.args.out.now) (g.K.Sink.faults c.put_all.new.out) (g.K.Sink.written c.args.out.now) (g.K.Sink.written c.put_all.new.out) c.in-Answered.status
     (ends_answered (command_of (map string_bytes c.args.words.now)) (g.H.Shelf.held c.args.shelf.now) (g.H.Shelf.faults c.args.shelf.now) (g.H.Shelf.faults c.decide.new.shelf) (g.K.Sink.faults c.args.out.now) (g.K.Sink.faults c.put_all.new.out) (g.K.Sink.written c.args.out.now) (g.K.Sink.written c.put_all.new.out) c.in-Answered.status c.in-Answered.text.items (answer_of (command_of (map string_bytes c.args.words.now)) (g.H.Shelf.held c.args.shelf.now) (g.H.Shelf.faults c.args.shelf.now) (g.H.Shelf.faults c.decide.new.shelf) c.in-Answered.status c.in-Answered.text c.in-Answered.ensures.decides) all)
 
 pub returns-in-Ok-put_all-clause-finishes : goal.returns-in-Ok-put_all-clause-finishes
 returns-in-Ok-put_all-clause-finishes g c =
-    finishes (record { reading = c.texts_have_one_answer.ensures; one_plan = c.say_one_plan.ensures; not_refused = c.plans_are_not_refused.ensures; refused_once = c.refused_once.ensures; one_fault = c.faults_are_exact.ensures.one; no_fault = c.faults_are_exact.ensures.none })
+    finishes (record { reading = c.texts_have_one_answer.ensures; one_plan = c.say_one_plan.ensures; not_refused = c.plans_are_not_refused.ensures; refused_once = c.refused_once.ensures; one_fault = c.faults_are_exact.ensures.one; no_fault = c.faults_are_exact.ensures.none; programs = record { texts = c.program_texts_have_one_answer.ensures; faultless = c.faultless_programs_are_right.ensures.faultless; one_fault = c.program_faults_are_exact.ensures.one } })
     (command_of (map string_bytes c.args.words.now)) (g.H.Shelf.held c.args.shelf.now) (g.H.Shelf.faults c.args.shelf.now) (g.H.Shelf.faults c.decide.new.shelf) (g.K.Sink.faults c.args.out.now) (g.K.Sink.faults c.put_all-in-CannotRead.new.out) (g.K.Sink.written c.args.out.now) (g.K.Sink.written c.put_all-in-CannotRead.new.out) ReadFault
     (c.unread_line.result.now, (c.in-CannotRead.file, c.unread_line.ensures.text, unread_of (command_of (map string_bytes c.args.words.now)) (g.H.Shelf.held c.args.shelf.now) (g.H.Shelf.faults c.args.shelf.now) (g.H.Shelf.faults c.decide.new.shelf) c.in-CannotRead.file c.in-CannotRead.ensures.decides), c.in-Ok-put_all.ensures.all)
 

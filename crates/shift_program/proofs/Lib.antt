@@ -1,0 +1,15 @@
+pub mod Blocks
+pub mod Runs
+pub mod Entries
+pub mod Patterns
+pub mod Lengths
+pub mod Faultless
+pub mod RightOnes
+pub mod Chains
+pub mod Counts
+pub mod Passing
+pub mod Exact
+pub mod Checked
+pub mod TextsRead
+pub mod TextsViable
+pub mod Texts

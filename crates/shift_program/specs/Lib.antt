@@ -1,0 +1,11 @@
+pub mod Programs
+pub mod RightPrograms
+pub mod Faults
+pub mod Counting
+pub mod Tokens
+pub mod Grammar
+pub mod Steps
+pub mod PartValues
+pub mod Reads
+pub mod Answers
+pub mod Laws

@@ -1,0 +1,180 @@
+-- What is answered of a program: a text says one, or is refused in one line.
+use Rattle.std.proofs.Common.{◌≡◌, inl, inr, ℕ, ◌≤◌, List, map, get_or, true, Option, None, Some, Result, Ok, Err, IfOk, length, refl, ap, sym, ◌∙◌, subst, arith}
+use Rattle.std.specs.Prelude.{IsTrue, slice_get}
+use Rattle.std.proofs.lemmas.Bool.{and_parts}
+use Rattle.std.proofs.lemmas.Option.{get_or_from_slice_get}
+use Rattle.std.specs.Global.{Vec}
+use Rattle.outside.specs.declared.NoMemory.{NoMemory as MemoryFault}
+use Rattle.outside.specs.Held.{Files, WhereTold}
+use Rattle.soc_model.specs.declared.Test.{Test}
+use Rattle.soc_model.specs.Chips.{ModuleValue, SocValue, is_live}
+use Rattle.soc_model.specs.Modes.{is_tam}
+use Rattle.plan_model.specs.declared.Wrapper.{Wrapper}
+use Rattle.plan_model.specs.Operations.{ops_of}
+use Rattle.plan_model.specs.Plans.{PlanValue, WrapperValue, si_of, so_of}
+use Rattle.plan_model.specs.Views.{wrapper_value}
+use Rattle.plan_model.proofs.FoundWrappers.{IsFound}
+use Rattle.shift_program.specs.declared.ProgramFault.{ProgramFault}
+use Rattle.shift_program.specs.Programs.{ProgramValue, WrappedTest, wrapped_test, operations}
+use Rattle.shift_program.specs.RightPrograms.{AreRight}
+use Rattle.shift_program.specs.Faults.{needed_for, IsFault}
+use Rattle.shift_program.specs.Answers.{Says, RefusedAt, Means, IsReadProgram}
+use Rattle.shift_program.specs.Laws.{RightAreFaultless, OneFault, TextsHaveOneAnswer}
+use Rattle.soctest.specs.declared.FileKind.TheVariants.{Program}
+use Rattle.soctest.specs.declared.Status.TheVariants.{Done, Refused}
+use Rattle.soctest.specs.declared.Verdict.{Verdict}
+use Rattle.soctest.specs.declared.Verdict.TheVariants.{Answered, CannotRead, NoMemory as OutOfMemory}
+use Rattle.soctest.specs.Texts.{is_line}
+use Rattle.soctest.specs.Readings.{most_of}
+use Rattle.soctest.specs.ShiftPrograms.{named_test, test_cycles, wrapper_for, planned_for, IsRightFor, RightIn, SaysRight, RefusedIn, RefusesProgram, program_line, program_fault_line, accepted_with, accepted_program, Judges, AnswersProgram}
+use Rattle.soctest.specs.Procedures.{done_with, with_program}
+use Rattle.soctest.specs.Decides.{Follows, GivesText, LoadsBytes}
+use Rattle.soctest.proofs.FileStages.{after_file, read_from, done, refused, without_bytes, no_value}
+use Rattle.soctest.proofs.Settled.{SaysOne, RefusesOne}
+
+-- the laws that this rests on
+pub record ProgramLaws : Type 0 where
+  pub texts : TextsHaveOneAnswer
+  pub faultless : RightAreFaultless
+  pub one_fault : OneFault
+
+-- ---- one answer
+
+same_program : TextsHaveOneAnswer → (bytes : List ℕ) (v w : ProgramValue) → IsReadProgram bytes v → IsReadProgram bytes w → v ≡ w
+same_program law bytes v w a b = let same : Says v ≡ Says w = law bytes (Says v) (Says w) a b in cc
+
+pub program_one : ProgramLaws → (chip : SocValue) (plan : PlanValue) → SaysOne (SaysRight chip plan)
+program_one laws chip plan bytes v w a b = same_program laws.texts bytes v w a.0 b.0
+
+-- a refusal of a program that was read is one line
+refused_in_one : OneFault → (plan : PlanValue) (program : ProgramValue) (found : Option (ModuleValue × Test)) (t t' : List ℕ) → RefusedIn plan program found t → RefusedIn plan program found t' → t ≡ t'
+refused_in_one law plan program None t t' a b = a ∙ sym b
+refused_in_one law plan program (Some x) t t' a b = a.2 ∙ ap program_fault_line (law (needed_for (planned_for plan x.0 x.1)) program.entries a.0 b.0 a.1 b.1) ∙ sym b.2
+
+-- and it isn't right
+not_both : RightAreFaultless → (plan : PlanValue) (bytes : List ℕ) (program : ProgramValue) (found : Option (ModuleValue × Test)) (t : List ℕ) → IsReadProgram bytes program → RefusedIn plan program found t → RightIn plan program found → ⊥
+not_both law plan bytes program None t read a right = right
+not_both law plan bytes program (Some x) t read a right = law x.0 x.1 (wrapper_for plan x.0 x.1) program.entries read.said.lasting right.right a.0 a.1.has
+
+pub program_refused_one : ProgramLaws → (chip : SocValue) (plan : PlanValue) → RefusesOne (SaysRight chip plan) (RefusesProgram chip plan)
+program_refused_one laws chip plan = record { one = lines; none = no_program } where
+  lines : (bytes t t' : List ℕ) → RefusesProgram chip plan bytes t → RefusesProgram chip plan bytes t' → t ≡ t'
+  lines bytes t t' (inl a) (inl b) =
+      let same : RefusedAt a.0 ≡ RefusedAt b.0 = laws.texts bytes (RefusedAt a.0) (RefusedAt b.0) a.1 b.1 in
+      let lines : a.0 ≡ b.0 = cc in
+      a.2 ∙ ap program_line lines ∙ sym b.2
+  lines bytes t t' (inl a) (inr b) = let same : RefusedAt a.0 ≡ Says b.0 = laws.texts bytes (RefusedAt a.0) (Says b.0) a.1 b.1 in absurd cc
+  lines bytes t t' (inr a) (inl b) = let same : Says a.0 ≡ RefusedAt b.0 = laws.texts bytes (Says a.0) (RefusedAt b.0) a.1 b.1 in absurd cc
+  lines bytes t t' (inr a) (inr b) =
+      let same : a.0 ≡ b.0 = same_program laws.texts bytes a.0 b.0 a.1 b.1 in
+      refused_in_one laws.one_fault plan b.0 (named_test chip b.0.test) t t' (subst (λ p. RefusedIn plan p (named_test chip p.test) t) same a.2) b.2
+
+  no_program : (bytes t : List ℕ) (v : ProgramValue) → RefusesProgram chip plan bytes t → SaysRight chip plan bytes v → ⊥
+  no_program bytes t v (inl a) says = let same : RefusedAt a.0 ≡ Says v = laws.texts bytes (RefusedAt a.0) (Says v) a.1 says.0 in cc
+  no_program bytes t v (inr a) says =
+      let same : a.0 ≡ v = same_program laws.texts bytes a.0 v a.1 says.0 in
+      not_both laws.faultless plan bytes v (named_test chip v.test) t says.0 (subst (λ p. RefusedIn plan p (named_test chip p.test) t) same a.2) says.1
+
+-- ---- from the bytes on
+
+-- the verdict on a program's text is one from its file on
+pub program_answered : (chip : SocValue) (plan : PlanValue) (name bytes : List ℕ) (held : Option Files) (before after : ℕ) (verdict : Verdict) → WhereTold held name (λ o. o ≡ Some bytes) → length bytes ≤ most_of Program → AnswersProgram chip plan bytes verdict →
+    Follows (with_program chip plan name (λ shifts. done_with (accepted_program chip plan shifts))) held before after verdict
+program_answered chip plan name bytes held before after (Answered status text) told within (inl a) =
+    after_file Program (SaysRight chip plan) (RefusesProgram chip plan) name (λ shifts. done_with (accepted_program chip plan shifts)) held before before after a.1.0 (Answered status text) (omega arith)
+    (read_from Program (SaysRight chip plan) held name bytes a.1.0 told within a.1.1) (done (accepted_program chip plan a.1.0) held before after (Answered status text) (a.0, a.1.2))
+program_answered chip plan name bytes held before after (Answered status text) told within (inr a) =
+    refused Program (SaysRight chip plan) (RefusesProgram chip plan) name (λ shifts. done_with (accepted_program chip plan shifts)) held before after bytes text.items (Answered status text) told within a.1 (a.0, refl, a.2)
+program_answered chip plan name bytes held before after (CannotRead file) told within a = absurd a
+program_answered chip plan name bytes held before after OutOfMemory told within a = tt
+
+-- and so is the verdict without its bytes
+pub program_unread : (chip : SocValue) (plan : PlanValue) (name : List ℕ) (held : Option Files) (before after : ℕ) (verdict : Verdict) → LoadsBytes Program name held before after (Err verdict) → Follows (with_program chip plan name (λ shifts. done_with (accepted_program chip plan shifts))) held before after verdict
+program_unread chip plan name held before after verdict none =
+    no_value Program (SaysRight chip plan) (RefusesProgram chip plan) name (λ shifts. done_with (accepted_program chip plan shifts)) held before after verdict
+    (without_bytes Program (SaysRight chip plan) (RefusesProgram chip plan) name held before after verdict none)
+
+-- ---- from a program that was read
+
+-- a program that is judged for the test that it names
+pub program_judged : (chip : SocValue) (plan : PlanValue) (bytes : List ℕ) (program : ProgramValue) (verdict : Verdict) → IsReadProgram bytes program → Judges plan program (named_test chip program.test) verdict → AnswersProgram chip plan bytes verdict
+program_judged chip plan bytes program (Answered status text) read (inl a) = inl (a.0, (program, (read, a.1), a.2))
+program_judged chip plan bytes program (Answered status text) read (inr a) = inr (a.0, inr (program, read, a.1), a.2)
+program_judged chip plan bytes program (CannotRead file) read a = a
+program_judged chip plan bytes program OutOfMemory read a = tt
+
+-- a text that is refused at a line
+pub text_refused : (chip : SocValue) (plan : PlanValue) (bytes : List ℕ) (line : ℕ) (made : Result (Vec ℕ) MemoryFault) (verdict : Verdict) → Means bytes (RefusedAt line) → IfOk made (λ text. text.items ≡ program_line line) → IfOk made (λ text. IsTrue (is_line text.items)) → GivesText Refused made verdict → AnswersProgram chip plan bytes verdict
+text_refused chip plan bytes line (Ok text) (Answered status given) why says is_one d = inr (d.0, inl (line, why, d.1 ∙ says), rw d.1 is_one)
+text_refused chip plan bytes line (Ok text) (CannotRead file) why says is_one d = absurd d
+text_refused chip plan bytes line (Ok text) OutOfMemory why says is_one d = tt
+text_refused chip plan bytes line (Err fault) verdict why says is_one d = rw d tt
+
+-- a program that is refused in a line
+pub judged_refused : (plan : PlanValue) (program : ProgramValue) (found : Option (ModuleValue × Test)) (line : List ℕ) (made : Result (Vec ℕ) MemoryFault) (verdict : Verdict) → RefusedIn plan program found line → IfOk made (λ text. text.items ≡ line) → IfOk made (λ text. IsTrue (is_line text.items)) → GivesText Refused made verdict → Judges plan program found verdict
+judged_refused plan program found line (Ok text) (Answered status given) why says is_one d = inr (d.0, subst (RefusedIn plan program found) (sym (d.1 ∙ says)) why, rw d.1 is_one)
+judged_refused plan program found line (Ok text) (CannotRead file) why says is_one d = absurd d
+judged_refused plan program found line (Ok text) OutOfMemory why says is_one d = tt
+judged_refused plan program found line (Err fault) verdict why says is_one d = rw d tt
+
+-- a program that is right
+pub judged_right : (plan : PlanValue) (program : ProgramValue) (m : ModuleValue) (t : Test) (did cycles : ℕ) (made : Result (Vec ℕ) MemoryFault) (verdict : Verdict) → IsRightFor plan program m t → IfOk made (λ text. text.items ≡ accepted_with did cycles) → did ≡ length (operations program.entries) → cycles ≡ test_cycles plan m t →
+    GivesText Done made verdict → Judges plan program (Some (m, t)) verdict
+judged_right plan program m t did cycles (Ok text) (Answered status given) right says same same' d = inl (d.0, right, d.1 ∙ says ∙ ap (λ n. accepted_with n cycles) same ∙ ap (λ n. accepted_with (length (operations program.entries)) n) same')
+judged_right plan program m t did cycles (Ok text) (CannotRead file) right says same same' d = absurd d
+judged_right plan program m t did cycles (Ok text) OutOfMemory right says same same' d = tt
+judged_right plan program m t did cycles (Err fault) verdict right says same same' d = rw d tt
+
+-- ---- the wrapper that is found
+
+-- a test in the wrapper that is found is the test in the plan's
+pub same_wrapped : (plan : PlanValue) (m : ModuleValue) (t : Test) (ws : List Wrapper) (k : ℕ) (w : Wrapper) → plan.wrappers ≡ map wrapper_value ws → IsFound m t.scan ws k w → wrapped_test m t (wrapper_value w) ≡ planned_for plan m t
+same_wrapped plan m t ws k w are found = rw (are, found.first, found.scan_is) refl
+
+-- what is right in the wrapper that is found is right in the plan's
+pub right_for : (plan : PlanValue) (program : ProgramValue) (m : ModuleValue) (t : Test) (w : WrapperValue) (did : ℕ) → wrapped_test m t w ≡ planned_for plan m t → t.tam ≡ true → AreRight (wrapped_test m t w) (operations program.entries) → did ≡ length (operations program.entries) →
+    length (ops_of m.setup (si_of (wrapped_test m t w).chains) (so_of (wrapped_test m t w).chains) t.patterns) ≤ did → IsRightFor plan program m t
+right_for plan program m t w did same tam right all least =
+    let time : test_cycles plan m t ≡ length (ops_of m.setup (si_of (planned_for plan m t).chains) (so_of (planned_for plan m t).chains) t.patterns) = rw tam refl in
+    let least' = subst (λ (x : WrappedTest). length (ops_of m.setup (si_of x.chains) (so_of x.chains) t.patterns) ≤ did) same least in
+    record { right = subst (λ (x : WrappedTest). AreRight x (operations program.entries)) same right; least = omega (arith, least', all, time) }
+
+-- a fault in the wrapper that is found is one in the plan's
+pub fault_for : (plan : PlanValue) (program : ProgramValue) (m : ModuleValue) (t : Test) (w : WrapperValue) (f : ProgramFault) → wrapped_test m t w ≡ planned_for plan m t → IsFault (needed_for (wrapped_test m t w)) program.entries f → RefusedIn plan program (Some (m, t)) (program_fault_line f)
+fault_for plan program m t w f same is = (f, subst (λ (x : WrappedTest). IsFault (needed_for x) program.entries f) same is, refl)
+
+-- ---- the test that is found
+
+-- a module and a test that were read at their places are those that stand there
+pub found_there : (ms : List ModuleValue) (place at : ℕ) (m read : ModuleValue) (t test : Test) → slice_get ms place ≡ Some m → slice_get m.tests at ≡ Some t → slice_get ms place ≡ Some read → test ≡ get_or read.tests at test → (m ≡ read) × (t ≡ test)
+found_there ms place at m read t test here there here' there' =
+    let same : m ≡ read = cc in
+    (same, sym (get_or_from_slice_get m.tests at t test there) ∙ ap (λ (x : ModuleValue). get_or x.tests at test) same ∙ sym there')
+
+-- it is a live test over the wires, and stands there
+pub record IsThere (ms : List ModuleValue) (place at : ℕ) (m : ModuleValue) (t : Test) : Type 0 where
+  pub here : slice_get ms place ≡ Some m
+  pub there : slice_get m.tests at ≡ Some t
+  pub tam : is_tam t ≡ true
+  pub live : is_live t ≡ true
+  pub wires : t.tam ≡ true
+
+pub read_there : (ms : List ModuleValue) (place at : ℕ) (m read : ModuleValue) (t test : Test) → slice_get ms place ≡ Some m → slice_get m.tests at ≡ Some t → is_tam t ≡ true → slice_get ms place ≡ Some read → test ≡ get_or read.tests at test → IsThere ms place at read test
+read_there ms place at m read t test here there tam here' there' =
+    let same = found_there ms place at m read t test here there here' there' in
+    let tam' : is_tam test ≡ true = subst (λ (x : Test). is_tam x ≡ true) same.1 tam in
+    let parts = and_parts (is_live test) test.tam tam' in
+    record {
+      here = here';
+      there = subst (λ (x : ModuleValue). slice_get x.tests at ≡ Some test) same.0 (subst (λ (x : Test). slice_get m.tests at ≡ Some x) same.1 there);
+      tam = tam';
+      live = parts.0;
+      wires = parts.1;
+    }
+
+-- a verdict on the test that was read is one on the test of that name
+pub judged_there : (chip : SocValue) (plan : PlanValue) (program : ProgramValue) (place at : ℕ) (m read : ModuleValue) (t test : Test) (verdict : Verdict) → slice_get chip.modules place ≡ Some m → slice_get m.tests at ≡ Some t → slice_get chip.modules place ≡ Some read → test ≡ get_or read.tests at test →
+    named_test chip program.test ≡ Some (m, t) → Judges plan program (Some (read, test)) verdict → Judges plan program (named_test chip program.test) verdict
+judged_there chip plan program place at m read t test verdict here there here' there' named is =
+    let same = found_there chip.modules place at m read t test here there here' there' in
+    subst (λ o. Judges plan program o verdict) (sym (named ∙ ap (λ (x : ModuleValue). Some (x, t)) same.0 ∙ ap (λ (x : Test). Some (read, x)) same.1)) is
