@@ -18,7 +18,7 @@ use Rattle.soctest.specs.declared.Status.{Status}
 use Rattle.soctest.specs.declared.Status.TheVariants.{Done, Refused, BadWords, ReadFault, TooLong, WriteFault, NoMemory}
 use Rattle.bit_machine.specs.Chips.{made_content}
 use Rattle.tester_vectors.specs.VectorText.{vector_text}
-use Rattle.soctest.specs.Commands.{CommandValue, Print, Widths, MakePlan, Check, Chart, Vectors, Sample}
+use Rattle.soctest.specs.Commands.{CommandValue, Print, Widths, MakePlan, Check, Chart, Vectors, Sample, Locate}
 use Rattle.soctest.specs.Texts.{chip_line, chip_limit_line, plan_line, fault_line, accepted_line}
 use Rattle.soc_printer.specs.SocText.{soc_text}
 use Rattle.soctest.specs.WidthsText.{widths_text}
@@ -32,6 +32,7 @@ use Rattle.soctest.specs.Samples.{sample_limits, sample_text}
 use Rattle.soctest.specs.Answers.{IsAnswer}
 use Rattle.soctest.specs.Decides.{IsUnread, IsUnreadOf}
 use Rattle.soctest.specs.Ends.{MayAnswer, Ends, fixes_text, EndsAsWanted, Complete, AreTaken, Finishes}
+use Rattle.soctest.proofs.LogFiles.{after_plan, settled_log}
 use Rattle.soctest.proofs.Settled.{AreOne, SaysOne, RefusesOne, IsSettled, one_answer, no_answer, only_done, none_unread, done_once, left_open}
 
 -- the laws that completeness rests on
@@ -120,6 +121,7 @@ settled laws (Check soc limits plan) = settled_all laws soc limits plan (λ chip
 settled laws (Chart soc limits plan) = settled_all laws soc limits plan (λ chip bounds value. done_with (chart_text chip value)) (λ chip bounds value. done_once true (chart_text chip value))
 settled laws (Vectors soc limits plan seed) = settled_all laws soc limits plan (λ chip bounds value. Unless (run_refusal value) (done_with (vector_text chip value (made_content chip seed)))) (λ chip bounds value. done_once true (vector_text chip value (made_content chip seed)))
 settled laws (Sample n seed) = left_open (λ text. (value : PlanValue) × IsPlanned (made_chip n seed) sample_limits value × (text ≡ sample_text n seed (made_chip n seed) value))
+settled laws (Locate soc limits plan log) = settled_all laws soc limits plan (after_plan log) (settled_log log)
 
 one : Laws → (command : Option CommandValue) (files : Files) (s : Status) (t : List ℕ) (s' : Status) (t' : List ℕ) → IsAnswer command files s t → IsAnswer command files s' t' → AreOne (fixes_text command) s t s' t'
 one laws None files s t s' t' a b = (a.0 ∙ sym b.0, λ fixed. a.1 ∙ sym b.1)

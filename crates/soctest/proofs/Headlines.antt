@@ -13,7 +13,7 @@ use Rattle.plan_model.specs.Certificates.{IsAccepted}
 use Rattle.soc_reader.specs.ChipForm.{SaysChip}
 use Rattle.plan_text.specs.Answers.{SaysPlan}
 use Rattle.soctest.specs.declared.FileKind.{FileKind}
-use Rattle.soctest.specs.declared.FileKind.TheVariants.{Soc, Limits, Plan}
+use Rattle.soctest.specs.declared.FileKind.TheVariants.{Soc, Limits, Plan, Log}
 use Rattle.soctest.specs.declared.Status.{Status}
 use Rattle.soctest.specs.declared.Status.TheVariants.{Done, Refused, BadWords, TooLong}
 use Rattle.soctest.specs.declared.Verdict.TheVariants.{Answered}
@@ -24,14 +24,17 @@ use Rattle.plan_text.specs.PlanLines.{plan_text}
 use Rattle.chart.specs.ChartText.{chart_text}
 use Rattle.bit_machine.specs.Chips.{made_content}
 use Rattle.tester_vectors.specs.VectorText.{vector_text}
-use Rattle.soctest.specs.Commands.{CommandValue, Print, Widths, MakePlan, Check, Chart, Vectors, Sample}
+use Rattle.fail_locate.specs.LogAnswers.{SaysLog}
+use Rattle.soctest.specs.Commands.{CommandValue, Print, Widths, MakePlan, Check, Chart, Vectors, Sample, Locate}
+use Rattle.soctest.specs.LocateText.{locate_text}
 use Rattle.sample_maker.specs.Samples.{made_chip}
 use Rattle.soctest.specs.Samples.{sample_limits, sample_text}
 use Rattle.soctest.specs.Texts.{too_long_line, bad_words_line, accepted_line}
-use Rattle.soctest.specs.Readings.{most_of, IsRead, RefusesChip, SaysLimits, RefusesLimits, SaysAccepted, RefusesPlan}
-use Rattle.soctest.specs.Procedures.{Procedure, Unless, with_limits, with_accepted, with_both, with_all, done_with, done_with_plan, done_with_sample, run_refusal, sample_refusal}
+use Rattle.soctest.specs.Readings.{most_of, IsRead, RefusesChip, SaysLimits, RefusesLimits, SaysAccepted, RefusesPlan, RefusesFails}
+use Rattle.soctest.specs.Procedures.{Procedure, Unless, with_limits, with_accepted, with_both, with_all, with_log, done_with, done_with_plan, done_with_sample, run_refusal, sample_refusal}
 use Rattle.soctest.specs.Answers.{Stage, Answers, IsAnswer}
-use Rattle.soctest.specs.Ends.{MayAnswer, Ends, IsChipIn, AreLimitsIn, IsPlanIn, IsMade, IsTrustworthy, Trusts, Headline}
+use Rattle.soctest.specs.Ends.{MayAnswer, Ends, IsChipIn, AreLimitsIn, IsPlanIn, AreFailsIn, IsMade, IsTrustworthy, Trusts, Headline}
+use Rattle.soctest.proofs.LogFiles.{after_plan}
 
 -- a stage that ends with Done has read its file
 stage_done : {V : Type 0} (file : FileKind) (Says : List ℕ → V → Type 0) (Refuses : List ℕ → List ℕ → Type 0) (Next : V → Status → List ℕ → Type 0) (held : Option (List ℕ)) (text : List ℕ) → Stage file Says Refuses Next held Done text → (v : V) × IsRead file Says held v × Next v Done text
@@ -119,6 +122,12 @@ sampled laws files n seed text old new answer put =
     made laws (λ chip. chip ≡ made_chip n seed) (λ chip bounds. bounds ≡ sample_limits) (λ chip value t. t ≡ sample_text n seed chip value)
     (made_chip n seed) sample_limits answer.1.0 text old new refl refl (omega arith) answer.1.1 answer.1.2 put
 
+-- the fails of a log, of which the lines are written
+located : (files : Files) (log : List ℕ) (chip : SocValue) (value : PlanValue) (text : List ℕ) → Answers (with_log log (λ fails. done_with (locate_text chip value fails))) files Done text → (fails : List (ℕ × ℕ)) × AreFailsIn files log fails × (text ≡ locate_text chip value fails)
+located files log chip value text answer =
+    let a = stage_done Log SaysLog RefusesFails (λ fails. Answers (done_with (locate_text chip value fails)) files) (get files log) text answer in
+    (a.0, a.1, a.2.1)
+
 -- each command
 trusted : Laws → (files : Files) (command : CommandValue) (text : List ℕ) (old new : Option (List ℕ)) → IsAnswer (Some command) files Done text → Appended old text new → Trusts command files old new
 trusted laws files (Print soc) text old new answer put = tt
@@ -132,6 +141,8 @@ trusted laws files (Vectors soc limits plan seed) text old new answer put =
     accepted laws files soc limits plan (λ chip value t. t ≡ vector_text chip value (made_content chip seed)) (λ chip bounds value. Unless (run_refusal value) (done_with (vector_text chip value (made_content chip seed))))
     (λ chip bounds value text a. (not_refused files (run_refusal value) (done_with (vector_text chip value (made_content chip seed))) text a).1) text old new answer put
 trusted laws files (Sample n seed) text old new answer put = sampled laws files n seed text old new (not_refused files (sample_refusal n) (done_with_sample n seed) text answer) put
+trusted laws files (Locate soc limits plan log) text old new answer put =
+    accepted laws files soc limits plan (λ chip value t. (fails : List (ℕ × ℕ)) × AreFailsIn files log fails × (t ≡ locate_text chip value fails)) (after_plan log) (λ chip bounds value text a. located files log chip value text a) text old new answer put
 
 pub headline : Laws → (command : Option CommandValue) (held : Option Files) (sb sa kb ka : ℕ) (old new : Option (List ℕ)) (end : Status) → Ends (MayAnswer command held sb sa) kb ka old end new → Headline command held old end new
 headline laws command held sb sa kb ka old new end ends files given is names done =

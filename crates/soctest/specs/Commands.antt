@@ -16,6 +16,7 @@ pub data CommandValue : Type 0 where
   Chart : (soc limits plan : List ℕ) → CommandValue
   Vectors : (soc limits plan : List ℕ) → (seed : ℕ) → CommandValue
   Sample : (n seed : ℕ) → CommandValue
+  Locate : (soc limits plan log : List ℕ) → CommandValue
 
 abbrev pub command_value : Command → CommandValue
 command_value (command.Print soc) = Print soc.now
@@ -25,6 +26,7 @@ command_value (command.Check soc limits plan) = Check soc.now limits.now plan.no
 command_value (command.Chart soc limits plan) = Chart soc.now limits.now plan.now
 command_value (command.Vectors soc limits plan seed) = Vectors soc.now limits.now plan.now seed
 command_value (command.Sample n seed) = Sample n seed
+command_value (command.Locate soc limits plan log) = Locate soc.now limits.now plan.now log.now
 
 -- the numbers of a command are in their ranges
 abbrev pub IsInRange : Command → Type 0
@@ -35,6 +37,7 @@ IsInRange (command.Check soc limits plan) = Unit {0}
 IsInRange (command.Chart soc limits plan) = Unit {0}
 IsInRange (command.Vectors soc limits plan seed) = Unit {0}
 IsInRange (command.Sample n seed) = (n ≤ NUMBER_WORD_MOST) × (seed ≤ NUMBER_WORD_MOST)
+IsInRange (command.Locate soc limits plan log) = Unit {0}
 
 -- `widths` with a number of wires, where it is from 1 to the most
 abbrev pub widths_of : (soc : List ℕ) → Option ℕ → Option CommandValue
@@ -53,7 +56,7 @@ sample_of (Some n) None = None
 sample_of (Some n) (Some seed) = Some (Sample n seed)
 
 -- `print SOC`, `widths SOC WIRES`, `plan SOC LIMITS`, `check SOC LIMITS PLAN`, `chart SOC LIMITS PLAN`,
--- `vectors SOC LIMITS PLAN SEED` and `sample N SEED`; no other words are a command
+-- `vectors SOC LIMITS PLAN SEED`, `locate SOC LIMITS PLAN LOG` and `sample N SEED`; no other words are a command
 unfoldable pub command_of : List (List ℕ) → Option CommandValue
 command_of (word ∷ soc ∷ []) = if pointwise nat_eq word (codes "print") then Some (Print soc) else None
 command_of (word ∷ soc ∷ last ∷ []) =
@@ -65,5 +68,8 @@ command_of (word ∷ soc ∷ limits ∷ plan ∷ []) =
     if pointwise nat_eq word (codes "check") then Some (Check soc limits plan)
     else if pointwise nat_eq word (codes "chart") then Some (Chart soc limits plan)
     else None
-command_of (word ∷ soc ∷ limits ∷ plan ∷ seed ∷ []) = if pointwise nat_eq word (codes "vectors") then vectors_of soc limits plan (number_of seed NUMBER_WORD_MOST) else None
+command_of (word ∷ soc ∷ limits ∷ plan ∷ last ∷ []) =
+    if pointwise nat_eq word (codes "vectors") then vectors_of soc limits plan (number_of last NUMBER_WORD_MOST)
+    else if pointwise nat_eq word (codes "locate") then Some (Locate soc limits plan last)
+    else None
 command_of _ = None

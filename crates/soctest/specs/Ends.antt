@@ -9,10 +9,11 @@ use Rattle.plan_model.specs.Right.{IsRight}
 use Rattle.plan_model.specs.Rules.{IsBound}
 use Rattle.soc_reader.specs.ChipForm.{SaysChip}
 use Rattle.soctest.specs.declared.FileKind.{FileKind}
-use Rattle.soctest.specs.declared.FileKind.TheVariants.{Soc, Limits, Plan}
+use Rattle.soctest.specs.declared.FileKind.TheVariants.{Soc, Limits, Plan, Log}
 use Rattle.soctest.specs.declared.Status.{Status}
 use Rattle.soctest.specs.declared.Status.TheVariants.{Done, Refused, BadWords, ReadFault, TooLong, WriteFault, NoMemory}
-use Rattle.soctest.specs.Commands.{CommandValue, Print, Widths, MakePlan, Check, Chart, Vectors, Sample}
+use Rattle.fail_locate.specs.LogAnswers.{SaysLog}
+use Rattle.soctest.specs.Commands.{CommandValue, Print, Widths, MakePlan, Check, Chart, Vectors, Sample, Locate}
 use Rattle.plan_text.specs.Answers.{SaysPlan}
 use Rattle.plan_text.specs.PlanLines.{plan_text}
 use Rattle.chart.specs.ChartText.{chart_text}
@@ -21,6 +22,7 @@ use Rattle.tester_vectors.specs.VectorText.{vector_text}
 use Rattle.soctest.specs.Procedures.{Procedure, Read, Unless, Answer, procedure_of}
 use Rattle.sample_maker.specs.Samples.{made_chip}
 use Rattle.soctest.specs.Samples.{sample_limits, sample_text}
+use Rattle.soctest.specs.LocateText.{locate_text}
 use Rattle.soctest.specs.Texts.{is_line, unread_line, bad_words_line, accepted_line}
 use Rattle.soctest.specs.Readings.{IsRead, SaysLimits}
 use Rattle.soctest.specs.Answers.{IsAnswer}
@@ -71,6 +73,7 @@ fixes_text (Some (Check soc limits plan)) = true
 fixes_text (Some (Chart soc limits plan)) = true
 fixes_text (Some (Vectors soc limits plan seed)) = true
 fixes_text (Some (Sample n seed)) = false
+fixes_text (Some (Locate soc limits plan log)) = true
 
 -- Where neither count of faults rose and the files give an answer, the call ends with its status, or for want of memory;
 -- where the text is fixed, that is written.
@@ -96,7 +99,7 @@ Finishes (Some command) held shelf_failed sink_failed end =
 
 -- ---- the headline
 
--- a file's chip, limits for a chip, and a plan
+-- a file's chip, limits for a chip, a plan, and fails
 abbrev pub IsChipIn : Files → (soc : List ℕ) → SocValue → Type 0
 IsChipIn files soc chip = IsRead Soc SaysChip (get files soc) chip
 
@@ -105,6 +108,9 @@ AreLimitsIn files limits chip bounds = IsRead Limits (SaysLimits chip) (get file
 
 abbrev pub IsPlanIn : Files → (plan : List ℕ) → PlanValue → Type 0
 IsPlanIn files plan value = IsRead Plan SaysPlan (get files plan) value
+
+abbrev pub AreFailsIn : Files → (log : List ℕ) → List (ℕ × ℕ) → Type 0
+AreFailsIn files log fails = IsRead Log SaysLog (get files log) fails
 
 -- What a plan is that is printed or accepted: it runs right for every content and ends in exactly the cycles that it states, no
 -- good plan of its chip under its limits ends before its bound, and what is written is a text of it. Where the chip, the limits
@@ -135,6 +141,8 @@ Trusts (Check soc limits plan) files old new = IsTrustworthy (IsChipIn files soc
 Trusts (Chart soc limits plan) files old new = IsTrustworthy (IsChipIn files soc) (AreLimitsIn files limits) (IsPlanIn files plan) (λ chip value text. text ≡ chart_text chip value) old new
 Trusts (Vectors soc limits plan seed) files old new = IsTrustworthy (IsChipIn files soc) (AreLimitsIn files limits) (IsPlanIn files plan) (λ chip value text. text ≡ vector_text chip value (made_content chip seed)) old new
 Trusts (Sample n seed) files old new = IsTrustworthy (λ chip. chip ≡ made_chip n seed) (λ chip bounds. bounds ≡ sample_limits) IsMade (λ chip value text. text ≡ sample_text n seed chip value) old new
+Trusts (Locate soc limits plan log) files old new =
+    IsTrustworthy (IsChipIn files soc) (AreLimitsIn files limits) (IsPlanIn files plan) (λ chip value text. (fails : List (ℕ × ℕ)) × AreFailsIn files log fails × (text ≡ locate_text chip value fails)) old new
 
 -- The headline, for each command over a plan, where the shelf tells what it holds.
 abbrev pub Headline : Option CommandValue → Option Files → Option (List ℕ) → Status → Option (List ℕ) → Type 0

@@ -5,7 +5,7 @@ use Rattle.plan_model.specs.Plans.{LimitsValue, PlanValue}
 use Rattle.soc_reader.specs.ChipForm.{SaysChip}
 use Rattle.soc_printer.specs.SocText.{soc_text}
 use Rattle.soctest.specs.declared.FileKind.{FileKind}
-use Rattle.soctest.specs.declared.FileKind.TheVariants.{Soc, Limits, Plan}
+use Rattle.soctest.specs.declared.FileKind.TheVariants.{Soc, Limits, Plan, Log}
 use Rattle.soctest.specs.declared.Status.{Status}
 use Rattle.soctest.specs.declared.Status.TheVariants.{Done}
 use Rattle.chart.specs.ChartText.{chart_text}
@@ -14,13 +14,15 @@ use Rattle.plan_text.specs.PlanLines.{plan_text}
 use Rattle.bit_machine.specs.Chips.{made_content}
 use Rattle.tester_vectors.specs.declared.TheConstants.{RUN_MOST}
 use Rattle.tester_vectors.specs.VectorText.{wire_cycles, vector_text}
-use Rattle.soctest.specs.Commands.{CommandValue, Print, Widths, MakePlan, Check, Chart, Vectors, Sample}
+use Rattle.fail_locate.specs.LogAnswers.{SaysLog}
+use Rattle.soctest.specs.Commands.{CommandValue, Print, Widths, MakePlan, Check, Chart, Vectors, Sample, Locate}
 use Rattle.sample_maker.specs.Samples.{made_chip}
 use Rattle.sample_maker.specs.declared.TheConstants.{SAMPLE_MODULES_MOST}
 use Rattle.soctest.specs.Samples.{sample_limits, sample_line, sample_text}
 use Rattle.soctest.specs.Texts.{accepted_line, run_line}
+use Rattle.soctest.specs.LocateText.{locate_text}
 use Rattle.soctest.specs.WidthsText.{widths_text}
-use Rattle.soctest.specs.Readings.{RefusesChip, SaysLimits, RefusesLimits, SaysAccepted, RefusesPlan}
+use Rattle.soctest.specs.Readings.{RefusesChip, SaysLimits, RefusesLimits, SaysAccepted, RefusesPlan, RefusesFails}
 
 -- A file of a name is read, where its bytes say a value (`Says bytes value`); what is done next is fixed by that value.
 -- Where they say none, a line says why (`Refuses bytes line`). `Unless refusal next` goes on unless a command has a refusal of
@@ -77,6 +79,10 @@ with_both soc limits next = with_chip soc (λ chip. with_limits chip limits (nex
 abbrev pub with_all : (soc limits plan : List ℕ) → (SocValue → LimitsValue → PlanValue → Procedure) → Procedure
 with_all soc limits plan next = with_both soc limits (λ chip bounds. with_accepted chip bounds plan (next chip bounds))
 
+-- the fails of a log
+abbrev pub with_log : (log : List ℕ) → (List (ℕ × ℕ) → Procedure) → Procedure
+with_log log next = Read Log SaysLog RefusesFails log next
+
 -- ---- the commands
 
 abbrev pub procedure_of : CommandValue → Procedure
@@ -87,3 +93,4 @@ procedure_of (Check soc limits plan) = with_all soc limits plan (λ chip bounds 
 procedure_of (Chart soc limits plan) = with_all soc limits plan (λ chip bounds value. done_with (chart_text chip value))
 procedure_of (Vectors soc limits plan seed) = with_all soc limits plan (λ chip bounds value. Unless (run_refusal value) (done_with (vector_text chip value (made_content chip seed))))
 procedure_of (Sample n seed) = Unless (sample_refusal n) (done_with_sample n seed)
+procedure_of (Locate soc limits plan log) = with_all soc limits plan (λ chip bounds value. with_log log (λ fails. done_with (locate_text chip value fails)))

@@ -9,7 +9,7 @@ use Rattle.plan_model.specs.Plans.{PlanValue}
 use Rattle.plan_model.specs.Certificates.{CertificateFault, BadListFault, LessFault}
 use Rattle.plan_model.specs.Faults.{FaultValue, WidthFault, UnknownModuleFault, ModulePlaceFault, WrapperListFault, CellsFault, TestsFault, WireFault, BusyFault, ParentFault, BeforeFault, PowerFault, CyclesFault, BoundFault}
 use Rattle.soctest.specs.declared.FileKind.{FileKind}
-use Rattle.soctest.specs.declared.FileKind.TheVariants.{Soc, Limits, Plan}
+use Rattle.soctest.specs.declared.FileKind.TheVariants.{Soc, Limits, Plan, Log}
 
 -- one line feed, at the end
 abbrev pub is_line : List ℕ → Bool
@@ -25,6 +25,7 @@ abbrev pub file_name : FileKind → List ℕ
 file_name Soc = codes "SOC"
 file_name Limits = codes "LIMITS"
 file_name Plan = codes "PLAN"
+file_name Log = codes "LOG"
 
 abbrev pub unread_line : FileKind → List ℕ
 unread_line file = codes "cannot read " ++ file_name file ++ codes "\n"
@@ -90,6 +91,12 @@ test_power_line id power = codes "refused limits power " ++ test_text id ++ code
 -- a run of so many wire cycles
 abbrev pub run_line : ℕ → List ℕ
 run_line cells = codes "refused run " ++ decimal cells ++ codes "\n"
+
+-- ---- logs that are refused
+
+-- at a line of their text
+abbrev pub log_line : ℕ → List ℕ
+log_line line = codes "refused log line " ++ decimal line ++ codes "\n"
 
 -- ---- plans that are refused
 

@@ -9,15 +9,18 @@ ghost use Rattle.plan_text.specs.PlanLines.{plan_text};
 ghost use Rattle.schedule_search.specs.Estimates.{CanAsk, IsAtLeastReady, IsAtMostNow};
 ghost use Rattle.planner.specs.Plans.{IsPlanned};
 ghost use Rattle.plan_model.specs.declared.TheConstants.{WIRES_MOST};
-ghost use Rattle.soctest.specs.Commands.{Print, Widths, MakePlan, Check, Chart, Vectors, command_of};
+ghost use Rattle.soctest.specs.Commands.{Print, Widths, MakePlan, Check, Chart, Vectors, Locate, command_of};
 ghost use Rattle.plan_model.specs.Rules.{IsGoodAlone};
 ghost use Rattle.bit_machine.specs.Chips.{wires_of, made_content};
 ghost use Rattle.tester_vectors.specs.VectorText.{vector_text as text_of_vectors};
 ghost use Rattle.soctest.specs.Procedures.{procedure_of, run_refusal};
 ghost use Rattle.soctest.specs.Decides.{Follows, Decides, GivesUnless};
 
+use crate::fails::locate_text;
 use crate::lines::{accepted_line, run_line};
-use crate::loading::{answered, answered_with, load_all, load_both, load_chip, refused_with};
+use crate::loading::{
+    answered, answered_with, load_all, load_both, load_chip, load_log, refused_with,
+};
 use crate::samples::decide_sample;
 use crate::widths::widths_text;
 use crate::words::command;
@@ -174,6 +177,34 @@ fn decide_vectors<H: Shelf>(
     }
 }
 
+/// `locate SOC LIMITS PLAN LOG`: which cells the fails of a log name in a plan that is accepted.
+fn decide_locate<H: Shelf>(
+    alloc: Global,
+    soc: &str,
+    limits: &str,
+    plan: &str,
+    log: &str,
+    shelf: &mut H,
+) -> Verdict
+    ensures held_stays { H.held shelf.new ≡ H.held shelf.old }
+    ensures faults_never_fall { H.faults shelf.old ≤ H.faults shelf.new }
+    ensures follows { Follows (procedure_of (Locate soc.now limits.now plan.now log.now)) (H.held shelf.old) (H.faults shelf.old) (H.faults shelf.new) result }
+{
+    match load_all(alloc, soc, limits, plan, shelf) {
+        Ok(all) => {
+            good_without_limits();
+            match load_log(alloc, log, shelf) {
+                Ok(fails) => answered_with(
+                    Status::Done,
+                    locate_text(alloc, &all.soc, &all.plan, fails.as_slice()),
+                ),
+                Err(verdict) => verdict,
+            }
+        }
+        Err(verdict) => verdict,
+    }
+}
+
 /// Decides how the command of these words ends. Words of no command leave the shelf untouched.
 pub fn decide<H: Shelf>(alloc: Global, words: &[String], shelf: &mut H) -> Verdict
     ensures held_stays { H.held shelf.new ≡ H.held shelf.old }
@@ -200,6 +231,14 @@ pub fn decide<H: Shelf>(alloc: Global, words: &[String], shelf: &mut H) -> Verdi
             },
         ) => decide_vectors(alloc, soc, limits, plan, seed, shelf),
         Some(Command::Sample { n, seed }) => decide_sample(alloc, n, seed),
+        Some(
+            Command::Locate {
+                soc,
+                limits,
+                plan,
+                log,
+            },
+        ) => decide_locate(alloc, soc, limits, plan, log, shelf),
         None => answered(alloc, Status::BadWords, b"bad words\n"),
     }
 }

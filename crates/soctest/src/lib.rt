@@ -5,6 +5,7 @@
 ghost use Rattle.std.specs.Prelude.{◌≡◌};
 
 mod deciding;
+mod fails;
 mod lines;
 mod loading;
 mod samples;
@@ -14,7 +15,7 @@ mod words;
 
 pub use top::soctest;
 
-/// The greatest length of a .soc file or a limits file, in bytes.
+/// The greatest length of a .soc file, a limits file or a fail log, in bytes.
 pub const FILE_MOST: u64 = 1_048_576;
 /// The greatest length of a plan file, in bytes.
 pub const PLAN_FILE_MOST: u64 = 33_554_432;
@@ -44,6 +45,7 @@ pub enum FileKind {
     Soc,
     Limits,
     Plan,
+    Log,
 }
 
 /// A command, with the names of its files.
@@ -86,6 +88,13 @@ pub enum Command<'a> {
     Sample {
         n: u64,
         seed: u64,
+    },
+    /// The cells that a fail log of a plan that is accepted names.
+    Locate {
+        soc: &'a str,
+        limits: &'a str,
+        plan: &'a str,
+        log: &'a str,
     },
 }
 

@@ -54,6 +54,12 @@ pub fn command(words: &[String]) -> Option<Command<'_>>
             plan: plan.as_str(),
             seed: number(seed.as_bytes(), NUMBER_WORD_MOST)?,
         }),
+        [word, soc, limits, plan, log] if word.as_str() == "locate" => Some(Command::Locate {
+            soc: soc.as_str(),
+            limits: limits.as_str(),
+            plan: plan.as_str(),
+            log: log.as_str(),
+        }),
         _ => None,
     }
 }
