@@ -1,5 +1,5 @@
 -- The log of `locate`, loaded behind an accepted plan.
-use Rattle.std.proofs.Common.{◌≡◌, ℕ, ◌≤◌, List, Option, Some, Result, Ok, Err, IfSome, length, refl, sym, ◌∙◌, ap, subst, arith, true}
+use Rattle.std.proofs.Common.{◌≡◌, ℕ, ◌≤◌, List, Option, Some, Result, Err, IfSome, length, refl, sym, ◌∙◌, ap, true}
 use Rattle.std.specs.FinMap.{get}
 use Rattle.std.specs.Global.{Vec}
 use Rattle.outside.specs.Held.{Files, WhereTold}
@@ -7,7 +7,7 @@ use Rattle.outside.specs.Words.{words_of}
 use Rattle.outside.specs.Grammars.{last_line}
 use Rattle.soc_model.specs.Chips.{SocValue, soc_value}
 use Rattle.plan_model.specs.Plans.{LimitsValue, PlanValue}
-use Rattle.plan_model.specs.Views.{limits_value, plan_value}
+use Rattle.plan_model.specs.Views.{plan_value}
 use Rattle.fail_locate.specs.declared.LogFault.{LogFault}
 use Rattle.fail_locate.specs.declared.LogFault.TheVariants as log_fault
 use Rattle.fail_locate.specs.LogAnswers.{SaysLog, LogRead}
