@@ -19,6 +19,7 @@ use Rattle.soctest.specs.declared.Status.TheVariants.{Done, Refused, BadWords, R
 use Rattle.bit_machine.specs.Chips.{made_content}
 use Rattle.tester_vectors.specs.VectorText.{vector_text}
 use Rattle.soctest.specs.Commands.{CommandValue, Print, Widths, MakePlan, Check, Chart, Vectors, Sample, TreeBound, SplitTests, Shift}
+use Rattle.soctest.specs.Commands.{CommandValue, Print, Widths, MakePlan, Check, Chart, Vectors, Sample, Locate}
 use Rattle.soctest.specs.Texts.{chip_line, chip_limit_line, plan_line, fault_line, accepted_line}
 use Rattle.soc_printer.specs.SocText.{soc_text}
 use Rattle.soctest.specs.WidthsText.{widths_text}
@@ -38,6 +39,7 @@ use Rattle.shift_program.specs.Programs.{ProgramValue}
 use Rattle.soctest.specs.ShiftPrograms.{accepted_program}
 use Rattle.soctest.proofs.ProgramAnswers.{ProgramLaws, program_one, program_refused_one}
 use Rattle.soctest.proofs.TreeFiles.{bound_settled}
+use Rattle.soctest.proofs.LogFiles.{after_plan, settled_log}
 use Rattle.soctest.proofs.Settled.{AreOne, SaysOne, RefusesOne, IsSettled, one_answer, no_answer, only_done, none_unread, done_once, left_open}
 
 -- the laws that completeness rests on
@@ -139,6 +141,7 @@ settled laws (TreeBound soc limits tree) = settled_both laws true soc limits (wi
 settled laws (SplitTests soc limits most) = settled_both laws false soc limits (λ chip bounds. Unless (split_refusal chip bounds most) (done_with_split chip bounds most))
     (λ chip bounds. left_open (λ text. (value : PlanValue) × IsPlanned (split_chip bounds most chip) (split_limits bounds most chip) value × (text ≡ split_text (split_of chip bounds most) value)))
 settled laws (Sample n seed) = left_open (λ text. (value : PlanValue) × IsPlanned (made_chip n seed) sample_limits value × (text ≡ sample_text n seed (made_chip n seed) value))
+settled laws (Locate soc limits plan log) = settled_all laws soc limits plan (after_plan log) (settled_log log)
 
 one : Laws → (command : Option CommandValue) (files : Files) (s : Status) (t : List ℕ) (s' : Status) (t' : List ℕ) → IsAnswer command files s t → IsAnswer command files s' t' → AreOne (fixes_text command) s t s' t'
 one laws None files s t s' t' a b = (a.0 ∙ sym b.0, λ fixed. a.1 ∙ sym b.1)

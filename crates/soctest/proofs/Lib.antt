@@ -5,6 +5,7 @@ pub mod FileStages
 pub mod Headlines
 pub mod LineFacts
 mod LiveCounts
+pub mod LogFiles
 mod MadeLimits
 pub mod Refusals
 mod Rows

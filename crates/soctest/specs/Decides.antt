@@ -19,7 +19,7 @@ use Rattle.limits_text.specs.declared.LimFault.TheVariants as limits_fault
 use Rattle.plan_text.specs.declared.PlanTextFault.{PlanTextFault}
 use Rattle.plan_text.specs.declared.PlanTextFault.TheVariants as plan_fault
 use Rattle.soctest.specs.declared.FileKind.{FileKind}
-use Rattle.soctest.specs.declared.FileKind.TheVariants.{Soc, Limits, Plan}
+use Rattle.soctest.specs.declared.FileKind.TheVariants.{Soc, Limits, Plan, Log}
 use Rattle.soctest.specs.declared.Status.{Status}
 use Rattle.soctest.specs.declared.Status.TheVariants.{Done, Refused, BadWords, ReadFault, WriteFault, NoMemory}
 use Rattle.soctest.specs.declared.Verdict.{Verdict}
@@ -27,9 +27,12 @@ use Rattle.soctest.specs.declared.Verdict.TheVariants.{Answered, CannotRead, NoM
 use Rattle.soctest.specs.declared.loading.Both.{Both}
 use Rattle.soctest.specs.declared.loading.Accepted.{Accepted}
 use Rattle.soctest.specs.Commands.{CommandValue}
-use Rattle.soctest.specs.Texts.{is_line, bad_words_line, chip_line, chip_limit_line, limits_line, unknown_test_line, cycle_line, test_power_line, plan_line, fault_line}
+use Rattle.soctest.specs.Texts.{is_line, bad_words_line, chip_line, chip_limit_line, limits_line, unknown_test_line, cycle_line, test_power_line, plan_line, fault_line, log_line}
 use Rattle.soctest.specs.Readings.{most_of, IsRead, SaysLimits, SaysAccepted}
-use Rattle.soctest.specs.Procedures.{Procedure, Read, Unless, Answer, nothing, with_bytes, with_chip, with_limits, with_accepted, with_both, with_all, procedure_of}
+use Rattle.fail_locate.specs.LogAnswers.{SaysLog}
+use Rattle.fail_locate.specs.declared.LogFault.{LogFault}
+use Rattle.fail_locate.specs.declared.LogFault.TheVariants as log_fault
+use Rattle.soctest.specs.Procedures.{Procedure, Read, Unless, Answer, nothing, with_bytes, with_chip, with_limits, with_accepted, with_both, with_all, with_log, procedure_of}
 use Rattle.soctest.specs.Answers.{Answers}
 
 -- a status of a command that is decided before anything is written, and its text: one line, but for an answer
@@ -108,6 +111,11 @@ abbrev pub LoadsAccepted : SocValue → LimitsValue → (plan : List ℕ) → Op
 LoadsAccepted chip bounds plan held before after (Ok value) = IfSome held (λ files. IsRead Plan (SaysAccepted chip bounds) (get files plan) (plan_value value))
 LoadsAccepted chip bounds plan held before after (Err verdict) = Follows (with_accepted chip bounds plan (λ value. nothing)) held before after verdict
 
+-- and so the fails of a log
+abbrev pub LoadsLog : (log : List ℕ) → Option Files → ℕ → ℕ → Result (Vec (ℕ × ℕ)) Verdict → Type 0
+LoadsLog log held before after (Ok fails) = IfSome held (λ files. IsRead Log SaysLog (get files log) fails.items)
+LoadsLog log held before after (Err verdict) = Follows (with_log log (λ fails. nothing)) held before after verdict
+
 -- a chip and limits for it, both read from these files
 pub record BothRead (files : Files) (soc limits : List ℕ) (both : Both) : Type 0 where
   pub chip : IsRead Soc SaysChip (get files soc) (soc_value both.soc)
@@ -167,6 +175,11 @@ RefusesBounds limits_fault.NoMemory verdict = verdict ≡ OutOfMemory
 abbrev pub RefusesValue : PlanTextFault → Verdict → Type 0
 RefusesValue (plan_fault.Text line) verdict = Refuses (plan_line line) verdict
 RefusesValue plan_fault.NoMemory verdict = verdict ≡ OutOfMemory
+
+-- and on a text of a log
+abbrev pub RefusesLogText : LogFault → Verdict → Type 0
+RefusesLogText (log_fault.Text line) verdict = Refuses (log_line line) verdict
+RefusesLogText log_fault.NoMemory verdict = verdict ≡ OutOfMemory
 
 -- the plan where it is accepted, or the answer to its fault
 abbrev pub AnswersCheck : SocValue → LimitsValue → PlanValue → Result PlanModel Verdict → Type 0

@@ -13,6 +13,11 @@ use Rattle.soctest.specs.declared.FileKind.TheVariants.{Soc, Limits, Plan, Progr
 use Rattle.soctest.specs.declared.Status.{Status}
 use Rattle.soctest.specs.declared.Status.TheVariants.{Done, Refused, BadWords, ReadFault, TooLong, WriteFault, NoMemory}
 use Rattle.soctest.specs.Commands.{CommandValue, Print, Widths, MakePlan, Check, Chart, Vectors, Sample, TreeBound, SplitTests, Shift}
+use Rattle.soctest.specs.declared.FileKind.TheVariants.{Soc, Limits, Plan, Log}
+use Rattle.soctest.specs.declared.Status.{Status}
+use Rattle.soctest.specs.declared.Status.TheVariants.{Done, Refused, BadWords, ReadFault, TooLong, WriteFault, NoMemory}
+use Rattle.fail_locate.specs.LogAnswers.{SaysLog}
+use Rattle.soctest.specs.Commands.{CommandValue, Print, Widths, MakePlan, Check, Chart, Vectors, Sample, Locate}
 use Rattle.plan_text.specs.Answers.{SaysPlan}
 use Rattle.plan_text.specs.PlanLines.{plan_text}
 use Rattle.chart.specs.ChartText.{chart_text}
@@ -21,6 +26,7 @@ use Rattle.tester_vectors.specs.VectorText.{vector_text}
 use Rattle.soctest.specs.Procedures.{Procedure, Read, Unless, Answer, procedure_of}
 use Rattle.sample_maker.specs.Samples.{made_chip}
 use Rattle.soctest.specs.Samples.{sample_limits, sample_text}
+use Rattle.soctest.specs.LocateText.{locate_text}
 use Rattle.soctest.specs.Texts.{is_line, unread_line, bad_words_line, accepted_line}
 use Rattle.shift_program.specs.Programs.{ProgramValue}
 use Rattle.soctest.specs.ShiftPrograms.{SaysRight, accepted_program}
@@ -76,6 +82,7 @@ fixes_text (Some (Sample n seed)) = false
 fixes_text (Some (TreeBound soc limits tree)) = true
 fixes_text (Some (Shift soc limits plan program)) = true
 fixes_text (Some (SplitTests soc limits most)) = false
+fixes_text (Some (Locate soc limits plan log)) = true
 
 -- Where neither count of faults rose and the files give an answer, the call ends with its status, or for want of memory;
 -- where the text is fixed, that is written.
@@ -101,7 +108,7 @@ Finishes (Some command) held shelf_failed sink_failed end =
 
 -- ---- the headline
 
--- a file's chip, limits for a chip, and a plan
+-- a file's chip, limits for a chip, a plan, and fails
 abbrev pub IsChipIn : Files → (soc : List ℕ) → SocValue → Type 0
 IsChipIn files soc chip = IsRead Soc SaysChip (get files soc) chip
 
@@ -110,6 +117,9 @@ AreLimitsIn files limits chip bounds = IsRead Limits (SaysLimits chip) (get file
 
 abbrev pub IsPlanIn : Files → (plan : List ℕ) → PlanValue → Type 0
 IsPlanIn files plan value = IsRead Plan SaysPlan (get files plan) value
+
+abbrev pub AreFailsIn : Files → (log : List ℕ) → List (ℕ × ℕ) → Type 0
+AreFailsIn files log fails = IsRead Log SaysLog (get files log) fails
 
 -- What a plan is that is printed or accepted: it runs right for every content and ends in exactly the cycles that it states, no
 -- good plan of its chip under its limits ends before its bound, and what is written is a text of it. Where the chip, the limits
@@ -147,6 +157,8 @@ Trusts (Sample n seed) files old new = IsTrustworthy (λ chip. chip ≡ made_chi
 Trusts (Shift soc limits plan program) files old new = IsTrustworthy (IsChipIn files soc) (AreLimitsIn files limits) (IsPlanIn files plan) (TellsProgram files program) old new
 Trusts (TreeBound soc limits tree) files old new = Unit {0}
 Trusts (SplitTests soc limits most) files old new = Unit {0}
+Trusts (Locate soc limits plan log) files old new =
+    IsTrustworthy (IsChipIn files soc) (AreLimitsIn files limits) (IsPlanIn files plan) (λ chip value text. (fails : List (ℕ × ℕ)) × AreFailsIn files log fails × (text ≡ locate_text chip value fails)) old new
 
 -- The headline, for each command over a plan, where the shelf tells what it holds.
 abbrev pub Headline : Option CommandValue → Option Files → Option (List ℕ) → Status → Option (List ℕ) → Type 0

@@ -2,6 +2,7 @@ pub mod Answers
 pub mod Commands
 pub mod Decides
 pub mod Ends
+pub mod LocateText
 pub mod Procedures
 pub mod Readings
 pub mod Samples

@@ -6,6 +6,7 @@ use Rattle.soc_reader.specs.ChipForm.{SaysChip}
 use Rattle.soc_printer.specs.SocText.{soc_text}
 use Rattle.soctest.specs.declared.FileKind.{FileKind}
 use Rattle.soctest.specs.declared.FileKind.TheVariants.{Soc, Limits, Plan, Tree, Program}
+use Rattle.soctest.specs.declared.FileKind.TheVariants.{Soc, Limits, Plan, Log}
 use Rattle.soctest.specs.declared.Status.{Status}
 use Rattle.soctest.specs.declared.Status.TheVariants.{Done}
 use Rattle.chart.specs.ChartText.{chart_text}
@@ -16,18 +17,22 @@ use Rattle.bit_machine.specs.Chips.{made_content}
 use Rattle.tester_vectors.specs.declared.TheConstants.{RUN_MOST}
 use Rattle.tester_vectors.specs.VectorText.{wire_cycles, vector_text}
 use Rattle.soctest.specs.Commands.{CommandValue, Print, Widths, MakePlan, Check, Chart, Vectors, Sample, TreeBound, SplitTests, Shift}
+use Rattle.fail_locate.specs.LogAnswers.{SaysLog}
+use Rattle.soctest.specs.Commands.{CommandValue, Print, Widths, MakePlan, Check, Chart, Vectors, Sample, Locate}
 use Rattle.sample_maker.specs.Samples.{made_chip}
 use Rattle.sample_maker.specs.declared.TheConstants.{SAMPLE_MODULES_MOST}
 use Rattle.soctest.specs.Samples.{sample_limits, sample_line, sample_text}
 use Rattle.split_plan.specs.Parts.{split_chip, split_limits, split_of}
 use Rattle.soctest.specs.SplitText.{split_text, split_refusal}
 use Rattle.soctest.specs.Texts.{accepted_line, run_line}
+use Rattle.soctest.specs.LocateText.{locate_text}
 use Rattle.soctest.specs.WidthsText.{widths_text}
 use Rattle.soctest.specs.TreeTexts.{bound_line}
 use Rattle.soctest.specs.TreeReadings.{SaysBound, RefusesTree}
 use Rattle.shift_program.specs.Programs.{ProgramValue}
 use Rattle.soctest.specs.ShiftPrograms.{SaysRight, RefusesProgram, accepted_program}
 use Rattle.soctest.specs.Readings.{RefusesChip, SaysLimits, RefusesLimits, SaysAccepted, RefusesPlan}
+use Rattle.soctest.specs.Readings.{RefusesChip, SaysLimits, RefusesLimits, SaysAccepted, RefusesPlan, RefusesFails}
 
 -- A file of a name is read, where its bytes say a value (`Says bytes value`); what is done next is fixed by that value.
 -- Where they say none, a line says why (`Refuses bytes line`). `Unless refusal next` goes on unless a command has a refusal of
@@ -97,6 +102,9 @@ with_bound tree chip bounds = with_tree chip bounds tree (λ value. done_with (b
 -- a program that is right for its test in an accepted plan
 abbrev pub with_program : SocValue → PlanValue → (program : List ℕ) → (ProgramValue → Procedure) → Procedure
 with_program chip value program next = Read Program (SaysRight chip value) (RefusesProgram chip value) program next
+-- the fails of a log
+abbrev pub with_log : (log : List ℕ) → (List (ℕ × ℕ) → Procedure) → Procedure
+with_log log next = Read Log SaysLog RefusesFails log next
 
 -- ---- the commands
 
@@ -111,3 +119,4 @@ procedure_of (Sample n seed) = Unless (sample_refusal n) (done_with_sample n see
 procedure_of (TreeBound soc limits tree) = with_both soc limits (with_bound tree)
 procedure_of (SplitTests soc limits most) = with_both soc limits (λ chip bounds. Unless (split_refusal chip bounds most) (done_with_split chip bounds most))
 procedure_of (Shift soc limits plan program) = with_all soc limits plan (λ chip bounds value. with_program chip value program (λ shifts. done_with (accepted_program chip value shifts)))
+procedure_of (Locate soc limits plan log) = with_all soc limits plan (λ chip bounds value. with_log log (λ fails. done_with (locate_text chip value fails)))

@@ -7,10 +7,12 @@ use Rattle.plan_model.specs.Plans.{LimitsValue, PlanValue}
 use Rattle.plan_model.specs.Faults.{FaultValue, IsFault, IsFaultless}
 use Rattle.limits_text.specs.Answers.{Reading, read_as, refused_line, unknown_line, shown_cycle, passing_power, IsReading}
 use Rattle.plan_text.specs.Answers.{SaysPlan, RefusesText}
+use Rattle.fail_locate.specs.LogAnswers.{RefusesLog}
 use Rattle.soctest.specs.declared.FileKind.{FileKind}
 use Rattle.soctest.specs.declared.FileKind.TheVariants.{Soc, Limits, Plan, Tree, Program}
+use Rattle.soctest.specs.declared.FileKind.TheVariants.{Soc, Limits, Plan, Log}
 use Rattle.soctest.specs.declared.TheConstants.{FILE_MOST, PLAN_FILE_MOST}
-use Rattle.soctest.specs.Texts.{chip_line, chip_limit_line, limits_line, unknown_test_line, cycle_line, test_power_line, plan_line, fault_line}
+use Rattle.soctest.specs.Texts.{chip_line, chip_limit_line, limits_line, unknown_test_line, cycle_line, test_power_line, plan_line, fault_line, log_line}
 
 -- the greatest length of a file, in bytes
 abbrev pub most_of : FileKind → ℕ
@@ -19,6 +21,7 @@ most_of Limits = FILE_MOST
 most_of Plan = PLAN_FILE_MOST
 most_of Tree = FILE_MOST
 most_of Program = FILE_MOST
+most_of Log = FILE_MOST
 
 -- the name holds bytes within the limit of its file, and they say the value
 pub record IsRead {V : Type 0} (file : FileKind) (Says : List ℕ → V → Type 0) (held : Option (List ℕ)) (value : V) : Type 0 where
@@ -60,3 +63,9 @@ SaysAccepted chip bounds bytes value = SaysPlan bytes value × IsFaultless chip 
 abbrev pub RefusesPlan : SocValue → LimitsValue → List ℕ → List ℕ → Type 0
 RefusesPlan chip bounds bytes text =
     ((line : ℕ) × RefusesText bytes line × (text ≡ plan_line line)) ⊎ ((value : PlanValue) × SaysPlan bytes value × ((fault : FaultValue) × IsFault chip bounds value fault × (text ≡ fault_line fault)))
+
+-- ---- a fail log
+
+-- the log's text is refused at a line
+abbrev pub RefusesFails : List ℕ → List ℕ → Type 0
+RefusesFails bytes text = (line : ℕ) × RefusesLog bytes line × (text ≡ log_line line)

@@ -11,6 +11,7 @@ use Rattle.plan_model.specs.Certificates.{CertificateFault, BadListFault, LessFa
 use Rattle.plan_model.specs.Faults.{FaultValue, WidthFault, UnknownModuleFault, ModulePlaceFault, WrapperListFault, CellsFault, TestsFault, WireFault, BusyFault, ParentFault, BeforeFault, PowerFault, CyclesFault, BoundFault}
 use Rattle.soctest.specs.declared.FileKind.{FileKind}
 use Rattle.soctest.specs.declared.FileKind.TheVariants.{Soc, Limits, Plan, Tree, Program}
+use Rattle.soctest.specs.declared.FileKind.TheVariants.{Soc, Limits, Plan, Log}
 
 -- one line feed, at the end
 abbrev pub is_line : List ℕ → Bool
@@ -28,6 +29,7 @@ file_name Limits = codes "LIMITS"
 file_name Plan = codes "PLAN"
 file_name Tree = codes "TREE"
 file_name Program = codes "PROGRAM"
+file_name Log = codes "LOG"
 
 abbrev pub unread_line : FileKind → List ℕ
 unread_line file = codes "cannot read " ++ file_name file ++ codes "\n"
@@ -93,6 +95,12 @@ test_power_line id power = codes "refused limits power " ++ test_text id ++ code
 -- a run of so many wire cycles
 abbrev pub run_line : ℕ → List ℕ
 run_line cells = codes "refused run " ++ decimal cells ++ codes "\n"
+
+-- ---- logs that are refused
+
+-- at a line of their text
+abbrev pub log_line : ℕ → List ℕ
+log_line line = codes "refused log line " ++ decimal line ++ codes "\n"
 
 -- ---- plans that are refused
 

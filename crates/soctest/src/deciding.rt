@@ -10,17 +10,21 @@ ghost use Rattle.schedule_search.specs.Estimates.{CanAsk, IsAtLeastReady, IsAtMo
 ghost use Rattle.planner.specs.Plans.{IsPlanned};
 ghost use Rattle.plan_model.specs.declared.TheConstants.{WIRES_MOST};
 ghost use Rattle.soctest.specs.Commands.{Print, Widths, MakePlan, Check, Chart, Vectors, TreeBound, command_of, SplitTests, Shift};
+ghost use Rattle.soctest.specs.Commands.{Print, Widths, MakePlan, Check, Chart, Vectors, Locate, command_of};
 ghost use Rattle.plan_model.specs.Rules.{IsGoodAlone};
 ghost use Rattle.bit_machine.specs.Chips.{wires_of, made_content};
 ghost use Rattle.tester_vectors.specs.VectorText.{vector_text as text_of_vectors};
 ghost use Rattle.soctest.specs.Procedures.{procedure_of, run_refusal};
 ghost use Rattle.soctest.specs.Decides.{Follows, Decides, GivesUnless};
 
+use crate::fails::locate_text;
 use crate::lines::{accepted_line, run_line};
 use crate::loading::{
     answered, answered_with, load_all, load_both, load_chip, load_file, refused_with,
 };
 use crate::programs::answer_program;
+    answered, answered_with, load_all, load_both, load_chip, load_log, refused_with,
+};
 use crate::samples::decide_sample;
 use crate::tree_lines::bound_line;
 use crate::trees::load_accepted_tree;
@@ -203,11 +207,14 @@ fn decide_tree<H: Shelf>(
 
 /// `shift SOC LIMITS PLAN PROGRAM`: whether a program is right for its test in a plan that is accepted.
 fn decide_shift<H: Shelf>(
+/// `locate SOC LIMITS PLAN LOG`: which cells the fails of a log name in a plan that is accepted.
+fn decide_locate<H: Shelf>(
     alloc: Global,
     soc: &str,
     limits: &str,
     plan: &str,
     program: &str,
+    log: &str,
     shelf: &mut H,
 ) -> Verdict
     ensures held_stays { H.held shelf.new ≡ H.held shelf.old }
@@ -219,6 +226,19 @@ fn decide_shift<H: Shelf>(
             Ok(bytes) => answer_program(alloc, &all.soc, &all.limits, &all.plan, bytes.as_slice()),
             Err(verdict) => verdict,
         },
+    ensures follows { Follows (procedure_of (Locate soc.now limits.now plan.now log.now)) (H.held shelf.old) (H.faults shelf.old) (H.faults shelf.new) result }
+{
+    match load_all(alloc, soc, limits, plan, shelf) {
+        Ok(all) => {
+            good_without_limits();
+            match load_log(alloc, log, shelf) {
+                Ok(fails) => answered_with(
+                    Status::Done,
+                    locate_text(alloc, &all.soc, &all.plan, fails.as_slice()),
+                ),
+                Err(verdict) => verdict,
+            }
+        }
         Err(verdict) => verdict,
     }
 }
@@ -262,6 +282,13 @@ pub fn decide<H: Shelf>(alloc: Global, words: &[String], shelf: &mut H) -> Verdi
             decide_tree(alloc, soc, limits, tree, shelf)
         }
         Some(Command::Split { soc, limits, most }) => decide_split(alloc, soc, limits, most, shelf),
+            Command::Locate {
+                soc,
+                limits,
+                plan,
+                log,
+            },
+        ) => decide_locate(alloc, soc, limits, plan, log, shelf),
         None => answered(alloc, Status::BadWords, b"bad words\n"),
     }
 }

@@ -5,6 +5,7 @@
 ghost use Rattle.std.specs.Prelude.{◌≡◌};
 
 mod deciding;
+mod fails;
 mod lines;
 mod loading;
 mod programs;
@@ -19,6 +20,7 @@ mod words;
 pub use top::soctest;
 
 /// The greatest length of a .soc file, a limits file or a program, in bytes.
+/// The greatest length of a .soc file, a limits file or a fail log, in bytes.
 pub const FILE_MOST: u64 = 1_048_576;
 /// The greatest length of a plan file, in bytes.
 pub const PLAN_FILE_MOST: u64 = 33_554_432;
@@ -50,6 +52,7 @@ pub enum FileKind {
     Plan,
     Tree,
     Program,
+    Log,
 }
 
 /// A command, with the names of its files.
@@ -111,6 +114,12 @@ pub enum Command<'a> {
         limits: &'a str,
         plan: &'a str,
         program: &'a str,
+    /// The cells that a fail log of a plan that is accepted names.
+    Locate {
+        soc: &'a str,
+        limits: &'a str,
+        plan: &'a str,
+        log: &'a str,
     },
 }
 

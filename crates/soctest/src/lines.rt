@@ -3,7 +3,7 @@ ghost use Rattle.std.specs.Prelude.{◌≡◌, ◌++◌, ◌&&◌, OnOk, IfOk, d
 ghost use Rattle.plan_model.specs.Views.{plan_value};
 ghost use Rattle.bound_certificate.specs.Checks.{certificate_fault};
 ghost use Rattle.plan_checker.specs.FaultValues.{fault_value};
-ghost use Rattle.soctest.specs.Texts.{is_line, no_feed, unread_line as unread_text, too_long_line as too_long_text, chip_line as chip_line_text, chip_limit_line as chip_limit_text, limits_line as limits_line_text, unknown_test_line as unknown_test_text, tests_text, cycle_line as cycle_line_text, test_power_line as test_power_text, run_line as run_line_text, plan_line as plan_line_text, limit_name, accepted_line as accepted_text, test_text, wrapper_text, pair_text, clash_text, two_numbers, certificate_text, fault_keyword, carried_text, fault_line as fault_line_text};
+ghost use Rattle.soctest.specs.Texts.{is_line, no_feed, unread_line as unread_text, too_long_line as too_long_text, chip_line as chip_line_text, chip_limit_line as chip_limit_text, limits_line as limits_line_text, unknown_test_line as unknown_test_text, tests_text, cycle_line as cycle_line_text, test_power_line as test_power_text, run_line as run_line_text, plan_line as plan_line_text, log_line as log_line_text, limit_name, accepted_line as accepted_text, test_text, wrapper_text, pair_text, clash_text, two_numbers, certificate_text, fault_keyword, carried_text, fault_line as fault_line_text};
 
 use crate::FileKind;
 use bound_certificate::BoundFault;
@@ -24,6 +24,7 @@ pub fn unread_line(file: FileKind) -> &'static [u8]
         FileKind::Plan => b"cannot read PLAN\n",
         FileKind::Tree => b"cannot read TREE\n",
         FileKind::Program => b"cannot read PROGRAM\n",
+        FileKind::Log => b"cannot read LOG\n",
     }
 }
 
@@ -38,6 +39,7 @@ pub fn too_long_line(file: FileKind) -> &'static [u8]
         FileKind::Plan => b"too long PLAN\n",
         FileKind::Tree => b"too long TREE\n",
         FileKind::Program => b"too long PROGRAM\n",
+        FileKind::Log => b"too long LOG\n",
     }
 }
 
@@ -275,6 +277,14 @@ pub fn run_line(alloc: Global, cells: u128) -> Result<Vec<u8>, NoMemory>
     ensures line { IfOk result (λ text. IsTrue (is_line text.items)) }
 {
     numbered(alloc, b"refused run ", cells)
+}
+
+/// `refused log line` and the line.
+pub fn log_line(alloc: Global, line: u64) -> Result<Vec<u8>, NoMemory>
+    ensures text { IfOk result (λ text. text.items ≡ log_line_text line) }
+    ensures line { IfOk result (λ text. IsTrue (is_line text.items)) }
+{
+    numbered(alloc, b"refused log line ", u128::from(line))
 }
 
 /// `refused plan line` and the line.

@@ -8,13 +8,14 @@ ghost use Rattle.plan_model.specs.SoundLimits.{IsSoundLimits};
 ghost use Rattle.plan_text.specs.Grammar.{AreSmallStarts};
 ghost use Rattle.soctest.specs.declared.Status.TheVariants.{Refused};
 ghost use Rattle.soctest.specs.Readings.{most_of as most_bytes};
-ghost use Rattle.soctest.specs.Decides.{Gives, GivesText, LoadsBytes, LoadsChip, LoadsLimits, LoadsAccepted, LoadsBoth, LoadsAll, RefusesSoc, RefusesBounds, RefusesValue, AnswersCheck};
+ghost use Rattle.soctest.specs.Decides.{Gives, GivesText, LoadsBytes, LoadsChip, LoadsLimits, LoadsAccepted, LoadsBoth, LoadsAll, LoadsLog, RefusesSoc, RefusesBounds, RefusesValue, RefusesLogText, AnswersCheck};
 
 use crate::lines::{
-    chip_limit_line, chip_line, cycle_line, fault_line, limits_line, plan_line, test_power_line,
-    too_long_line, unknown_test_line,
+    chip_limit_line, chip_line, cycle_line, fault_line, limits_line, log_line, plan_line,
+    test_power_line, too_long_line, unknown_test_line,
 };
 use crate::{FILE_MOST, FileKind, PLAN_FILE_MOST, Status, Verdict};
+use fail_locate::{LogFault, read_log};
 use limits_text::{LimFault, read_limits};
 use outside::{Loaded, NoMemory, Shelf};
 use plan_checker::{Scratch, check_plan};
@@ -86,6 +87,7 @@ fn most_of(file: FileKind) -> u64
 {
     match file {
         FileKind::Soc | FileKind::Limits | FileKind::Program => FILE_MOST,
+        FileKind::Soc | FileKind::Limits | FileKind::Log => FILE_MOST,
         FileKind::Plan => PLAN_FILE_MOST,
         FileKind::Tree => FILE_MOST,
     }
@@ -245,4 +247,31 @@ pub(crate) fn load_all<H: Shelf>(
         limits: both.limits,
         plan,
     })
+}
+
+/// The answer to a log's text that isn't taken.
+fn refused_log(alloc: Global, fault: LogFault) -> Verdict
+    ensures { RefusesLogText fault result }
+{
+    match fault {
+        LogFault::Text { line } => refused_with(log_line(alloc, line)),
+        LogFault::NoMemory => Verdict::NoMemory,
+    }
+}
+
+/// Loads and reads the fails of a log, the cycle and the wire of each, else how the command ends.
+pub(crate) fn load_log<H: Shelf>(
+    alloc: Global,
+    name: &str,
+    shelf: &mut H,
+) -> Result<Vec<(u64, u64)>, Verdict>
+    ensures held_stays { H.held shelf.new ≡ H.held shelf.old }
+    ensures faults_never_fall { H.faults shelf.old ≤ H.faults shelf.new }
+    ensures loads { LoadsLog name.now (H.held shelf.old) (H.faults shelf.old) (H.faults shelf.new) result }
+{
+    let bytes = load_file(alloc, FileKind::Log, name, shelf)?;
+    match read_log(alloc, bytes.as_slice()) {
+        Ok(fails) => Ok(fails),
+        Err(fault) => Err(refused_log(alloc, fault)),
+    }
 }

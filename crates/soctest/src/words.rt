@@ -81,6 +81,11 @@ pub fn command(words: &[String]) -> Option<Command<'_>>
             limits: limits.as_str(),
             plan: plan.as_str(),
             program: program.as_str(),
+        [word, soc, limits, plan, log] if word.as_str() == "locate" => Some(Command::Locate {
+            soc: soc.as_str(),
+            limits: limits.as_str(),
+            plan: plan.as_str(),
+            log: log.as_str(),
         }),
         _ => None,
     }

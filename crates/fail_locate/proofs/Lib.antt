@@ -1,0 +1,8 @@
+pub mod ReadLogs
+pub mod LogProgress
+pub mod EndCells
+pub mod KeptTests
+pub mod PlacedWired
+pub mod SortedTests
+pub mod FoundSpots
+pub mod CountedBack

@@ -1,0 +1,9 @@
+pub mod LogWords
+pub mod LogReads
+pub mod LogAnswers
+pub mod Spots
+pub mod SpotAt
+pub mod Chains
+pub mod Wired
+pub mod Locating
+pub mod Laws

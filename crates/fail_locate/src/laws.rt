@@ -1,0 +1,29 @@
+// What a log says, and what is read at a cycle on a wire, is settled. Each law is the contract of a function that does
+// nothing: a caller learns it by the call.
+ghost use Rattle.fail_locate.specs.Laws.{SpotsAreOne};
+ghost use Rattle.fail_locate.specs.LogAnswers.{EachLogHasAnAnswer, LogsAreNotRefused, LogsRefusedOnce, SayOneLog};
+
+/// A text says the fails of at most one log.
+pub fn say_one_log()
+    ensures { SayOneLog }
+{}
+
+/// A text that is a log is refused at no line.
+pub fn logs_are_not_refused()
+    ensures { LogsAreNotRefused }
+{}
+
+/// A text is refused at no more than one line.
+pub fn logs_refused_once()
+    ensures { LogsRefusedOnce }
+{}
+
+/// Each text is a log, or is refused at a line.
+pub fn each_log_has_an_answer()
+    ensures { EachLogHasAnAnswer }
+{}
+
+/// A good plan shows at most one response bit at a cycle on a wire.
+pub fn spots_are_one()
+    ensures { SpotsAreOne }
+{}

@@ -1,0 +1,70 @@
+-- The log of `locate`, loaded behind an accepted plan.
+use Rattle.std.proofs.Common.{◌≡◌, ℕ, ◌≤◌, List, Option, Some, Result, Err, IfSome, length, refl, sym, ◌∙◌, ap, true}
+use Rattle.std.specs.FinMap.{get}
+use Rattle.std.specs.Global.{Vec}
+use Rattle.outside.specs.Held.{Files, WhereTold}
+use Rattle.outside.specs.Words.{words_of}
+use Rattle.outside.specs.Grammars.{last_line}
+use Rattle.soc_model.specs.Chips.{SocValue, soc_value}
+use Rattle.plan_model.specs.Plans.{LimitsValue, PlanValue}
+use Rattle.plan_model.specs.Views.{plan_value}
+use Rattle.fail_locate.specs.declared.LogFault.{LogFault}
+use Rattle.fail_locate.specs.declared.LogFault.TheVariants as log_fault
+use Rattle.fail_locate.specs.LogAnswers.{SaysLog, LogRead}
+use Rattle.fail_locate.proofs.ReadLogs.{one_log}
+use Rattle.fail_locate.proofs.LogProgress.{logs_not_refused, logs_once}
+use Rattle.soctest.specs.declared.FileKind.TheVariants.{Log}
+use Rattle.soctest.specs.declared.Verdict.{Verdict}
+use Rattle.soctest.specs.declared.loading.Accepted.{Accepted}
+use Rattle.soctest.specs.LocateText.{locate_text}
+use Rattle.soctest.specs.Readings.{most_of, IsRead, RefusesFails}
+use Rattle.soctest.specs.Texts.{log_line}
+use Rattle.soctest.specs.Procedures.{Procedure, nothing, with_all, with_log, done_with}
+use Rattle.soctest.specs.Decides.{Follows, AreRead, LoadsBytes, LoadsLog, RefusesLogText}
+use Rattle.soctest.proofs.AllFiles.{after_all}
+use Rattle.soctest.proofs.FileStages.{after_file, no_value, refused, without_bytes}
+use Rattle.soctest.proofs.Settled.{SaysOne, RefusesOne, IsSettled, done_once}
+
+-- ---- the file
+
+pub log_unread : (name : List ℕ) (held : Option Files) (before after : ℕ) (verdict : Verdict) (result : Result (Vec (ℕ × ℕ)) Verdict) → LoadsBytes Log name held before after (Err verdict) → result ≡ Err verdict → LoadsLog name held before after result
+log_unread name held before after verdict result none is = rw is (without_bytes Log SaysLog RefusesFails name held before after verdict none)
+
+pub log_refused : (name bytes : List ℕ) (held : Option Files) (before after : ℕ) (fault : LogFault) (verdict : Verdict) →
+    WhereTold held name (λ o. o ≡ Some bytes) → length bytes ≤ most_of Log → LogRead bytes (Err fault) → RefusesLogText fault verdict → Follows (with_log name (λ fails. nothing)) held before after verdict
+log_refused name bytes held before after (log_fault.Text line) verdict told within why d =
+    refused Log SaysLog RefusesFails name (λ fails. nothing) held before after bytes (log_line line) verdict told within (line, why, refl) d
+log_refused name bytes held before after log_fault.NoMemory verdict told within why d = rw d tt
+
+-- ---- what comes after it
+
+abbrev pub after_plan : (log : List ℕ) → SocValue → LimitsValue → PlanValue → Procedure
+after_plan log chip bounds value = with_log log (λ fails. done_with (locate_text chip value fails))
+
+-- the verdict on the fails of a log is one from the first file on
+pub after_log : (soc limits plan log : List ℕ) (held : Option Files) (before mid late after : ℕ) (all : Accepted) (fails : List (ℕ × ℕ)) (verdict : Verdict) → before ≤ mid → mid ≤ late → IfSome held (λ files. AreRead files soc limits plan all) → IfSome held (λ files. IsRead Log SaysLog (get files log) fails) →
+    Follows (done_with (locate_text (soc_value all.soc) (plan_value all.plan) fails)) held late after verdict → Follows (with_all soc limits plan (after_plan log)) held before after verdict
+after_log soc limits plan log held before mid late after all fails verdict order order' read read' d =
+    after_all soc limits plan (after_plan log) held before mid after all verdict order read
+    (after_file Log SaysLog RefusesFails log (λ fails. done_with (locate_text (soc_value all.soc) (plan_value all.plan) fails)) held mid late after fails verdict order' read' d)
+
+-- and so is the verdict on a log that isn't taken
+pub not_log : (soc limits plan log : List ℕ) (held : Option Files) (before mid after : ℕ) (all : Accepted) (verdict : Verdict) → before ≤ mid → IfSome held (λ files. AreRead files soc limits plan all) →
+    Follows (with_log log (λ fails. nothing)) held mid after verdict → Follows (with_all soc limits plan (after_plan log)) held before after verdict
+not_log soc limits plan log held before mid after all verdict order read d =
+    after_all soc limits plan (after_plan log) held before mid after all verdict order read
+    (no_value Log SaysLog RefusesFails log (λ fails. done_with (locate_text (soc_value all.soc) (plan_value all.plan) fails)) held mid after verdict d)
+
+-- ---- a log says one thing
+
+log_one : SaysOne SaysLog
+log_one bytes v w a b = one_log (words_of bytes) v w a b
+
+log_refused_one : RefusesOne SaysLog RefusesFails
+log_refused_one = record {
+  one = λ bytes t t' a b. a.2 ∙ ap log_line (logs_once (words_of bytes) (last_line bytes) a.0 b.0 a.1 b.1) ∙ sym b.2;
+  none = λ bytes t v a says. logs_not_refused (words_of bytes) (last_line bytes) a.0 (v, says) a.1;
+}
+
+pub settled_log : (log : List ℕ) (chip : SocValue) (bounds : LimitsValue) (value : PlanValue) → IsSettled true (after_plan log chip bounds value)
+settled_log log chip bounds value = (log_one, log_refused_one, λ fails. done_once true (locate_text chip value fails))
