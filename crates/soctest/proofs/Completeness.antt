@@ -18,8 +18,7 @@ use Rattle.soctest.specs.declared.Status.{Status}
 use Rattle.soctest.specs.declared.Status.TheVariants.{Done, Refused, BadWords, ReadFault, TooLong, WriteFault, NoMemory}
 use Rattle.bit_machine.specs.Chips.{made_content}
 use Rattle.tester_vectors.specs.VectorText.{vector_text}
-use Rattle.soctest.specs.Commands.{CommandValue, Print, Widths, MakePlan, Check, Chart, Vectors, Sample, TreeBound, SplitTests, Shift}
-use Rattle.soctest.specs.Commands.{CommandValue, Print, Widths, MakePlan, Check, Chart, Vectors, Sample, Locate}
+use Rattle.soctest.specs.Commands.{CommandValue, Print, Widths, MakePlan, Check, Chart, Vectors, Sample, TreeBound, SplitTests, Shift, Locate}
 use Rattle.soctest.specs.Texts.{chip_line, chip_limit_line, plan_line, fault_line, accepted_line}
 use Rattle.soc_printer.specs.SocText.{soc_text}
 use Rattle.soctest.specs.WidthsText.{widths_text}
@@ -38,8 +37,8 @@ use Rattle.soctest.specs.SplitText.{split_text, split_refusal}
 use Rattle.shift_program.specs.Programs.{ProgramValue}
 use Rattle.soctest.specs.ShiftPrograms.{accepted_program}
 use Rattle.soctest.proofs.ProgramAnswers.{ProgramLaws, program_one, program_refused_one}
-use Rattle.soctest.proofs.TreeFiles.{bound_settled}
 use Rattle.soctest.proofs.LogFiles.{after_plan, settled_log}
+use Rattle.soctest.proofs.TreeFiles.{bound_settled}
 use Rattle.soctest.proofs.Settled.{AreOne, SaysOne, RefusesOne, IsSettled, one_answer, no_answer, only_done, none_unread, done_once, left_open}
 
 -- the laws that completeness rests on
@@ -137,11 +136,11 @@ settled laws (Vectors soc limits plan seed) = settled_all laws soc limits plan (
 settled laws (Shift soc limits plan program) =
     settled_all laws soc limits plan (λ chip bounds value. with_program chip value program (λ shifts. done_with (accepted_program chip value shifts)))
     (λ chip bounds value. settled_program laws chip value program (λ shifts. done_with (accepted_program chip value shifts)) (λ shifts. done_once true (accepted_program chip value shifts)))
+settled laws (Locate soc limits plan log) = settled_all laws soc limits plan (after_plan log) (settled_log log)
 settled laws (TreeBound soc limits tree) = settled_both laws true soc limits (with_bound tree) (bound_settled tree)
 settled laws (SplitTests soc limits most) = settled_both laws false soc limits (λ chip bounds. Unless (split_refusal chip bounds most) (done_with_split chip bounds most))
     (λ chip bounds. left_open (λ text. (value : PlanValue) × IsPlanned (split_chip bounds most chip) (split_limits bounds most chip) value × (text ≡ split_text (split_of chip bounds most) value)))
 settled laws (Sample n seed) = left_open (λ text. (value : PlanValue) × IsPlanned (made_chip n seed) sample_limits value × (text ≡ sample_text n seed (made_chip n seed) value))
-settled laws (Locate soc limits plan log) = settled_all laws soc limits plan (after_plan log) (settled_log log)
 
 one : Laws → (command : Option CommandValue) (files : Files) (s : Status) (t : List ℕ) (s' : Status) (t' : List ℕ) → IsAnswer command files s t → IsAnswer command files s' t' → AreOne (fixes_text command) s t s' t'
 one laws None files s t s' t' a b = (a.0 ∙ sym b.0, λ fixed. a.1 ∙ sym b.1)

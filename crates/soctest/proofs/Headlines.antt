@@ -13,8 +13,7 @@ use Rattle.plan_model.specs.Certificates.{IsAccepted}
 use Rattle.soc_reader.specs.ChipForm.{SaysChip}
 use Rattle.plan_text.specs.Answers.{SaysPlan}
 use Rattle.soctest.specs.declared.FileKind.{FileKind}
-use Rattle.soctest.specs.declared.FileKind.TheVariants.{Soc, Limits, Plan, Program}
-use Rattle.soctest.specs.declared.FileKind.TheVariants.{Soc, Limits, Plan, Log}
+use Rattle.soctest.specs.declared.FileKind.TheVariants.{Soc, Limits, Plan, Log, Program}
 use Rattle.soctest.specs.declared.Status.{Status}
 use Rattle.soctest.specs.declared.Status.TheVariants.{Done, Refused, BadWords, TooLong}
 use Rattle.soctest.specs.declared.Verdict.TheVariants.{Answered}
@@ -25,26 +24,18 @@ use Rattle.plan_text.specs.PlanLines.{plan_text}
 use Rattle.chart.specs.ChartText.{chart_text}
 use Rattle.bit_machine.specs.Chips.{made_content}
 use Rattle.tester_vectors.specs.VectorText.{vector_text}
-use Rattle.soctest.specs.Commands.{CommandValue, Print, Widths, MakePlan, Check, Chart, Vectors, Sample, TreeBound, SplitTests, Shift}
-use Rattle.sample_maker.specs.Samples.{made_chip}
-use Rattle.soctest.specs.Samples.{sample_limits, sample_text}
-use Rattle.soctest.specs.Texts.{too_long_line, bad_words_line, accepted_line}
-use Rattle.soctest.specs.Readings.{most_of, IsRead, RefusesChip, SaysLimits, RefusesLimits, SaysAccepted, RefusesPlan}
-use Rattle.soctest.specs.Procedures.{Procedure, Unless, with_limits, with_accepted, with_both, with_all, with_program, done_with, done_with_plan, done_with_sample, run_refusal, sample_refusal}
-use Rattle.soctest.specs.ShiftPrograms.{SaysRight, RefusesProgram, accepted_program}
-use Rattle.soctest.specs.Answers.{Stage, Answers, IsAnswer}
-use Rattle.soctest.specs.Ends.{MayAnswer, Ends, IsChipIn, AreLimitsIn, IsPlanIn, IsMade, TellsProgram, IsTrustworthy, Trusts, Headline}
-use Rattle.fail_locate.specs.LogAnswers.{SaysLog}
-use Rattle.soctest.specs.Commands.{CommandValue, Print, Widths, MakePlan, Check, Chart, Vectors, Sample, Locate}
-use Rattle.soctest.specs.LocateText.{locate_text}
+use Rattle.soctest.specs.Commands.{CommandValue, Print, Widths, MakePlan, Check, Chart, Vectors, Sample, TreeBound, SplitTests, Shift, Locate}
 use Rattle.sample_maker.specs.Samples.{made_chip}
 use Rattle.soctest.specs.Samples.{sample_limits, sample_text}
 use Rattle.soctest.specs.Texts.{too_long_line, bad_words_line, accepted_line}
 use Rattle.soctest.specs.Readings.{most_of, IsRead, RefusesChip, SaysLimits, RefusesLimits, SaysAccepted, RefusesPlan, RefusesFails}
-use Rattle.soctest.specs.Procedures.{Procedure, Unless, with_limits, with_accepted, with_both, with_all, with_log, done_with, done_with_plan, done_with_sample, run_refusal, sample_refusal}
-use Rattle.soctest.specs.Answers.{Stage, Answers, IsAnswer}
-use Rattle.soctest.specs.Ends.{MayAnswer, Ends, IsChipIn, AreLimitsIn, IsPlanIn, AreFailsIn, IsMade, IsTrustworthy, Trusts, Headline}
+use Rattle.soctest.specs.Procedures.{Procedure, Unless, with_limits, with_accepted, with_both, with_all, with_program, with_log, done_with, done_with_plan, done_with_sample, run_refusal, sample_refusal}
+use Rattle.fail_locate.specs.LogAnswers.{SaysLog}
+use Rattle.soctest.specs.LocateText.{locate_text}
 use Rattle.soctest.proofs.LogFiles.{after_plan}
+use Rattle.soctest.specs.ShiftPrograms.{SaysRight, RefusesProgram, accepted_program}
+use Rattle.soctest.specs.Answers.{Stage, Answers, IsAnswer}
+use Rattle.soctest.specs.Ends.{MayAnswer, Ends, IsChipIn, AreLimitsIn, IsPlanIn, AreFailsIn, IsMade, TellsProgram, IsTrustworthy, Trusts, Headline}
 
 -- a stage that ends with Done has read its file
 pub stage_done : {V : Type 0} (file : FileKind) (Says : List ℕ → V → Type 0) (Refuses : List ℕ → List ℕ → Type 0) (Next : V → Status → List ℕ → Type 0) (held : Option (List ℕ)) (text : List ℕ) → Stage file Says Refuses Next held Done text → (v : V) × IsRead file Says held v × Next v Done text
@@ -137,6 +128,7 @@ told_program : (files : Files) (program : List ℕ) (chip : SocValue) (value : P
 told_program files program chip value text answer =
     let d = stage_done Program (SaysRight chip value) (RefusesProgram chip value) (λ shifts. Answers (done_with (accepted_program chip value shifts)) files) (get files program) text answer in
     (d.0, d.1, d.2.1)
+
 -- the fails of a log, of which the lines are written
 located : (files : Files) (log : List ℕ) (chip : SocValue) (value : PlanValue) (text : List ℕ) → Answers (with_log log (λ fails. done_with (locate_text chip value fails))) files Done text → (fails : List (ℕ × ℕ)) × AreFailsIn files log fails × (text ≡ locate_text chip value fails)
 located files log chip value text answer =
@@ -159,10 +151,10 @@ trusted laws files (Sample n seed) text old new answer put = sampled laws files 
 trusted laws files (Shift soc limits plan program) text old new answer put =
     accepted laws files soc limits plan (TellsProgram files program) (λ chip bounds value. with_program chip value program (λ shifts. done_with (accepted_program chip value shifts)))
     (λ chip bounds value text a. told_program files program chip value text a) text old new answer put
-trusted laws files (TreeBound soc limits tree) text old new answer put = tt
-trusted laws files (SplitTests soc limits most) text old new answer put = tt
 trusted laws files (Locate soc limits plan log) text old new answer put =
     accepted laws files soc limits plan (λ chip value t. (fails : List (ℕ × ℕ)) × AreFailsIn files log fails × (t ≡ locate_text chip value fails)) (after_plan log) (λ chip bounds value text a. located files log chip value text a) text old new answer put
+trusted laws files (TreeBound soc limits tree) text old new answer put = tt
+trusted laws files (SplitTests soc limits most) text old new answer put = tt
 
 pub headline : Laws → (command : Option CommandValue) (held : Option Files) (sb sa kb ka : ℕ) (old new : Option (List ℕ)) (end : Status) → Ends (MayAnswer command held sb sa) kb ka old end new → Headline command held old end new
 headline laws command held sb sa kb ka old new end ends files given is names done =

@@ -72,7 +72,6 @@ split_of soc limits (Some most) = if nat_le 1 most then Some (SplitTests soc lim
 -- `print SOC`, `widths SOC WIRES`, `plan SOC LIMITS`, `check SOC LIMITS PLAN`, `chart SOC LIMITS PLAN`,
 -- `vectors SOC LIMITS PLAN SEED`, `sample N SEED`, `locate SOC LIMITS PLAN LOG`, `tree SOC LIMITS TREE`, `split SOC LIMITS MOST`
 -- and `shift SOC LIMITS PLAN PROGRAM`; no other words are a command
--- `vectors SOC LIMITS PLAN SEED`, `locate SOC LIMITS PLAN LOG` and `sample N SEED`; no other words are a command
 unfoldable pub command_of : List (List ℕ) → Option CommandValue
 command_of (word ∷ soc ∷ []) = if pointwise nat_eq word (codes "print") then Some (Print soc) else None
 command_of (word ∷ soc ∷ last ∷ []) =
@@ -90,9 +89,5 @@ command_of (word ∷ soc ∷ limits ∷ plan ∷ last ∷ []) =
     if pointwise nat_eq word (codes "vectors") then vectors_of soc limits plan (number_of last NUMBER_WORD_MOST)
     else if pointwise nat_eq word (codes "locate") then Some (Locate soc limits plan last)
     else if pointwise nat_eq word (codes "shift") then Some (Shift soc limits plan last)
-    else None
-command_of (word ∷ soc ∷ limits ∷ plan ∷ last ∷ []) =
-    if pointwise nat_eq word (codes "vectors") then vectors_of soc limits plan (number_of last NUMBER_WORD_MOST)
-    else if pointwise nat_eq word (codes "locate") then Some (Locate soc limits plan last)
     else None
 command_of _ = None

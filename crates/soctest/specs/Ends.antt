@@ -9,15 +9,10 @@ use Rattle.plan_model.specs.Right.{IsRight}
 use Rattle.plan_model.specs.Rules.{IsBound}
 use Rattle.soc_reader.specs.ChipForm.{SaysChip}
 use Rattle.soctest.specs.declared.FileKind.{FileKind}
-use Rattle.soctest.specs.declared.FileKind.TheVariants.{Soc, Limits, Plan, Program}
+use Rattle.soctest.specs.declared.FileKind.TheVariants.{Soc, Limits, Plan, Log, Program}
 use Rattle.soctest.specs.declared.Status.{Status}
 use Rattle.soctest.specs.declared.Status.TheVariants.{Done, Refused, BadWords, ReadFault, TooLong, WriteFault, NoMemory}
-use Rattle.soctest.specs.Commands.{CommandValue, Print, Widths, MakePlan, Check, Chart, Vectors, Sample, TreeBound, SplitTests, Shift}
-use Rattle.soctest.specs.declared.FileKind.TheVariants.{Soc, Limits, Plan, Log}
-use Rattle.soctest.specs.declared.Status.{Status}
-use Rattle.soctest.specs.declared.Status.TheVariants.{Done, Refused, BadWords, ReadFault, TooLong, WriteFault, NoMemory}
-use Rattle.fail_locate.specs.LogAnswers.{SaysLog}
-use Rattle.soctest.specs.Commands.{CommandValue, Print, Widths, MakePlan, Check, Chart, Vectors, Sample, Locate}
+use Rattle.soctest.specs.Commands.{CommandValue, Print, Widths, MakePlan, Check, Chart, Vectors, Sample, TreeBound, SplitTests, Shift, Locate}
 use Rattle.plan_text.specs.Answers.{SaysPlan}
 use Rattle.plan_text.specs.PlanLines.{plan_text}
 use Rattle.chart.specs.ChartText.{chart_text}
@@ -26,8 +21,9 @@ use Rattle.tester_vectors.specs.VectorText.{vector_text}
 use Rattle.soctest.specs.Procedures.{Procedure, Read, Unless, Answer, procedure_of}
 use Rattle.sample_maker.specs.Samples.{made_chip}
 use Rattle.soctest.specs.Samples.{sample_limits, sample_text}
-use Rattle.soctest.specs.LocateText.{locate_text}
 use Rattle.soctest.specs.Texts.{is_line, unread_line, bad_words_line, accepted_line}
+use Rattle.fail_locate.specs.LogAnswers.{SaysLog}
+use Rattle.soctest.specs.LocateText.{locate_text}
 use Rattle.shift_program.specs.Programs.{ProgramValue}
 use Rattle.soctest.specs.ShiftPrograms.{SaysRight, accepted_program}
 use Rattle.soctest.specs.Readings.{IsRead, SaysLimits}
@@ -79,10 +75,10 @@ fixes_text (Some (Check soc limits plan)) = true
 fixes_text (Some (Chart soc limits plan)) = true
 fixes_text (Some (Vectors soc limits plan seed)) = true
 fixes_text (Some (Sample n seed)) = false
+fixes_text (Some (Locate soc limits plan log)) = true
 fixes_text (Some (TreeBound soc limits tree)) = true
 fixes_text (Some (Shift soc limits plan program)) = true
 fixes_text (Some (SplitTests soc limits most)) = false
-fixes_text (Some (Locate soc limits plan log)) = true
 
 -- Where neither count of faults rose and the files give an answer, the call ends with its status, or for want of memory;
 -- where the text is fixed, that is written.
@@ -155,10 +151,10 @@ Trusts (Chart soc limits plan) files old new = IsTrustworthy (IsChipIn files soc
 Trusts (Vectors soc limits plan seed) files old new = IsTrustworthy (IsChipIn files soc) (AreLimitsIn files limits) (IsPlanIn files plan) (λ chip value text. text ≡ vector_text chip value (made_content chip seed)) old new
 Trusts (Sample n seed) files old new = IsTrustworthy (λ chip. chip ≡ made_chip n seed) (λ chip bounds. bounds ≡ sample_limits) IsMade (λ chip value text. text ≡ sample_text n seed chip value) old new
 Trusts (Shift soc limits plan program) files old new = IsTrustworthy (IsChipIn files soc) (AreLimitsIn files limits) (IsPlanIn files plan) (TellsProgram files program) old new
-Trusts (TreeBound soc limits tree) files old new = Unit {0}
-Trusts (SplitTests soc limits most) files old new = Unit {0}
 Trusts (Locate soc limits plan log) files old new =
     IsTrustworthy (IsChipIn files soc) (AreLimitsIn files limits) (IsPlanIn files plan) (λ chip value text. (fails : List (ℕ × ℕ)) × AreFailsIn files log fails × (text ≡ locate_text chip value fails)) old new
+Trusts (TreeBound soc limits tree) files old new = Unit {0}
+Trusts (SplitTests soc limits most) files old new = Unit {0}
 
 -- The headline, for each command over a plan, where the shelf tells what it holds.
 abbrev pub Headline : Option CommandValue → Option Files → Option (List ℕ) → Status → Option (List ℕ) → Type 0

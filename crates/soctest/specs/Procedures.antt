@@ -5,8 +5,7 @@ use Rattle.plan_model.specs.Plans.{LimitsValue, PlanValue}
 use Rattle.soc_reader.specs.ChipForm.{SaysChip}
 use Rattle.soc_printer.specs.SocText.{soc_text}
 use Rattle.soctest.specs.declared.FileKind.{FileKind}
-use Rattle.soctest.specs.declared.FileKind.TheVariants.{Soc, Limits, Plan, Tree, Program}
-use Rattle.soctest.specs.declared.FileKind.TheVariants.{Soc, Limits, Plan, Log}
+use Rattle.soctest.specs.declared.FileKind.TheVariants.{Soc, Limits, Plan, Tree, Program, Log}
 use Rattle.soctest.specs.declared.Status.{Status}
 use Rattle.soctest.specs.declared.Status.TheVariants.{Done}
 use Rattle.chart.specs.ChartText.{chart_text}
@@ -16,9 +15,8 @@ use Rattle.width_tree.specs.Trees.{TreeValue}
 use Rattle.bit_machine.specs.Chips.{made_content}
 use Rattle.tester_vectors.specs.declared.TheConstants.{RUN_MOST}
 use Rattle.tester_vectors.specs.VectorText.{wire_cycles, vector_text}
-use Rattle.soctest.specs.Commands.{CommandValue, Print, Widths, MakePlan, Check, Chart, Vectors, Sample, TreeBound, SplitTests, Shift}
+use Rattle.soctest.specs.Commands.{CommandValue, Print, Widths, MakePlan, Check, Chart, Vectors, Sample, TreeBound, SplitTests, Shift, Locate}
 use Rattle.fail_locate.specs.LogAnswers.{SaysLog}
-use Rattle.soctest.specs.Commands.{CommandValue, Print, Widths, MakePlan, Check, Chart, Vectors, Sample, Locate}
 use Rattle.sample_maker.specs.Samples.{made_chip}
 use Rattle.sample_maker.specs.declared.TheConstants.{SAMPLE_MODULES_MOST}
 use Rattle.soctest.specs.Samples.{sample_limits, sample_line, sample_text}
@@ -31,7 +29,6 @@ use Rattle.soctest.specs.TreeTexts.{bound_line}
 use Rattle.soctest.specs.TreeReadings.{SaysBound, RefusesTree}
 use Rattle.shift_program.specs.Programs.{ProgramValue}
 use Rattle.soctest.specs.ShiftPrograms.{SaysRight, RefusesProgram, accepted_program}
-use Rattle.soctest.specs.Readings.{RefusesChip, SaysLimits, RefusesLimits, SaysAccepted, RefusesPlan}
 use Rattle.soctest.specs.Readings.{RefusesChip, SaysLimits, RefusesLimits, SaysAccepted, RefusesPlan, RefusesFails}
 
 -- A file of a name is read, where its bytes say a value (`Says bytes value`); what is done next is fixed by that value.

@@ -9,8 +9,7 @@ use Rattle.limits_text.specs.Answers.{Reading, read_as, refused_line, unknown_li
 use Rattle.plan_text.specs.Answers.{SaysPlan, RefusesText}
 use Rattle.fail_locate.specs.LogAnswers.{RefusesLog}
 use Rattle.soctest.specs.declared.FileKind.{FileKind}
-use Rattle.soctest.specs.declared.FileKind.TheVariants.{Soc, Limits, Plan, Tree, Program}
-use Rattle.soctest.specs.declared.FileKind.TheVariants.{Soc, Limits, Plan, Log}
+use Rattle.soctest.specs.declared.FileKind.TheVariants.{Soc, Limits, Plan, Tree, Program, Log}
 use Rattle.soctest.specs.declared.TheConstants.{FILE_MOST, PLAN_FILE_MOST}
 use Rattle.soctest.specs.Texts.{chip_line, chip_limit_line, limits_line, unknown_test_line, cycle_line, test_power_line, plan_line, fault_line, log_line}
 

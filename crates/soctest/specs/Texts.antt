@@ -10,8 +10,7 @@ use Rattle.plan_model.specs.Plans.{PlanValue}
 use Rattle.plan_model.specs.Certificates.{CertificateFault, BadListFault, LessFault}
 use Rattle.plan_model.specs.Faults.{FaultValue, WidthFault, UnknownModuleFault, ModulePlaceFault, WrapperListFault, CellsFault, TestsFault, WireFault, BusyFault, ParentFault, BeforeFault, PowerFault, CyclesFault, BoundFault}
 use Rattle.soctest.specs.declared.FileKind.{FileKind}
-use Rattle.soctest.specs.declared.FileKind.TheVariants.{Soc, Limits, Plan, Tree, Program}
-use Rattle.soctest.specs.declared.FileKind.TheVariants.{Soc, Limits, Plan, Log}
+use Rattle.soctest.specs.declared.FileKind.TheVariants.{Soc, Limits, Plan, Tree, Program, Log}
 
 -- one line feed, at the end
 abbrev pub is_line : List ℕ → Bool

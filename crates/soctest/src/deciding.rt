@@ -9,8 +9,7 @@ ghost use Rattle.plan_text.specs.PlanLines.{plan_text};
 ghost use Rattle.schedule_search.specs.Estimates.{CanAsk, IsAtLeastReady, IsAtMostNow};
 ghost use Rattle.planner.specs.Plans.{IsPlanned};
 ghost use Rattle.plan_model.specs.declared.TheConstants.{WIRES_MOST};
-ghost use Rattle.soctest.specs.Commands.{Print, Widths, MakePlan, Check, Chart, Vectors, TreeBound, command_of, SplitTests, Shift};
-ghost use Rattle.soctest.specs.Commands.{Print, Widths, MakePlan, Check, Chart, Vectors, Locate, command_of};
+ghost use Rattle.soctest.specs.Commands.{Print, Widths, MakePlan, Check, Chart, Vectors, TreeBound, command_of, SplitTests, Shift, Locate};
 ghost use Rattle.plan_model.specs.Rules.{IsGoodAlone};
 ghost use Rattle.bit_machine.specs.Chips.{wires_of, made_content};
 ghost use Rattle.tester_vectors.specs.VectorText.{vector_text as text_of_vectors};
@@ -20,11 +19,9 @@ ghost use Rattle.soctest.specs.Decides.{Follows, Decides, GivesUnless};
 use crate::fails::locate_text;
 use crate::lines::{accepted_line, run_line};
 use crate::loading::{
-    answered, answered_with, load_all, load_both, load_chip, load_file, refused_with,
+    answered, answered_with, load_all, load_both, load_chip, load_file, load_log, refused_with,
 };
 use crate::programs::answer_program;
-    answered, answered_with, load_all, load_both, load_chip, load_log, refused_with,
-};
 use crate::samples::decide_sample;
 use crate::tree_lines::bound_line;
 use crate::trees::load_accepted_tree;
@@ -205,27 +202,17 @@ fn decide_tree<H: Shelf>(
     }
 }
 
-/// `shift SOC LIMITS PLAN PROGRAM`: whether a program is right for its test in a plan that is accepted.
-fn decide_shift<H: Shelf>(
 /// `locate SOC LIMITS PLAN LOG`: which cells the fails of a log name in a plan that is accepted.
 fn decide_locate<H: Shelf>(
     alloc: Global,
     soc: &str,
     limits: &str,
     plan: &str,
-    program: &str,
     log: &str,
     shelf: &mut H,
 ) -> Verdict
     ensures held_stays { H.held shelf.new ≡ H.held shelf.old }
     ensures faults_never_fall { H.faults shelf.old ≤ H.faults shelf.new }
-    ensures follows { Follows (procedure_of (Shift soc.now limits.now plan.now program.now)) (H.held shelf.old) (H.faults shelf.old) (H.faults shelf.new) result }
-{
-    match load_all(alloc, soc, limits, plan, shelf) {
-        Ok(all) => match load_file(alloc, FileKind::Program, program, shelf) {
-            Ok(bytes) => answer_program(alloc, &all.soc, &all.limits, &all.plan, bytes.as_slice()),
-            Err(verdict) => verdict,
-        },
     ensures follows { Follows (procedure_of (Locate soc.now limits.now plan.now log.now)) (H.held shelf.old) (H.faults shelf.old) (H.faults shelf.new) result }
 {
     match load_all(alloc, soc, limits, plan, shelf) {
@@ -239,6 +226,28 @@ fn decide_locate<H: Shelf>(
                 Err(verdict) => verdict,
             }
         }
+        Err(verdict) => verdict,
+    }
+}
+
+/// `shift SOC LIMITS PLAN PROGRAM`: whether a program is right for its test in a plan that is accepted.
+fn decide_shift<H: Shelf>(
+    alloc: Global,
+    soc: &str,
+    limits: &str,
+    plan: &str,
+    program: &str,
+    shelf: &mut H,
+) -> Verdict
+    ensures held_stays { H.held shelf.new ≡ H.held shelf.old }
+    ensures faults_never_fall { H.faults shelf.old ≤ H.faults shelf.new }
+    ensures follows { Follows (procedure_of (Shift soc.now limits.now plan.now program.now)) (H.held shelf.old) (H.faults shelf.old) (H.faults shelf.new) result }
+{
+    match load_all(alloc, soc, limits, plan, shelf) {
+        Ok(all) => match load_file(alloc, FileKind::Program, program, shelf) {
+            Ok(bytes) => answer_program(alloc, &all.soc, &all.limits, &all.plan, bytes.as_slice()),
+            Err(verdict) => verdict,
+        },
         Err(verdict) => verdict,
     }
 }
@@ -271,6 +280,14 @@ pub fn decide<H: Shelf>(alloc: Global, words: &[String], shelf: &mut H) -> Verdi
         ) => decide_vectors(alloc, soc, limits, plan, seed, shelf),
         Some(Command::Sample { n, seed }) => decide_sample(alloc, n, seed),
         Some(
+            Command::Locate {
+                soc,
+                limits,
+                plan,
+                log,
+            },
+        ) => decide_locate(alloc, soc, limits, plan, log, shelf),
+        Some(
             Command::Shift {
                 soc,
                 limits,
@@ -282,13 +299,6 @@ pub fn decide<H: Shelf>(alloc: Global, words: &[String], shelf: &mut H) -> Verdi
             decide_tree(alloc, soc, limits, tree, shelf)
         }
         Some(Command::Split { soc, limits, most }) => decide_split(alloc, soc, limits, most, shelf),
-            Command::Locate {
-                soc,
-                limits,
-                plan,
-                log,
-            },
-        ) => decide_locate(alloc, soc, limits, plan, log, shelf),
         None => answered(alloc, Status::BadWords, b"bad words\n"),
     }
 }

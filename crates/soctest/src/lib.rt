@@ -19,8 +19,7 @@ mod words;
 
 pub use top::soctest;
 
-/// The greatest length of a .soc file, a limits file or a program, in bytes.
-/// The greatest length of a .soc file, a limits file or a fail log, in bytes.
+/// The greatest length of a .soc file, a limits file, a log, a tree or a program, in bytes.
 pub const FILE_MOST: u64 = 1_048_576;
 /// The greatest length of a plan file, in bytes.
 pub const PLAN_FILE_MOST: u64 = 33_554_432;
@@ -114,6 +113,7 @@ pub enum Command<'a> {
         limits: &'a str,
         plan: &'a str,
         program: &'a str,
+    },
     /// The cells that a fail log of a plan that is accepted names.
     Locate {
         soc: &'a str,

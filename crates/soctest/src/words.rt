@@ -81,6 +81,7 @@ pub fn command(words: &[String]) -> Option<Command<'_>>
             limits: limits.as_str(),
             plan: plan.as_str(),
             program: program.as_str(),
+        }),
         [word, soc, limits, plan, log] if word.as_str() == "locate" => Some(Command::Locate {
             soc: soc.as_str(),
             limits: limits.as_str(),
