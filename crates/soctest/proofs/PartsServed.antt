@@ -131,6 +131,10 @@ most_of_command (command.Plan s l) range soc limits most is = absurd cc
 most_of_command (command.Check s l p) range soc limits most is = absurd cc
 most_of_command (command.Chart s l p) range soc limits most is = absurd cc
 most_of_command (command.Vectors s l p d) range soc limits most is = absurd cc
+most_of_command (command.Sample n d) range soc limits most is = absurd cc
+most_of_command (command.Locate s l p f) range soc limits most is = absurd cc
+most_of_command (command.Tree s l t) range soc limits most is = absurd cc
+most_of_command (command.Shift s l p q) range soc limits most is = absurd cc
 most_of_command (command.Split s l m) range soc limits most is = let same : m ≡ most = cc in subst (λ n. 1 ≤ n) same range
 
 -- a command over parts is one of at least 1 pattern a part

@@ -69,25 +69,41 @@ abbrev pub split_of : (soc limits : List ℕ) → Option ℕ → Option CommandV
 split_of soc limits None = None
 split_of soc limits (Some most) = if nat_le 1 most then Some (SplitTests soc limits most) else None
 
--- `print SOC`, `widths SOC WIRES`, `plan SOC LIMITS`, `check SOC LIMITS PLAN`, `chart SOC LIMITS PLAN`,
--- `vectors SOC LIMITS PLAN SEED`, `sample N SEED`, `locate SOC LIMITS PLAN LOG`, `tree SOC LIMITS TREE`, `split SOC LIMITS MOST`
--- and `shift SOC LIMITS PLAN PROGRAM`; no other words are a command
-unfoldable pub command_of : List (List ℕ) → Option CommandValue
-command_of (word ∷ soc ∷ []) = if pointwise nat_eq word (codes "print") then Some (Print soc) else None
-command_of (word ∷ soc ∷ last ∷ []) =
-    if pointwise nat_eq word (codes "widths") then widths_of soc (number_of last WIRES_MOST)
-    else if pointwise nat_eq word (codes "plan") then Some (MakePlan soc last)
-    else if pointwise nat_eq word (codes "sample") then sample_of (number_of soc NUMBER_WORD_MOST) (number_of last NUMBER_WORD_MOST)
+-- the command of a word with one more word
+unfoldable pub with_one : (word soc : List ℕ) → Option CommandValue
+with_one word soc = if pointwise nat_eq word (codes "print") then Some (Print soc) else None
+
+-- with two more words
+unfoldable pub with_two : (word first last : List ℕ) → Option CommandValue
+with_two word first last =
+    if pointwise nat_eq word (codes "widths") then widths_of first (number_of last WIRES_MOST)
+    else if pointwise nat_eq word (codes "plan") then Some (MakePlan first last)
+    else if pointwise nat_eq word (codes "sample") then sample_of (number_of first NUMBER_WORD_MOST) (number_of last NUMBER_WORD_MOST)
     else None
-command_of (word ∷ soc ∷ limits ∷ last ∷ []) =
+
+-- with three more words
+unfoldable pub with_three : (word soc limits last : List ℕ) → Option CommandValue
+with_three word soc limits last =
     if pointwise nat_eq word (codes "check") then Some (Check soc limits last)
     else if pointwise nat_eq word (codes "chart") then Some (Chart soc limits last)
     else if pointwise nat_eq word (codes "tree") then Some (TreeBound soc limits last)
     else if pointwise nat_eq word (codes "split") then split_of soc limits (number_of last NUMBER_WORD_MOST)
     else None
-command_of (word ∷ soc ∷ limits ∷ plan ∷ last ∷ []) =
+
+-- with four more words
+unfoldable pub with_four : (word soc limits plan last : List ℕ) → Option CommandValue
+with_four word soc limits plan last =
     if pointwise nat_eq word (codes "vectors") then vectors_of soc limits plan (number_of last NUMBER_WORD_MOST)
     else if pointwise nat_eq word (codes "locate") then Some (Locate soc limits plan last)
     else if pointwise nat_eq word (codes "shift") then Some (Shift soc limits plan last)
     else None
+
+-- `print SOC`, `widths SOC WIRES`, `plan SOC LIMITS`, `check SOC LIMITS PLAN`, `chart SOC LIMITS PLAN`,
+-- `vectors SOC LIMITS PLAN SEED`, `sample N SEED`, `locate SOC LIMITS PLAN LOG`, `tree SOC LIMITS TREE`, `split SOC LIMITS MOST`
+-- and `shift SOC LIMITS PLAN PROGRAM`; no other words are a command
+unfoldable pub command_of : List (List ℕ) → Option CommandValue
+command_of (word ∷ soc ∷ []) = with_one word soc
+command_of (word ∷ first ∷ last ∷ []) = with_two word first last
+command_of (word ∷ soc ∷ limits ∷ last ∷ []) = with_three word soc limits last
+command_of (word ∷ soc ∷ limits ∷ plan ∷ last ∷ []) = with_four word soc limits plan last
 command_of _ = None

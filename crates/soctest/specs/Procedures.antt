@@ -62,6 +62,7 @@ done_with_sample n seed = Answer (λ status text. (status ≡ Done) × ((value :
 -- the line that refuses a number of modules
 abbrev pub sample_refusal : (n : ℕ) → Option (List ℕ)
 sample_refusal n = if nat_eq n 0 || nat_lt SAMPLE_MODULES_MOST n then Some (sample_line n) else None
+
 -- the answer is the text of the parts of a chip and of any plan that the planner may make for them
 abbrev pub done_with_split : SocValue → LimitsValue → (most : ℕ) → Procedure
 done_with_split chip bounds most = Answer (λ status text. (status ≡ Done) × ((value : PlanValue) × IsPlanned (split_chip bounds most chip) (split_limits bounds most chip) value × (text ≡ split_text (split_of chip bounds most) value)))
@@ -96,9 +97,11 @@ with_tree chip bounds tree next = Read Tree (SaysBound chip bounds) (RefusesTree
 -- its bound is the answer
 abbrev pub with_bound : (tree : List ℕ) → SocValue → LimitsValue → Procedure
 with_bound tree chip bounds = with_tree chip bounds tree (λ value. done_with (bound_line value))
+
 -- a program that is right for its test in an accepted plan
 abbrev pub with_program : SocValue → PlanValue → (program : List ℕ) → (ProgramValue → Procedure) → Procedure
 with_program chip value program next = Read Program (SaysRight chip value) (RefusesProgram chip value) program next
+
 -- the fails of a log
 abbrev pub with_log : (log : List ℕ) → (List (ℕ × ℕ) → Procedure) → Procedure
 with_log log next = Read Log SaysLog RefusesFails log next

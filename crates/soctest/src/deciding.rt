@@ -23,9 +23,9 @@ use crate::loading::{
 };
 use crate::programs::answer_program;
 use crate::samples::decide_sample;
+use crate::splitting::decide_split;
 use crate::tree_lines::bound_line;
 use crate::trees::load_accepted_tree;
-use crate::splitting::decide_split;
 use crate::widths::widths_text;
 use crate::words::command;
 use crate::{Command, FileKind, Status, Verdict};

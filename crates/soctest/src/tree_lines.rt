@@ -26,12 +26,7 @@ pub(crate) fn tree_line(alloc: Global, line: u64) -> Result<Vec<u8>, NoMemory>
 }
 
 /// `refused tree less`, the place of the node, the claim and what the node shows.
-fn less_line(
-    alloc: Global,
-    place: usize,
-    claimed: u64,
-    shown: u128,
-) -> Result<Vec<u8>, NoMemory>
+fn less_line(alloc: Global, place: usize, claimed: u64, shown: u128) -> Result<Vec<u8>, NoMemory>
     ensures text { IfOk result (λ text. text.items ≡ tree_fault_text (Less place claimed shown)) }
     ensures line { IfOk result (λ text. IsTrue (is_line text.items)) }
 {

@@ -3,7 +3,7 @@ ghost use Rattle.std.specs.Prelude.{◌≡◌, ◌≤◌, ℕ, List, Some, map, 
 ghost use Rattle.outside.specs.Decimal.{number_of};
 ghost use Rattle.soc_model.specs.declared.TheConstants.{NUMBER_WORD_MOST};
 ghost use Rattle.plan_model.specs.declared.TheConstants.{WIRES_MOST};
-ghost use Rattle.soctest.specs.Commands.{command_of, command_value, widths_of, IsInRange, SplitTests, split_of};
+ghost use Rattle.soctest.specs.Commands.{IsInRange, SplitTests, command_of, command_value, split_of, widths_of, with_four, with_one, with_three, with_two};
 
 use crate::Command;
 use outside::number;
@@ -34,60 +34,142 @@ fn split<'a>(soc: &'a str, limits: &'a str, most: &str) -> Option<Command<'a>>
     Some(Command::Split { soc, limits, most })
 }
 
+/// The command of a word with one more word.
+#[tactic(auto, unfolding(crate::specs::Commands::with_one))]
+fn one<'a>(word: &str, soc: &'a str) -> Option<Command<'a>>
+    ensures value { option_map command_value result ≡ with_one word.now soc.now }
+    ensures range { IfSome result IsInRange }
+{
+    if word == "print" {
+        return Some(Command::Print { soc });
+    }
+    None
+}
+
+/// The command of a word with two more words.
+#[tactic(auto, unfolding(crate::specs::Commands::with_two))]
+fn two<'a>(word: &str, first: &'a str, last: &'a str) -> Option<Command<'a>>
+    ensures value { option_map command_value result ≡ with_two word.now first.now last.now }
+    ensures range { IfSome result IsInRange }
+{
+    if word == "widths" {
+        return widths(first, last);
+    }
+    if word == "plan" {
+        return Some(Command::Plan {
+            soc: first,
+            limits: last,
+        });
+    }
+    if word == "sample" {
+        let n = number(first.as_bytes(), NUMBER_WORD_MOST)?;
+        let seed = number(last.as_bytes(), NUMBER_WORD_MOST)?;
+        return Some(Command::Sample { n, seed });
+    }
+    None
+}
+
+/// The command of a word with three more words.
+#[tactic(auto, unfolding(crate::specs::Commands::with_three))]
+fn three<'a>(word: &str, soc: &'a str, limits: &'a str, last: &'a str) -> Option<Command<'a>>
+    ensures value { option_map command_value result ≡ with_three word.now soc.now limits.now last.now }
+    ensures range { IfSome result IsInRange }
+{
+    if word == "check" {
+        return Some(Command::Check {
+            soc,
+            limits,
+            plan: last,
+        });
+    }
+    if word == "chart" {
+        return Some(Command::Chart {
+            soc,
+            limits,
+            plan: last,
+        });
+    }
+    if word == "tree" {
+        return Some(Command::Tree {
+            soc,
+            limits,
+            tree: last,
+        });
+    }
+    if word == "split" {
+        return split(soc, limits, last);
+    }
+    None
+}
+
+/// The command of a word with four more words.
+#[tactic(auto, unfolding(crate::specs::Commands::with_four))]
+fn four<'a>(
+    word: &str,
+    soc: &'a str,
+    limits: &'a str,
+    plan: &'a str,
+    last: &'a str,
+) -> Option<Command<'a>>
+    ensures value { option_map command_value result ≡ with_four word.now soc.now limits.now plan.now last.now }
+    ensures range { IfSome result IsInRange }
+{
+    if word == "vectors" {
+        let seed = number(last.as_bytes(), NUMBER_WORD_MOST)?;
+        return Some(Command::Vectors {
+            soc,
+            limits,
+            plan,
+            seed,
+        });
+    }
+    if word == "locate" {
+        return Some(Command::Locate {
+            soc,
+            limits,
+            plan,
+            log: last,
+        });
+    }
+    if word == "shift" {
+        return Some(Command::Shift {
+            soc,
+            limits,
+            plan,
+            program: last,
+        });
+    }
+    None
+}
+
 /// The command that the words are, where they are one.
 #[tactic(auto, unfolding(crate::specs::Commands::command_of))]
+fn named(words: &[String]) -> Option<Command<'_>>
+    ensures value { option_map command_value result ≡ command_of (map string_bytes words.now) }
+    ensures range { IfSome result IsInRange }
+{
+    match words {
+        [word, soc] => one(word.as_str(), soc.as_str()),
+        [word, first, last] => two(word.as_str(), first.as_str(), last.as_str()),
+        [word, soc, limits, last] => {
+            three(word.as_str(), soc.as_str(), limits.as_str(), last.as_str())
+        }
+        [word, soc, limits, plan, last] => four(
+            word.as_str(),
+            soc.as_str(),
+            limits.as_str(),
+            plan.as_str(),
+            last.as_str(),
+        ),
+        _ => None,
+    }
+}
+
+/// The command that the words are, where they are one; a part of `split` has at least 1 pattern.
 pub fn command(words: &[String]) -> Option<Command<'_>>
     ensures value { option_map command_value result ≡ command_of (map string_bytes words.now) }
     ensures wires { IfSome result IsInRange }
     ensures patterns { (soc limits : List ℕ) (most : ℕ) → command_of (map string_bytes words.now) ≡ Some (SplitTests soc limits most) → 1 ≤ most }
 {
-    match words {
-        [word, soc] if word.as_str() == "print" => Some(Command::Print { soc: soc.as_str() }),
-        [word, soc, wires] if word.as_str() == "widths" => widths(soc.as_str(), wires.as_str()),
-        [word, soc, limits] if word.as_str() == "plan" => Some(Command::Plan {
-            soc: soc.as_str(),
-            limits: limits.as_str(),
-        }),
-        [word, n, seed] if word.as_str() == "sample" => Some(Command::Sample {
-            n: number(n.as_bytes(), NUMBER_WORD_MOST)?,
-            seed: number(seed.as_bytes(), NUMBER_WORD_MOST)?,
-        }),
-        [word, soc, limits, plan] if word.as_str() == "check" => Some(Command::Check {
-            soc: soc.as_str(),
-            limits: limits.as_str(),
-            plan: plan.as_str(),
-        }),
-        [word, soc, limits, plan] if word.as_str() == "chart" => Some(Command::Chart {
-            soc: soc.as_str(),
-            limits: limits.as_str(),
-            plan: plan.as_str(),
-        }),
-        [word, soc, limits, tree] if word.as_str() == "tree" => Some(Command::Tree {
-            soc: soc.as_str(),
-            limits: limits.as_str(),
-            tree: tree.as_str(),
-        }),
-        [word, soc, limits, most] if word.as_str() == "split" => {
-            split(soc.as_str(), limits.as_str(), most.as_str())
-        }
-        [word, soc, limits, plan, seed] if word.as_str() == "vectors" => Some(Command::Vectors {
-            soc: soc.as_str(),
-            limits: limits.as_str(),
-            plan: plan.as_str(),
-            seed: number(seed.as_bytes(), NUMBER_WORD_MOST)?,
-        }),
-        [word, soc, limits, plan, program] if word.as_str() == "shift" => Some(Command::Shift {
-            soc: soc.as_str(),
-            limits: limits.as_str(),
-            plan: plan.as_str(),
-            program: program.as_str(),
-        }),
-        [word, soc, limits, plan, log] if word.as_str() == "locate" => Some(Command::Locate {
-            soc: soc.as_str(),
-            limits: limits.as_str(),
-            plan: plan.as_str(),
-            log: log.as_str(),
-        }),
-        _ => None,
-    }
+    named(words)
 }

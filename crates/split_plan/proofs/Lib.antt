@@ -7,3 +7,4 @@ pub mod Profiles
 pub mod PartLaws
 pub mod Counting
 pub mod Making
+mod NamesPut
