@@ -13,3 +13,4 @@ pub mod Planned
 pub mod Scheduled
 pub mod WholePlans
 mod Rows
+pub mod OnePlan

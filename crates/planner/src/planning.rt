@@ -2,7 +2,7 @@
 ghost use Rattle.std.specs.Prelude.{◌≡◌, ℕ, ◌≤◌, List, IfOk, map};
 ghost use Rattle.soc_model.specs.Chips.{soc_value};
 ghost use Rattle.soc_model.specs.SoundChips.{IsSoundChip};
-ghost use Rattle.plan_model.specs.Plans.{BusValue};
+ghost use Rattle.plan_model.specs.Plans.{BusValue, PlanValue};
 ghost use Rattle.plan_model.specs.Rules.{IsBound};
 ghost use Rattle.plan_model.specs.Right.{IsRight};
 ghost use Rattle.plan_model.specs.Runs.{Content};
@@ -10,8 +10,10 @@ ghost use Rattle.plan_model.specs.Certificates.{IsElementary};
 ghost use Rattle.plan_model.specs.SoundLimits.{IsSoundLimits};
 ghost use Rattle.plan_model.specs.Views.{plan_value, limits_value};
 ghost use Rattle.planner.specs.Buses.{table_of, AreSettledBuses};
+ghost use Rattle.planner.specs.Jobs.{job_of};
 ghost use Rattle.planner.specs.Plans.{IsPlanned};
 ghost use Rattle.schedule_search.specs.Estimates.{IsEstimate};
+ghost use Rattle.schedule_search.specs.Walks.{HasMoreOpen};
 
 use crate::buses::settled_buses;
 use crate::schedule::schedule_of;
@@ -31,7 +33,8 @@ use width_table::WidthTable;
 /// and Marinissen 2002). Each module has for each mode that is used the wrapper that takes the fewest cycles on its bus.
 /// The tests are placed in an order that is searched for within the budget of the limits, each at the least cycle where it
 /// fits; `ahead` estimates where tests end that aren't placed yet. The bound is the best of the certificates that are
-/// tried. The plan is good, so that it runs right, bit by bit, for every content.
+/// tried. The plan is good, so that it runs right, bit by bit, for every content. Where the budget is enough for all open
+/// entries of the walk over the orders, no other plan keeps the planner's rules.
 pub fn plan<F: Fn(&Table<'_>, usize) -> u64>(
     alloc: Global,
     soc: &Soc,
@@ -47,6 +50,7 @@ where
     ensures right { IfOk result (λ plan. (content : Content) → IsRight (soc_value soc.now) (limits_value limits.now) (plan_value plan) content) }
     ensures bound { IfOk result (λ plan. IsBound (soc_value soc.now) (limits_value limits.now) plan.bound.cycles) }
     ensures elementary { IfOk result (λ plan. (n : ℕ) → IsElementary (soc_value soc.now) (limits_value limits.now) n → n ≤ plan.bound.cycles) }
+    ensures only_plan { IfOk result (λ plan. (HasMoreOpen (job_of (soc_value soc.now) (limits_value limits.now) (plan_value plan)) (limits_value limits.now).budget → ⊥) → (other : PlanValue) → IsPlanned (soc_value soc.now) (limits_value limits.now) other → other ≡ plan_value plan) }
     ensures only_buses { IfOk result (λ plan. (buses : List BusValue) → AreSettledBuses (table_of (soc_value soc.now) (limits_value limits.now)) buses → buses ≡ (plan_value plan).buses) }
 {
     good_plans_run_right();

@@ -1,4 +1,5 @@
 pub mod Places
+pub mod Near
 pub mod Loads
 pub mod Steps
 pub mod Spans

@@ -21,6 +21,10 @@ load_from load points is k c lt from next =
     ]) in
     stays ∙ sym here
 
+-- the points up to a cycle are those before the next
+pub parts_to : (points : List Point) (c place : ℕ) → IsPartitionPoint (λ (p : Point). p.cycle < c + 1) (λ (p : Point). c + 1 ≤ p.cycle) points place → IsPartitionPoint (λ (p : Point). p.cycle ≤ c) (λ (p : Point). c < p.cycle) points place
+parts_to points c place parts = ((λ k d low high. (let e = parts.0 k d low high in omega (arith, e))), (λ k d low high. (let e = parts.1 k d low high in omega (arith, e))))
+
 -- nothing is drawn from the last cycle on
 free_at_last : (load : ℕ → ℕ) (points : List Point) (free width last from : ℕ) → IsEndedProfile load points last → IsFreeFor load free width (max from last)
 free_at_last load points free width last from ended c low high = (let none = ended.over c (omega (arith, low)) in omega (arith, none))

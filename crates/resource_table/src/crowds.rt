@@ -2,7 +2,7 @@
 ghost use Rattle.std.specs.Prelude.{◌≡◌, ℕ, ◌+◌, ◌^◌, ◌<◌, ◌≤◌, ◌⊎◌, ◌&&◌, not, nat_lt, nat_le, if◌then◌else◌};
 ghost use Rattle.resource_table.specs.Profiles.{IsEndedProfile, IsFreeFor};
 
-use crate::points::{Point, load_before, places_to};
+use crate::points::{Point, load_before, places_before_near};
 
 /// Whether a load leaves too little free.
 fn is_crowded(load: u64, free: u64) -> bool
@@ -31,8 +31,15 @@ fn start_from(crowded: bool, point: Point, start: u64, free: u64) -> u64
 }
 
 /// The least cycle from `from` on from which no more than so much is drawn for so many cycles. It is found by one sweep over
-/// the points.
-pub fn after_crowds(points: &[Point], free: u64, from: u64, width: u64, last: u64) -> u64
+/// the points, from the one that tells the load at `from` on, which is sought from a near place.
+pub fn after_crowds(
+    points: &[Point],
+    near: usize,
+    free: u64,
+    from: u64,
+    width: u64,
+    last: u64,
+) -> u64
     requires some { 1 ≤ width }
     requires small { from + width < 2 ^ 64 }
     requires last { last + width < 2 ^ 64 }
@@ -42,7 +49,7 @@ pub fn after_crowds(points: &[Point], free: u64, from: u64, width: u64, last: u6
     ensures free { (load : ℕ → ℕ) → IsEndedProfile load points.now last → IsFreeFor load free width result }
     ensures least { (load : ℕ → ℕ) → IsEndedProfile load points.now last → (other : ℕ) → from ≤ other → IsFreeFor load free width other → result ≤ other }
 {
-    let first = places_to(points, from);
+    let first = places_before_near(points, near, from + 1);
     let mut start = from;
     let mut crowded = is_crowded(load_before(points, first), free);
     for place in first..points.len() {

@@ -10,7 +10,7 @@ ghost use Rattle.resource_table.specs.Resources.{marks_from};
 ghost use Rattle.resource_table.specs.Profiles.{uses_at, all_uses, ArePoints, AreMarked};
 
 use crate::points::{
-    Point, drop_unused, load_before, places_before, put_point, stands_at, use_less, use_more,
+    Point, drop_unused, load_before, places_before_near, put_point, stands_at, use_less, use_more,
 };
 use crate::power::Draw;
 
@@ -26,8 +26,9 @@ fn mark_at(draws: &[Draw], from: usize, start: u64, at: usize) -> u64
     }
 }
 
-/// Adds a mark at a cycle, in room that is there. The loads stay as they are.
-fn add_mark(points: &mut Vec<Point>, cycle: u64)
+/// Adds a mark at a cycle, in room that is there. The loads stay as they are. Its place, which is sought from a near one, is
+/// answered.
+fn add_mark(points: &mut Vec<Point>, near: usize, cycle: u64) -> usize
     requires room { length points.old.items < vec_capacity points.old }
     requires fits { all_uses points.old.items + 1 < 2 ^ 64 }
     requires ordered { IsNonDecreasingBy (λ (p : Point). p.cycle) points.old.items }
@@ -35,35 +36,30 @@ fn add_mark(points: &mut Vec<Point>, cycle: u64)
     ensures long { length points.new.items ≤ length points.old.items + 1 }
     ensures capacity { vec_capacity points.new ≡ vec_capacity points.old }
 {
-    let place = places_before(points, cycle);
+    let place = places_before_near(points, near, cycle);
     if stands_at(points, place, cycle) {
         use_more(points, place);
-        return;
+        return place;
     }
     let load = load_before(points, place);
-    put_point(
-        points,
-        place,
-        Point {
-            cycle,
-            load,
-            uses: 1,
-        },
-    );
+    let uses = 1;
+    put_point(points, place, Point { cycle, load, uses });
+    place
 }
 
-/// Takes away a mark that stands at a cycle.
-fn remove_mark(points: &mut Vec<Point>, cycle: u64)
+/// Takes away a mark that stands at a cycle. Its place, which is sought from a near one, is answered.
+fn remove_mark(points: &mut Vec<Point>, near: usize, cycle: u64) -> usize
     requires ordered { IsNonDecreasingBy (λ (p : Point). p.cycle) points.old.items }
     requires there { 1 ≤ sum_by (uses_at cycle) points.old.items }
     ensures points { (held : List Draw) (cycles : List ℕ) → ArePoints held (cycle ∷ cycles) points.old.items → ArePoints held cycles points.new.items }
     ensures capacity { vec_capacity points.new ≡ vec_capacity points.old }
 {
-    let mut place = places_before(points, cycle);
+    let mut place = places_before_near(points, near, cycle);
     while points[place].uses == 0 {
         place += 1;
     }
     use_less(points, place);
+    place
 }
 
 /// Sees to room for so many points more, where the marks leave it.
@@ -78,8 +74,9 @@ fn make_room(points: &mut Vec<Point>, more: usize)
     }
 }
 
-/// Adds the marks of a test with the draws from a place on, in room that the marks leave. The loads stay as they are.
-pub fn add_marks(points: &mut Vec<Point>, draws: &[Draw], from: usize, start: u64)
+/// Adds the marks of a test with the draws from a place on, in room that the marks leave. The loads stay as they are. The place
+/// of its start is answered.
+pub fn add_marks(points: &mut Vec<Point>, draws: &[Draw], from: usize, start: u64) -> usize
     requires from { from ≤ length draws.now }
     requires room { all_uses points.old.items + (length draws.now - from + 1) ≤ vec_capacity points.old }
     requires points { (held : List Draw) × (cycles : List ℕ) × AreMarked held cycles × ArePoints held cycles points.old.items }
@@ -88,25 +85,28 @@ pub fn add_marks(points: &mut Vec<Point>, draws: &[Draw], from: usize, start: u6
 {
     let mut left = draws.len() - from + 1;
     make_room(points, left);
+    let mut near = points.len();
     while left > 0 {
         left -= 1;
         let cycle = mark_at(draws, from, start, left);
-        add_mark(points, cycle);
+        near = add_mark(points, near, cycle);
     }
+    near
 }
 
-/// Takes away the marks of a test with the draws from a place on.
-pub fn remove_marks(points: &mut Vec<Point>, draws: &[Draw], from: usize, start: u64)
+/// Takes away the marks of a test with the draws from a place on. The first one is sought from a near place.
+pub fn remove_marks(points: &mut Vec<Point>, first: usize, draws: &[Draw], from: usize, start: u64)
     requires from { from ≤ length draws.now }
     requires points { (held : List Draw) × (cycles : List ℕ) × ArePoints held (marks_from start (drop from draws.now) ++ cycles) points.old.items }
     ensures points { (held : List Draw) (cycles : List ℕ) → ArePoints held (marks_from start (drop from draws.now) ++ cycles) points.old.items → ArePoints held cycles points.new.items }
     ensures capacity { vec_capacity points.new ≡ vec_capacity points.old }
 {
     let count = draws.len() - from + 1;
+    let mut near = first;
     let mut gone = 0;
     while gone < count {
         let cycle = mark_at(draws, from, start, gone);
-        remove_mark(points, cycle);
+        near = remove_mark(points, near, cycle);
         gone += 1;
     }
 }

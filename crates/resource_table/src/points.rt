@@ -1,5 +1,5 @@
 // Points of a profile of the power that is drawn, in the order of their cycles.
-ghost use Rattle.std.specs.Prelude.{◌≡◌, ℕ, ◌+◌, ◌-◌, ◌^◌, ◌<◌, ◌≤◌, true, false, nat_le, nat_lt, nat_eq, not, length, slice_index_or, slice_set, vec_capacity};
+ghost use Rattle.std.specs.Prelude.{◌≡◌, ℕ, ◌+◌, ◌-◌, ◌^◌, ◌<◌, ◌≤◌, true, false, nat_lt, nat_eq, not, length, slice_index_or, slice_set, vec_capacity};
 ghost use Rattle.std.specs.List.{filter, insert};
 ghost use Rattle.std.specs.List.Sorted.{IsNonDecreasingBy, IsPartitionPoint};
 ghost use Rattle.resource_table.specs.declared.points.Point.{Point};
@@ -16,19 +16,6 @@ pub struct Point {
     pub uses: usize,
 }
 
-/// How many points stand at or before a cycle.
-pub fn places_to(points: &[Point], cycle: u64) -> usize
-    requires { IsNonDecreasingBy (λ (p : Point). p.cycle) points.now }
-    ensures bound { result ≤ length points.now }
-    ensures parts { IsPartitionPoint (λ (p : Point). p.cycle ≤ cycle) (λ (p : Point). cycle < p.cycle) points.now result }
-{
-    points.partition_point(
-        |p: &Point| -> bool
-            ensures { result ≡ nat_le p.now.cycle cycle }
-        { p.cycle <= cycle },
-    )
-}
-
 /// How many points stand before a cycle.
 pub fn places_before(points: &[Point], cycle: u64) -> usize
     requires { IsNonDecreasingBy (λ (p : Point). p.cycle) points.now }
@@ -40,6 +27,46 @@ pub fn places_before(points: &[Point], cycle: u64) -> usize
             ensures { result ≡ nat_lt p.now.cycle cycle }
         { p.cycle < cycle },
     )
+}
+
+/// How far a search goes from a place that is near, before it looks at all points.
+const NEAR: usize = 32;
+
+/// Whether the point at a place is there and stands before a cycle.
+fn is_early(points: &[Point], place: usize, cycle: u64) -> bool
+    ensures early { result ≡ true → place < length points.now }
+    ensures late { result ≡ false → place < length points.now → cycle ≤ (slice_index_or points.now place no_point).cycle }
+{
+    place < points.len() && points[place].cycle < cycle
+}
+
+/// Whether the point before a place is there and doesn't stand before a cycle.
+fn is_passed(points: &[Point], place: usize, cycle: u64) -> bool
+    requires { place ≤ length points.now }
+    ensures passed { result ≡ true → 0 < place }
+    ensures ahead { result ≡ false → 0 < place → (slice_index_or points.now (place - 1) no_point).cycle < cycle }
+{
+    place > 0 && points[place - 1].cycle >= cycle
+}
+
+/// How many points stand before a cycle. It is found sooner where it is near to some number.
+pub fn places_before_near(points: &[Point], near: usize, cycle: u64) -> usize
+    requires { IsNonDecreasingBy (λ (p : Point). p.cycle) points.now }
+    ensures bound { result ≤ length points.now }
+    ensures parts { IsPartitionPoint (λ (p : Point). p.cycle < cycle) (λ (p : Point). cycle ≤ p.cycle) points.now result }
+{
+    let mut place = near.min(points.len());
+    for _ in 0..NEAR {
+        if is_early(points, place, cycle) {
+            place += 1;
+            continue;
+        }
+        if !is_passed(points, place, cycle) {
+            return place;
+        }
+        place -= 1;
+    }
+    places_before(points, cycle)
 }
 
 /// The load just before the point at a place, 0 before the first.

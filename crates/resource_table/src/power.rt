@@ -6,7 +6,7 @@ ghost use Rattle.resource_table.specs.Resources.{step_end as step_end_of, draws_
 ghost use Rattle.resource_table.specs.Profiles.{IsEndedProfile};
 
 use crate::crowds::after_crowds;
-use crate::points::Point;
+use crate::points::{Point, places_before_near};
 
 /// A power that is drawn from a cycle up to before another.
 #[derive(Clone, Copy)]
@@ -50,8 +50,16 @@ pub fn push_draws(draws: &mut Vec<Draw>, steps: &[(u64, u64)], start: u64, lengt
 }
 
 /// The least start from `start` on at which a step of a test leaves the load within what is free: the step is from so many
-/// cycles after the start of the test on up to so many cycles after it.
-fn after_step(points: &[Point], free: u64, offset: u64, end: u64, start: u64, last: u64) -> u64
+/// cycles after the start of the test on up to so many cycles after it. Its points are sought from a near place.
+fn after_step(
+    points: &[Point],
+    near: usize,
+    free: u64,
+    offset: u64,
+    end: u64,
+    start: u64,
+    last: u64,
+) -> u64
     requires start { start ≤ last }
     requires last { last + end < 2 ^ 63 }
     requires profile { (load : ℕ → ℕ) × IsEndedProfile load points.now last }
@@ -63,13 +71,15 @@ fn after_step(points: &[Point], free: u64, offset: u64, end: u64, start: u64, la
     if end <= offset {
         return start;
     }
-    after_crowds(points, free, start + offset, end - offset, last) - offset
+    after_crowds(points, near, free, start + offset, end - offset, last) - offset
 }
 
 /// A start from `start` on before which a test of these steps doesn't stay within the limit beside what the points tell.
-/// It is `start` where the test does. Each step in turn is looked at from the start that the ones before it leave.
+/// It is `start` where the test does. Each step in turn is looked at from the start that the ones before it leave. The point
+/// at the start is sought from a near place.
 fn next_within(
     points: &[Point],
+    first: usize,
     limit: u64,
     steps: &[(u64, u64)],
     length: u64,
@@ -85,10 +95,12 @@ fn next_within(
     ensures fits { (load : ℕ → ℕ) → IsEndedProfile load points.now last → result ≡ start → StepsFit load limit start length steps.now }
     ensures least { (load : ℕ → ℕ) → IsEndedProfile load points.now last → (other : ℕ) → start ≤ other → StepsFit load limit other length steps.now → result ≤ other }
 {
+    let mut near = first;
     let mut found = start;
     for (at, step) in steps.iter().enumerate() {
         let end = step_end(steps, at, length);
-        found = after_step(points, limit - step.1, step.0, end, found, last);
+        near = places_before_near(points, near, found.saturating_add(step.0));
+        found = after_step(points, near, limit - step.1, step.0, end, found, last);
     }
     found
 }
@@ -111,9 +123,11 @@ pub fn after_power(
     ensures fits { (load : ℕ → ℕ) → IsEndedProfile load points.now last → StepsFit load limit result length steps.now }
     ensures least { (load : ℕ → ℕ) → IsEndedProfile load points.now last → (other : ℕ) → start ≤ other → StepsFit load limit other length steps.now → result ≤ other }
 {
+    let mut near = points.len();
     let mut found = start;
     'starts: loop {
-        let next = next_within(points, limit, steps, length, found, last);
+        near = places_before_near(points, near, found);
+        let next = next_within(points, near, limit, steps, length, found, last);
         if next == found {
             return found;
         }

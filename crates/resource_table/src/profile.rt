@@ -8,7 +8,7 @@ ghost use Rattle.resource_table.specs.Resources.{taken_by, load_of, marks_from};
 ghost use Rattle.resource_table.specs.Profiles.{no_point, all_uses, ArePoints, AreMarked, raised_by};
 
 use crate::marks::{add_marks, remove_marks};
-use crate::points::{Point, places_before};
+use crate::points::{Point, places_before_near};
 use crate::power::Draw;
 
 /// The load at a point with a draw more.
@@ -31,36 +31,40 @@ fn lower_at(points: &mut Vec<Point>, place: usize, power: u64)
     points[place].load -= power;
 }
 
-/// Adds a draw to the loads of the points at which it is taken.
-fn raise(points: &mut Vec<Point>, draw: &Draw)
+/// Adds a draw to the loads of the points at which it is taken. They are sought from a near place; a place near to the end of the
+/// draw is answered.
+fn raise(points: &mut Vec<Point>, near: usize, draw: &Draw) -> usize
     requires ordered { IsNonDecreasingBy (λ (p : Point). p.cycle) points.old.items }
     requires fits { All (λ (p : Point). p.load + taken_by p.cycle draw.now < 2 ^ 64) points.old.items }
     ensures items { points.new.items ≡ map (raised_by draw.now) points.old.items }
     ensures capacity { vec_capacity points.new ≡ vec_capacity points.old }
 {
-    let first = places_before(points, draw.from);
+    let first = places_before_near(points, near, draw.from);
     for place in first..points.len() {
         if points[place].cycle >= draw.to {
-            return;
+            return place;
         }
         raise_at(points, place, draw.power);
     }
+    points.len()
 }
 
-/// Takes a draw from the loads of the points at which it is taken.
-fn lower(points: &mut Vec<Point>, draw: &Draw)
+/// Takes a draw from the loads of the points at which it is taken. They are sought from a near place, and the place of the first
+/// one is answered.
+fn lower(points: &mut Vec<Point>, near: usize, draw: &Draw) -> usize
     requires ordered { IsNonDecreasingBy (λ (p : Point). p.cycle) points.old.items }
     requires covers { All (λ (p : Point). taken_by p.cycle draw.now ≤ p.load) points.old.items }
     ensures items { points.old.items ≡ map (raised_by draw.now) points.new.items }
     ensures capacity { vec_capacity points.new ≡ vec_capacity points.old }
 {
-    let first = places_before(points, draw.from);
+    let first = places_before_near(points, near, draw.from);
     for place in first..points.len() {
         if points[place].cycle >= draw.to {
-            return;
+            return first;
         }
         lower_at(points, place, draw.power);
     }
+    first
 }
 
 /// Adds the draws from a place on, those of a test from a start, in room that is there. Those before it are in the profile,
@@ -73,9 +77,9 @@ fn add_draws(points: &mut Vec<Point>, draws: &[Draw], from: usize, start: u64, l
     ensures points { (cycles : List ℕ) → AreMarked (take from draws.now) cycles → ArePoints (take from draws.now) cycles points.old.items → ArePoints draws.now (marks_from start (drop from draws.now) ++ cycles) points.new.items }
     ensures capacity { vec_capacity points.new ≡ vec_capacity points.old }
 {
-    add_marks(points, draws, from, start);
+    let mut near = add_marks(points, draws, from, start);
     for at in from..draws.len() {
-        raise(points, &draws[at]);
+        near = raise(points, near, &draws[at]);
     }
 }
 
@@ -86,12 +90,13 @@ fn take_draws(points: &mut Vec<Point>, draws: &[Draw], count: usize, start: u64)
     ensures points { (cycles : List ℕ) → ArePoints draws.now (marks_from start (drop count draws.now) ++ cycles) points.old.items → ArePoints (take count draws.now) cycles points.new.items }
     ensures capacity { vec_capacity points.new ≡ vec_capacity points.old }
 {
+    let mut near = points.len();
     let mut at = draws.len();
     while at > count {
         at -= 1;
-        lower(points, &draws[at]);
+        near = lower(points, near, &draws[at]);
     }
-    remove_marks(points, draws, count, start);
+    remove_marks(points, near, draws, count, start);
 }
 
 /// Under a limit on power, adds the draws from a place on, those of a test from a start, in room that is there. Without a

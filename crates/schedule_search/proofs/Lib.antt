@@ -21,3 +21,4 @@ pub mod Agreeing
 pub mod Estimates
 pub mod SearchSamples
 mod Rows
+pub mod Turns

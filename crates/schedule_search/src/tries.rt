@@ -1,16 +1,17 @@
 // The order in which tests are tried, and what each test waits for.
-ghost use Rattle.std.specs.Prelude.{◌≡◌, ℕ, ◌<◌, ◌≤◌, false, true, [], length, map, take, slice_index_or, IfOk, OnOk};
-ghost use Rattle.std.specs.List.{All};
+ghost use Rattle.std.specs.Prelude.{◌≡◌, [], map, IfOk};
 ghost use Rattle.resource_table.specs.Jobs.{job_value, IsSoundJob};
 ghost use Rattle.resource_table.specs.Befores.{listed};
-ghost use Rattle.schedule_search.specs.Walks.{goes_before as goes_before_of, put_by_length, by_length as by_length_of};
+ghost use Rattle.schedule_search.specs.Walks.{by_length as by_length_of};
 ghost use Rattle.schedule_search.specs.Prefixes.{turned as turned_of, AreFollowers, AreMissing};
 ghost use Rattle.schedule_search.specs.Progress.{AreTries};
+ghost use Rattle.schedule_search.specs.declared.tries.Turn.{Turn};
 
 use crate::order::cycles_at;
-use outside::NoMemory;
+use outside::{NoMemory, push};
 use resource_table::{Before, Job, all_before};
 use std::alloc::Global;
+use std::cmp::Reverse;
 
 /// What the walk over the orders of a job goes by.
 #[derive(Drop)]
@@ -25,55 +26,45 @@ pub(crate) struct Tries {
     pub(crate) budget: u64,
 }
 
-/// Whether a test is tried before another.
-fn goes_before(job: &Job, test: usize, other: usize) -> bool
-    requires test { test < length (job_value job.now).tests }
-    requires other { other < length (job_value job.now).tests }
-    ensures { result ≡ goes_before_of (job_value job.now) test other }
-{
-    let cycles = cycles_at(job, test);
-    let others = cycles_at(job, other);
-    others < cycles || cycles == others && test < other
+/// A test by its cycles and its place in the job. The order is that of trying: longest first, ties by place.
+#[derive(Clone, Copy, PartialEq, Eq, PartialOrd, Ord, Drop)]
+pub(crate) struct Turn {
+    /// The cycles of the test.
+    pub(crate) cycles: Reverse<u64>,
+    /// Its place in the job.
+    pub(crate) place: usize,
 }
 
-/// The place of the first of some tests before which a test is tried, or their number.
-fn place_for(job: &Job, tests: &[usize], test: usize) -> usize
-    requires test { test < length (job_value job.now).tests }
-    requires tests { All (λ t. t < length (job_value job.now).tests) tests.now }
-    ensures few { result ≤ length tests.now }
-    ensures after { All (λ t. goes_before_of (job_value job.now) test t ≡ false) (take result tests.now) }
-    ensures before { result < length tests.now → goes_before_of (job_value job.now) test (slice_index_or tests.now result 0) ≡ true }
+/// The tests of a job by their cycles and places, in the order in which they are tried.
+fn sorted_turns(alloc: Global, job: &Job) -> Result<Vec<Turn>, NoMemory>
+    ensures { IfOk result (λ turns. map (λ (t : Turn). t.place) turns.items ≡ by_length_of (job_value job.now)) }
 {
-    for place in 0..tests.len() {
-        if goes_before(job, test, tests[place]) {
-            return place;
-        }
+    let mut turns = Vec::new(alloc);
+    for place in 0..job.tests.len() {
+        let cycles = Reverse(cycles_at(job, place));
+        push(&mut turns, Turn { cycles, place })?;
     }
-    tests.len()
+    turns.sort_unstable();
+    Ok(turns)
 }
 
-/// Puts a test before the first one before which it is tried.
-fn put(job: &Job, tests: &mut Vec<usize>, test: usize) -> Result<(), NoMemory>
-    requires test { test < length (job_value job.now).tests }
-    requires tests { All (λ t. t < length (job_value job.now).tests) tests.old.items }
-    ensures { OnOk result (tests.new.items ≡ put_by_length (job_value job.now) test tests.old.items) }
+/// The places of tests.
+fn places_of(alloc: Global, turns: &[Turn]) -> Result<Vec<usize>, NoMemory>
+    ensures { IfOk result (λ places. places.items ≡ map (λ (t : Turn). t.place) turns.now) }
 {
-    let place = place_for(job, tests, test);
-    match tests.insert(place, test) {
-        Ok(()) => Ok(()),
-        Err(_) => Err(NoMemory),
+    let mut places = Vec::new(alloc);
+    for turn in turns {
+        push(&mut places, turn.place)?;
     }
+    Ok(places)
 }
 
 /// All tests of a job in the order in which they are tried.
 fn by_length(alloc: Global, job: &Job) -> Result<Vec<usize>, NoMemory>
     ensures { IfOk result (λ tests. tests.items ≡ by_length_of (job_value job.now)) }
 {
-    let mut tests = Vec::new(alloc);
-    for test in 0..job.tests.len() {
-        put(job, &mut tests, test)?;
-    }
-    Ok(tests)
+    let turns = sorted_turns(alloc, job)?;
+    places_of(alloc, &turns)
 }
 
 /// Pairs with their parts in each other's place.

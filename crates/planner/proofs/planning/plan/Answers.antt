@@ -6,6 +6,7 @@ use Rattle.width_table.specs.Tables.{TableValue}
 use Rattle.planner.specs.Buses.{AreSettledBuses}
 use Rattle.planner.specs.Wrapping.{HaveWidths}
 use Rattle.planner.proofs.WholePlans.{whole, made_parts, rules_read, scheduled, good_of, cycles_bound, planned_of}
+use Rattle.planner.proofs.OnePlan.{one_plan}
 use Rattle.planner.proofs.planning.plan.Goals as goal
 
 pub table_wrappers-requires-clause-widths : goal.table_wrappers-requires-clause-widths
@@ -39,3 +40,7 @@ returns-clause-right g c = λ content. c.good_plans_run_right.ensures (soc_value
 
 pub returns-clause-only_buses : goal.returns-clause-only_buses
 returns-clause-only_buses g c = λ other are. c.in_ok-buses.ensures.only other (subst (λ (t : TableValue). AreSettledBuses t other) (sym c.in_ok-table.ensures.value) are)
+
+pub returns-clause-only_plan : goal.returns-clause-only_plan
+returns-clause-only_plan g c = λ all other planned.
+    one_plan (soc_value c.args.soc.now) (limits_value c.args.limits.now) other _ c.requires.sound (returns-clause-only_buses g c other.buses planned.buses) all planned (returns-clause-planned g c)

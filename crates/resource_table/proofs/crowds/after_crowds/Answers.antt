@@ -2,14 +2,14 @@ use Rattle.std.proofs.Common.{◌∙◌, ◌<◌, ◌+◌, ℕ, List, length, ge
 use Rattle.std.specs.Prelude.{nat_lt}
 use Rattle.resource_table.specs.declared.points.Point.{Point}
 use Rattle.resource_table.specs.Profiles.{no_point}
-use Rattle.resource_table.proofs.Sweeps.{IsSwept, swept_first, swept_more, swept_through, swept_over}
+use Rattle.resource_table.proofs.Sweeps.{IsSwept, parts_to, swept_first, swept_more, swept_through, swept_over}
 use Rattle.resource_table.proofs.crowds.after_crowds.Goals as goal
 
 pub loop-place-init : goal.loop-place-init
 loop-place-init c = record {
   first = omega arith;
-  swept = subst (IsSwept c.args.points.now c.args.free c.args.from c.args.width c.args.last c.places_to-first.result c.args.from) (sym (c.is_crowded-crowded.ensures ∙ ap (nat_lt c.args.free) c.load_before.ensures))
-      (swept_first c.args.points.now c.args.free c.args.from c.args.width c.args.last c.places_to-first.result c.requires.some c.places_to-first.ensures.bound c.places_to-first.ensures.parts);
+  swept = subst (IsSwept c.args.points.now c.args.free c.args.from c.args.width c.args.last c.places_before_near-first.result c.args.from) (sym (c.is_crowded-crowded.ensures ∙ ap (nat_lt c.args.free) c.load_before.ensures))
+      (swept_first c.args.points.now c.args.free c.args.from c.args.width c.args.last c.places_before_near-first.result c.requires.some c.places_before_near-first.ensures.bound (parts_to c.args.points.now c.args.from c.places_before_near-first.result c.places_before_near-first.ensures.parts));
 }
 
 pub loop-place-preserved : goal.loop-place-preserved
@@ -17,7 +17,7 @@ loop-place-preserved c =
     let points : List Point = c.args.points.now in
     let first = c.loop-place.invariant.first in
     let lt : c.loop-place.place < length points = c.loop-place-test.true in
-    let behind : c.args.from < (get_or points c.loop-place.place no_point).cycle = c.places_to-first.ensures.parts.1 c.loop-place.place no_point first lt in
+    let behind : c.args.from < (get_or points c.loop-place.place no_point).cycle = omega (arith, c.places_before_near-first.ensures.parts.1 c.loop-place.place no_point first lt) in
     record {
       first = omega (arith, first);
       swept = subst (IsSwept points c.args.free c.args.from c.args.width c.args.last (c.loop-place.place + 1) c.start_from-start.result) (sym c.is_crowded-crowded-in-loop-place.ensures)

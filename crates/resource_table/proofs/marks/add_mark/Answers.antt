@@ -10,11 +10,11 @@ use Rattle.resource_table.proofs.marks.add_mark.Goals as goal
 pub returns-clause-points : goal.returns-clause-points
 returns-clause-points c = λ held cycles marked are.
     let items : List Point = c.args.points.now.items in
-    let place : ℕ = c.places_before-place.result in
+    let place : ℕ = c.places_before_near-place.result in
     let cycle : ℕ = c.args.cycle in
-    let parts : IsPartitionPoint (λ (p : Point). p.cycle < cycle) (λ (p : Point). cycle ≤ p.cycle) items place = subst (λ (v : List Point). IsPartitionPoint (λ (p : Point). p.cycle < cycle) (λ (p : Point). cycle ≤ p.cycle) v place) c.deref.ensures.value c.places_before-place.ensures.parts in
+    let parts : IsPartitionPoint (λ (p : Point). p.cycle < cycle) (λ (p : Point). cycle ≤ p.cycle) items place = subst (λ (v : List Point). IsPartitionPoint (λ (p : Point). p.cycle < cycle) (λ (p : Point). cycle ≤ p.cycle) v place) c.deref.ensures.value c.places_before_near-place.ensures.parts in
     let none : place < length items → (get_or items place no_point).cycle ≡ cycle → ⊥ = subst (λ (v : List Point). place < length v → (get_or v place no_point).cycle ≡ cycle → ⊥) c.deref-2.ensures.value (c.stands_at.ensures.elsewhere c.if-stands_at.false) in
-    let le : place ≤ length items = subst (λ (v : List Point). place ≤ length v) c.deref.ensures.value c.places_before-place.ensures.bound in
+    let le : place ≤ length items = subst (λ (v : List Point). place ≤ length v) c.deref.ensures.value c.places_before_near-place.ensures.bound in
     let load : c.load_before-load.result ≡ load_of held cycle = c.load_before-load.ensures ∙ ap (λ (v : List Point). load_before v place) c.deref-3.ensures.value ∙ load_between held cycles items place cycle marked are le parts none in
     subst (ArePoints held (cycle ∷ cycles)) (sym c.put_point.ensures.items)
     (point_added held cycles items place c.load_before-load.result cycle are le (λ k d lt. (let early = parts.0 k d (omega arith) lt in omega (arith, early))) (λ k d low high. parts.1 k d low high) load)

@@ -24,15 +24,15 @@ loop-left-preserved c =
     let some = c.loop-left-test.true in
     let most = c.loop-left.invariant.most in
     let room = c.loop-left.invariant.room in
-    let long = c.add_mark.ensures.long in
-    let capacity = c.add_mark.ensures.capacity in
+    let long = c.add_mark-near.ensures.long in
+    let capacity = c.add_mark-near.ensures.capacity in
     let left_is : c.loop-left.left ≡ more + 1 = omega (arith, some) in
     record {
       most = omega (arith, most);
       points = (λ held cycles marked old.
           let before : ArePoints held (drop (more + 1) marks ++ cycles) c.loop-left.points.items = subst (λ (n : ℕ). ArePoints held (drop n marks ++ cycles) c.loop-left.points.items) left_is (c.loop-left.invariant.points held cycles marked old) in
-          let added = c.add_mark.ensures.points held (drop (more + 1) marks ++ cycles) (marked_more held (drop (more + 1) marks) cycles marked) before in
-          subst (λ (v : List ℕ). ArePoints held v c.add_mark.new.points.items) (marks_split marks cycles more c.mark_at-cycle.result (omega (arith, left_is, most)) c.mark_at-cycle.ensures) added);
+          let added = c.add_mark-near.ensures.points held (drop (more + 1) marks ++ cycles) (marked_more held (drop (more + 1) marks) cycles marked) before in
+          subst (λ (v : List ℕ). ArePoints held v c.add_mark-near.new.points.items) (marks_split marks cycles more c.mark_at-cycle.result (omega (arith, left_is, most)) c.mark_at-cycle.ensures) added);
       room = omega (arith, room, long, capacity, some);
       capacity = capacity ∙ c.loop-left.invariant.capacity;
     }

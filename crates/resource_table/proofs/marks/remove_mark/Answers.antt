@@ -10,8 +10,8 @@ pub loop-place-init : goal.loop-place-init
 loop-place-init c =
     let items : List Point = c.args.points.now.items in
     let cycle : ℕ = c.args.cycle in
-    let place : ℕ = c.places_before-place.result in
-    let parts : IsPartitionPoint (λ (p : Point). p.cycle < cycle) (λ (p : Point). cycle ≤ p.cycle) items place = subst (λ (v : List Point). IsPartitionPoint (λ (p : Point). p.cycle < cycle) (λ (p : Point). cycle ≤ p.cycle) v place) c.deref.ensures.value c.places_before-place.ensures.parts in
+    let place : ℕ = c.places_before_near-place.result in
+    let parts : IsPartitionPoint (λ (p : Point). p.cycle < cycle) (λ (p : Point). cycle ≤ p.cycle) items place = subst (λ (v : List Point). IsPartitionPoint (λ (p : Point). p.cycle < cycle) (λ (p : Point). cycle ≤ p.cycle) v place) c.deref.ensures.value c.places_before_near-place.ensures.parts in
     record {
       late = (λ k d low high. parts.1 k d low high);
       there = mark_from cycle place items parts c.requires.there;

@@ -15,16 +15,16 @@ loop-gone-preserved c =
       few = omega (arith, lt);
       points = (λ held cycles old.
           let before = c.loop-gone.invariant.points held cycles old in
-          c.remove_mark.ensures.points held (drop (c.loop-gone.gone + 1) marks ++ cycles)
+          c.remove_mark-near.ensures.points held (drop (c.loop-gone.gone + 1) marks ++ cycles)
           (subst (λ (v : List ℕ). ArePoints held v c.loop-gone.points.items) (sym (marks_split marks cycles c.loop-gone.gone c.mark_at-cycle.result lt c.mark_at-cycle.ensures)) before));
-      capacity = c.remove_mark.ensures.capacity ∙ c.loop-gone.invariant.capacity;
+      capacity = c.remove_mark-near.ensures.capacity ∙ c.loop-gone.invariant.capacity;
     }
 
-pub remove_mark-requires-clause-ordered : goal.remove_mark-requires-clause-ordered
-remove_mark-requires-clause-ordered c = (c.loop-gone.invariant.points c.requires.points.0 c.requires.points.1 c.requires.points.2).ordered
+pub remove_mark-near-requires-clause-ordered : goal.remove_mark-near-requires-clause-ordered
+remove_mark-near-requires-clause-ordered c = (c.loop-gone.invariant.points c.requires.points.0 c.requires.points.1 c.requires.points.2).ordered
 
-pub remove_mark-requires-clause-there : goal.remove_mark-requires-clause-there
-remove_mark-requires-clause-there c =
+pub remove_mark-near-requires-clause-there : goal.remove_mark-near-requires-clause-there
+remove_mark-near-requires-clause-there c =
     let marks : List ℕ = marks_from c.args.start (drop c.args.from c.args.draws.now) in
     let count : length marks ≡ length c.args.draws.now - c.args.from + 1 = length-marks c.args.start c.args.from c.args.draws.now c.requires.from in
     let more = c.loop-gone-test.true in

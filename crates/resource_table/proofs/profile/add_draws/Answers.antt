@@ -9,26 +9,26 @@ use Rattle.resource_table.proofs.profile.add_draws.Goals as goal
 abbrev no_draw : Draw
 no_draw = record { from = 0; to = 0; power = 0 }
 
-pub add_marks-requires-clause-points : goal.add_marks-requires-clause-points
-add_marks-requires-clause-points c = (take c.args.from c.args.draws.now, c.requires.points.0, c.requires.points.1, c.requires.points.2)
+pub add_marks-near-requires-clause-points : goal.add_marks-near-requires-clause-points
+add_marks-near-requires-clause-points c = (take c.args.from c.args.draws.now, c.requires.points.0, c.requires.points.1, c.requires.points.2)
 
 pub loop-at-init : goal.loop-at-init
 loop-at-init c = record {
-  points = (λ cycles marked are. c.add_marks.ensures.points (take c.args.from c.args.draws.now) cycles marked are);
-  capacity = c.add_marks.ensures.capacity;
+  points = (λ cycles marked are. c.add_marks-near.ensures.points (take c.args.from c.args.draws.now) cycles marked are);
+  capacity = c.add_marks-near.ensures.capacity;
 }
 
-pub raise-requires-clause-ordered : goal.raise-requires-clause-ordered
-raise-requires-clause-ordered c = (c.loop-at.invariant.points c.requires.points.0 c.requires.points.1 c.requires.points.2).ordered
+pub raise-near-requires-clause-ordered : goal.raise-near-requires-clause-ordered
+raise-near-requires-clause-ordered c = (c.loop-at.invariant.points c.requires.points.0 c.requires.points.1 c.requires.points.2).ordered
 
-pub raise-requires-clause-fits : goal.raise-requires-clause-fits
-raise-requires-clause-fits c =
+pub raise-near-requires-clause-fits : goal.raise-near-requires-clause-fits
+raise-near-requires-clause-fits c =
     loads_fit c.args.draws.now (marks_from c.args.start (drop c.args.from c.args.draws.now) ++ c.requires.points.0) c.loop-at.at c.args.limit no_draw c.loop-at.points.items c.loop-at-test.true (c.loop-at.invariant.points c.requires.points.0 c.requires.points.1 c.requires.points.2) c.requires.within (omega arith)
 
 pub loop-at-preserved : goal.loop-at-preserved
 loop-at-preserved c = record {
-  points = (λ cycles marked are. next_added c.args.draws.now (marks_from c.args.start (drop c.args.from c.args.draws.now) ++ cycles) c.loop-at.at no_draw c.loop-at.points.items c.raise.new.points.items c.loop-at-test.true (c.loop-at.invariant.points cycles marked are) c.raise.ensures.items);
-  capacity = c.raise.ensures.capacity ∙ c.loop-at.invariant.capacity;
+  points = (λ cycles marked are. next_added c.args.draws.now (marks_from c.args.start (drop c.args.from c.args.draws.now) ++ cycles) c.loop-at.at no_draw c.loop-at.points.items c.raise-near.new.points.items c.loop-at-test.true (c.loop-at.invariant.points cycles marked are) c.raise-near.ensures.items);
+  capacity = c.raise-near.ensures.capacity ∙ c.loop-at.invariant.capacity;
 }
 
 pub returns-clause-points : goal.returns-clause-points
