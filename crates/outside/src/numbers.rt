@@ -1,10 +1,13 @@
 // Decimal numbers, read and written.
-ghost use Rattle.std.specs.Prelude.{◌≡◌, ◌++◌, OnOk, OnErr, decimal};
+ghost use Rattle.std.specs.Prelude.{◌≡◌, ◌++◌, ◌≤◌, length, OnOk, OnErr, decimal};
 ghost use Rattle.outside.specs.Decimal.{number_of, spaced_number, dotted_numbers};
 
 use crate::NoMemory;
-use crate::growing::extend;
+use crate::growing::{extend, push};
 use itoa::Buffer;
+
+/// The most digits of which no number passes 64 bits.
+const SHORT: usize = 19;
 
 /// The number that a word of decimal digits stands for, leading zeros allowed.
 ///
@@ -15,6 +18,35 @@ pub fn number(word: &[u8], most: u64) -> Option<u64>
     if word.is_empty() {
         return None;
     }
+    if word.len() > SHORT {
+        return long_number(word, most);
+    }
+    short_number(word, most)
+}
+
+/// The same for a word of so few bytes that the number can't pass 64 bits, whatever digits they are.
+fn short_number(word: &[u8], most: u64) -> Option<u64>
+    requires { (1 ≤ length word.now) × (length word.now ≤ 19) }
+    ensures { result ≡ number_of word.now most }
+{
+    let mut n = 0u64;
+    for b in word {
+        if !b.is_ascii_digit() {
+            return None;
+        }
+        n = 10 * n + u64::from(*b - b'0');
+    }
+    if n > most {
+        return None;
+    }
+    Some(n)
+}
+
+/// The same for a word of any length but 0: it stops at the first digit with which the number passes `most`.
+fn long_number(word: &[u8], most: u64) -> Option<u64>
+    requires { 1 ≤ length word.now }
+    ensures { result ≡ number_of word.now most }
+{
     let mut n = 0u128;
     for b in word {
         if !b.is_ascii_digit() {
@@ -41,8 +73,9 @@ pub fn push_number(to: &mut Vec<u8>, n: u128) -> Result<(), NoMemory>
 pub fn push_spaced(to: &mut Vec<u8>, n: u64) -> Result<(), NoMemory>
     ensures { OnOk result (to.new.items ≡ to.old.items ++ spaced_number n) }
 {
-    extend(to, b" ")?;
-    push_number(to, u128::from(n))
+    push(to, b' ')?;
+    let mut buffer = Buffer::new();
+    extend(to, buffer.format(n).as_bytes())
 }
 
 /// Appends two numbers with a dot between them, as those of a module and of its test.

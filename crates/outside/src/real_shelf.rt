@@ -4,6 +4,7 @@ ghost use Rattle.outside.specs.Counts.{next_count};
 ghost use Rattle.outside.specs.Held.{Rose, IsMissing, IsTooLong};
 
 use crate::shelf::{Loaded, Shelf};
+use std::fs::OpenFile;
 use std::io::{ErrorKind, Read};
 use std::marker::Model;
 use std::rt::Files;
@@ -78,9 +79,12 @@ impl<'a, R: Files> Shelf for RealShelf<'a, R> {
     }
 }
 
-/// Appends the first `most` bytes of the named file.
+/// Appends the first `most` bytes of the named file. Room is taken once, for as many bytes as the system says that it has.
 fn read_at_most<R: Files>(rt: &R, name: &str, most: u64, into: &mut Vec<u8>) -> io::Result<()> {
     let file = fs::open(rt, name)?;
+    let size = file.metadata()?.len();
+    // One more byte, so that the end of the file is met before there is no room left.
+    into.reserve_exact(size.min(most).saturating_add(1) as usize)?;
     file.take(most).read_to_end(into)?;
     Ok(())
 }
