@@ -1,3 +1,5 @@
 pub mod LiveIds
 pub mod Indexing
 pub mod Placing
+pub mod Sides
+pub mod NamesPut

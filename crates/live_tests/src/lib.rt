@@ -12,9 +12,11 @@ ghost use Rattle.soc_model.specs.Chips.{module_value, same_test, soc_value};
 ghost use Rattle.plan_model.specs.Rules.{live_ids};
 ghost use Rattle.live_tests.specs.Names.{both_places, names_in, places_of};
 
+mod neighbours;
 mod placed;
 
 use indexmap::IndexMap;
+pub use neighbours::{Neighbours, all_after, all_before};
 use outside::{NoMemory, push};
 pub use placed::{PlacedTest, PlacedTests, first_wire};
 use soc_model::{Module, Soc, TestId, live};
