@@ -3,3 +3,5 @@ pub mod Indexing
 pub mod Placing
 pub mod Sides
 pub mod NamesPut
+pub mod Indexed
+pub mod FoundWrappers
