@@ -42,23 +42,18 @@ struct Core<'a> {
 }
 
 /// A test over the wires in one of the wrappers of its module.
-fn wired_in(
-    planned: &PlannedChip<'_>,
-    core: Core<'_>,
-    test: &Test,
-    wrapper: ModeWrapper,
-) -> WiredTest
-    requires sound { IsSoundChip (soc_value planned.now.soc.now) }
-    requires good { IsGoodAlone (soc_value planned.now.soc.now) planned.now.index.now }
-    requires module_there { slice_get (soc_value planned.now.soc.now).modules core.place ≡ Some (module_value core.«module».now) }
-    requires test_there { (k : ℕ) × (slice_get core.«module».now.tests.items k ≡ Some test.now) }
+fn wired_in(chip: &PlannedChip<'_>, core: &Core<'_>, test: &Test, wrapper: ModeWrapper) -> WiredTest
+    requires sound { IsSoundChip (soc_value chip.now.soc.now) }
+    requires good { IsGoodAlone (soc_value chip.now.soc.now) chip.now.index.now }
+    requires module_there { slice_get (soc_value chip.now.soc.now).modules core.now.place ≡ Some (module_value core.now.«module».now) }
+    requires test_there { (k : ℕ) × (slice_get core.now.«module».now.tests.items k ≡ Some test.now) }
     requires live { IsTrue (is_live test.now) }
     requires tam { IsTrue test.now.tam }
-    requires wrappers { AreModeWrappers planned.now.index.now (module_value core.«module».now) core.wrappers.now }
-    requires wrapper { IsModeWrapper planned.now.index.now (module_value core.«module».now) test.now.scan wrapper }
-    ensures { IsWired (soc_value planned.now.soc.now) planned.now.index.now (planned_test planned.now.index.now core.place (module_value core.«module».now) test.now) result }
+    requires wrappers { AreModeWrappers chip.now.index.now (module_value core.now.«module».now) core.now.wrappers.now }
+    requires wrapper { IsModeWrapper chip.now.index.now (module_value core.now.«module».now) test.now.scan wrapper }
+    ensures { IsWired (soc_value chip.now.soc.now) chip.now.index.now (planned_test chip.now.index.now core.now.place (module_value core.now.«module».now) test.now) result }
 {
-    let placed = planned.test(core.place, core.module, core.wrappers, test);
+    let placed = chip.test(core.place, core.module, core.wrappers, test);
     let phases = Phases {
         setup: core.module.setup,
         si: wrapper.si,
@@ -68,7 +63,7 @@ fn wired_in(
     WiredTest {
         id: placed.id,
         place: core.place,
-        bus: planned.index.bus(core.module.number),
+        bus: chip.index.bus(core.module.number),
         wrapper: wrapper.place,
         start: placed.start,
         end: placed.end,
@@ -77,75 +72,75 @@ fn wired_in(
 }
 
 /// A test over the wires.
-fn wired(planned: &PlannedChip<'_>, core: Core<'_>, test: &Test) -> WiredTest
-    requires sound { IsSoundChip (soc_value planned.now.soc.now) }
-    requires good { IsGoodAlone (soc_value planned.now.soc.now) planned.now.index.now }
-    requires module_there { slice_get (soc_value planned.now.soc.now).modules core.place ≡ Some (module_value core.«module».now) }
-    requires test_there { (k : ℕ) × (slice_get core.«module».now.tests.items k ≡ Some test.now) }
+fn wired(chip: &PlannedChip<'_>, core: &Core<'_>, test: &Test) -> WiredTest
+    requires sound { IsSoundChip (soc_value chip.now.soc.now) }
+    requires good { IsGoodAlone (soc_value chip.now.soc.now) chip.now.index.now }
+    requires module_there { slice_get (soc_value chip.now.soc.now).modules core.now.place ≡ Some (module_value core.now.«module».now) }
+    requires test_there { (k : ℕ) × (slice_get core.now.«module».now.tests.items k ≡ Some test.now) }
     requires live { IsTrue (is_live test.now) }
     requires tam { IsTrue test.now.tam }
-    requires wrappers { AreModeWrappers planned.now.index.now (module_value core.«module».now) core.wrappers.now }
-    ensures { IsWired (soc_value planned.now.soc.now) planned.now.index.now (planned_test planned.now.index.now core.place (module_value core.«module».now) test.now) result }
+    requires wrappers { AreModeWrappers chip.now.index.now (module_value core.now.«module».now) core.now.wrappers.now }
+    ensures { IsWired (soc_value chip.now.soc.now) chip.now.index.now (planned_test chip.now.index.now core.now.place (module_value core.now.«module».now) test.now) result }
 {
     match core.wrappers.in_mode(test.scan) {
-        Some(wrapper) => wired_in(planned, core, test, wrapper),
+        Some(wrapper) => wired_in(chip, core, test, wrapper),
         None => unreachable!(),
     }
 }
 
 /// Adds a test, where it is live and goes over the wires.
 fn push_test(
-    planned: &PlannedChip<'_>,
+    chip: &PlannedChip<'_>,
     tests: &mut Vec<WiredTest>,
-    core: Core<'_>,
+    core: &Core<'_>,
     test: &Test,
 ) -> Result<(), NoMemory>
-    requires sound { IsSoundChip (soc_value planned.now.soc.now) }
-    requires good { IsGoodAlone (soc_value planned.now.soc.now) planned.now.index.now }
-    requires module_there { slice_get (soc_value planned.now.soc.now).modules core.place ≡ Some (module_value core.«module».now) }
-    requires test_there { (k : ℕ) × (slice_get core.«module».now.tests.items k ≡ Some test.now) }
-    requires wrappers { AreModeWrappers planned.now.index.now (module_value core.«module».now) core.wrappers.now }
-    ensures { (done : List PlannedTest) → AreWired (soc_value planned.now.soc.now) planned.now.index.now done tests.old.items → OnOk result (AreWired (soc_value planned.now.soc.now) planned.now.index.now (done ++ placed_tests planned.now.index.now core.place (module_value core.«module».now) (test.now ∷ [])) tests.new.items) }
+    requires sound { IsSoundChip (soc_value chip.now.soc.now) }
+    requires good { IsGoodAlone (soc_value chip.now.soc.now) chip.now.index.now }
+    requires module_there { slice_get (soc_value chip.now.soc.now).modules core.now.place ≡ Some (module_value core.now.«module».now) }
+    requires test_there { (k : ℕ) × (slice_get core.now.«module».now.tests.items k ≡ Some test.now) }
+    requires wrappers { AreModeWrappers chip.now.index.now (module_value core.now.«module».now) core.now.wrappers.now }
+    ensures { (done : List PlannedTest) → AreWired (soc_value chip.now.soc.now) chip.now.index.now done tests.old.items → OnOk result (AreWired (soc_value chip.now.soc.now) chip.now.index.now (done ++ placed_tests chip.now.index.now core.now.place (module_value core.now.«module».now) (test.now ∷ [])) tests.new.items) }
 {
     if !over_wires(test) {
         return Ok(());
     }
-    push(tests, wired(planned, core, test))
+    push(tests, wired(chip, core, test))
 }
 
 /// Adds the tests over the wires of a module. Its wrappers are walked once.
 fn push_module(
-    planned: &PlannedChip<'_>,
+    chip: &PlannedChip<'_>,
     tests: &mut Vec<WiredTest>,
     module: &Module,
     place: usize,
 ) -> Result<(), NoMemory>
-    requires sound { IsSoundChip (soc_value planned.now.soc.now) }
-    requires good { IsGoodAlone (soc_value planned.now.soc.now) planned.now.index.now }
-    requires module_there { slice_get (soc_value planned.now.soc.now).modules place ≡ Some (module_value «module».now) }
-    ensures { (done : List PlannedTest) → AreWired (soc_value planned.now.soc.now) planned.now.index.now done tests.old.items → OnOk result (AreWired (soc_value planned.now.soc.now) planned.now.index.now (done ++ placed_tests planned.now.index.now place (module_value «module».now) «module».now.tests.items) tests.new.items) }
+    requires sound { IsSoundChip (soc_value chip.now.soc.now) }
+    requires good { IsGoodAlone (soc_value chip.now.soc.now) chip.now.index.now }
+    requires module_there { slice_get (soc_value chip.now.soc.now).modules place ≡ Some (module_value «module».now) }
+    ensures { (done : List PlannedTest) → AreWired (soc_value chip.now.soc.now) chip.now.index.now done tests.old.items → OnOk result (AreWired (soc_value chip.now.soc.now) chip.now.index.now (done ++ placed_tests chip.now.index.now place (module_value «module».now) «module».now.tests.items) tests.new.items) }
 {
-    let wrappers = ModeWrappers::new(planned.soc, planned.index, place, module);
+    let wrappers = ModeWrappers::new(chip.soc, chip.index, place, module);
     let core = Core {
         place,
         module,
         wrappers: &wrappers,
     };
     for at in 0..module.tests.len() {
-        push_test(planned, tests, core, &module.tests[at])?;
+        push_test(chip, tests, &core, &module.tests[at])?;
     }
     Ok(())
 }
 
 /// The tests over the wires, in the order of the chip.
-fn wired_tests(alloc: Global, planned: &PlannedChip<'_>) -> Result<Vec<WiredTest>, NoMemory>
-    requires sound { IsSoundChip (soc_value planned.now.soc.now) }
-    requires good { IsGoodAlone (soc_value planned.now.soc.now) planned.now.index.now }
-    ensures { IfOk result (λ tests. AreWired (soc_value planned.now.soc.now) planned.now.index.now (planned (soc_value planned.now.soc.now) planned.now.index.now) tests.items) }
+fn wired_tests(alloc: Global, chip: &PlannedChip<'_>) -> Result<Vec<WiredTest>, NoMemory>
+    requires sound { IsSoundChip (soc_value chip.now.soc.now) }
+    requires good { IsGoodAlone (soc_value chip.now.soc.now) chip.now.index.now }
+    ensures { IfOk result (λ tests. AreWired (soc_value chip.now.soc.now) chip.now.index.now (planned (soc_value chip.now.soc.now) chip.now.index.now) tests.items) }
 {
     let mut tests = Vec::new(alloc);
-    for place in 0..planned.soc.modules.len() {
-        push_module(planned, &mut tests, module_at(planned.soc, place), place)?;
+    for place in 0..chip.soc.modules.len() {
+        push_module(chip, &mut tests, module_at(chip.soc, place), place)?;
     }
     Ok(tests)
 }
@@ -165,10 +160,10 @@ impl<'a> Placing<'a> {
         ensures { IfOk result (λ tests. AreWired (soc_value self.now.soc.now) (plan_value self.now.plan.now) (planned (soc_value self.now.soc.now) (plan_value self.now.plan.now)) tests.items) }
     {
         let index = PlanIndex::new(alloc, self.plan)?;
-        let planned = PlannedChip {
+        let chip = PlannedChip {
             soc: self.soc,
             index: &index,
         };
-        wired_tests(alloc, &planned)
+        wired_tests(alloc, &chip)
     }
 }

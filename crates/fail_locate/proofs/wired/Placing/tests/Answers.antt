@@ -1,9 +1,8 @@
-use Rattle.std.proofs.Common.{List, sym, subst}
+use Rattle.std.proofs.Common.{sym, subst}
 use Rattle.std.proofs.lemmas.Result.{IfOk-weaker}
 use Rattle.soc_model.specs.Chips.{soc_value}
 use Rattle.plan_model.specs.Plans.{PlanValue, planned}
 use Rattle.plan_model.specs.Rules.{IsGoodAlone}
-use Rattle.fail_locate.specs.declared.wired.WiredTest.{WiredTest}
 use Rattle.fail_locate.specs.Wired.{AreWired}
 use Rattle.fail_locate.proofs.wired.Placing.tests.Goals as goal
 
