@@ -15,5 +15,4 @@ pub mod SumSteps
 pub mod FirstBest
 pub mod WayBack
 pub mod NamedProfiles
-mod NamesPut
 pub mod Neighbours

@@ -1,8 +1,7 @@
 -- The live tests of a plan are placed module by module, and found by name.
-use Rattle.std.proofs.Common.{◌≡◌, inl, inr, ℕ, zero, suc, ◌+◌, ◌≤◌, ◌<◌, Bool, true, false, cond, Option, None, Some, List, [], ◌∷◌, ◌++◌, length, get_or, map, drop, position, option_map, refl, sym, ap, subst, ◌∙◌, append_assoc, append-nil, arith}
-use Rattle.std.specs.Prelude.{slice_get, find, nat_eq, nat_lt, unwrap_or}
+use Rattle.std.proofs.Common.{◌≡◌, inl, inr, ℕ, zero, suc, ◌+◌, ◌≤◌, ◌<◌, Bool, true, false, cond, Option, None, Some, List, [], ◌∷◌, ◌++◌, length, get_or, map, drop, position, option_map, refl, sym, ap, subst, ◌∙◌, append_assoc, append-nil, true≢false, arith}
+use Rattle.std.specs.Prelude.{slice_get, find, nat_eq, nat_lt}
 use Rattle.std.specs.List.{filter, position_or_len}
-use Rattle.std.specs.Map.{lookup}
 use Rattle.std.proofs.lemmas.Bool.{cases_Bool}
 use Rattle.std.proofs.lemmas.Bool.Decides.{nat_tests}
 use Rattle.std.proofs.lemmas.List.{length-map, map-append}
@@ -11,18 +10,20 @@ use Rattle.std.proofs.lemmas.Option.{slice_get-map, slice_get-get_or, slice_get_
 use Rattle.soc_model.specs.declared.Test.{Test}
 use Rattle.soc_model.specs.declared.TestId.{TestId}
 use Rattle.soc_model.specs.Chips.{ModuleValue, SocValue, LiveTest, is_live, live_of, live_from, live_tests, id_of, same_test}
-use Rattle.plan_model.specs.Plans.{PlanValue, LimitsValue, PlannedTest, planned, planned_test, chains_of, operations_of, end_of, greatest, bus_place, of_first}
-use Rattle.plan_model.specs.Rules.{IsGood, Cycles, live_ids}
-use Rattle.plan_model.proofs.Finding.{in_filter}
+use Rattle.plan_model.specs.Plans.{PlanValue, LimitsValue, PlannedTest, planned, planned_test, chains_of, operations_of, end_of, greatest, bus_place, of_first, wraps}
+use Rattle.plan_model.specs.Rules.{Each, IsGood, HasWrapper, Cycles, live_ids, used_pairs}
+use Rattle.plan_model.specs.Operations.{ops_of}
+use Rattle.plan_model.proofs.Finding.{in_filter, none_passes}
 use Rattle.plan_model.proofs.Greatest.{le-greatest_at}
 use Rattle.plan_model.proofs.Lists.{in_append_left, in_append_right}
-use Rattle.plan_model.proofs.PlannedTests.{Origin}
+use Rattle.plan_model.proofs.PlannedTests.{Origin, Wrapped, wrapped_by, wraps_from}
 use Rattle.soc_model.specs.Lookups.{test_places}
 use Rattle.soc_model.specs.SoundChips.{IsSoundChip, IsSoundModule}
 use Rattle.soc_model.proofs.Places.{IsKeyed-from_sound, place-from_module, test_places-at, position-from_slice_get}
 use Rattle.live_tests.specs.declared.placed.PlacedTest.{PlacedTest}
 use Rattle.live_tests.specs.Placed.{bus_over, is_called, placed_in, placed_of, placed_tests}
-use Rattle.live_tests.proofs.Indexing.{same_test_turned}
+use Rattle.live_tests.specs.declared.wrapped.ModeWrapper.{ModeWrapper}
+use Rattle.live_tests.specs.Wrapped.{IsModeWrapper}
 
 -- ---- live tests of a chip
 
@@ -67,13 +68,6 @@ places_of_origin soc sound plan i u o q at =
 
 -- ---- what is placed of a test
 
-start_found : (id : TestId) (starts : List (TestId × ℕ)) → unwrap_or (lookup (same_test id) starts) 0 ≡ of_first (λ (s : TestId × ℕ). same_test s.0 id) (λ s. s.1) 0 starts
-start_found id [] = refl
-start_found id (s ∷ ss) = elim (cases_Bool (same_test id s.0)) [
-  | inl yes' ↦ rw (yes', sym (same_test_turned id s.0) ∙ yes') refl
-  | inr no' ↦ rw (no', sym (same_test_turned id s.0) ∙ no') (start_found id ss)
-]
-
 start_of_planned : (plan : PlanValue) (place : ℕ) (m : ModuleValue) (t : Test) → (planned_test plan place m t).start ≡ of_first (λ (s : TestId × ℕ). same_test s.0 (id_of (the_live place m t))) (λ s. s.1) 0 plan.starts
 unfolding planned_test
 start_of_planned plan place m t = refl
@@ -83,8 +77,8 @@ unfolding planned_test
 end_of_planned plan place m t = refl
 
 -- the start that is found
-pub start_is : (plan : PlanValue) (place : ℕ) (m : ModuleValue) (t : Test) (start : ℕ) → start ≡ unwrap_or (lookup (same_test (id_of (the_live place m t))) plan.starts) 0 → start ≡ (planned_test plan place m t).start
-start_is plan place m t start is = is ∙ start_found (id_of (the_live place m t)) plan.starts ∙ sym (start_of_planned plan place m t)
+pub start_is : (plan : PlanValue) (place : ℕ) (m : ModuleValue) (t : Test) (start : ℕ) → start ≡ of_first (λ (s : TestId × ℕ). same_test s.0 (id_of (the_live place m t))) (λ s. s.1) 0 plan.starts → start ≡ (planned_test plan place m t).start
+start_is plan place m t start is = is ∙ sym (start_of_planned plan place m t)
 
 -- the end
 pub end_is : (plan : PlanValue) (place : ℕ) (m : ModuleValue) (t : Test) (start n : ℕ) → start ≡ (planned_test plan place m t).start → n ≡ length (operations_of m t (chains_of plan m t)) → start + n ≡ end_of (planned_test plan place m t)
@@ -99,6 +93,18 @@ ends_within soc limits plan good p q m t at there live =
     let planned_there : slice_get (planned soc plan) i.0 ≡ Some (planned_test plan p m t) = slice_get-map (λ (l : LiveTest). planned_test plan l.place l.core l.test) (live_tests soc) i.0 ∙ ap (option_map (λ (l : LiveTest). planned_test plan l.place l.core l.test)) i.1 in
     let cycles : plan.cycles ≡ greatest (map end_of (planned soc plan)) = good Cycles in
     subst (λ n. end_of (planned_test plan p m t) ≤ n) (sym cycles) (le-greatest_at end_of (planned soc plan) i.0 (planned_test plan p m t) planned_there)
+
+-- a live test over the wires has a wrapper
+pub always_wrapped : (soc : SocValue) (plan : PlanValue) → Each (HasWrapper plan) (used_pairs soc) → (p q : ℕ) (m : ModuleValue) (t : Test) → slice_get soc.modules p ≡ Some m → slice_get m.tests q ≡ Some t → is_live t ≡ true → t.tam ≡ true → position (wraps m.number t.scan) plan.wrappers ≡ None → ⊥
+always_wrapped soc plan have p q m t at there live tam none =
+    let n = in_filter is_live m.tests q t there live in
+    let w : Wrapped plan m t = wrapped_by soc plan have p n.0 m t at n.1 tam in
+    let fails : wraps m.number t.scan w.w ≡ false = none_passes (wraps m.number t.scan) plan.wrappers none w.n w.w w.at in
+    true≢false (sym (wraps_from w.w m.number t.scan w.module_is w.scan_is) ∙ fails)
+
+-- the time of a test over the wires, by its wrapper
+pub time_is : (plan : PlanValue) (m : ModuleValue) (t : Test) (w : ModeWrapper) → t.tam ≡ true → IsModeWrapper plan m t.scan w → length (ops_of m.setup w.si w.so t.patterns) ≡ length (operations_of m t (chains_of plan m t))
+time_is plan m t w tam is = rw (tam, is.si, is.so, is.first) refl
 
 -- the placed test of these parts
 pub test_is : (plan : PlanValue) (place : ℕ) (m : ModuleValue) (t : Test) (bus start n : ℕ) (over : Option ℕ) → bus ≡ bus_place m.number 0 plan.buses → over ≡ bus_over t.tam bus → start ≡ (planned_test plan place m t).start → n ≡ length (operations_of m t (chains_of plan m t))

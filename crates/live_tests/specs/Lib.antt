@@ -1,2 +1,5 @@
 pub mod Names
 pub mod Placed
+pub mod Neighbours
+pub mod Index
+pub mod Wrapped

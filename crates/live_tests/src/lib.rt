@@ -12,14 +12,20 @@ ghost use Rattle.soc_model.specs.Chips.{module_value, same_test, soc_value};
 ghost use Rattle.plan_model.specs.Rules.{live_ids};
 ghost use Rattle.live_tests.specs.Names.{both_places, names_in, places_of};
 
+mod index;
+mod neighbours;
 mod placed;
+mod wrapped;
 
+pub use index::PlanIndex;
 use indexmap::IndexMap;
+pub use neighbours::{Neighbours, all_after, all_before};
 use outside::{NoMemory, push};
-pub use placed::{PlacedTest, PlacedTests, first_wire};
+pub use placed::{PlacedTest, PlacedTests, PlannedChip, first_wire};
 use soc_model::{Module, Soc, TestId, live};
 use std::alloc::Global;
 use std::marker::Model;
+pub use wrapped::{ModeWrapper, ModeWrappers};
 
 /// The names of the live tests of a chip, in its order.
 #[derive(Drop)]

@@ -1,19 +1,17 @@
 // The live tests of a chip as a plan places them.
 ghost use Rattle.std.specs.Prelude.{◌≡◌, ◌++◌, ◌^◌, ◌<◌, ◌≤◌, ℕ, Some, find, length, map, slice_get, sum, take, unwrap_or, IfOk, OnOk, IsTrue};
-ghost use Rattle.std.specs.Map.{lookup};
-ghost use Rattle.soc_model.specs.declared.TestId.{TestId};
-ghost use Rattle.soc_model.specs.Chips.{is_live, module_value, same_test, soc_value};
+ghost use Rattle.soc_model.specs.Chips.{is_live, module_value, soc_value};
 ghost use Rattle.soc_model.specs.SoundChips.{IsSoundChip};
 ghost use Rattle.plan_model.specs.declared.Bus.{Bus};
 ghost use Rattle.plan_model.specs.Plans.{chains_of, operations_of, planned_test};
 ghost use Rattle.plan_model.specs.Rules.{IsGoodAlone};
 ghost use Rattle.plan_model.specs.Views.{plan_value};
+ghost use Rattle.live_tests.specs.Wrapped.{AreModeWrappers};
 ghost use Rattle.live_tests.specs.Placed.{bus_over as the_bus_over, is_called, placed_in, placed_of, placed_tests};
 
-use crate::LiveTests;
-use indexmap::IndexMap;
+use crate::{LiveTests, ModeWrappers, PlanIndex};
 use outside::{NoMemory, push};
-use plan_model::{Bus, Plan, bus_of, test_cycles};
+use plan_model::{Bus, Plan, closed_time};
 use soc_model::{Module, Soc, Test, TestId, live, module_at};
 use std::alloc::Global;
 use std::marker::Model;
@@ -61,7 +59,9 @@ impl PlacedTests {
         ensures { IfOk result (λ tests. tests ≡ placed_tests (soc_value soc.now) (plan_value plan.now)) }
     {
         let names = LiveTests::new(alloc, soc)?;
-        let tests = place_all(alloc, soc, plan)?;
+        let index = PlanIndex::new(alloc, plan)?;
+        let planned = PlannedChip { soc, index: &index };
+        let tests = planned.tests(alloc)?;
         Ok(PlacedTests { names, tests })
     }
 
@@ -94,28 +94,6 @@ pub fn first_wire(buses: &[Bus], bus: usize) -> usize
     wires
 }
 
-/// The starts by the names of their tests; of two starts of a test the first.
-fn starts_by_name(
-    alloc: Global,
-    starts: &[(TestId, u64)],
-) -> Result<IndexMap<TestId, u64>, NoMemory>
-    ensures { IfOk result (λ named. (id : TestId) → lookup (same_test id) named.entries ≡ lookup (same_test id) starts.now) }
-{
-    let mut named = IndexMap::new(alloc);
-    for place in (0..starts.len()).rev() {
-        let (id, start) = starts[place];
-        named.insert(id, start)?;
-    }
-    Ok(named)
-}
-
-/// The start of a test, 0 where it has none.
-fn start_of(starts: &IndexMap<TestId, u64>, id: TestId) -> u64
-    ensures { result ≡ unwrap_or (lookup (same_test id) starts.now.entries) 0 }
-{
-    starts.get(&id).copied().unwrap_or(0)
-}
-
 /// The bus of a test over the wires; a self test has none.
 fn bus_over(tam: bool, bus: usize) -> Option<usize>
     ensures { result ≡ the_bus_over tam bus }
@@ -130,46 +108,60 @@ fn plan_cycles(plan: &Plan) -> u64
     plan.cycles
 }
 
-/// What tests are placed by: a chip, a plan, and the starts of the plan by name.
+/// A chip and a good plan for it, whose tests are placed one by one.
 #[derive(Clone, Copy, Drop)]
-struct Placing<'a> {
-    soc: &'a Soc,
-    plan: &'a Plan,
-    starts: &'a IndexMap<TestId, u64>,
+pub struct PlannedChip<'a> {
+    /// The chip.
+    pub soc: &'a Soc,
+    /// The plan.
+    pub index: &'a PlanIndex<'a>,
 }
 
-impl<'a> Placing<'a> {
+impl<'a> PlannedChip<'a> {
     /// The cycles of a live test.
-    fn cycles_of(&self, module: &Module, test: &Test) -> u64
+    fn cycles_of(&self, module: &Module, wrappers: &ModeWrappers, test: &Test) -> u64
         requires sound { IsSoundChip (soc_value self.now.soc.now) }
-        requires good { IsGoodAlone (soc_value self.now.soc.now) (plan_value self.now.plan.now) }
+        requires good { IsGoodAlone (soc_value self.now.soc.now) self.now.index.now }
         requires module_there { (p : ℕ) × (slice_get (soc_value self.now.soc.now).modules p ≡ Some (module_value «module».now)) }
         requires test_there { (k : ℕ) × (slice_get «module».now.tests.items k ≡ Some test.now) }
         requires live { IsTrue (is_live test.now) }
-        ensures { result ≡ length (operations_of (module_value «module».now) test.now (chains_of (plan_value self.now.plan.now) (module_value «module».now) test.now)) }
+        requires wrappers { AreModeWrappers self.now.index.now (module_value «module».now) wrappers.now }
+        ensures { result ≡ length (operations_of (module_value «module».now) test.now (chains_of self.now.index.now (module_value «module».now) test.now)) }
     {
-        test_cycles(&self.plan.wrappers, module, test)
+        if !test.tam {
+            return test.patterns;
+        }
+        match wrappers.in_mode(test.scan) {
+            Some(long) => closed_time(module.setup, long.si, long.so, test.patterns),
+            None => unreachable!(),
+        }
     }
 
-    /// A live test of the module at a place.
-    fn test(&self, place: usize, module: &Module, test: &Test) -> PlacedTest
+    /// A live test of the module at a place, which has these wrappers.
+    pub fn test(
+        &self,
+        place: usize,
+        module: &Module,
+        wrappers: &ModeWrappers,
+        test: &Test,
+    ) -> PlacedTest
         requires sound { IsSoundChip (soc_value self.now.soc.now) }
-        requires good { IsGoodAlone (soc_value self.now.soc.now) (plan_value self.now.plan.now) }
-        requires starts { (id : TestId) → lookup (same_test id) self.now.starts.now.entries ≡ lookup (same_test id) (plan_value self.now.plan.now).starts }
+        requires good { IsGoodAlone (soc_value self.now.soc.now) self.now.index.now }
         requires module_there { slice_get (soc_value self.now.soc.now).modules place ≡ Some (module_value «module».now) }
         requires test_there { (k : ℕ) × (slice_get «module».now.tests.items k ≡ Some test.now) }
         requires live { IsTrue (is_live test.now) }
-        ensures { result ≡ placed_of (planned_test (plan_value self.now.plan.now) place (module_value «module».now) test.now) }
+        requires wrappers { AreModeWrappers self.now.index.now (module_value «module».now) wrappers.now }
+        ensures { result ≡ placed_of (planned_test self.now.index.now place (module_value «module».now) test.now) }
     {
         let id = TestId {
             module: module.number,
             test: test.number,
         };
-        let bus = bus_of(&self.plan.buses, module.number);
-        let start = start_of(self.starts, id);
-        let length = self.cycles_of(module, test);
+        let bus = self.index.bus(module.number);
+        let start = self.index.start(id);
+        let length = self.cycles_of(module, wrappers, test);
         // no test of a good plan ends later
-        let _cycles = plan_cycles(self.plan);
+        let _cycles = plan_cycles(self.index.plan());
         PlacedTest {
             id,
             place,
@@ -188,17 +180,30 @@ impl<'a> Placing<'a> {
         module: &Module,
     ) -> Result<(), NoMemory>
         requires sound { IsSoundChip (soc_value self.now.soc.now) }
-        requires good { IsGoodAlone (soc_value self.now.soc.now) (plan_value self.now.plan.now) }
-        requires starts { (id : TestId) → lookup (same_test id) self.now.starts.now.entries ≡ lookup (same_test id) (plan_value self.now.plan.now).starts }
+        requires good { IsGoodAlone (soc_value self.now.soc.now) self.now.index.now }
         requires module_there { slice_get (soc_value self.now.soc.now).modules place ≡ Some (module_value «module».now) }
-        ensures { OnOk result (tests.new.items ≡ tests.old.items ++ placed_in (plan_value self.now.plan.now) place (module_value «module».now) «module».now.tests.items) }
+        ensures { OnOk result (tests.new.items ≡ tests.old.items ++ placed_in self.now.index.now place (module_value «module».now) «module».now.tests.items) }
     {
+        let wrappers = ModeWrappers::new(self.soc, self.index, place, module);
         for test in &module.tests {
             if live(test) {
-                push(tests, self.test(place, module, test))?;
+                push(tests, self.test(place, module, &wrappers, test))?;
             }
         }
         Ok(())
+    }
+
+    /// The live tests as the plan places them, in the order of the chip.
+    fn tests(&self, alloc: Global) -> Result<Vec<PlacedTest>, NoMemory>
+        requires sound { IsSoundChip (soc_value self.now.soc.now) }
+        requires good { IsGoodAlone (soc_value self.now.soc.now) self.now.index.now }
+        ensures { IfOk result (λ tests. tests.items ≡ placed_tests (soc_value self.now.soc.now) self.now.index.now) }
+    {
+        let mut tests = Vec::new(alloc);
+        for place in 0..module_count(self.soc) {
+            self.push_module(&mut tests, place, module_at(self.soc, place))?;
+        }
+        Ok(tests)
     }
 }
 
@@ -207,23 +212,4 @@ fn module_count(soc: &Soc) -> usize
     ensures { result ≡ length (soc_value soc.now).modules }
 {
     soc.modules.len()
-}
-
-/// The live tests as the plan places them, in the order of the chip.
-fn place_all(alloc: Global, soc: &Soc, plan: &Plan) -> Result<Vec<PlacedTest>, NoMemory>
-    requires sound { IsSoundChip (soc_value soc.now) }
-    requires good { IsGoodAlone (soc_value soc.now) (plan_value plan.now) }
-    ensures { IfOk result (λ tests. tests.items ≡ placed_tests (soc_value soc.now) (plan_value plan.now)) }
-{
-    let starts = starts_by_name(alloc, &plan.starts)?;
-    let placing = Placing {
-        soc,
-        plan,
-        starts: &starts,
-    };
-    let mut tests = Vec::new(alloc);
-    for place in 0..module_count(soc) {
-        placing.push_module(&mut tests, place, module_at(soc, place))?;
-    }
-    Ok(tests)
 }

@@ -7,4 +7,3 @@ pub mod Profiles
 pub mod PartLaws
 pub mod Counting
 pub mod Making
-mod NamesPut

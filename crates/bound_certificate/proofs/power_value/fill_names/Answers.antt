@@ -4,7 +4,7 @@ use Rattle.indexmap.specs.IndexSet.{insert_key, keys}
 use Rattle.soc_model.specs.Chips.{same_test}
 use Rattle.plan_model.specs.declared.Profile.{Profile}
 use Rattle.bound_rules.specs.ProfileNames.{names_of}
-use Rattle.bound_certificate.proofs.NamesPut.{names_more}
+use Rattle.live_tests.proofs.NamesPut.{names_more}
 use Rattle.bound_certificate.proofs.ChainItems.{no_id}
 use Rattle.bound_certificate.proofs.NamedProfiles.{written, name_at}
 use Rattle.bound_certificate.proofs.power_value.fill_names.Goals as goal

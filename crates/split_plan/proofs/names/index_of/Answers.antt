@@ -1,6 +1,6 @@
 use Rattle.std.proofs.Common.{rules}
 use Rattle.soc_model.specs.declared.TestId.{TestId}
-use Rattle.split_plan.proofs.NamesPut.{names_more}
+use Rattle.live_tests.proofs.NamesPut.{names_more}
 use Rattle.split_plan.proofs.names.index_of.Goals as goal
 
 pub loop-name-preserved : goal.loop-name-preserved

@@ -1,19 +1,13 @@
-use Rattle.std.proofs.Common.{◌≡◌, length, arith}
-use Rattle.soc_model.specs.Chips.{soc_value, module_value}
-use Rattle.plan_model.specs.Views.{plan_value}
-use Rattle.std.proofs.lemmas.List.{length-map}
-use Rattle.fail_locate.proofs.KeptTests.{placed_from, no_modules, modules_more, all_modules}
+use Rattle.std.proofs.Common.{sym, subst}
+use Rattle.std.proofs.lemmas.Result.{IfOk-weaker}
+use Rattle.soc_model.specs.Chips.{soc_value}
+use Rattle.plan_model.specs.Plans.{PlanValue, planned}
+use Rattle.plan_model.specs.Rules.{IsGoodAlone}
+use Rattle.fail_locate.specs.Wired.{AreWired}
 use Rattle.fail_locate.proofs.wired.Placing.tests.Goals as goal
 
-pub loop-place-init : goal.loop-place-init
-loop-place-init c = no_modules (soc_value c.args.self.now.soc.now) (plan_value c.args.self.now.plan.now) (soc_value c.args.self.now.soc.now).modules c.new-tests.result.items c.new-tests.ensures.items
-
-pub loop-place-preserved : goal.loop-place-preserved
-loop-place-preserved c =
-    modules_more (soc_value c.args.self.now.soc.now) (plan_value c.args.self.now.plan.now) (soc_value c.args.self.now.soc.now).modules c.loop-place.place (module_value c.module_at-module.result.now) c.push_module.new.tests.items c.module_at-module.ensures
-    (c.in_ok-push_module.ensures (placed_from (plan_value c.args.self.now.plan.now) (soc_value c.args.self.now.soc.now).modules c.loop-place.place) c.loop-place.invariant)
+pub wired_tests-requires-clause-good : goal.wired_tests-requires-clause-good
+wired_tests-requires-clause-good c = subst (λ (plan : PlanValue). IsGoodAlone (soc_value c.args.self.now.soc.now) plan) (sym c.in_ok-index.ensures) c.requires.good
 
 pub returns : goal.returns
-returns c =
-    let same_many : length (soc_value c.args.self.now.soc.now).modules ≡ length c.args.self.now.soc.now.modules.entries = length-map c.args.self.now.soc.now.modules.entries _ in
-    all_modules (soc_value c.args.self.now.soc.now) (plan_value c.args.self.now.plan.now) c.loop-place.place c.loop-place.tests.items (omega (arith, c.loop-place-test.false, c.len-place-end.ensures.len, same_many)) c.loop-place.invariant
+returns c = IfOk-weaker c.wired_tests.result _ _ (λ tests are. subst (λ (plan : PlanValue). AreWired (soc_value c.args.self.now.soc.now) plan (planned (soc_value c.args.self.now.soc.now) plan) tests.items) c.in_ok-index.ensures are) c.wired_tests.ensures

@@ -1,0 +1,7 @@
+use Rattle.std.proofs.Common.{◌≡◌, ℕ, ◌<◌, [], length, map}
+use Rattle.std.specs.Prelude.{slice_index_or}
+use Rattle.live_tests.specs.Neighbours.{tests_of}
+use Rattle.live_tests.proofs.neighbours.no_neighbours.Given as goal
+
+abbrev pub invariant-loop : goal.invariant-loop
+invariant-loop l = (length l.lists.items ≡ l.counter) × ((i : ℕ) → i < l.counter → slice_index_or (map tests_of l.lists.items) i [] ≡ [])

@@ -1,0 +1,86 @@
+// The wrappers of a module in a plan, with their longest paths.
+ghost use Rattle.std.specs.Prelude.{◌≡◌, ℕ, Bool, ◌+◌, ◌^◌, ◌≤◌, length, map, position, slice_get, Some, IsTrue};
+ghost use Rattle.soc_model.specs.Chips.{ModuleValue, is_live, module_value, soc_value};
+ghost use Rattle.soc_model.specs.SoundChips.{IsSoundChip};
+ghost use Rattle.plan_model.specs.Cells.{IsProper, chain_cells};
+ghost use Rattle.plan_model.specs.Listing.{module_size};
+ghost use Rattle.plan_model.specs.Plans.{PlanValue, chains_of, operations_of, si_of, so_of, wraps};
+ghost use Rattle.plan_model.specs.Rules.{IsGoodAlone};
+ghost use Rattle.plan_model.specs.Views.{chain_value};
+ghost use Rattle.live_tests.specs.Wrapped.{AreModeWrappers, MayBeWrapper};
+
+use crate::PlanIndex;
+use plan_model::{Wrapper, lengths};
+use soc_model::{Module, Soc};
+
+/// A wrapper of a module, with the longest paths through its chains.
+#[derive(Clone, Copy, Drop)]
+pub struct ModeWrapper {
+    /// Its place in the plan, counted from 0.
+    pub place: usize,
+    /// The longest path from the inputs, in cells.
+    pub si: u64,
+    /// The longest path to the outputs, in cells.
+    pub so: u64,
+}
+
+/// The wrappers of a module in both modes, where the plan has them.
+#[derive(Clone, Copy, Drop)]
+pub struct ModeWrappers {
+    scan: Option<ModeWrapper>,
+    terminals: Option<ModeWrapper>,
+}
+
+/// The wrapper at a place, walked once.
+fn walked(module: &Module, wrapper: &Wrapper, place: usize) -> ModeWrapper
+    requires proper { IsProper (module_value «module».now) wrapper.now.scan (map chain_value wrapper.now.chains.items) }
+    requires small { module_size (module_value «module».now) ≤ 10 ^ 18 }
+    ensures place { result.place ≡ place }
+    ensures si { result.si ≡ si_of (chain_cells (module_value «module».now) wrapper.now.scan (map chain_value wrapper.now.chains.items)) }
+    ensures so { result.so ≡ so_of (chain_cells (module_value «module».now) wrapper.now.scan (map chain_value wrapper.now.chains.items)) }
+    ensures short { 1 + result.si + result.so ≤ module_size (module_value «module».now) }
+{
+    let (si, so) = lengths(module, wrapper);
+    ModeWrapper { place, si, so }
+}
+
+/// The wrapper of a module in a mode. None comes exactly where the plan has none.
+fn wrapper_in(
+    soc: &Soc,
+    index: &PlanIndex<'_>,
+    place: usize,
+    module: &Module,
+    scan: bool,
+) -> Option<ModeWrapper>
+    requires sound { IsSoundChip (soc_value soc.now) }
+    requires good { IsGoodAlone (soc_value soc.now) index.now }
+    requires there { slice_get (soc_value soc.now).modules place ≡ Some (module_value «module».now) }
+    ensures { MayBeWrapper index.now (module_value «module».now) scan result }
+{
+    match index.wrapper(module.number, scan) {
+        Some(found) => Some(walked(module, &index.plan().wrappers[found], found)),
+        None => None,
+    }
+}
+
+impl ModeWrappers {
+    /// The wrappers of the module at a place of the chip in a good plan. Each is walked once.
+    pub fn new(soc: &Soc, index: &PlanIndex<'_>, place: usize, module: &Module) -> ModeWrappers
+        requires sound { IsSoundChip (soc_value soc.now) }
+        requires good { IsGoodAlone (soc_value soc.now) index.now }
+        requires there { slice_get (soc_value soc.now).modules place ≡ Some (module_value «module».now) }
+        ensures { AreModeWrappers index.now (module_value «module».now) result }
+    {
+        ModeWrappers {
+            scan: wrapper_in(soc, index, place, module, true),
+            terminals: wrapper_in(soc, index, place, module, false),
+        }
+    }
+
+    /// The wrapper in a mode. None comes exactly where the plan has none.
+    pub fn in_mode(&self, scan: bool) -> Option<ModeWrapper>
+        ensures { (plan : PlanValue) (m : ModuleValue) → AreModeWrappers plan m self.now → MayBeWrapper plan m scan result }
+    {
+        if scan { self.scan } else { self.terminals }
+    }
+}
