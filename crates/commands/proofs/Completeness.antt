@@ -1,15 +1,14 @@
 -- The files give at most one answer. So a call that ends otherwise had a fault, or no memory.
-use Rattle.std.proofs.Common.{◌≡◌, ℕ, ◌⊎◌, inl, inr, Bool, List, Option, Some, IfSome, refl, subst}
+use Rattle.std.proofs.Common.{◌≡◌, ℕ, ◌⊎◌, inl, inr, Bool, List, Option, IfSome, refl, subst}
 use Rattle.outside.specs.Held.{Files, Rose, Appended}
 use Rattle.soc_model.specs.Chips.{SocValue}
 use Rattle.plan_model.specs.Plans.{LimitsValue, PlanValue}
-use Rattle.commands.specs.declared.FileKind.{FileKind}
 use Rattle.commands.specs.declared.Status.{Status}
 use Rattle.commands.specs.declared.Status.TheVariants.{Done, Refused, BadWords, ReadFault, TooLong, WriteFault, NoMemory}
 use Rattle.commands.specs.Procedures.{Procedure, with_chip, with_both, with_accepted, with_all}
 use Rattle.commands.specs.Answers.{Answers}
 use Rattle.commands.specs.Decides.{IsUnread}
-use Rattle.commands.specs.Ends.{MayAnswer, Ends, EndsAsWanted, Complete, AreTaken, Finishes}
+use Rattle.commands.specs.Ends.{MayAnswer, Ends, EndsAsWanted, Complete, Finishes}
 use Rattle.commands.specs.Settled.{AreOne, IsSettled, FilesSayOneThing}
 use Rattle.commands.proofs.Settled.{one_answer, no_answer, only_done, none_unread}
 

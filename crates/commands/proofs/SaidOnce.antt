@@ -1,5 +1,5 @@
 -- A text of a chip, of limits for a chip or of a plan for both says one thing.
-use Rattle.std.proofs.Common.{◌≡◌, ℕ, ◌⊎◌, inl, inr, List, Option, None, Some, sym, ◌∙◌, ap, subst}
+use Rattle.std.proofs.Common.{◌≡◌, ℕ, inl, inr, List, None, Some, sym, ◌∙◌, ap, subst}
 use Rattle.outside.specs.Words.{words_of}
 use Rattle.outside.specs.Grammars.{last_line}
 use Rattle.soc_model.specs.Chips.{SocValue}
