@@ -1,0 +1,9 @@
+pub mod AllFiles
+pub mod Completeness
+pub mod FileStages
+pub mod LineFacts
+pub mod Refusals
+pub mod SaidOnce
+pub mod Settled
+pub mod Trusted
+pub mod Written

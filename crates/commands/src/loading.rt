@@ -1,0 +1,256 @@
+// Loads and reads the files of a command, each only where the ones before it are taken.
+ghost use Rattle.std.specs.Prelude.{◌≡◌, ◌≤◌, IfOk};
+ghost use Rattle.soc_model.specs.Chips.{soc_value};
+ghost use Rattle.soc_model.specs.SoundChips.{IsSoundChip};
+ghost use Rattle.plan_model.specs.Faults.{IsFaultless};
+ghost use Rattle.plan_model.specs.Views.{limits_value, plan_value};
+ghost use Rattle.plan_model.specs.SoundLimits.{IsSoundLimits};
+ghost use Rattle.plan_text.specs.Grammar.{AreSmallStarts};
+ghost use Rattle.commands.specs.declared.Status.TheVariants.{Refused, BadWords};
+ghost use Rattle.commands.specs.Texts.{bad_words_line};
+ghost use Rattle.commands.specs.Readings.{most_of as most_bytes};
+ghost use Rattle.commands.specs.Decides.{Gives, GivesText, LoadsBytes, LoadsChip, LoadsLimits, LoadsAccepted, LoadsBoth, LoadsAll, RefusesSoc, RefusesBounds, RefusesValue, AnswersCheck};
+
+use crate::lines::{
+    chip_limit_line, chip_line, cycle_line, fault_line, limits_line, plan_line, test_power_line,
+    too_long_line, unknown_test_line,
+};
+use crate::{FILE_MOST, FileKind, PLAN_FILE_MOST, Status, Verdict};
+use limits_text::{LimFault, read_limits};
+use outside::{Loaded, NoMemory, Shelf};
+use plan_checker::{Scratch, check_plan};
+use plan_model::{Limits, Plan};
+use plan_text::{PlanTextFault, read_plan};
+use soc_model::{Soc, SocLimit};
+use soc_reader::{SocFault, read_soc};
+use std::alloc::Global;
+
+/// A chip and limits for it.
+#[derive(Drop)]
+pub struct Both {
+    pub soc: Soc,
+    pub limits: Limits,
+}
+
+/// A chip, limits for it, and a plan that is accepted for both.
+#[derive(Drop)]
+pub struct Accepted {
+    pub soc: Soc,
+    pub limits: Limits,
+    pub plan: Plan,
+}
+
+/// The answer of a line, where there is memory for it.
+fn answered(alloc: Global, status: Status, line: &[u8]) -> Verdict
+    ensures { Gives status line.now result }
+{
+    match Vec::from_slice(alloc, line) {
+        Ok(text) => Verdict::Answered { status, text },
+        Err(_) => Verdict::NoMemory,
+    }
+}
+
+/// The answer of a text, where there was memory for it.
+pub fn answered_with(status: Status, text: Result<Vec<u8>, NoMemory>) -> Verdict
+    ensures { GivesText status text result }
+{
+    match text {
+        Ok(text) => Verdict::Answered { status, text },
+        Err(NoMemory) => Verdict::NoMemory,
+    }
+}
+
+/// The answer to words that are no command.
+pub fn bad_words(alloc: Global) -> Verdict
+    ensures { Gives BadWords bad_words_line result }
+{
+    answered(alloc, Status::BadWords, b"bad words\n")
+}
+
+/// The refusal with this line, where there was memory for it.
+pub fn refused_with(line: Result<Vec<u8>, NoMemory>) -> Verdict
+    ensures { GivesText Refused line result }
+{
+    answered_with(Status::Refused, line)
+}
+
+/// The answer to a chip's text that isn't taken.
+fn refused_chip(alloc: Global, fault: SocFault) -> Verdict
+    ensures { RefusesSoc fault result }
+{
+    match fault {
+        SocFault::Text { line } => refused_with(chip_line(alloc, line)),
+        SocFault::Limit { which, value } => {
+            let limit = SocLimit { which, value };
+            refused_with(chip_limit_line(alloc, &limit))
+        }
+        SocFault::NoMemory => Verdict::NoMemory,
+    }
+}
+
+/// The greatest length of a file of this kind, in bytes.
+fn most_of(file: FileKind) -> u64
+    ensures { result ≡ most_bytes file }
+{
+    match file {
+        FileKind::Soc | FileKind::Limits | FileKind::Log | FileKind::Tree | FileKind::Program =>
+            FILE_MOST,
+        FileKind::Plan => PLAN_FILE_MOST,
+    }
+}
+
+/// Loads the bytes of a file, else how the command ends: the file is too long, it can't be read, or there is no memory.
+pub fn load_file<H: Shelf>(
+    alloc: Global,
+    file: FileKind,
+    name: &str,
+    shelf: &mut H,
+) -> Result<Vec<u8>, Verdict>
+    ensures held_stays { H.held shelf.new ≡ H.held shelf.old }
+    ensures faults_never_fall { H.faults shelf.old ≤ H.faults shelf.new }
+    ensures loads { LoadsBytes file name.now (H.held shelf.old) (H.faults shelf.old) (H.faults shelf.new) result }
+{
+    let mut bytes = Vec::new(alloc);
+    match shelf.load(name, most_of(file), &mut bytes) {
+        Loaded::Whole => Ok(bytes),
+        Loaded::TooLong => Err(answered(alloc, Status::TooLong, too_long_line(file))),
+        Loaded::Failed => Err(Verdict::CannotRead { file }),
+        Loaded::NoMemory => Err(Verdict::NoMemory),
+    }
+}
+
+/// Loads and reads a chip, else how the command ends.
+pub fn load_chip<H: Shelf>(alloc: Global, name: &str, shelf: &mut H) -> Result<Soc, Verdict>
+    ensures held_stays { H.held shelf.new ≡ H.held shelf.old }
+    ensures faults_never_fall { H.faults shelf.old ≤ H.faults shelf.new }
+    ensures sound { IfOk result (λ soc. IsSoundChip (soc_value soc)) }
+    ensures loads { LoadsChip name.now (H.held shelf.old) (H.faults shelf.old) (H.faults shelf.new) result }
+{
+    let bytes = load_file(alloc, FileKind::Soc, name, shelf)?;
+    match read_soc(alloc, bytes.as_slice()) {
+        Ok(soc) => Ok(soc),
+        Err(fault) => Err(refused_chip(alloc, fault)),
+    }
+}
+
+/// The answer to a text of limits that isn't taken.
+fn refused_limits(alloc: Global, fault: LimFault) -> Verdict
+    ensures { RefusesBounds fault result }
+{
+    match fault {
+        LimFault::Text { line } => refused_with(limits_line(alloc, line)),
+        LimFault::UnknownTest { line } => refused_with(unknown_test_line(alloc, line)),
+        LimFault::Cycle { tests } => refused_with(cycle_line(alloc, tests.as_slice())),
+        LimFault::TestPower { test, power } => refused_with(test_power_line(alloc, &test, power)),
+        LimFault::NoMemory => Verdict::NoMemory,
+    }
+}
+
+/// Loads and reads limits for a chip, else how the command ends.
+pub fn load_limits<H: Shelf>(
+    alloc: Global,
+    soc: &Soc,
+    name: &str,
+    shelf: &mut H,
+) -> Result<Limits, Verdict>
+    ensures held_stays { H.held shelf.new ≡ H.held shelf.old }
+    ensures faults_never_fall { H.faults shelf.old ≤ H.faults shelf.new }
+    ensures sound { IfOk result (λ limits. IsSoundLimits (soc_value soc.now) (limits_value limits)) }
+    ensures loads { LoadsLimits (soc_value soc.now) name.now (H.held shelf.old) (H.faults shelf.old) (H.faults shelf.new) result }
+{
+    let bytes = load_file(alloc, FileKind::Limits, name, shelf)?;
+    match read_limits(alloc, bytes.as_slice(), soc) {
+        Ok(limits) => Ok(limits),
+        Err(fault) => Err(refused_limits(alloc, fault)),
+    }
+}
+
+/// The answer to a plan's text that isn't taken.
+fn refused_plan(alloc: Global, fault: PlanTextFault) -> Verdict
+    ensures { RefusesValue fault result }
+{
+    match fault {
+        PlanTextFault::Text { line } => refused_with(plan_line(alloc, line)),
+        PlanTextFault::NoMemory => Verdict::NoMemory,
+    }
+}
+
+/// The plan where it is good and its certificate accepted, else the answer to its fault.
+fn checked(alloc: Global, soc: &Soc, limits: &Limits, plan: Plan) -> Result<Plan, Verdict>
+    requires chip { IsSoundChip (soc_value soc.now) }
+    requires limits { IsSoundLimits (soc_value soc.now) (limits_value limits.now) }
+    requires starts { AreSmallStarts (plan_value plan).starts }
+    ensures { AnswersCheck (soc_value soc.now) (limits_value limits.now) (plan_value plan) result }
+{
+    let Ok(mut room) = Scratch::new(alloc, soc, &plan) else {
+        return Err(Verdict::NoMemory);
+    };
+    match check_plan(soc, limits, &plan, &mut room) {
+        Ok(()) => Ok(plan),
+        Err(fault) => Err(refused_with(fault_line(alloc, &fault))),
+    }
+}
+
+/// Loads and reads a plan for a chip under limits and checks it, else how the command ends.
+pub fn load_accepted_plan<H: Shelf>(
+    alloc: Global,
+    soc: &Soc,
+    limits: &Limits,
+    name: &str,
+    shelf: &mut H,
+) -> Result<Plan, Verdict>
+    requires chip { IsSoundChip (soc_value soc.now) }
+    requires limits { IsSoundLimits (soc_value soc.now) (limits_value limits.now) }
+    ensures held_stays { H.held shelf.new ≡ H.held shelf.old }
+    ensures faults_never_fall { H.faults shelf.old ≤ H.faults shelf.new }
+    ensures accepted { IfOk result (λ plan. IsFaultless (soc_value soc.now) (limits_value limits.now) (plan_value plan)) }
+    ensures loads { LoadsAccepted (soc_value soc.now) (limits_value limits.now) name.now (H.held shelf.old) (H.faults shelf.old) (H.faults shelf.new) result }
+{
+    let bytes = load_file(alloc, FileKind::Plan, name, shelf)?;
+    match read_plan(alloc, bytes.as_slice()) {
+        Ok(plan) => checked(alloc, soc, limits, plan),
+        Err(fault) => Err(refused_plan(alloc, fault)),
+    }
+}
+
+/// Loads a chip and limits for it, else how the command ends.
+pub fn load_both<H: Shelf>(
+    alloc: Global,
+    soc: &str,
+    limits: &str,
+    shelf: &mut H,
+) -> Result<Both, Verdict>
+    ensures held_stays { H.held shelf.new ≡ H.held shelf.old }
+    ensures faults_never_fall { H.faults shelf.old ≤ H.faults shelf.new }
+    ensures chip { IfOk result (λ both. IsSoundChip (soc_value both.soc)) }
+    ensures limits { IfOk result (λ both. IsSoundLimits (soc_value both.soc) (limits_value both.limits)) }
+    ensures loads { LoadsBoth soc.now limits.now (H.held shelf.old) (H.faults shelf.old) (H.faults shelf.new) result }
+{
+    let soc = load_chip(alloc, soc, shelf)?;
+    let limits = load_limits(alloc, &soc, limits, shelf)?;
+    Ok(Both { soc, limits })
+}
+
+/// Loads a chip, limits for it and a plan that is accepted, else how the command ends.
+pub fn load_all<H: Shelf>(
+    alloc: Global,
+    soc: &str,
+    limits: &str,
+    plan: &str,
+    shelf: &mut H,
+) -> Result<Accepted, Verdict>
+    ensures held_stays { H.held shelf.new ≡ H.held shelf.old }
+    ensures faults_never_fall { H.faults shelf.old ≤ H.faults shelf.new }
+    ensures sound { IfOk result (λ all. IsSoundChip (soc_value all.soc)) }
+    ensures limits { IfOk result (λ all. IsSoundLimits (soc_value all.soc) (limits_value all.limits)) }
+    ensures accepted { IfOk result (λ all. IsFaultless (soc_value all.soc) (limits_value all.limits) (plan_value all.plan)) }
+    ensures loads { LoadsAll soc.now limits.now plan.now (H.held shelf.old) (H.faults shelf.old) (H.faults shelf.new) result }
+{
+    let both = load_both(alloc, soc, limits, shelf)?;
+    let plan = load_accepted_plan(alloc, &both.soc, &both.limits, plan, shelf)?;
+    Ok(Accepted {
+        soc: both.soc,
+        limits: both.limits,
+        plan,
+    })
+}
