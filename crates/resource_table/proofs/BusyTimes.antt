@@ -1,15 +1,16 @@
 -- The timelines of a table, as tests are placed and taken back, and what they say of where a test fits.
-use Rattle.std.proofs.Common.{◌≡◌, ◌⊎◌, ℕ, zero, suc, ◌+◌, ◌<◌, ◌≤◌, ◌^◌, inl, inr, Option, None, Some, Result, Ok, Err, List, [], ◌∷◌, ◌++◌, length, get_or, map, take, Bool, true, false, max, arith, refl, sym, ap, ◌∙◌, subst}
+use Rattle.std.proofs.Common.{◌≡◌, ◌⊎◌, ℕ, zero, suc, ◌+◌, ◌<◌, ◌≤◌, ◌^◌, inl, inr, Option, None, Some, Result, Ok, Err, List, [], ◌∷◌, ◌++◌, length, get_or, map, take, replicate, Bool, true, false, max, arith, refl, sym, ap, ◌∙◌, subst}
 use Rattle.std.specs.Prelude.{slice_get, nat_eq, nat_lt, nat_le, ◌&&◌, ◌||◌, if◌then◌else◌, IfSome, IfOk, vec_capacity}
 use Rattle.std.specs.List.{All, sum_by, remove}
 use Rattle.std.specs.List.Sorted.{IsNonDecreasingBy}
 use Rattle.std.specs.Global.{Vec}
 use Rattle.std.proofs.lemmas.Bool.{cases_Bool, cases_lt, lt-ltb, le-ltb, ltb-false, lt-leb, le-leb, leb-false, eqb-true, eq-eqb, and_right, or_cases}
 use Rattle.std.proofs.lemmas.List.Sums.{sum_by-cons, sum_by_push, sum_by-insert, sum_by-remove, sum_by-le}
-use Rattle.std.proofs.lemmas.List.{length-take}
+use Rattle.std.proofs.lemmas.List.{length-take, length-map, length-replicate, get_or-replicate}
 use Rattle.std.proofs.lemmas.List.Sorted.{IsNonDecreasingBy-insert, IsNonDecreasingBy-short}
 use Rattle.std.proofs.lemmas.Option.{slice_get_within, slice_get-get_or, get_or_from_slice_get}
 use Rattle.outside.specs.declared.NoMemory.{NoMemory}
+use Rattle.plan_model.specs.declared.TheConstants.{WIRES_MOST}
 use Rattle.plan_model.proofs.Lists.{from_map}
 use Rattle.plan_model.proofs.Sums.{sum_by-le_at}
 use Rattle.plan_model.proofs.Greatest.{le-greatest_at}
@@ -22,7 +23,7 @@ use Rattle.resource_table.specs.declared.timelines.Timeline.{Timeline}
 use Rattle.resource_table.specs.declared.timelines.Timelines.{Timelines}
 use Rattle.resource_table.specs.Jobs.{TestValue, JobValue, test_value, test_at, no_test, cycles_of}
 use Rattle.resource_table.specs.Schedules.{at_start, is_at, same_bus, exclude, end_of, last_end, MeetsNone, MayPlace, IsSoundTable}
-use Rattle.resource_table.specs.BusyTimes.{IsClear, AreFree, IsPut, IsTaken, MayFill, ArePut, MayClear, AreTaken, timeline_of, is_alone, takes, span_of, part_in, IsTimeline, AreTimelines, AreTimes, IsFree, AreOrdered, MayAdd, IsAdded, MayRemove, IsRemoved, AreEmpty, AreEmptyTimes}
+use Rattle.resource_table.specs.BusyTimes.{IsClear, AreFree, IsPut, IsTaken, MayFill, ArePut, MayClear, AreTaken, timeline_of, is_alone, takes, room_of, least_of, span_of, part_in, IsTimeline, AreTimelines, AreTimes, IsFree, AreOrdered, MayAdd, IsAdded, MayRemove, IsRemoved, AreEmpty, AreEmptyTimes}
 use Rattle.resource_table.proofs.Places.{all_at, all_from}
 use Rattle.resource_table.proofs.Placed.{sum_of_placed, sound_tests, at_last}
 use Rattle.resource_table.proofs.Spans.{there_is, ordered_remove}
@@ -153,14 +154,55 @@ module _ (job : JobValue) (placed : List Placement) (kind : Kind) (k : ℕ) (spa
 
 -- ---- no times
 
-pub empty_kind : (kind : Kind) (tests : List JobTest) (count : ℕ) (counts rooms : List ℕ) (result : Result (Vec Timeline) NoMemory) →
+-- a timeline has room for the tests that take it
+takers_have_room : (kind : Kind) (k : ℕ) (tests : List TestValue) → sum_by (λ (t : TestValue). if takes kind k t then 1 else 0) tests ≤ room_of kind k tests
+takers_have_room Bus k tests =
+    omega (arith, sum_by-le (λ (t : TestValue). if takes Bus k t then 1 else 0) 1 tests (λ j d lt. one_at_most (takes Bus k (get_or tests j d))))
+  where
+    one_at_most : (b : Bool) → (if b then 1 else 0) ≤ 1
+    one_at_most true = omega arith
+    one_at_most false = omega arith
+takers_have_room Own k tests = omega arith
+takers_have_room Children k tests = omega arith
+
+room_of_takers : (kind : Kind) → least_of kind ≡ 0 → (k : ℕ) (tests : List TestValue) → room_of kind k tests ≡ sum_by (λ (t : TestValue). if takes kind k t then 1 else 0) tests
+room_of_takers Bus none k tests = absurd (omega (arith, none))
+room_of_takers Own none k tests = refl
+room_of_takers Children none k tests = refl
+
+pub empty_bus_lines : (tests : List JobTest) (count many : ℕ) (rooms : List ℕ) (result : Result (Vec Timeline) NoMemory) →
+    All (λ (t : JobTest). IfSome (timeline_of Bus (test_value t)) (λ k. k < count)) tests → count ≤ many → WIRES_MOST ≤ many → rooms ≡ replicate many (length tests) → IfOk result (λ lines. length lines.items ≡ length rooms) →
+    IfOk result (λ lines. (k : ℕ) (line : Timeline) → slice_get lines.items k ≡ Some line → line.spans.items ≡ []) →
+    IfOk result (λ lines. (k : ℕ) (line : Timeline) → slice_get lines.items k ≡ Some line → get_or rooms k 0 ≤ vec_capacity line.spans) →
+    IfOk result (λ lines. AreEmpty Bus (map test_value tests) lines.items)
+empty_bus_lines tests count many rooms (Err e) reach more all is lines_long empty room = tt
+empty_bus_lines tests count many rooms (Ok lines) reach more all is lines_long empty room = record {
+  many = omega (arith, rooms_long, lines_long, all);
+  reach = all_from (λ (t : TestValue). IfSome (timeline_of Bus t) (λ k. k < length lines.items)) (map test_value tests) (λ i t at.
+      let r = from_map test_value tests i t at in
+      within (timeline_of Bus t) (subst (λ (v : TestValue). IfSome (timeline_of Bus v) (λ k. k < count)) r.2 (all_at (λ (u : JobTest). IfSome (timeline_of Bus (test_value u)) (λ k. k < count)) tests i r.0 reach r.1)));
+  empty = empty;
+  room = (λ k line at.
+      let lt : k < length lines.items = slice_get_within lines.items k line at in
+      omega (arith, room k line at, ap (λ (v : List ℕ). get_or v k 0) is, get_or-replicate many k (length tests) 0 (omega (arith, lt, lines_long, rooms_long)), length-map tests test_value));
+}
+  where
+    rooms_long : length rooms ≡ many
+    rooms_long = ap length is ∙ length-replicate many (length tests)
+
+    within : (o : Option ℕ) → IfSome o (λ k. k < count) → IfSome o (λ k. k < length lines.items)
+    within None h = tt
+    within (Some k) h = omega (arith, h, more, lines_long, rooms_long)
+
+pub empty_kind : (kind : Kind) (tests : List JobTest) (count : ℕ) (counts rooms : List ℕ) (result : Result (Vec Timeline) NoMemory) → least_of kind ≡ 0 →
     All (λ (t : JobTest). IfSome (timeline_of kind (test_value t)) (λ k. k < count)) tests → length counts ≡ count → ((k : ℕ) → k < count → get_or counts k 0 ≡ sum_by (λ (t : JobTest). if takes kind k (test_value t) then 1 else 0) tests) →
     rooms ≡ counts → IfOk result (λ lines. length lines.items ≡ length rooms) →
     IfOk result (λ lines. (k : ℕ) (line : Timeline) → slice_get lines.items k ≡ Some line → line.spans.items ≡ []) →
     IfOk result (λ lines. (k : ℕ) (line : Timeline) → slice_get lines.items k ≡ Some line → get_or rooms k 0 ≤ vec_capacity line.spans) →
     IfOk result (λ lines. AreEmpty kind (map test_value tests) lines.items)
-empty_kind kind tests count counts rooms (Err e) reach long are same lines_long empty room = tt
-empty_kind kind tests count counts rooms (Ok lines) reach long are same lines_long empty room = record {
+empty_kind kind tests count counts rooms (Err e) least reach long are same lines_long empty room = tt
+empty_kind kind tests count counts rooms (Ok lines) least reach long are same lines_long empty room = record {
+  many = omega (arith, least);
   reach = all_from (λ (t : TestValue). IfSome (timeline_of kind t) (λ k. k < length lines.items)) (map test_value tests) (λ i t at.
       let r = from_map test_value tests i t at in
       within (timeline_of kind t) (subst (λ (v : TestValue). IfSome (timeline_of kind v) (λ k. k < count)) r.2 (all_at (λ (u : JobTest). IfSome (timeline_of kind (test_value u)) (λ k. k < count)) tests i r.0 reach r.1)));
@@ -168,7 +210,7 @@ empty_kind kind tests count counts rooms (Ok lines) reach long are same lines_lo
   room = (λ k line at.
       let lt : k < length lines.items = slice_get_within lines.items k line at in
       let same_long = ap length same in
-      omega (arith, room k line at, are k (omega arith), ap (λ (v : List ℕ). get_or v k 0) same, sum_map (λ (t : TestValue). if takes kind k t then 1 else 0) test_value tests));
+      omega (arith, room k line at, are k (omega arith), ap (λ (v : List ℕ). get_or v k 0) same, sum_map (λ (t : TestValue). if takes kind k t then 1 else 0) test_value tests, room_of_takers kind least k (map test_value tests)));
 }
   where
     within : (o : Option ℕ) → IfSome o (λ k. k < count) → IfSome o (λ k. k < length lines.items)
@@ -189,6 +231,7 @@ few_takers (Some k) counts kind tests i small inside are =
 
 new_kind : (kind : Kind) (job : JobValue) (lines : List Timeline) → AreEmpty kind job.tests lines → AreTimelines job [] kind lines
 new_kind kind job lines are = record {
+  many = are.many;
   reach = (λ test k inside is. subst (λ (o : Option ℕ). IfSome o (λ k. k < length lines)) is (are.reach test no_test inside));
   each = (λ k line at. record {
     starts = subst (IsNonDecreasingBy (λ (s : Span). s.from)) (sym (are.empty k line at)) (IsNonDecreasingBy-short (λ (s : Span). s.from) [] (omega arith));
@@ -428,7 +471,7 @@ module _ (job : JobValue) (placed : List Placement) (sound : IsSoundTable (recor
         let was = are.each k line at in
         let all = takers job (placed ++ at_start test start ∷ []) (sound_push job placed test start sound may) kind k in
         let more = more_yes job placed kind k (at_start test start) (takes_from (timeline_of kind (test_at job test)) k is) (λ s. 1) in
-        omega (arith, was.room, was.sums (λ s. 1), ones line.spans.items, all, more));
+        omega (arith, was.room, was.sums (λ s. 1), ones line.spans.items, all, more, takers_have_room kind k job.tests));
   }
     where
       reach : (o : Option ℕ) → timeline_of kind (test_at job test) ≡ o → IfSome o (λ k. k < length lines)
@@ -444,6 +487,7 @@ module _ (job : JobValue) (placed : List Placement) (sound : IsSoundTable (recor
 
   lines_more : (kind : Kind) (old new : List Timeline) → AreTimelines job placed kind old → ArePut (timeline_of kind (test_at job test)) (span_of job (at_start test start)) old new → AreTimelines job (placed ++ at_start test start ∷ []) kind new
   lines_more kind old new are put = record {
+    many = omega (arith, are.many, put.long);
     reach = (λ other k inside is. let lt = are.reach other k inside is in omega (arith, lt, put.long));
     each = (λ k line at. elim (cases_Bool (takes kind k (test_at job test))) [
       | inl yes' ↦
@@ -489,6 +533,7 @@ module _ (job : JobValue) (placed : List Placement) (p : Placement) (inside : p.
 
   lines_less : (kind : Kind) (old new : List Timeline) → AreTimelines job (placed ++ p ∷ []) kind old → AreTaken (timeline_of kind (test_at job p.test)) (span_of job p) old new → AreTimelines job placed kind new
   lines_less kind old new are taken = record {
+    many = omega (arith, are.many, taken.long);
     reach = (λ other k within is. let lt = are.reach other k within is in omega (arith, lt, taken.long));
     each = (λ k line at. elim (cases_Bool (takes kind k (test_at job p.test))) [
       | inl yes' ↦ let r = taken.here k line (takes_is (timeline_of kind (test_at job p.test)) k yes') at in line_less job placed kind k p r.0 line (are.each k r.0 r.1) yes' r.2 r.3

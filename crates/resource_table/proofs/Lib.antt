@@ -17,4 +17,5 @@ pub mod Befores
 pub mod Ready
 pub mod Schedules
 pub mod Bounds
+pub mod Restarts
 mod Rows

@@ -1,5 +1,5 @@
 -- A job of tests that are to be scheduled, as plain lists and numbers.
-use Rattle.std.specs.Prelude.{◌≡◌, ℕ, ◌<◌, ◌≤◌, ◌^◌, Option, None, Some, List, [], map, length, slice_get, slice_index_or, IfSome}
+use Rattle.std.specs.Prelude.{◌≡◌, ℕ, ◌<◌, ◌≤◌, ◌^◌, Option, None, Some, List, [], ◌∷◌, map, length, slice_get, slice_index_or, IfSome}
 use Rattle.std.specs.List.{All, Contains, sum_by}
 use Rattle.soc_model.specs.declared.TestId.{TestId}
 use Rattle.soc_model.specs.declared.TheConstants.{POWER_MOST, NUMBER_WORD_MOST}
@@ -39,6 +39,22 @@ test_at job test = slice_index_or job.tests test no_test
 
 abbrev pub cycles_of : JobValue → ℕ → ℕ
 cycles_of job test = (test_at job test).cycles
+
+-- ---- the same tests over other buses
+
+-- a test over another bus, with other cycles
+abbrev pub test_over : Option ℕ → ℕ → TestValue → TestValue
+test_over bus cycles t = record { id = t.id; place = t.place; parent = t.parent; bus = bus; cycles = cycles; steps = t.steps }
+
+-- each test over the bus and with the cycles that stand at its place
+abbrev pub tests_over : List (Option ℕ) → List ℕ → List TestValue → List TestValue
+tests_over (bus ∷ buses) (cycles ∷ lengths) (t ∷ tests) = test_over bus cycles t ∷ tests_over buses lengths tests
+tests_over (bus ∷ buses) (cycles ∷ lengths) [] = []
+tests_over (bus ∷ buses) [] tests = tests
+tests_over [] lengths tests = tests
+
+abbrev pub job_over : List (Option ℕ) → List ℕ → JobValue → JobValue
+job_over buses lengths job = record { tests = tests_over buses lengths job.tests; before = job.before; power = job.power }
 
 -- the first test has to end before the second starts
 abbrev pub Precedes : JobValue → ℕ → ℕ → Type 0

@@ -1,16 +1,21 @@
 // Empty timelines, with room for the times of all tests of a job.
-ghost use Rattle.std.specs.Prelude.{◌≡◌, ℕ, ◌+◌, ◌^◌, ◌<◌, ◌≤◌, Some, [], length, map, slice_get, slice_index_or, vec_capacity, if◌then◌else◌, IfSome, IfOk};
+ghost use Rattle.std.specs.Prelude.{◌≡◌, ℕ, ◌+◌, ◌^◌, ◌<◌, ◌≤◌, Some, [], length, map, slice_get, slice_index_or, replicate, vec_capacity, if◌then◌else◌, IfSome, IfOk};
 ghost use Rattle.std.specs.List.{All, sum_by};
 ghost use Rattle.resource_table.specs.declared.JobTest.{JobTest};
 ghost use Rattle.resource_table.specs.declared.timelines.Timeline.{Timeline};
+ghost use Rattle.resource_table.specs.declared.timelines.Kind.TheVariants.{Bus};
 ghost use Rattle.resource_table.specs.Jobs.{test_value};
 ghost use Rattle.resource_table.specs.Schedules.{is_at};
-ghost use Rattle.resource_table.specs.BusyTimes.{timeline_of as timeline_of_value, takes, AreEmpty, AreEmptyTimes};
+ghost use Rattle.resource_table.specs.BusyTimes.{timeline_of as timeline_of_value, takes, least_of, AreEmpty, AreEmptyTimes};
 
 use crate::JobTest;
 use crate::timelines::{Kind, Timeline, Timelines};
 use outside::{NoMemory, push};
+use plan_model::WIRES_MOST;
 use std::alloc::Global;
+
+/// A bus takes a wire at least, so that no chip has more.
+const BUSES: usize = WIRES_MOST as usize;
 
 /// The place of the timeline of a kind that a test takes, where it takes one.
 fn timeline_of(test: &JobTest, kind: Kind) -> Option<usize>
@@ -96,8 +101,25 @@ fn timelines_of_rooms(alloc: Global, rooms: &[usize]) -> Result<Vec<Timeline>, N
     Ok(lines)
 }
 
-/// The empty timelines of a kind.
+/// The same room so many times.
+fn equal_rooms(alloc: Global, room: usize, count: usize) -> Result<Vec<usize>, NoMemory>
+    ensures { IfOk result (λ rooms. rooms.items ≡ replicate count room) }
+{
+    vec![in alloc; room; count].map_err(|_| NoMemory)
+}
+
+/// The empty timelines of the buses: as many as a chip may have, or more, each with room for the times of all tests.
+fn empty_buses(alloc: Global, tests: &[JobTest]) -> Result<Vec<Timeline>, NoMemory>
+    ensures { IfOk result (λ lines. AreEmpty Bus (map test_value tests.now) lines.items) }
+{
+    let count = count_timelines(tests, Kind::Bus).ok_or(NoMemory)?;
+    let rooms = equal_rooms(alloc, tests.len(), count.max(BUSES))?;
+    timelines_of_rooms(alloc, &rooms)
+}
+
+/// The empty timelines of a kind that tests keep.
 fn empty_timelines(alloc: Global, tests: &[JobTest], kind: Kind) -> Result<Vec<Timeline>, NoMemory>
+    requires { least_of kind ≡ 0 }
     ensures { IfOk result (λ lines. AreEmpty kind (map test_value tests.now) lines.items) }
 {
     let count = count_timelines(tests, kind).ok_or(NoMemory)?;
@@ -110,7 +132,7 @@ pub fn empty_times(alloc: Global, tests: &[JobTest]) -> Result<Timelines, NoMemo
     ensures { IfOk result (λ times. AreEmptyTimes (map test_value tests.now) times) }
 {
     Ok(Timelines {
-        buses: empty_timelines(alloc, tests, Kind::Bus)?,
+        buses: empty_buses(alloc, tests)?,
         modules: empty_timelines(alloc, tests, Kind::Own)?,
         children: empty_timelines(alloc, tests, Kind::Children)?,
     })

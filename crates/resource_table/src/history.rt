@@ -103,3 +103,15 @@ pub fn back(history: &mut History)
         }
     }
 }
+
+/// Takes all changes and marks away, and makes each number 0.
+pub fn forget(history: &mut History)
+    ensures values { history.new.values.items ≡ replicate (length history.old.values.items) 0 }
+    ensures marks { history.new.marks.items ≡ [] }
+    ensures history { IsHistory history.new }
+    ensures room { vec_capacity history.new.marks ≡ vec_capacity history.old.marks }
+{
+    history.log.clear();
+    history.marks.clear();
+    history.values.fill(0);
+}

@@ -1,15 +1,16 @@
 // The table of placed tests.
-ghost use Rattle.std.specs.Prelude.{◌≡◌, ℕ, ◌+◌, ◌-◌, ◌^◌, ◌<◌, ◌≤◌, ◌++◌, ◌∷◌, [], List, length, map, take, Some, slice_get, replicate, None, IfOk, ◌⊎◌, ◌*◌, vec_capacity, slice_index_or, unwrap_or};
+ghost use Rattle.std.specs.Prelude.{◌≡◌, ℕ, ◌+◌, ◌-◌, ◌^◌, ◌<◌, ◌≤◌, ◌++◌, ◌∷◌, [], List, length, map, take, Some, slice_get, replicate, None, IfOk, ◌⊎◌, ◌*◌, vec_capacity, slice_index_or, unwrap_or, IfSome};
 ghost use Rattle.std.specs.List.{All, Contains, sum_by};
+ghost use Rattle.plan_model.specs.declared.TheConstants.{WIRES_MOST};
 ghost use Rattle.resource_table.specs.declared.JobTest.{JobTest};
 ghost use Rattle.resource_table.specs.declared.Placement.{Placement};
-ghost use Rattle.resource_table.specs.Jobs.{TestValue, job_value, cycles_of, Precedes, IsSoundJob};
+ghost use Rattle.resource_table.specs.Jobs.{TestValue, test_value, job_value, cycles_of, test_over, tests_over, job_over, Precedes, IsSoundJob};
 ghost use Rattle.resource_table.specs.Schedules.{TableValue, at_start, end_of, last_end as last_end_of, ready_at, is_placed as is_placed_in, MeetsNone, StaysWithin, ComesAfter, Fits, IsEarliest, MayPlace, IsSoundTable};
 
 use crate::copies::copy_job;
 use crate::earlier::{Before, all_before, earlier_than};
 use crate::empty_times::empty_times;
-use crate::history::{History, back, mark, new_history, raise};
+use crate::history::{History, back, forget, mark, new_history, raise};
 use crate::points::Point;
 use crate::power::{Draw, after_power, push_draws};
 use crate::profile::{add_drawn, take_drawn};
@@ -156,6 +157,25 @@ fn new_points(alloc: Global, tests: usize, steps: usize) -> Result<Vec<Point>, N
     };
     let room = marks.saturating_add(marks / 4);
     Vec::with_capacity(alloc, room).map_err(|_| NoMemory)
+}
+
+/// Lets a test go over a bus and take so many cycles.
+fn send_one_over(test: &mut JobTest, bus: Option<usize>, length: u64)
+    ensures { test_value test.new ≡ test_over bus length (test_value test.old) }
+{
+    test.bus = bus;
+    test.length = length;
+}
+
+/// Lets each test go over the bus and take the cycles that stand at its place.
+fn send_over(tests: &mut [JobTest], buses: &[Option<usize>], lengths: &[u64])
+    requires buses { length buses.now ≡ length tests.old }
+    requires lengths { length lengths.now ≡ length tests.old }
+    ensures { map test_value tests.new ≡ tests_over buses.now lengths.now (map test_value tests.old) }
+{
+    for place in 0..tests.len() {
+        send_one_over(&mut tests[place], buses[place], lengths[place]);
+    }
 }
 
 impl<'a> TableOf<&'a Job> {
@@ -406,5 +426,22 @@ impl<J> TableOf<J> {
         while self.count() > count {
             self.pop();
         }
+    }
+
+    /// Takes all placements back, and lets each test go over the bus and take the cycles that stand at its place. Powers,
+    /// modules and precedences stay. It is then as a new table of that job, and takes no memory: the tests that were
+    /// placed and the tests of the job are gone through once. There is room for as many buses as a chip may have.
+    pub fn restart(&mut self, buses: &[Option<usize>], lengths: &[u64])
+        requires buses { length buses.now ≡ length self.old.job.tests }
+        requires lengths { length lengths.now ≡ length self.old.job.tests }
+        requires room { All (λ bus. IfSome bus (λ k. k < WIRES_MOST)) buses.now }
+        requires sound { IsSoundJob (job_over buses.now lengths.now self.old.job) }
+        ensures empty { self.new ≡ record { job = job_over buses.now lengths.now self.old.job; placed = [] } }
+        ensures sound { IsSoundTable self.new }
+    {
+        self.pop_to(0);
+        self.points.clear();
+        forget(&mut self.bounds);
+        send_over(&mut self.own.tests, buses, lengths);
     }
 }

@@ -1,4 +1,3 @@
-use Rattle.std.proofs.Common.{arith}
 use Rattle.resource_table.proofs.Near.{parts_near}
 use Rattle.resource_table.proofs.points.places_before_near.Goals as goal
 

@@ -1,0 +1,195 @@
+-- A table that is emptied for the same tests over other buses.
+use Rattle.std.proofs.Common.{◌≡◌, ℕ, zero, suc, ◌+◌, ◌<◌, ◌≤◌, Option, None, Some, List, [], ◌∷◌, length, get_or, set, take, map, replicate, arith, refl, sym, ap, ◌∙◌, subst}
+use Rattle.std.specs.Prelude.{if◌then◌else◌, IfSome, vec_capacity}
+use Rattle.std.specs.List.{All, sum_by, flat_map}
+use Rattle.std.specs.Global.{Vec}
+use Rattle.std.proofs.lemmas.List.{length-map, get_or-map, map-set, take_all}
+use Rattle.std.proofs.lemmas.List.Sums.{sum_by-cons}
+use Rattle.plan_model.specs.declared.TheConstants.{WIRES_MOST}
+use Rattle.plan_model.specs.Rules.{Each}
+use Rattle.smallvec.specs.SmallVec.{SmallVec}
+use Rattle.resource_table.specs.declared.JobTest.{JobTest}
+use Rattle.resource_table.specs.declared.Placement.{Placement}
+use Rattle.resource_table.specs.declared.history.History.{History}
+use Rattle.resource_table.specs.declared.points.Point.{Point}
+use Rattle.resource_table.specs.declared.power.Draw.{Draw}
+use Rattle.resource_table.specs.declared.timelines.Kind.{Kind}
+use Rattle.resource_table.specs.declared.timelines.Kind.TheVariants.{Bus, Own, Children}
+use Rattle.resource_table.specs.declared.timelines.Timeline.{Timeline}
+use Rattle.resource_table.specs.declared.timelines.Timelines.{Timelines}
+use Rattle.resource_table.specs.Jobs.{TestValue, JobValue, test_value, test_at, no_test, test_over, tests_over, job_over, IsSoundJob}
+use Rattle.resource_table.specs.Schedules.{MayPlace}
+use Rattle.resource_table.specs.Resources.{draws_of, end_in}
+use Rattle.resource_table.specs.Befores.{AreListed}
+use Rattle.resource_table.specs.Histories.{IsHistory}
+use Rattle.resource_table.specs.Kept.{IsKept, IsProfiled, IsBounded}
+use Rattle.resource_table.proofs.Bounds.{bounded_new}
+use Rattle.resource_table.proofs.KeptTables.{profiled_new}
+use Rattle.resource_table.specs.BusyTimes.{takes, room_of, IsTimeline, AreTimelines, AreTimes}
+
+-- ---- tests over other buses
+
+pub length-tests_over : (buses : List (Option ℕ)) (lengths : List ℕ) (tests : List TestValue) → length (tests_over buses lengths tests) ≡ length tests
+length-tests_over (bus ∷ buses) (cycles ∷ lengths) (t ∷ tests) = omega (arith, length-tests_over buses lengths tests)
+length-tests_over (bus ∷ buses) (cycles ∷ lengths) [] = refl
+length-tests_over (bus ∷ buses) [] tests = refl
+length-tests_over [] lengths tests = refl
+
+pub test_over_at : (buses : List (Option ℕ)) (lengths : List ℕ) (tests : List TestValue) (i : ℕ) → i < length tests → length buses ≡ length tests → length lengths ≡ length tests →
+    get_or (tests_over buses lengths tests) i no_test ≡ test_over (get_or buses i None) (get_or lengths i 0) (get_or tests i no_test)
+test_over_at (bus ∷ buses) (cycles ∷ lengths) (t ∷ tests) zero lt b l = refl
+test_over_at (bus ∷ buses) (cycles ∷ lengths) (t ∷ tests) (suc i) lt b l = test_over_at buses lengths tests i (omega (arith, lt)) (omega (arith, b)) (omega (arith, l))
+test_over_at (bus ∷ buses) (cycles ∷ lengths) [] i lt b l = absurd (omega (arith, lt))
+test_over_at (bus ∷ buses) [] (t ∷ tests) i lt b l = absurd (omega (arith, l))
+test_over_at (bus ∷ buses) [] [] i lt b l = absurd (omega (arith, lt))
+test_over_at [] lengths (t ∷ tests) i lt b l = absurd (omega (arith, b))
+test_over_at [] lengths [] i lt b l = absurd (omega (arith, lt))
+
+-- the first so many are over their buses, the others as they were
+pub over_more : (buses : List (Option ℕ)) (lengths : List ℕ) (tests : List TestValue) (p : ℕ) → p < length tests → length buses ≡ length tests → length lengths ≡ length tests →
+    tests_over (take (suc p) buses) (take (suc p) lengths) tests ≡ set (tests_over (take p buses) (take p lengths) tests) p (test_over (get_or buses p None) (get_or lengths p 0) (get_or tests p no_test))
+over_more (bus ∷ buses) (cycles ∷ lengths) (t ∷ tests) zero lt b l = refl
+over_more (bus ∷ buses) (cycles ∷ lengths) (t ∷ tests) (suc p) lt b l = ap (λ (v : List TestValue). test_over bus cycles t ∷ v) (over_more buses lengths tests p (omega (arith, lt)) (omega (arith, b)) (omega (arith, l)))
+over_more (bus ∷ buses) (cycles ∷ lengths) [] p lt b l = absurd (omega (arith, lt))
+over_more (bus ∷ buses) [] (t ∷ tests) p lt b l = absurd (omega (arith, l))
+over_more (bus ∷ buses) [] [] p lt b l = absurd (omega (arith, lt))
+over_more [] lengths (t ∷ tests) p lt b l = absurd (omega (arith, b))
+over_more [] lengths [] p lt b l = absurd (omega (arith, lt))
+
+pub not_over_yet : (buses : List (Option ℕ)) (lengths : List ℕ) (tests : List TestValue) (p : ℕ) → length buses ≡ length tests → length lengths ≡ length tests → get_or (tests_over (take p buses) (take p lengths) tests) p no_test ≡ get_or tests p no_test
+not_over_yet (bus ∷ buses) (cycles ∷ lengths) (t ∷ tests) zero b l = refl
+not_over_yet (bus ∷ buses) (cycles ∷ lengths) (t ∷ tests) (suc p) b l = not_over_yet buses lengths tests p (omega (arith, b)) (omega (arith, l))
+not_over_yet (bus ∷ buses) (cycles ∷ lengths) [] p b l = absurd (omega (arith, b))
+not_over_yet (bus ∷ buses) [] tests p b l = absurd (omega (arith, b, l))
+not_over_yet [] (cycles ∷ lengths) tests p b l = absurd (omega (arith, b, l))
+not_over_yet [] [] (t ∷ tests) p b l = absurd (omega (arith, b))
+not_over_yet [] [] [] zero b l = refl
+not_over_yet [] [] [] (suc p) b l = refl
+
+-- one test more is sent over
+pub sent_one : (initial now : List JobTest) (buses : List (Option ℕ)) (lengths : List ℕ) (p : ℕ) (d new : JobTest) → p < length now → length buses ≡ length initial → length lengths ≡ length initial →
+    map test_value now ≡ tests_over (take p buses) (take p lengths) (map test_value initial) → test_value new ≡ test_over (get_or buses p None) (get_or lengths p 0) (test_value (get_or now p d)) →
+    map test_value (set now p new) ≡ tests_over (take (p + 1) buses) (take (p + 1) lengths) (map test_value initial)
+sent_one initial now buses lengths p d new lt b l is new_is =
+    let values = map test_value initial in
+    let long : length now ≡ length initial = sym (length-map now test_value) ∙ ap length is ∙ length-tests_over (take p buses) (take p lengths) values ∙ length-map initial test_value in
+    let b' : length buses ≡ length values = b ∙ sym (length-map initial test_value) in
+    let l' : length lengths ≡ length values = l ∙ sym (length-map initial test_value) in
+    let here : test_value (get_or now p d) ≡ get_or values p no_test = sym (get_or-map test_value now p d no_test lt) ∙ ap (λ (v : List TestValue). get_or v p no_test) is ∙ not_over_yet buses lengths values p b' l' in
+    map-set test_value now p new ∙ ap (λ (v : List TestValue). set v p (test_value new)) is
+    ∙ ap (set (tests_over (take p buses) (take p lengths) values) p) (new_is ∙ ap (test_over (get_or buses p None) (get_or lengths p 0)) here)
+    ∙ sym (over_more buses lengths values p (omega (arith, lt, long, length-map initial test_value)) b' l')
+    ∙ ap (λ (n : ℕ). tests_over (take n buses) (take n lengths) values) (let e : suc p ≡ p + 1 = omega arith in e)
+
+pub sent_all : (initial now : List JobTest) (buses : List (Option ℕ)) (lengths : List ℕ) (p : ℕ) → length now ≤ p → length now ≡ length initial → length buses ≡ length initial → length lengths ≡ length initial →
+    map test_value now ≡ tests_over (take p buses) (take p lengths) (map test_value initial) → map test_value now ≡ tests_over buses lengths (map test_value initial)
+sent_all initial now buses lengths p le same b l is =
+    is ∙ ap (λ (v : List (Option ℕ)). tests_over v (take p lengths) (map test_value initial)) (take_all p buses (omega (arith, le, same, b)))
+    ∙ ap (λ (v : List ℕ). tests_over buses v (map test_value initial)) (take_all p lengths (omega (arith, le, same, l)))
+
+-- whatever is summed up over the tests and knows neither bus nor cycles stays
+pub sum_over : (f : TestValue → ℕ) → ((bus : Option ℕ) (cycles : ℕ) (t : TestValue) → f (test_over bus cycles t) ≡ f t) → (buses : List (Option ℕ)) (lengths : List ℕ) (tests : List TestValue) → sum_by f (tests_over buses lengths tests) ≡ sum_by f tests
+sum_over f same (bus ∷ buses) (cycles ∷ lengths) (t ∷ tests) = omega (arith, sum_by-cons f (test_over bus cycles t) (tests_over buses lengths tests), sum_by-cons f t tests, same bus cycles t, sum_over f same buses lengths tests)
+sum_over f same (bus ∷ buses) (cycles ∷ lengths) [] = refl
+sum_over f same (bus ∷ buses) [] tests = refl
+sum_over f same [] lengths tests = refl
+
+-- ---- timelines without times
+
+no_times : (job : JobValue) (kind : Kind) (k : ℕ) (line : Timeline) → IsTimeline job [] kind k line → (other : JobValue) → room_of kind k other.tests ≡ room_of kind k job.tests → IsTimeline other [] kind k line
+no_times job kind k line is other same = record {
+  starts = is.starts;
+  ends = is.ends;
+  sums = is.sums;
+  room = omega (arith, is.room, same);
+}
+
+module _ (job : JobValue) (buses : List (Option ℕ)) (lengths : List ℕ) (buses_long : length buses ≡ length job.tests) (lengths_long : length lengths ≡ length job.tests) where
+  abbrev other : JobValue
+  other = job_over buses lengths job
+
+  at_place : (test : ℕ) → test < length other.tests → test_at other test ≡ test_over (get_or buses test None) (get_or lengths test 0) (test_at job test)
+  at_place test inside = test_over_at buses lengths job.tests test (omega (arith, inside, length-tests_over buses lengths job.tests)) buses_long lengths_long
+
+  bus_lines : All (λ bus. IfSome bus (λ k. k < WIRES_MOST)) buses → (lines : List Timeline) → AreTimelines job [] Bus lines → AreTimelines other [] Bus lines
+  bus_lines few lines are = record {
+    many = are.many;
+    reach = (λ test k inside is.
+        let here : get_or buses test None ≡ Some k = sym (ap (λ (t : TestValue). t.bus) (at_place test inside)) ∙ is in
+        let less : k < WIRES_MOST = subst (λ (o : Option ℕ). IfSome o (λ k. k < WIRES_MOST)) here (few test None (omega (arith, inside, length-tests_over buses lengths job.tests, buses_long))) in
+        let many = are.many in
+        omega (arith, less, many));
+    each = (λ k line at. no_times job Bus k line (are.each k line at) other (length-tests_over buses lengths job.tests));
+  }
+
+  own_lines : (lines : List Timeline) → AreTimelines job [] Own lines → AreTimelines other [] Own lines
+  own_lines lines are = record {
+    many = are.many;
+    reach = (λ test k inside is. are.reach test k (omega (arith, inside, length-tests_over buses lengths job.tests)) (sym (ap (λ (t : TestValue). Some t.place) (at_place test inside)) ∙ is));
+    each = (λ k line at. no_times job Own k line (are.each k line at) other (sum_over (λ (t : TestValue). if takes Own k t then 1 else 0) (λ bus cycles t. refl) buses lengths job.tests));
+  }
+
+  child_lines : (lines : List Timeline) → AreTimelines job [] Children lines → AreTimelines other [] Children lines
+  child_lines lines are = record {
+    many = are.many;
+    reach = (λ test k inside is. are.reach test k (omega (arith, inside, length-tests_over buses lengths job.tests)) (sym (ap (λ (t : TestValue). t.parent) (at_place test inside)) ∙ is));
+    each = (λ k line at. no_times job Children k line (are.each k line at) other (sum_over (λ (t : TestValue). if takes Children k t then 1 else 0) (λ bus cycles t. refl) buses lengths job.tests));
+  }
+
+  pub times_over : All (λ bus. IfSome bus (λ k. k < WIRES_MOST)) buses → (times : Timelines) → AreTimes job [] times → AreTimes other [] times
+  times_over few times are = record {
+    buses = bus_lines few times.buses.items are.buses;
+    modules = own_lines times.modules.items are.modules;
+    children = child_lines times.children.items are.children;
+  }
+
+-- ---- what else a table keeps
+
+module _ (job : JobValue) (buses : List (Option ℕ)) (lengths : List ℕ) (trail : SmallVec Placement) (none : trail.items ≡ []) where
+  abbrev new_job : JobValue
+  new_job = job_over buses lengths job
+
+  kept_over : IsSoundJob new_job → (ends : Vec (Option ℕ)) (lasts : Vec ℕ) (draws : Vec Draw) → IsKept job trail ends lasts draws → IsKept new_job trail ends lasts draws
+  kept_over sound ends lasts draws is =
+      let same = length-tests_over buses lengths job.tests in
+      let steps = sum_over (λ (t : TestValue). length t.steps) (λ bus cycles t. refl) buses lengths job.tests in
+      record {
+        sound = record { job = sound; placed = subst (Each (λ earlier p. MayPlace new_job earlier p.test p.start)) (sym none) (λ n p at. absurd cc) };
+        ends_long = is.ends_long ∙ sym same;
+        ends_are = (λ test lt. is.ends_are test (omega (arith, lt, same)) ∙ ap (λ (v : List Placement). end_in job v test) none ∙ ap (λ (v : List Placement). end_in new_job v test) (sym none));
+        lasts_long = is.lasts_long;
+        lasts_are = (λ i lt. absurd (omega (arith, lt, ap length none)));
+        draws_are = is.draws_are ∙ ap (flat_map (draws_of job)) none ∙ ap (flat_map (draws_of new_job)) (sym none);
+        trail_room = (let room = is.trail_room in omega (arith, room, same));
+        lasts_room = (let room = is.lasts_room in omega (arith, room, same));
+        draws_room = (let room = is.draws_room in omega (arith, room, steps));
+      }
+
+  listed_over : (lists : List (List ℕ)) → AreListed job lists → AreListed new_job lists
+  listed_over lists are =
+      let same = length-tests_over buses lengths job.tests in
+      record { long = are.long ∙ sym same; are = (λ test lt. are.are test (omega (arith, lt, same))) }
+
+  profiled_over : (draws : Vec Draw) (old points : Vec Point) → draws.items ≡ [] → IsProfiled job trail draws old → points.items ≡ [] → vec_capacity points ≡ vec_capacity old → IsProfiled new_job trail draws points
+  profiled_over draws old points draws_is is points_is capacity =
+      profiled_new new_job trail draws points (length job.tests) (sum_by (λ (t : TestValue). length t.steps) job.tests) (sym (length-tests_over buses lengths job.tests))
+      (sym (sum_over (λ (t : TestValue). length t.steps) (λ bus cycles t. refl) buses lengths job.tests)) none draws_is points_is (let room = is.room in omega (arith, room, capacity))
+
+  bounded_over : (old bounds : History) → IsBounded job trail.items old → bounds.values.items ≡ replicate (length old.values.items) 0 → bounds.marks.items ≡ [] → IsHistory bounds → vec_capacity bounds.marks ≡ vec_capacity old.marks → IsBounded new_job trail.items bounds
+  bounded_over old bounds is values marks history room =
+      bounded_new new_job trail.items bounds (length old.values.items) none (is.long ∙ sym (length-tests_over buses lengths job.tests)) values marks history (let long = is.long in let most = is.room in omega (arith, long, most, room))
+
+  -- nothing is placed, and all that is kept is as it would be built for the job with the other buses
+  pub kept_anew : IsSoundJob new_job → length buses ≡ length job.tests → length lengths ≡ length job.tests → All (λ bus. IfSome bus (λ k. k < WIRES_MOST)) buses →
+      (ends : Vec (Option ℕ)) (lasts : Vec ℕ) (draws : Vec Draw) (lists : List (List ℕ)) (old points : Vec Point) (times : Timelines) (was bounds : History) →
+      IsKept job trail ends lasts draws × AreListed job lists × IsProfiled job trail draws old × AreTimes job trail.items times × IsBounded job trail.items was →
+      points.items ≡ [] → vec_capacity points ≡ vec_capacity old →
+      bounds.values.items ≡ replicate (length was.values.items) 0 → bounds.marks.items ≡ [] → IsHistory bounds → vec_capacity bounds.marks ≡ vec_capacity was.marks →
+      IsKept new_job trail ends lasts draws × AreListed new_job lists × IsProfiled new_job trail draws points × AreTimes new_job trail.items times × IsBounded new_job trail.items bounds
+  kept_anew sound buses_long lengths_long few ends lasts draws lists old points times was bounds is points_is capacity values marks history room = (
+    kept_over sound ends lasts draws is.0,
+    listed_over lists is.1,
+    profiled_over draws old points (is.0.draws_are ∙ ap (flat_map (draws_of job)) none) is.2 points_is capacity,
+    subst (λ (v : List Placement). AreTimes new_job v times) (sym none) (times_over job buses lengths buses_long lengths_long few times (subst (λ (v : List Placement). AreTimes job v times) none is.3)),
+    bounded_over was bounds is.4 values marks history room,
+  )

@@ -1,0 +1,54 @@
+use Rattle.std.proofs.Common.{◌≡◌, ◌∙◌, ℕ, Option, List, [], length, map, sym, subst, ap, arith}
+use Rattle.std.specs.Vec.{with_items}
+use Rattle.std.proofs.lemmas.List.{with_items_is, length-map}
+use Rattle.resource_table.specs.declared.Job.{Job}
+use Rattle.resource_table.specs.declared.JobTest.{JobTest}
+use Rattle.resource_table.specs.declared.Placement.{Placement}
+use Rattle.resource_table.specs.Befores.{listed, AreListed}
+use Rattle.resource_table.specs.BusyTimes.{AreTimes}
+use Rattle.resource_table.specs.Kept.{IsKept, IsProfiled, IsBounded}
+use Rattle.resource_table.specs.Jobs.{TestValue, JobValue, test_value, job_value, tests_over, job_over, IsSoundJob}
+use Rattle.resource_table.specs.Schedules.{TableValue}
+use Rattle.resource_table.proofs.Restarts.{kept_anew, length-tests_over}
+use Rattle.resource_table.proofs.table.TableOf.restart.Goals as goal
+
+-- the job that is written back is the one over the other buses
+same_job : (own : Job) (new read : List JobTest) (buses : List (Option ℕ)) (lengths : List ℕ) → read ≡ own.tests.items → map test_value new ≡ tests_over buses lengths (map test_value read) →
+    job_value (record { tests = with_items own.tests new; before = own.before; power = own.power }) ≡ job_over buses lengths (job_value own)
+same_job own new read buses lengths read_is new_is =
+    let values = map test_value own.tests.items in
+    let tests : map test_value new ≡ tests_over buses lengths values = new_is ∙ ap (λ (v : List JobTest). tests_over buses lengths (map test_value v)) read_is in
+    let long = ap length tests ∙ length-tests_over buses lengths values in
+    let items : (with_items own.tests new).items ≡ new = with_items_is own.tests new (omega (arith, long, length-map new test_value, length-map own.tests.items test_value, own.tests.ok.0)) in
+    ap (λ (v : List TestValue). (let j : JobValue = record { tests = v; before = own.before.items; power = own.power } in j)) (ap (map test_value) items ∙ tests)
+
+pub invariant_of-self : goal.invariant_of-self
+invariant_of-self g c =
+    let own = c.self.inside.own in
+    let buses = c.args.buses.now in
+    let lengths = c.args.lengths.now in
+    let view : (let t : TableValue = record { job = job_value own; placed = c.self.inside.trail.items } in t) ≡ record { job = c.args.self.now.job; placed = [] } = c.self.view_is ∙ c.pop_to.ensures.table in
+    let job : job_value own ≡ c.args.self.now.job = ap (λ (t : TableValue). t.job) view in
+    let none : c.self.inside.trail.items ≡ [] = ap (λ (t : TableValue). t.placed) view in
+    let long : length (job_value own).tests ≡ length c.args.self.now.job.tests = ap (λ (j : JobValue). length j.tests) job in
+    let sound : IsSoundJob (job_over buses lengths (job_value own)) = subst (λ (j : JobValue). IsSoundJob (job_over buses lengths j)) (sym job) c.requires.sound in
+    let same = same_job own c.send_over.new.tests c.deref_mut.result.now buses lengths c.deref_mut.ensures.value c.send_over.ensures in
+    subst (λ (j : JobValue). IsKept j c.self.inside.trail c.self.inside.ends c.self.inside.lasts c.self.inside.draws × AreListed j (map listed c.self.inside.before.items) × IsProfiled j c.self.inside.trail c.self.inside.draws c.clear.new.self × AreTimes j c.self.inside.trail.items c.self.inside.times × IsBounded j c.self.inside.trail.items c.forget.new.history) (sym same)
+    (kept_anew (job_value own) buses lengths c.self.inside.trail none sound (c.requires.buses ∙ sym long) (c.requires.lengths ∙ sym long) c.requires.room c.self.inside.ends c.self.inside.lasts c.self.inside.draws (map listed c.self.inside.before.items)
+    c.self.inside.points c.clear.new.self c.self.inside.times c.self.inside.bounds c.forget.new.history c.self.invariant c.clear.ensures.items c.clear.ensures.capacity
+    c.forget.ensures.values c.forget.ensures.marks c.forget.ensures.history c.forget.ensures.room)
+
+pub returns-clause-empty : goal.returns-clause-empty
+returns-clause-empty g c =
+    let own = c.self.inside.own in
+    let buses = c.args.buses.now in
+    let lengths = c.args.lengths.now in
+    let view : (let t : TableValue = record { job = job_value own; placed = c.self.inside.trail.items } in t) ≡ record { job = c.args.self.now.job; placed = [] } = c.self.view_is ∙ c.pop_to.ensures.table in
+    let job : job_value own ≡ c.args.self.now.job = ap (λ (t : TableValue). t.job) view in
+    let none : c.self.inside.trail.items ≡ [] = ap (λ (t : TableValue). t.placed) view in
+    let same = same_job own c.send_over.new.tests c.deref_mut.result.now buses lengths c.deref_mut.ensures.value c.send_over.ensures in
+    ap (λ (j : JobValue). (let t : TableValue = record { job = j; placed = c.self.inside.trail.items } in t)) (same ∙ ap (job_over buses lengths) job)
+    ∙ ap (λ (v : List Placement). (let t : TableValue = record { job = job_over buses lengths c.args.self.now.job; placed = v } in t)) none
+
+pub returns-clause-sound : goal.returns-clause-sound
+returns-clause-sound g c = (invariant_of-self g c).0.sound
