@@ -13,4 +13,4 @@ mod wrappers;
 pub use job::{JobParts, job_of};
 use outside::NoMemory;
 pub use planning::plan;
-pub use wrappers::table_wrappers;
+pub use wrappers::{table_wrappers, width_of};

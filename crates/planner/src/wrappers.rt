@@ -24,7 +24,7 @@ struct UsedMode {
 }
 
 /// The wires of the first bus that lists a module, 0 where none does.
-fn width_of(buses: &[Bus], number: u64) -> u64
+pub fn width_of(buses: &[Bus], number: u64) -> u64
     ensures { result ≡ bus_width (map bus_value buses.now) number }
 {
     for bus in buses {
