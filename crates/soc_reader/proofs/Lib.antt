@@ -10,6 +10,9 @@ pub mod Places
 pub mod Telling
 pub mod TotalFacts
 pub mod RowBits
+pub mod Sizes
+pub mod Nearby
+pub mod Lengths
 pub mod ChipsSaid
 pub mod OneAnswer
 pub mod EachText

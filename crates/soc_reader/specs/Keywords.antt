@@ -1,6 +1,6 @@
 -- The words of the .soc form, after the files of the ITC'02 SOC Test Benchmarks.
-use Rattle.std.specs.Prelude.{ℕ, ◌||◌, ◌&&◌, ◌++◌, List, [], ◌∷◌, Bool, true, false, not, codes, nat_eq, nat_le, Option, None, Some, if◌then◌else◌}
-use Rattle.std.specs.List.{list_all}
+use Rattle.std.specs.Prelude.{ℕ, ◌||◌, ◌&&◌, ◌++◌, List, [], ◌∷◌, Bool, true, false, not, codes, length, nat_eq, nat_le, Option, None, Some, if◌then◌else◌}
+use Rattle.std.specs.List.{list_all, filter}
 use Rattle.std.specs.Char.{is_ascii_alphabetic, is_ascii_digit}
 use Rattle.outside.specs.Words.{same_letters}
 use Rattle.outside.specs.Decimal.{number_of}
@@ -25,6 +25,10 @@ flags = (codes "Power", PowerFlag) ∷ (codes "XY", XyFlag) ∷ []
 abbrev pub named : List (List ℕ × Key) → List ℕ → Option Key
 named [] w = None
 named (k ∷ ks) w = if same_letters w k.0 then Some k.1 else named ks w
+
+-- the keywords of lengths that pass a test
+abbrev pub sized : (ℕ → Bool) → List (List ℕ × Key)
+sized test = filter (λ k. test (length k.0)) keywords
 
 -- the keyword that a word is, directly after `Options` and its flags or elsewhere
 unfoldable pub key_of : Bool → List ℕ → Option Key

@@ -1,7 +1,5 @@
 -- What the reader's values stand for.
-use Rattle.std.specs.Prelude.{◌≡◌, ℕ, List, map, reverse, Bool, true, false, Option, None, Some, Result, Ok, Err}
-use Rattle.soc_model.specs.declared.PutFault.{PutFault}
-use Rattle.soc_model.specs.declared.PutFault.TheVariants.{Known, NoMemory as PutNoMemory}
+use Rattle.std.specs.Prelude.{◌≡◌, ℕ, List, map, reverse, false, Option, None, Some, Result, Ok, Err}
 use Rattle.soc_reader.specs.declared.keys.Subject.{Subject}
 use Rattle.soc_reader.specs.declared.items.ReadValue.{ReadValue}
 use Rattle.soc_reader.specs.declared.items.ReadValue.TheVariants.{Nothing, Word, Count, Flag, Lengths}
@@ -12,13 +10,13 @@ use Rattle.soc_reader.specs.declared.items.ReadPart.{ReadPart}
 use Rattle.soc_reader.specs.declared.items.ReadPart.TheVariants.{Between, Wants, Counted, Listing, WantsCoordinate, NameOrData}
 use Rattle.outside.specs.declared.reading.Stop.{Stop}
 use Rattle.outside.specs.declared.reading.Stop.TheVariants.{Refused, NoMemory}
-use Rattle.soc_reader.specs.Table.{Value, nothing, word, count, flag, lengths, Item, entry, name, place_data, coordinate}
+use Rattle.soc_reader.specs.Table.{Value, nothing, word, count, flag, lengths, Item, entry, name, place_data, coordinate, may_repeat}
 use Rattle.soc_reader.specs.Grammar.{open_after, after, has_xy, is_given, renames}
 use Rattle.soc_reader.specs.Marks.{is_marked}
 use Rattle.soc_reader.specs.Names.{name_in, is_other_name}
 use Rattle.soc_reader.specs.declared.keys.Key.{Key}
 use Rattle.std.specs.List.{list_any}
-use Rattle.soc_reader.specs.Steps.{Part, between, wants, counted, listing, wants_coordinate, name_or_data, State}
+use Rattle.soc_reader.specs.Steps.{Part, between, wants, counted, listing, wants_coordinate, name_or_data, State, step_at}
 
 abbrev pub value_of : ReadValue → Value
 value_of Nothing = nothing
@@ -43,7 +41,7 @@ pub record InStep (items : Items) : Type 0 where
   pub after_is : items.after ≡ after (done_of items)
   pub xy : items.xy ≡ has_xy (done_of items)
   pub names : (m : ℕ) (w : List ℕ) → is_other_name (name_in items.names m) w ≡ list_any (renames m w) (done_of items)
-  pub marks : (s : Subject) (k : Key) → is_marked s k items.given ≡ list_any (is_given s k) (done_of items)
+  pub marks : (s : Subject) (k : Key) → may_repeat k ≡ false → is_marked s k items.given ≡ list_any (is_given s k) (done_of items)
 
 abbrev pub part_of : ReadPart → Part
 part_of Between = between
@@ -65,6 +63,6 @@ Closes whole (Ok _) items = whole ≡ Some (done_of items)
 Closes whole (Err Refused) items = whole ≡ None
 Closes whole (Err NoMemory) items = Unit {0}
 
-abbrev pub is_known : PutFault → Bool
-is_known (Known m) = true
-is_known (PutNoMemory m) = false
+-- this word goes on with a list, and makes this part of that one
+abbrev pub AddsLength : ReadPart → List ℕ → ReadPart → Type 0
+AddsLength old bytes new = (done : List Item) (line : ℕ) → step_at done (part_of old) (bytes, line) ≡ Some (record { done = done; part = part_of new })

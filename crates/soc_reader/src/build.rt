@@ -1,9 +1,9 @@
 // Makes the chip that items say.
-ghost use Rattle.std.specs.Prelude.{◌≡◌, OnOk, IfOk, IsOk, map, reverse, nat_eq, true};
+ghost use Rattle.std.specs.Prelude.{◌≡◌, OnOk, IfOk, IsOk, map, reverse, nat_eq, position, true};
 ghost use Rattle.std.specs.List.{list_any};
 ghost use Rattle.soc_model.specs.Chips.{soc_value, module_value};
-ghost use Rattle.soc_model.specs.Lookups.{has_module_number};
-ghost use Rattle.soc_reader.specs.Views.{value_of, item_of, is_known};
+ghost use Rattle.soc_model.specs.Lookups.{has_module_number, module_place as place_of_module};
+ghost use Rattle.soc_reader.specs.Views.{value_of, item_of};
 ghost use Rattle.soc_reader.specs.Drafts.{IsNumbered, IsIndexed};
 ghost use Rattle.soc_reader.specs.Meaning.{test_says, module_says, chip_says, says as item_says, tells, at_module as modules_at, with_module as modules_with, chip_of, with_test as tests_with, new_test as test_new, new_module as module_new, at_test as tests_at};
 
@@ -11,7 +11,7 @@ use crate::items::{ReadItem, ReadValue};
 use crate::keys::{Key, Subject};
 use indexmap::IndexSet;
 use outside::{NoMemory, copied, push};
-use soc_model::{Module, PutFault, Soc, Test, place_of};
+use soc_model::{Module, Soc, Test, place_of};
 use std::alloc::Global;
 
 /// The numbers of a module's tests, each at the place of its test.
@@ -70,6 +70,17 @@ fn give_test(test: &mut Test, key: Key, value: &ReadValue<'_>)
     }
 }
 
+/// The place of the test of a number. The last test is looked at first: most of a text speaks of that one.
+fn test_place(numbers: &TestNumbers, number: u64) -> Option<usize>
+    ensures { result ≡ position (nat_eq number) numbers.now.set.keys }
+{
+    let last = numbers.set.len().saturating_sub(1);
+    match numbers.set.get_index(last) {
+        Some(found) if *found == number => Some(last),
+        _ => numbers.set.get_index_of(&number),
+    }
+}
+
 /// What they say of the test of a number.
 fn give_test_at(
     tests: &mut Vec<Test>,
@@ -81,7 +92,7 @@ fn give_test_at(
     requires { IsNumbered numbers.now tests.old.items }
     ensures { tests.new.items ≡ tests_at number (test_says key (value_of value.now)) tests.old.items }
 {
-    if let Some(place) = numbers.set.get_index_of(&number) {
+    if let Some(place) = test_place(numbers, number) {
         give_test(&mut tests[place], key, value);
     }
 }
@@ -129,27 +140,40 @@ fn give_module(
     Ok(())
 }
 
-/// A module that is there already is no fault.
-fn known(fault: PutFault) -> Result<(), NoMemory>
-    ensures ok { OnOk result (is_known fault ≡ true) }
-    ensures known { is_known fault ≡ true → IsOk result }
+/// The place of the module of a number. The last module is looked at first: most of a text speaks of that one.
+fn module_place(soc: &Soc, number: u64) -> Option<usize>
+    ensures { result ≡ place_of_module (soc_value soc.now) number }
 {
-    match fault {
-        PutFault::Known { .. } => Ok(()),
-        PutFault::NoMemory { .. } => Err(NoMemory),
+    let last = soc.modules.len().saturating_sub(1);
+    match soc.modules.get_index(last) {
+        Some((found, _)) if *found == number => Some(last),
+        _ => place_of(soc, number),
     }
 }
 
-/// Adds a module where it is new. One that is there already is no want of memory.
+/// Whether a module has a number. The last module is looked at first.
+fn has_module(soc: &Soc, number: u64) -> bool
+    ensures { result ≡ has_module_number (soc_value soc.now) number }
+{
+    match soc.modules.last() {
+        Some((found, _)) if *found == number => true,
+        _ => soc.modules.contains_key(&number),
+    }
+}
+
+/// Adds a module where it is new. One that is there already takes no memory.
 fn add_module(alloc: Global, draft: &mut Draft, number: u64) -> Result<(), NoMemory>
     requires { IsIndexed draft.old }
     ensures added { OnOk result (soc_value draft.new.soc ≡ modules_with number (soc_value draft.old.soc)) }
     ensures indexed { OnOk result (IsIndexed draft.new) }
     ensures known { has_module_number (soc_value draft.old.soc) number ≡ true → IsOk result }
 {
+    if has_module(&draft.soc, number) {
+        return Ok(());
+    }
     match draft.soc.put(new_module(alloc, number)) {
         Ok(()) => {}
-        Err(fault) => return known(fault),
+        Err(_) => return Err(NoMemory),
     }
     let none = TestNumbers {
         set: IndexSet::new(alloc),
@@ -221,7 +245,7 @@ fn tell_at(
     ensures told { OnOk result (soc_value draft.new.soc ≡ modules_at number (tells (item_of item.now)) (soc_value draft.old.soc)) }
     ensures indexed { OnOk result (IsIndexed draft.new) }
 {
-    let Some(place) = place_of(&draft.soc, number) else {
+    let Some(place) = module_place(&draft.soc, number) else {
         return Ok(());
     };
     let numbers = &mut draft.numbers[place];

@@ -1,5 +1,5 @@
 // Adds items to those that were read.
-ghost use Rattle.std.specs.Prelude.{◌≡◌, ◌∷◌, ◌||◌, ℕ, List, not, OnOk, OnErr, true, [], map};
+ghost use Rattle.std.specs.Prelude.{◌≡◌, ◌∷◌, ◌||◌, ℕ, List, not, OnOk, OnErr, true, false, [], map};
 ghost use Rattle.soc_reader.specs.Grammar.{opens_item, after_item as after_the_item, after_entry, gives_xy as gives, may_give as may_be_given, may_name as may_be_named, is_given as gives_this, renames as gives_other};
 ghost use Rattle.soc_reader.specs.Table.{may_repeat as repeats, name as named_item};
 ghost use Rattle.std.specs.List.{list_any};
@@ -89,13 +89,23 @@ pub fn no_items<'a>(alloc: Global) -> Items<'a>
     }
 }
 
-/// Marks what an item gives.
+/// Whether a keyword may be given again: then it goes on with that module or test.
+fn may_repeat(key: Key) -> bool
+    ensures { result ≡ repeats key }
+{
+    matches!(key, Key::Module | Key::Test)
+}
+
+/// Marks what an item gives, where it may be given once.
 fn mark_item(given: &mut Marks, item: &ReadItem<'_>) -> Result<(), Stop>
-    ensures ok { OnOk result ((s : Subject) (k : Key) → is_marked s k given.new ≡ (gives_this s k (item_of item.now) || is_marked s k given.old)) }
+    ensures ok { OnOk result ((s : Subject) (k : Key) → repeats k ≡ false → is_marked s k given.new ≡ (gives_this s k (item_of item.now) || is_marked s k given.old)) }
     ensures memory { OnErr result (result ≡ Err Stop.NoMemory) }
 {
     match item {
         ReadItem::Entry { subject, key, .. } => {
+            if may_repeat(*key) {
+                return Ok(());
+            }
             let given_now = Given {
                 subject: *subject,
                 key: *key,
@@ -139,13 +149,6 @@ pub fn push<'a>(items: &mut Items<'a>, item: ReadItem<'a>) -> Result<(), Stop>
     items.after = after;
     items.xy = xy;
     Ok(())
-}
-
-/// Whether a keyword may be given again: then it goes on with that module or test.
-fn may_repeat(key: Key) -> bool
-    ensures { result ≡ repeats key }
-{
-    matches!(key, Key::Module | Key::Test)
 }
 
 /// Whether this may be given after the items.

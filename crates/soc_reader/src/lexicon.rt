@@ -1,65 +1,124 @@
 // What kinds of words there are.
-ghost use Rattle.std.specs.Prelude.{◌≡◌, ◌||◌, ◌&&◌, length, true, false};
-ghost use Rattle.soc_reader.specs.Keywords.{keywords, named, key_of as key_that_is, is_lengths_word as says_lengths, is_printable as prints, is_free_word as is_free, is_letter_word as has_letter, is_coordinate as is_number_like, number as number_in, flag_of as flag_in};
+ghost use Rattle.std.specs.Prelude.{◌≡◌, ◌||◌, ◌&&◌, length, nat_eq, nat_le, true, false};
+ghost use Rattle.soc_reader.specs.Keywords.{keywords, sized, named, key_of as key_that_is, is_lengths_word as says_lengths, is_printable as prints, is_free_word as is_free, is_letter_word as has_letter, is_coordinate as is_number_like, number as number_in, flag_of as flag_in};
 
 use crate::keys::Key;
 use outside::{number, same_word};
 use soc_model::NUMBER_WORD_MOST;
 
-/// The keyword that a word is, but directly after `Options`.
+/// The keyword that a word of four letters is.
 #[tactic(auto)]
-fn keyword(word: &[u8]) -> Option<Key>
-    ensures { result ≡ named keywords word.now }
+fn keyword_of_four(word: &[u8]) -> Option<Key>
+    ensures { result ≡ named (sized (nat_eq 4)) word.now }
 {
-    if same_word(word, b"SocName") {
-        return Some(Key::SocName);
+    if same_word(word, b"Test") {
+        return Some(Key::Test);
     }
-    if same_word(word, b"TotalModules") {
-        return Some(Key::TotalModules);
-    }
-    if same_word(word, b"Options") {
-        return Some(Key::Options);
-    }
-    if same_word(word, b"Module") {
-        return Some(Key::Module);
-    }
+    None
+}
+
+/// The keyword that a word of five letters is.
+#[tactic(auto)]
+fn keyword_of_five(word: &[u8]) -> Option<Key>
+    ensures { result ≡ named (sized (nat_eq 5)) word.now }
+{
     if same_word(word, b"Level") {
         return Some(Key::Level);
-    }
-    if same_word(word, b"Inputs") {
-        return Some(Key::Inputs);
-    }
-    if same_word(word, b"Outputs") {
-        return Some(Key::Outputs);
-    }
-    if same_word(word, b"Bidirs") {
-        return Some(Key::Bidirs);
     }
     if same_word(word, b"Setup") {
         return Some(Key::Setup);
     }
-    if same_word(word, b"ScanChains") || same_word(word, b"TotalScanChains") {
-        return Some(Key::ScanChains);
-    }
-    if same_word(word, b"TotalTests") || same_word(word, b"Tests") {
+    if same_word(word, b"Tests") {
         return Some(Key::TotalTests);
-    }
-    if same_word(word, b"Test") {
-        return Some(Key::Test);
-    }
-    if same_word(word, b"ScanUse") {
-        return Some(Key::ScanUse);
-    }
-    if same_word(word, b"TamUse") {
-        return Some(Key::TamUse);
-    }
-    if same_word(word, b"Patterns") {
-        return Some(Key::Patterns);
     }
     if same_word(word, b"Power") {
         return Some(Key::Power);
     }
     None
+}
+
+/// The keyword that a word of six letters is.
+#[tactic(auto)]
+fn keyword_of_six(word: &[u8]) -> Option<Key>
+    ensures { result ≡ named (sized (nat_eq 6)) word.now }
+{
+    if same_word(word, b"Module") {
+        return Some(Key::Module);
+    }
+    if same_word(word, b"Inputs") {
+        return Some(Key::Inputs);
+    }
+    if same_word(word, b"Bidirs") {
+        return Some(Key::Bidirs);
+    }
+    if same_word(word, b"TamUse") {
+        return Some(Key::TamUse);
+    }
+    None
+}
+
+/// The keyword that a word of seven letters is.
+#[tactic(auto)]
+fn keyword_of_seven(word: &[u8]) -> Option<Key>
+    ensures { result ≡ named (sized (nat_eq 7)) word.now }
+{
+    if same_word(word, b"SocName") {
+        return Some(Key::SocName);
+    }
+    if same_word(word, b"Options") {
+        return Some(Key::Options);
+    }
+    if same_word(word, b"Outputs") {
+        return Some(Key::Outputs);
+    }
+    if same_word(word, b"ScanUse") {
+        return Some(Key::ScanUse);
+    }
+    None
+}
+
+/// The keyword that a word of more letters is.
+#[tactic(auto)]
+fn long_keyword(word: &[u8]) -> Option<Key>
+    ensures { result ≡ named (sized (nat_le 8)) word.now }
+{
+    if same_word(word, b"TotalModules") {
+        return Some(Key::TotalModules);
+    }
+    if same_word(word, b"ScanChains") || same_word(word, b"TotalScanChains") {
+        return Some(Key::ScanChains);
+    }
+    if same_word(word, b"TotalTests") {
+        return Some(Key::TotalTests);
+    }
+    if same_word(word, b"Patterns") {
+        return Some(Key::Patterns);
+    }
+    None
+}
+
+/// The keyword that a word is, but directly after `Options`. It is looked for among those of its length.
+#[tactic(auto, using(crate::proofs::Sizes::of_length, crate::proofs::Sizes::of_more, crate::proofs::Sizes::of_fewer))]
+fn keyword(word: &[u8]) -> Option<Key>
+    ensures { result ≡ named keywords word.now }
+{
+    let length = word.len();
+    if length < 4 {
+        return None;
+    }
+    if length > 7 {
+        return long_keyword(word);
+    }
+    if length == 4 {
+        return keyword_of_four(word);
+    }
+    if length == 5 {
+        return keyword_of_five(word);
+    }
+    if length == 6 {
+        return keyword_of_six(word);
+    }
+    keyword_of_seven(word)
 }
 
 /// The keyword that a word is, directly after `Options` and its flags or elsewhere.

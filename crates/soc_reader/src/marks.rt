@@ -1,5 +1,5 @@
 // What was given, found by its subject: a bit for each row of the table.
-ghost use Rattle.std.specs.Prelude.{◌≡◌, ◌&&◌, ◌^◌, None, nat_eq, option_map, OnOk, OnErr, ◌||◌, true, is_some, if◌then◌else◌};
+ghost use Rattle.std.specs.Prelude.{◌≡◌, ◌&&◌, ◌^◌, None, nat_eq, option_map, OnOk, OnErr, IfSome, ◌||◌, true, is_some, if◌then◌else◌};
 ghost use Rattle.std.specs.Int.Bits.{bit_or};
 ghost use Rattle.soc_reader.specs.Grammar.{same_subject, row};
 ghost use Rattle.soc_reader.specs.Marks.{bits_of, is_marked, is_same, with_row};
@@ -37,10 +37,24 @@ fn row_bit(key: Key) -> u32
     }
 }
 
+/// The rows of a subject, where it is the last of which rows were given: most of a text speaks of that one.
+fn last_rows(marks: &Marks, subject: Subject) -> Option<u32>
+    ensures { IfSome result (λ rows. bits_of marks.now subject ≡ Some rows) }
+{
+    let (last, rows) = marks.get_index(marks.len().saturating_sub(1))?;
+    if *last != subject {
+        return None;
+    }
+    Some(*rows)
+}
+
 /// Whether this was given.
 pub fn is_in(marks: &Marks, given: Given) -> bool
     ensures { result ≡ is_marked given.subject given.key marks.now }
 {
+    if let Some(rows) = last_rows(marks, given.subject) {
+        return rows & row_bit(given.key) != 0;
+    }
     match marks.get(&given.subject) {
         Some(rows) => *rows & row_bit(given.key) != 0,
         None => false,
@@ -70,6 +84,9 @@ fn add_subject(marks: &mut Marks, subject: Subject, bit: u32) -> Result<(), Stop
 fn has_rows(marks: &Marks, subject: Subject) -> bool
     ensures { result ≡ is_some (bits_of marks.now subject) }
 {
+    if last_rows(marks, subject).is_some() {
+        return true;
+    }
     marks.contains_key(&subject)
 }
 

@@ -1,8 +1,8 @@
 // Reads a text word by word.
-ghost use Rattle.std.specs.Prelude.{◌≡◌, ◌∷◌, ◌++◌, [], true, option_map};
+ghost use Rattle.std.specs.Prelude.{◌≡◌, ◌∷◌, ◌++◌, [], true, false, option_map, OnErr};
 ghost use Rattle.soc_reader.specs.Grammar.{after as after_done, open_after, has_xy, may_name as may_be_named};
 ghost use Rattle.soc_reader.specs.Steps.{begin_if, after_value, at, between, begun, begin_entry as begins_entry, begin_name as begins_name, begin_data as begins_data, begin_free as begins_free, begin as begins, is_data_word as is_data_word_after, list_from as lists_from, after_length as lists_after, step_value as steps_value, step_counted as steps_counted, step_listing as steps_listing, step_name as steps_name, step_at, closed_at};
-ghost use Rattle.soc_reader.specs.Views.{value_of, item_of, done_of, part_of, InStep, Steps, Closes};
+ghost use Rattle.soc_reader.specs.Views.{value_of, item_of, done_of, part_of, InStep, Steps, Closes, AddsLength};
 ghost use Rattle.soc_reader.specs.Table.{word_value as value_that_is, owner as owner_of, shape_of as shape_that_follows, entry, name as named_item, place_data, lengths};
 ghost use Rattle.soc_reader.specs.Keywords.{number as number_in, is_lengths_word as says_lengths, is_coordinate as is_number_like};
 ghost use Rattle.soc_reader.specs.Names.{KeepsNames};
@@ -376,8 +376,31 @@ fn step_name<'a>(
     begin(items, part, word)
 }
 
-/// The next word.
-pub fn step<'a>(
+/// One more length in the midst of a list, which is put in where the list stands. False where the part is no list of
+/// which more than one length is to come, or the word is no number: then it stays as it is.
+fn add_length(part: &mut ReadPart<'_>, word: &[u8]) -> Result<bool, Stop>
+    ensures added { result ≡ Ok true → AddsLength part.old word.now part.new }
+    ensures other { result ≡ Ok false → part.new ≡ part.old }
+    ensures memory { OnErr result (result ≡ Err Stop.NoMemory) }
+{
+    match part {
+        ReadPart::Listing { read, left, .. } => {
+            if *left < 2 {
+                return Ok(false);
+            }
+            let Some(length) = number_of(word) else {
+                return Ok(false);
+            };
+            read.push(length)?;
+            *left -= 1;
+            Ok(true)
+        }
+        _ => Ok(false),
+    }
+}
+
+/// The next word, wherever it stands.
+fn step_part<'a>(
     alloc: Global,
     items: &mut Items<'a>,
     part: &mut ReadPart<'a>,
@@ -417,6 +440,22 @@ pub fn step<'a>(
         }
         ReadPart::NameOrData { module, name } => step_name(items, part, module, name, word.bytes),
     }
+}
+
+/// The next word. Most words of a long text are lengths in the midst of a list.
+pub fn step<'a>(
+    alloc: Global,
+    items: &mut Items<'a>,
+    part: &mut ReadPart<'a>,
+    word: Word<'a>,
+) -> Result<(), Stop>
+    requires { InStep items.old }
+    ensures { Steps (step_at (done_of items.old) (part_of part.old) (word.entry.bytes.now, word.entry.line)) result part.new items.new }
+{
+    if add_length(part, word.bytes)? {
+        return Ok(());
+    }
+    step_part(alloc, items, part, word)
 }
 
 /// The text ends here.
