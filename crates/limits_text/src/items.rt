@@ -84,3 +84,10 @@ pub enum Part {
         from: u64,
     },
 }
+
+/// What was read of a text so far: whole items, and of an unfinished one what there is.
+#[derive(Drop)]
+pub struct ReadSoFar {
+    pub items: Items,
+    pub part: Part,
+}

@@ -27,7 +27,7 @@ pub fn read_limits(alloc: Global, bytes: &[u8], soc: &Soc) -> Result<Limits, Lim
     if let Some(tests) = cycle_of(alloc, soc, &limits)? {
         return Err(LimFault::Cycle { tests });
     }
-    if let Some((test, power)) = test_power(soc, &limits) {
+    if let Some((test, power)) = test_power(alloc, soc, &limits)? {
         return Err(LimFault::TestPower { test, power });
     }
     Ok(limits)

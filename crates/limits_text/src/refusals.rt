@@ -1,14 +1,18 @@
 // What a chip refuses of limits: tests that it hasn't, and powers that pass the limit.
-ghost use Rattle.std.specs.Prelude.{◌≡◌, ℕ, ◌∷◌, [], map, find, nat_lt, MatchOption};
-ghost use Rattle.soc_model.specs.Chips.{soc_value, module_value, live_of, live_tests};
+ghost use Rattle.std.specs.Prelude.{◌≡◌, ℕ, ◌∷◌, [], map, find, position, nat_lt, IfOk, MatchOption};
+ghost use Rattle.soc_model.specs.Chips.{soc_value, module_value, live_of, live_tests, same_test};
+ghost use Rattle.plan_model.specs.declared.Profile.{Profile};
 ghost use Rattle.plan_model.specs.Views.{limits_value, profile_value};
 ghost use Rattle.limits_text.specs.Meaning.{is_known as is_in_chip, unknown_line as unknown_line_of, first_line, powers_named, NonePasses, IsFirstPassing};
-ghost use Rattle.limits_text.specs.Passing.{live_at, passing, first_passing};
+ghost use Rattle.limits_text.specs.Passing.{live_at, passing, first_passing, AreProfilePlaces};
 ghost use Rattle.limits_text.specs.Views.{item_of};
 
 use crate::items::Item;
-use plan_model::{Limits, Profile, profile_of};
+use indexmap::IndexMap;
+use outside::NoMemory;
+use plan_model::{Limits, Profile};
 use soc_model::{Module, Soc, Test, TestId, find_test, live};
+use std::alloc::Global;
 
 /// Whether the chip has a test.
 fn is_known(soc: &Soc, test: TestId) -> bool
@@ -54,6 +58,29 @@ pub fn first_unknown(soc: &Soc, list: &[Item]) -> Option<u64>
     None
 }
 
+/// The place of the profile of each test that has one, by the test's name; of more than one the first.
+fn profile_places(alloc: Global, profiles: &[Profile]) -> Result<IndexMap<TestId, usize>, NoMemory>
+    ensures { IfOk result (λ places. AreProfilePlaces places profiles.now) }
+{
+    let mut places = IndexMap::new(alloc);
+    for place in (0..profiles.len()).rev() {
+        places.insert(profiles[place].test, place)?;
+    }
+    Ok(places)
+}
+
+/// The place of the profile of a test.
+fn profile_place(
+    profiles: &[Profile],
+    places: &IndexMap<TestId, usize>,
+    id: TestId,
+) -> Option<usize>
+    requires { AreProfilePlaces places.now profiles.now }
+    ensures { result ≡ position (λ (p : Profile). same_test p.test id) profiles.now }
+{
+    places.get(&id).copied()
+}
+
 /// The powers of the steps of a profile: the first that passes the limit.
 fn passing_step(steps: &[(u64, u64)], most: u64) -> Option<u64>
     ensures { result ≡ find (nat_lt most) (map {A = ℕ × ℕ} (λ s. s.1) steps.now) }
@@ -74,10 +101,17 @@ fn passing_alone(own: u64, most: u64) -> Option<u64>
 }
 
 /// The first power of a test that passes the limit: of a step of its profile, or its own where it has none.
-fn passing_power(profiles: &[Profile], most: u64, id: TestId, own: u64) -> Option<u64>
+fn passing_power(
+    profiles: &[Profile],
+    places: &IndexMap<TestId, usize>,
+    most: u64,
+    id: TestId,
+    own: u64,
+) -> Option<u64>
+    requires { AreProfilePlaces places.now profiles.now }
     ensures { result ≡ find (nat_lt most) (powers_named (map profile_value profiles.now) id own) }
 {
-    match profile_of(profiles, id) {
+    match profile_place(profiles, places, id) {
         Some(place) => passing_step(&profiles[place].steps, most),
         None => passing_alone(own, most),
     }
@@ -86,29 +120,37 @@ fn passing_power(profiles: &[Profile], most: u64, id: TestId, own: u64) -> Optio
 /// A live test of a module, where it passes the limit, and with which power.
 fn passing_test(
     profiles: &[Profile],
+    places: &IndexMap<TestId, usize>,
     most: u64,
     module: &Module,
     test: &Test,
 ) -> Option<(TestId, u64)>
+    requires { AreProfilePlaces places.now profiles.now }
     ensures { (place : ℕ) → result ≡ passing (map profile_value profiles.now) most (live_at place (module_value «module».now) test.now) }
 {
     let id = TestId {
         module: module.number,
         test: test.number,
     };
-    let power = passing_power(profiles, most, id, test.power)?;
+    let power = passing_power(profiles, places, most, id, test.power)?;
     Some((id, power))
 }
 
 /// The first live test of a module that passes the limit, and with which power.
-fn passing_in(profiles: &[Profile], most: u64, module: &Module) -> Option<(TestId, u64)>
+fn passing_in(
+    profiles: &[Profile],
+    places: &IndexMap<TestId, usize>,
+    most: u64,
+    module: &Module,
+) -> Option<(TestId, u64)>
+    requires { AreProfilePlaces places.now profiles.now }
     ensures { (place : ℕ) → result ≡ first_passing (map profile_value profiles.now) most (live_of place (module_value «module».now)) }
 {
     for test in &module.tests {
         if !live(test) {
             continue;
         }
-        if let Some(found) = passing_test(profiles, most, module, test) {
+        if let Some(found) = passing_test(profiles, places, most, module, test) {
             return Some(found);
         }
     }
@@ -116,25 +158,37 @@ fn passing_in(profiles: &[Profile], most: u64, module: &Module) -> Option<(TestI
 }
 
 /// The first live test that passes the limit, and with which power.
-fn first_test(profiles: &[Profile], most: u64, soc: &Soc) -> Option<(TestId, u64)>
+fn first_test(
+    profiles: &[Profile],
+    places: &IndexMap<TestId, usize>,
+    most: u64,
+    soc: &Soc,
+) -> Option<(TestId, u64)>
+    requires { AreProfilePlaces places.now profiles.now }
     ensures { result ≡ first_passing (map profile_value profiles.now) most (live_tests (soc_value soc.now)) }
 {
     for module in soc.modules.values() {
-        if let Some(found) = passing_in(profiles, most, module) {
+        if let Some(found) = passing_in(profiles, places, most, module) {
             return Some(found);
         }
     }
     None
 }
 
-/// The first live test that passes the limit, with the first such power of it.
-pub fn test_power(soc: &Soc, limits: &Limits) -> Option<(TestId, u64)>
-    ensures { MatchOption result
+/// The first live test that passes the limit, with the first such power of it. `NoMemory` where there is none to find
+/// profiles by.
+pub fn test_power(
+    alloc: Global,
+    soc: &Soc,
+    limits: &Limits,
+) -> Result<Option<(TestId, u64)>, NoMemory>
+    ensures { IfOk result (λ found. MatchOption found
         (NonePasses (soc_value soc.now) (limits_value limits.now))
-        (λ found. IsFirstPassing (soc_value soc.now) (limits_value limits.now) found.0 found.1) }
+        (λ first. IsFirstPassing (soc_value soc.now) (limits_value limits.now) first.0 first.1)) }
 {
-    match limits.power {
-        Some(most) => first_test(&limits.profiles, most, soc),
-        None => None,
-    }
+    let Some(most) = limits.power else {
+        return Ok(None);
+    };
+    let places = profile_places(alloc, &limits.profiles)?;
+    Ok(first_test(&limits.profiles, &places, most, soc))
 }

@@ -5,18 +5,18 @@ ghost use Rattle.limits_text.specs.Reads.{AreItems};
 ghost use Rattle.outside.specs.Grammars.{IsRead};
 
 use crate::collect::no_items;
-use crate::items::{Items, Part};
+use crate::items::{Items, Part, ReadSoFar};
 use crate::reader::{close, step};
 use outside::{Reader, Stop, Unread, Word, read_text};
 use soc_model::NUMBER_WORD_MOST;
 use std::alloc::Global;
+use std::mem::replace;
 
-/// What was read of a text of limits so far.
+/// What was read of a text of limits so far. It stands in a box, so that no more than a pointer moves from word to word.
 #[derive(Drop)]
 struct LimitsText {
     alloc: Global,
-    items: Items,
-    part: Part,
+    read: Box<ReadSoFar>,
 }
 
 // In a text of more words the profiles could name every test that there may be, and leave none for the next.
@@ -36,19 +36,21 @@ impl<'a> Reader<'a> for LimitsText {
     ghost says = { AreItems };
 
     fn step(self, word: Word<'a>) -> Result<LimitsText, Stop> {
-        let LimitsText {
-            alloc,
-            mut items,
-            part,
-        } = self;
-        match step(alloc, &mut items, part, word) {
-            Ok(part) => Ok(LimitsText { alloc, items, part }),
+        let LimitsText { alloc, mut read } = self;
+        let so_far = &mut *read;
+        let part = replace(&mut so_far.part, Part::Between);
+        match step(alloc, &mut so_far.items, part, word) {
+            Ok(next) => {
+                so_far.part = next;
+                Ok(LimitsText { alloc, read })
+            }
             Err(stop) => Err(stop),
         }
     }
 
     fn end(self) -> Result<Items, Stop> {
-        close(self.items, self.part)
+        let ReadSoFar { items, part } = Box::into_inner(self.read);
+        close(items, part)
     }
 }
 
@@ -59,10 +61,13 @@ pub fn read_items(alloc: Global, bytes: &[u8]) -> Result<Items, Unread>
     if bytes.len() as u64 > NUMBER_WORD_MOST {
         return Err(Unread::NoMemory);
     }
-    let start = LimitsText {
-        alloc,
+    let nothing = ReadSoFar {
         items: no_items(alloc),
         part: Part::Title,
     };
-    read_text(start, bytes)
+    let read = match Box::new(alloc, nothing) {
+        Ok(read) => read,
+        Err(_) => return Err(Unread::NoMemory),
+    };
+    read_text(LimitsText { alloc, read }, bytes)
 }

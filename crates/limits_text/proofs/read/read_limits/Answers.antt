@@ -18,8 +18,8 @@ returns-in-Some-2 c =
     (ap (λ l. first_line soc (map item_of l)) (sym c.deref.ensures.value) ∙ sym c.first_unknown.ensures ∙ c.in_default.is) in
     record { limits = limits_value c.in_ok-limits.limits; said = k; cycle = rw c.in-Some-2.is at c.in_ok-tests.ensures }
 
-pub returns-in-Some-test_power : goal.returns-in-Some-test_power
-returns-in-Some-test_power c =
+pub returns-in-Some-3 : goal.returns-in-Some-3
+returns-in-Some-3 c =
     let soc = soc_value c.args.soc.now in
     let k = said c.args.bytes.now soc c.in_ok-items.items.second (map item_of c.in_ok-items.items.list.items) (limits_value c.in_ok-limits.limits) c.in_ok-items.ensures c.in_ok-limits.ensures
     (ap (λ l. first_line soc (map item_of l)) (sym c.deref.ensures.value) ∙ sym c.first_unknown.ensures ∙ c.in_default.is) in
@@ -27,7 +27,7 @@ returns-in-Some-test_power c =
       limits = limits_value c.in_ok-limits.limits;
       said = k;
       acyclic = rw c.in_default-2.is at c.in_ok-tests.ensures;
-      passes = c.in-Some-test_power.ensures;
+      passes = rw c.in-Some-3.is at c.in_ok-test.ensures;
     }
 
 pub returns : goal.returns
@@ -35,4 +35,4 @@ returns c =
     let soc = soc_value c.args.soc.now in
     let k = said c.args.bytes.now soc c.in_ok-items.items.second (map item_of c.in_ok-items.items.list.items) (limits_value c.in_ok-limits.limits) c.in_ok-items.ensures c.in_ok-limits.ensures
     (ap (λ l. first_line soc (map item_of l)) (sym c.deref.ensures.value) ∙ sym c.first_unknown.ensures ∙ c.in_default.is) in
-    sound_said c.args.bytes.now soc (limits_value c.in_ok-limits.limits) k (rw c.in_default-2.is at c.in_ok-tests.ensures) c.in_default-test_power.ensures
+    sound_said c.args.bytes.now soc (limits_value c.in_ok-limits.limits) k (rw c.in_default-2.is at c.in_ok-tests.ensures) (rw c.in_default-3.is at c.in_ok-test.ensures)
