@@ -7,9 +7,7 @@ use Rattle.std.proofs.lemmas.Bool.{cases_eq}
 use Rattle.std.proofs.lemmas.Bool.Decides.{nat_tests}
 use Rattle.std.proofs.lemmas.List.{take_more, map-set, get_or-map, length-map}
 use Rattle.std.proofs.lemmas.List.Elements.{All-get_or}
-use Rattle.limits_text.specs.declared.graph.After.{After}
-use Rattle.limits_text.specs.Orders.{after, one_if, holds_back, held, Counts}
-use Rattle.limits_text.specs.Views.{tests_of}
+use Rattle.limits_text.specs.Orders.{one_if, holds_back, held, Counts}
 
 held-append : (gone : List ℕ) (a b : List (ℕ × ℕ)) (j : ℕ) → held gone (a ++ b) j ≡ held gone a j + held gone b j
 held-append gone [] b j = omega arith
@@ -77,39 +75,3 @@ count_small count counts pairs k x long are within all is0 =
     let is : x ≡ get_or counts (get_or pairs k (0, 0)).1 0 = is0 ∙ any_default counts (get_or pairs k (0, 0)).1 x 0 (omega (arith, e.1, long)) in
     let most : length (take k pairs) ≤ k = grind (arith, common_steps) in
     omega (arith, held-le [] (take k pairs) (get_or pairs k (0, 0)).1)
-
--- ---- the tests after each
-
-pub after-append : (i : ℕ) (a b : List (ℕ × ℕ)) → after i (a ++ b) ≡ after i a ++ after i b
-after-append i [] b = refl
-after-append i (e ∷ a) b = by (nat_eq i e.0) (after-append i a b)
-  where
-    by : (t : Bool) → after i (a ++ b) ≡ after i a ++ after i b → cond t (e.1 ∷ after i (a ++ b)) (after i (a ++ b)) ≡ cond t (e.1 ∷ after i a) (after i a) ++ after i b
-    by true f = ap (λ l. e.1 ∷ l) f
-    by false f = f
-
-pub lists_more : (count : ℕ) (lists : List After) (pairs : List (ℕ × ℕ)) (k : ℕ) (here new : After) → length lists ≡ count → ((i : ℕ) → i < count → slice_index_or (map tests_of lists) i [] ≡ after i (take k pairs)) → k < length pairs → All (λ (e : ℕ × ℕ). (e.0 < count) × (e.1 < count)) pairs
-    → here ≡ get_or lists (get_or pairs k (0, 0)).0 here → tests_of new ≡ tests_of here ++ (get_or pairs k (0, 0)).1 ∷ []
-    → (length (slice_set lists (get_or pairs k (0, 0)).0 new) ≡ count) × ((i : ℕ) → i < count → slice_index_or (map tests_of (slice_set lists (get_or pairs k (0, 0)).0 new)) i [] ≡ after i (take (k + 1) pairs))
-lists_more count lists pairs k here new long are within all is pushed =
-    (set_length lists first new ∙ long, λ i less. ap (λ l. get_or l i []) (map-set tests_of lists first new) ∙ by i less (cases_eq i first))
-  where
-    first : ℕ
-    first = (get_or pairs k (0, 0)).0
-
-    second : ℕ
-    second = (get_or pairs k (0, 0)).1
-
-    there : first < length lists
-    there = let e = All-get_or (λ (e : ℕ × ℕ). (e.0 < count) × (e.1 < count)) pairs k (0, 0) within all in omega (arith, e.0, long)
-
-    more : (i : ℕ) → after i (take (k + 1) pairs) ≡ after i (take k pairs) ++ cond (nat_eq i first) (second ∷ []) []
-    more i = ap (after i) (take_more pairs k (0, 0) within) ∙ after-append i (take k pairs) (get_or pairs k (0, 0) ∷ [])
-
-    by : (i : ℕ) → i < count → (i ≡ first) ⊎ (i ≡ first → ⊥) → get_or (slice_set (map tests_of lists) first (tests_of new)) i [] ≡ after i (take (k + 1) pairs)
-    by i less (inl same) =
-        let old : tests_of here ≡ after i (take k pairs) = ap tests_of is ∙ sym (get_or-map tests_of lists first here [] there) ∙ ap (λ n. get_or (map tests_of lists) n []) (sym same) ∙ are i less in
-        set_at (map tests_of lists) first i (tests_of new) [] (omega (arith, there, length-map lists tests_of)) same
-        ∙ pushed ∙ ap (λ l. l ++ second ∷ []) old ∙ sym (more i ∙ ap (λ b. after i (take k pairs) ++ cond b (second ∷ []) []) (eq_true i first same))
-    by i less (inr apart) =
-        set_other (map tests_of lists) first i (tests_of new) [] apart ∙ are i less ∙ sym (more i ∙ ap (λ b. after i (take k pairs) ++ cond b (second ∷ []) []) (eq_false i first apart) ∙ append-nil (after i (take k pairs)))

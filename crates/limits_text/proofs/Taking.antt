@@ -1,8 +1,8 @@
 -- Taking tests away one by one.
 use Rattle.std.proofs.Common.{◌≡◌, ◌⊎◌, inl, inr, ℕ, zero, suc, ◌+◌, ◌-◌, ◌<◌, ◌≤◌, List, [], ◌∷◌, ◌++◌, length, get_or, take, drop, map, Bool, true, false, cond, ◌&&◌, ◌||◌, not, nat_eq, Some, slice_get, refl, sym, ◌∙◌, ap, subst, arith, add-one, append_assoc, length-append}
 use Rattle.std.specs.Prelude.{slice_index, slice_index_or, slice_set}
-use Rattle.limits_text.specs.declared.graph.After.{After}
-use Rattle.limits_text.specs.Views.{tests_of}
+use Rattle.live_tests.specs.declared.neighbours.Neighbours.{Neighbours}
+use Rattle.live_tests.specs.Neighbours.{after, tests_of}
 use Rattle.std.specs.List.{All, Contains}
 use Rattle.std.proofs.Math.Seq.{drop-cons}
 use Rattle.std.proofs.lemmas.Grind.{common_steps}
@@ -14,7 +14,7 @@ use Rattle.std.proofs.lemmas.Option.{slice_get-get_or, slice_get_within, get_or_
 use Rattle.plan_model.proofs.Lists.{contains_at}
 use Rattle.limits_text.proofs.SoundText.{push_cases}
 use Rattle.indexmap.proofs.IndexTableLemmas.Probe.{pigeonhole}
-use Rattle.limits_text.specs.Orders.{is_in, after, holds_back, one_if, held, copies, Counts, IsKept, GoesOn, IsOrdered, IsTaking}
+use Rattle.limits_text.specs.Orders.{is_in, holds_back, one_if, held, copies, Counts, IsKept, GoesOn, IsOrdered, IsTaking}
 use Rattle.limits_text.proofs.Complete.{some_same}
 use Rattle.limits_text.proofs.GraphSteps.{set_at, set_other, eq_true, eq_false}
 
@@ -471,6 +471,6 @@ pub test_small : (pairs : List (ℕ × ℕ)) (count : ℕ) (counts order : List 
 test_small pairs count counts order done test u less is = u.kept.within done test (slice_get-get_or order done test less ∙ ap Some (sym is))
 
 -- the list of a test has the tests after it
-pub listed : (lists : List After) (pairs : List (ℕ × ℕ)) (count test : ℕ) (here : After) (tests : List ℕ) → length lists ≡ count → ((i : ℕ) → i < count → slice_index_or (map tests_of lists) i [] ≡ after i pairs) → test < count → here ≡ get_or lists test here → tests ≡ tests_of here → tests ≡ after test pairs
+pub listed : (lists : List Neighbours) (pairs : List (ℕ × ℕ)) (count test : ℕ) (here : Neighbours) (tests : List ℕ) → length lists ≡ count → ((i : ℕ) → i < count → slice_index_or (map tests_of lists) i [] ≡ after i pairs) → test < count → here ≡ get_or lists test here → tests ≡ tests_of here → tests ≡ after test pairs
 listed lists pairs count test here tests long are small is same =
     same ∙ ap tests_of is ∙ sym (get_or-map tests_of lists test here [] (omega (arith, small, long))) ∙ are test small

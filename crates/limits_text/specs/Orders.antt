@@ -5,11 +5,6 @@ use Rattle.std.specs.List.{list_any, Contains}
 abbrev pub is_in : List ℕ → ℕ → Bool
 is_in xs x = list_any (nat_eq x) xs
 
--- the tests that these pairs have after test `i`
-abbrev pub after : ℕ → List (ℕ × ℕ) → List ℕ
-after i [] = []
-after i (e ∷ pairs) = if nat_eq i e.0 then e.1 ∷ after i pairs else after i pairs
-
 -- a pair has test `j` after a test that is not gone
 abbrev pub holds_back : List ℕ → ℕ → ℕ × ℕ → Bool
 holds_back gone j e = nat_eq j e.1 && not (is_in gone e.0)

@@ -3,7 +3,6 @@ use Rattle.std.specs.Prelude.{◌≡◌, ℕ, List, map, reverse, Option, None, 
 use Rattle.std.specs.List.{list_any}
 use Rattle.soc_model.specs.declared.TestId.{TestId}
 use Rattle.soc_model.specs.Chips.{same_test}
-use Rattle.limits_text.specs.declared.graph.After.{After}
 use Rattle.limits_text.specs.declared.items.Item.{Item as ReadItem}
 use Rattle.limits_text.specs.declared.items.Item.TheVariants as read
 use Rattle.limits_text.specs.declared.items.Items.{Items}
@@ -48,7 +47,3 @@ abbrev pub Closes : Option (List Item) → Result Items Stop → Type 0
 Closes whole (Ok items) = whole ≡ Some (done_of items)
 Closes whole (Err stop.Refused) = whole ≡ None
 Closes whole (Err stop.NoMemory) = Unit {0}
-
--- the tests of a list of those after a test
-abbrev pub tests_of : After → List ℕ
-tests_of a = a.tests.items

@@ -2,17 +2,11 @@
 ghost use Rattle.std.specs.Prelude.{◌≡◌, ℕ, ◌+◌, ◌-◌, ◌<◌, ◌≤◌, ◌++◌, ◌∷◌, [], false, not, min, length, nat_eq, position, slice_index, slice_index_or, slice_set, replicate, map, IfOk, OnOk, MatchOption, if◌then◌else◌};
 ghost use Rattle.std.specs.List.{All};
 ghost use Rattle.limits_text.specs.Cycles.{IsFirstCycle, HasRank};
-ghost use Rattle.limits_text.specs.Orders.{after as tests_after, held, copies, Counts, IsKept, GoesOn, IsTaking, AreMarked, least_before as least_of, ComesAgain, IsBack};
-ghost use Rattle.limits_text.specs.Views.{tests_of};
+ghost use Rattle.limits_text.specs.Orders.{held, copies, Counts, IsKept, GoesOn, IsTaking, AreMarked, least_before as least_of, ComesAgain, IsBack};
 
+use live_tests::all_after;
 use outside::{NoMemory, push};
 use std::alloc::Global;
-
-/// The tests that come after a test.
-#[derive(Drop)]
-struct After {
-    tests: Vec<usize>,
-}
 
 /// A number, so many times.
 fn repeated(alloc: Global, count: usize, number: usize) -> Result<Vec<usize>, NoMemory>
@@ -40,32 +34,6 @@ fn count_before(
         counts[*second] += 1;
     }
     Ok(counts)
-}
-
-/// No tests after any of so many.
-fn none_after(alloc: Global, count: usize) -> Result<Vec<After>, NoMemory>
-    ensures long { IfOk result (λ lists. length lists.items ≡ count) }
-    ensures none { IfOk result (λ lists. (i : ℕ) → i < count → slice_index_or (map tests_of lists.items) i [] ≡ []) }
-{
-    let mut lists = Vec::new(alloc);
-    for _ in 0..count {
-        let tests = Vec::new(alloc);
-        push(&mut lists, After { tests })?;
-    }
-    Ok(lists)
-}
-
-/// The tests after each test.
-fn all_after(alloc: Global, count: usize, pairs: &[(usize, usize)]) -> Result<Vec<After>, NoMemory>
-    requires { All (λ (e : ℕ × ℕ). (e.0 < count) × (e.1 < count)) pairs.now }
-    ensures long { IfOk result (λ lists. length lists.items ≡ count) }
-    ensures lists { IfOk result (λ lists. (i : ℕ) → i < count → slice_index_or (map tests_of lists.items) i [] ≡ tests_after i pairs.now) }
-{
-    let mut lists = none_after(alloc, count)?;
-    for (first, second) in pairs {
-        push(&mut lists[*first].tests, *second)?;
-    }
-    Ok(lists)
 }
 
 /// Adds a test to the order where it is held back no more.

@@ -1,7 +1,8 @@
 use Rattle.std.proofs.Common.{◌<◌, ◌≤◌, ℕ, List, length, sym, subst, arith}
 use Rattle.std.specs.List.{All}
 use Rattle.std.specs.Prelude.{slice_index}
-use Rattle.limits_text.specs.Orders.{after, copies}
+use Rattle.live_tests.specs.Neighbours.{after}
+use Rattle.limits_text.specs.Orders.{copies}
 use Rattle.limits_text.proofs.Taking.{IsStep, starts, goes_step, all_taken, few_taken, after_within, enough_held, test_small, listed}
 use Rattle.limits_text.proofs.graph.taking.Goals as goal
 
