@@ -8,7 +8,7 @@ ghost use Rattle.soc_model.specs.SoundChips.{IsSoundChip};
 ghost use Rattle.soc_reader.specs.ChipForm.{SaysChip};
 ghost use Rattle.soc_printer.specs.SocText.{spaced, flag_word, name_words, setup_words, lengths_text, name_line, total_line, options_line, terminal_words, module_words, module_line, tests_line, test_line, module_text, soc_text};
 
-use outside::{NoMemory, extend, push_spaced};
+use outside::{NoMemory, extend, push, push_spaced};
 use soc_model::{Module, Soc, Test};
 use std::alloc::Global;
 
@@ -16,7 +16,7 @@ use std::alloc::Global;
 fn push_word(text: &mut Vec<u8>, word: &[u8]) -> Result<(), NoMemory>
     ensures { OnOk result (text.new.items ≡ text.old.items ++ spaced (word.now ∷ [])) }
 {
-    extend(text, b" ")?;
+    push(text, b' ')?;
     extend(text, word)
 }
 
