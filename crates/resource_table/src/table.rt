@@ -343,6 +343,18 @@ impl<J> TableOf<J> {
         self.earliest(test) + self.own.tests[test].length
     }
 
+    /// The least start at which a test fits, as [`TableOf::earliest`] answers it. It is noted, as by [`TableOf::note`].
+    pub fn noted_start(&mut self, test: usize) -> u64
+        requires in_job { test < length self.old.job.tests }
+        ensures earliest { IsEarliest self.old.job self.old.placed test result }
+        ensures same { self.new ≡ self.old }
+        ensures sound { IsSoundTable self.new }
+    {
+        let start = self.earliest(test);
+        raise(&mut self.bounds, test, start);
+        start
+    }
+
     /// Notes the least start at which a test fits, so that it is found sooner beside more placed tests. What is placed stays
     /// as it was. Notes are taken back with the placement under which they were made; where there is no room, nothing is
     /// noted.
@@ -351,8 +363,7 @@ impl<J> TableOf<J> {
         ensures same { self.new ≡ self.old }
         ensures sound { IsSoundTable self.new }
     {
-        let start = self.earliest(test);
-        raise(&mut self.bounds, test, start);
+        self.noted_start(test);
     }
 
     /// Appends a placement, and answers how many there were.

@@ -7,10 +7,13 @@ use Rattle.schedule_search.proofs.Walking.{tried}
 use Rattle.schedule_search.proofs.walk.+explore.Given as goal
 
 abbrev pub decreases-explore : goal.decreases-explore
-decreases-explore g l = (length (job_value l.job.now).tests - length l.prefix.now.tests.items) * 2 + 1
+decreases-explore g l = (length (job_value l.job.now).tests - length l.prefix.now.tests.items) * 3 + 2
 
 abbrev pub decreases-follow : goal.decreases-follow
-decreases-follow g l = (length (job_value l.job.now).tests - length l.prefix.now.tests.items) * 2
+decreases-follow g l = (length (job_value l.job.now).tests - length l.prefix.now.tests.items) * 3 + 1
+
+abbrev pub decreases-go_on : goal.decreases-go_on
+decreases-go_on g l = (length (job_value l.job.now).tests - length l.prefix.now.tests.items) * 3
 
 abbrev pub invariant-explore-loop-place : goal.invariant-explore-loop-place
 invariant-explore-loop-place g l = record {
