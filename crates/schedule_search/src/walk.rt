@@ -1,7 +1,8 @@
 // The walk over the orders of a job, depth first, within a budget of prefixes that are entered.
 ghost use Rattle.std.specs.Prelude.{◌≡◌, ℕ, ◌+◌, ◌-◌, ◌<◌, ◌≤◌, ◌++◌, ◌∷◌, [], true, false, length, vec_capacity};
-ghost use Rattle.resource_table.specs.Jobs.{job_value};
-ghost use Rattle.resource_table.specs.Schedules.{last_end, IsEarliest, IsSoundTable};
+ghost use Rattle.resource_table.specs.Jobs.{job_value, cycles_of};
+ghost use Rattle.resource_table.specs.Schedules.{last_end, ready_at, IsEarliest, IsSoundTable};
+ghost use Rattle.schedule_search.specs.Estimates.{CanAsk};
 ghost use Rattle.schedule_search.specs.OrderCycles.{HasPlaced};
 ghost use Rattle.schedule_search.specs.Walks.{is_in, may_follow, walk_from, IsOpen};
 ghost use Rattle.schedule_search.specs.Prefixes.{outside, HasPrefixRoom, IsAt};
@@ -55,31 +56,56 @@ fn offer(progress: &mut Progress, order: &[usize], cycles: u64)
     }
 }
 
+/// Whether a test that isn't placed ends, by its estimate, as late as so many cycles, or later. Its least start is noted, so
+/// that it is found the sooner beside more placed tests. Where it ends in time if it is placed now, no estimate is later, and
+/// none is asked for.
+fn ends_late<J, E: Estimate<J>>(
+    job: &Job,
+    ahead: &E,
+    table: &mut TableOf<J>,
+    test: usize,
+    cycles: u64,
+) -> bool
+    requires job { table.old.job ≡ job_value job.now }
+    requires estimates { E.estimates ahead.now }
+    requires asked { CanAsk table.old test }
+    ensures late { result ≡ true → (start : ℕ) → IsEarliest table.old.job table.old.placed test start → cycles ≤ start + cycles_of table.old.job test }
+    ensures in_time { result ≡ false → ready_at table.old.job table.old.placed test + cycles_of table.old.job test < cycles }
+    ensures same { table.new ≡ table.old }
+{
+    let start = table.noted_start(test);
+    if start < cycles.saturating_sub(cycles_at(job, test)) {
+        return false;
+    }
+    ahead.ask(table, test) >= cycles
+}
+
 /// Whether one of some tests ends, by its estimate, as late as so many cycles, or later. The tests are those that aren't
 /// placed, longest first. Each starts at the end of the last placed test at the latest, and so the look ends at the first
 /// of them that is in time even then.
 fn is_late<J, E: Estimate<J>>(
     job: &Job,
     ahead: &E,
-    table: &TableOf<J>,
+    table: &mut TableOf<J>,
     rest: &[usize],
     end: u64,
     cycles: u64,
 ) -> bool
-    requires job { table.now.job ≡ job_value job.now }
+    requires job { table.old.job ≡ job_value job.now }
     requires estimates { E.estimates ahead.now }
-    requires sound { IsSoundTable table.now }
-    requires ends { end ≡ last_end table.now.job table.now.placed }
-    requires rest { AreUnplaced table.now.job table.now.placed rest.now }
-    ensures late { result ≡ true → IsLateAt table.now cycles }
-    ensures in_time { result ≡ false → AreInTime table.now cycles }
+    requires sound { IsSoundTable table.old }
+    requires ends { end ≡ last_end table.old.job table.old.placed }
+    requires rest { AreUnplaced table.old.job table.old.placed rest.now }
+    ensures late { result ≡ true → IsLateAt table.old cycles }
+    ensures in_time { result ≡ false → AreInTime table.old cycles }
+    ensures same { table.new ≡ table.old }
 {
     let left = cycles.saturating_sub(end);
     for test in rest {
         if cycles_at(job, *test) < left {
             return false;
         }
-        if ahead.ask(table, *test) >= cycles {
+        if ends_late(job, ahead, table, *test, cycles) {
             return true;
         }
     }

@@ -1,6 +1,6 @@
 -- Where there are no fewer chains than scan chains, each scan chain has a chain of its own.
-use Rattle.std.proofs.Common.{◌≡◌, ℕ, zero, suc, ◌+◌, ◌≤◌, ◌<◌, max, Bool, true, false, Some, List, [], ◌∷◌, ◌++◌, length, map, take, replicate, refl, ap, ◌∙◌, sym, subst, arith, eqb, get_or}
-use Rattle.std.specs.Prelude.{slice_get, slice_index, slice_set}
+use Rattle.std.proofs.Common.{◌≡◌, ℕ, zero, suc, ◌+◌, ◌≤◌, ◌<◌, max, Bool, true, false, List, [], ◌∷◌, ◌++◌, length, map, take, replicate, ap, ◌∙◌, sym, subst, arith, eqb, get_or}
+use Rattle.std.specs.Prelude.{slice_index, slice_set}
 use Rattle.std.specs.List.{sum_by}
 use Rattle.std.specs.Option.{option_map}
 use Rattle.std.proofs.lemmas.Bool.{eqb-true}
@@ -12,9 +12,9 @@ use Rattle.plan_model.proofs.Greatest.{greatest_push}
 use Rattle.plan_model.proofs.Lists.{from_map}
 use Rattle.plan_model.proofs.Sums.{one_if, some_passes}
 use Rattle.wrapper_design.specs.declared.order.ScanChain.{ScanChain}
-use Rattle.wrapper_design.specs.Design.{scan_length, put_on_least, put_all_on_least, longest_first, longest_part}
+use Rattle.wrapper_design.specs.Design.{scan_length, put_on_least, put_all_on_least, longest_part}
 use Rattle.wrapper_design.specs.Loads.{IsOrder}
-use Rattle.wrapper_design.proofs.Parts.{PutAt, put_at, push_length}
+use Rattle.wrapper_design.proofs.Parts.{put_at, push_length}
 use Rattle.wrapper_design.proofs.Follow.{greatest_set, parts_after, parts_next, length-parts_after, greatest_zeros}
 
 -- no more chains than so many have flops, and this is the greatest scan length

@@ -75,7 +75,7 @@ explore-loop-place-init g t c =
     let short : length path ≡ length job.tests → ⊥ = λ long. omega (arith, long, some, ap length c.requires.at.rest_are, c.requires.left) in
     let own : IsAt job path c.args.prefix.now.rest.items c.args.prefix.now = subst (λ (l : List ℕ). IsAt job path l c.args.prefix.now) (sym c.requires.at.rest_are) c.requires.at in
     record {
-      table = refl;
+      table = c.is_late.ensures.same;
       at = subst (λ (l : List ℕ). IsAt job path (remove l 0) c.take_first-test.new.self) c.requires.at.rest_are (c.take_first-test.ensures.at job path own);
       test = λ within. c.take_first-test.ensures.test ∙ ap (λ (l : List ℕ). get_or l 0 0) c.requires.at.rest_are;
       best_room = refl;

@@ -17,7 +17,7 @@ decreases-go_on g l = (length (job_value l.job.now).tests - length l.prefix.now.
 
 abbrev pub invariant-explore-loop-place : goal.invariant-explore-loop-place
 invariant-explore-loop-place g l = record {
-  table : l.table ≡ l.initial.table;
+  table : l.table ≡ l.fn.table;
   at : IsAt (job_value l.job) l.fn.prefix.tests.items (remove (outside (job_value l.job) l.fn.prefix.tests.items) l.place) l.prefix;
   test : l.place < length (outside (job_value l.job) l.fn.prefix.tests.items) → l.test ≡ get_or (outside (job_value l.job) l.fn.prefix.tests.items) l.place 0;
   best_room : vec_capacity l.progress.best ≡ vec_capacity l.initial.progress.best;

@@ -1,5 +1,4 @@
-use Rattle.std.proofs.Common.{◌≡◌, ◌∙◌, List, map, take, ap, sym, arith}
-use Rattle.plan_model.specs.Plans.{greatest}
+use Rattle.std.proofs.Common.{arith}
 use Rattle.wrapper_design.specs.declared.order.ScanChain.{ScanChain}
 use Rattle.wrapper_design.proofs.Alone.{longest_next}
 use Rattle.wrapper_design.proofs.order.longest_of.Goals as goal

@@ -1,4 +1,4 @@
-use Rattle.std.proofs.Common.{◌≤◌, ◌∙◌, length, ap, sym, subst, arith}
+use Rattle.std.proofs.Common.{◌∙◌, ap, sym, subst, arith}
 use Rattle.wrapper_design.specs.Loads.{IsOrder}
 use Rattle.wrapper_design.specs.Design.{Mode, longest_part}
 use Rattle.wrapper_design.proofs.Alone.{longest_alone}
