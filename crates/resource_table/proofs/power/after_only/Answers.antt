@@ -1,4 +1,4 @@
-use Rattle.std.proofs.Common.{◌≡◌, ◌≤◌, ℕ, arith}
+use Rattle.std.proofs.Common.{arith}
 use Rattle.resource_table.proofs.power.after_only.Goals as goal
 
 pub returns-clause-fits : goal.returns-clause-fits

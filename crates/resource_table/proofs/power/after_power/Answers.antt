@@ -1,4 +1,4 @@
-use Rattle.std.proofs.Common.{◌≡◌, ◌≤◌, ℕ, List, [], ◌∷◌, length, get_or, sym, subst, arith, refl}
+use Rattle.std.proofs.Common.{◌≡◌, ℕ, List, [], ◌∷◌, length, get_or, sym, subst, arith, refl}
 use Rattle.resource_table.specs.Resources.{StepsFit}
 use Rattle.resource_table.proofs.power.after_power.Goals as goal
 

@@ -3,7 +3,7 @@ use Rattle.std.specs.Prelude.{IfSome}
 use Rattle.std.specs.List.{flat_map}
 use Rattle.resource_table.specs.Profiles.{ArePoints}
 use Rattle.resource_table.specs.Jobs.{job_value, test_value}
-use Rattle.resource_table.specs.Resources.{load_of, marks_of, StepsFit}
+use Rattle.resource_table.specs.Resources.{load_of, marks_of}
 use Rattle.resource_table.specs.Schedules.{TableValue, last_end, StaysWithin}
 use Rattle.resource_table.proofs.KeptStarts.{wanted_is, short_enough, profile_here, steps_within_limit, steps_here, within_here}
 use Rattle.resource_table.proofs.table.TableOf.after_draws.Goals as goal

@@ -1,4 +1,4 @@
-use Rattle.std.proofs.Common.{ℕ, arith, subst}
+use Rattle.std.proofs.Common.{arith, subst}
 use Rattle.resource_table.specs.Schedules.{MeetsNone, StaysWithin}
 use Rattle.resource_table.proofs.table.TableOf.earliest.Goals as goal
 
