@@ -1,8 +1,8 @@
 -- Where a profile of power leaves enough free, swept from point to point.
-use Rattle.std.proofs.Common.{◌≡◌, ℕ, ◌+◌, ◌<◌, ◌≤◌, ◌⊎◌, inl, inr, Bool, true, false, List, length, get_or, arith, max, refl, sym, ◌∙◌, subst}
-use Rattle.std.specs.Prelude.{nat_lt, nat_le, not, ◌&&◌, if◌then◌else◌}
+use Rattle.std.proofs.Common.{◌≡◌, ℕ, ◌+◌, ◌<◌, ◌≤◌, ◌⊎◌, zero, suc, inl, inr, Bool, true, false, List, length, get_or, arith, max, refl, sym, ◌∙◌, subst}
+use Rattle.std.specs.Prelude.{nat_lt}
 use Rattle.std.specs.List.Sorted.{IsPartitionPoint}
-use Rattle.std.proofs.lemmas.Bool.{cases_lt, cases_Bool, le-leb, lt-leb, lt-ltb, le-ltb, leb-true}
+use Rattle.std.proofs.lemmas.Bool.{cases_lt, cases_Bool, lt-ltb, le-ltb}
 use Rattle.resource_table.specs.declared.points.Point.{Point}
 use Rattle.resource_table.specs.Profiles.{no_point, load_before, IsProfile, IsEndedProfile, IsFreeFor}
 use Rattle.resource_table.proofs.Places.{same_item}
@@ -101,7 +101,7 @@ module _ (points : List Point) (free from width last place start : ℕ) (witness
   point = get_or points place no_point
 
   -- too much is drawn from the point on
-  more_crowded : (crowded : Bool) → IsSwept points free from width last place start crowded → (crowded ≡ false → point.cycle < start + width) → free < point.load → IsSwept points free from width last (place + 1) start true
+  pub more_crowded : (crowded : Bool) → IsSwept points free from width last place start crowded → (crowded ≡ false → point.cycle < start + width) → free < point.load → IsSwept points free from width last (place + 1) start true
   more_crowded crowded swept going more = record {
     from' = swept.from';
     most = swept.most;
@@ -114,7 +114,7 @@ module _ (points : List Point) (free from width last place start : ℕ) (witness
   }
 
   -- a crowd ends at the point
-  crowd_ends : IsSwept points free from width last place start true → point.load ≤ free → IsSwept points free from width last (place + 1) point.cycle false
+  pub crowd_ends : IsSwept points free from width last place start true → point.load ≤ free → IsSwept points free from width last (place + 1) point.cycle false
   crowd_ends swept less = record {
     from' = omega (arith, behind);
     most = inr (let h = (swept.high refl witness.0 witness.1 (max from last) (omega arith) (free_at_last witness.0 points free width last from witness.1)).1 in omega (arith, h, behind));
@@ -124,7 +124,7 @@ module _ (points : List Point) (free from width last place start : ℕ) (witness
   }
 
   -- enough stays free
-  stays_free : IsSwept points free from width last place start false → point.load ≤ free → IsSwept points free from width last (place + 1) start false
+  pub stays_free : IsSwept points free from width last place start false → point.load ≤ free → IsSwept points free from width last (place + 1) start false
   stays_free swept less = record {
     from' = swept.from';
     most = swept.most;
@@ -136,28 +136,26 @@ module _ (points : List Point) (free from width last place start : ℕ) (witness
     high = λ (no' : false ≡ true). absurd cc;
   }
 
-  pub swept_more : (crowded : Bool) → IsSwept points free from width last place start crowded → (let b : Bool = not crowded && nat_le (start + width) point.cycle in b) ≡ false →
-      IsSwept points free from width last (place + 1) (if crowded && nat_le point.load free then point.cycle else start) (nat_lt free point.load)
-  swept_more true swept through = elim (cases_lt free point.load) [
-    | inl more ↦ rw (lt-ltb free point.load more, lt-leb point.load free more) (more_crowded true swept (λ (no' : true ≡ false). absurd cc) more)
-    | inr less ↦ rw (le-ltb free point.load less, le-leb point.load free less) (crowd_ends swept less)
-  ]
-  swept_more false swept through =
-      let going : point.cycle < start + width = elim (cases_lt point.cycle (start + width)) [
-        | inl early ↦ early
-        | inr late ↦ absurd (let e : nat_le (start + width) point.cycle ≡ true = le-leb (start + width) point.cycle late in cc)
-      ] in
-      elim (cases_lt free point.load) [
-        | inl more ↦ rw (lt-ltb free point.load more) (more_crowded false swept (λ _. going) more)
-        | inr less ↦ rw (le-ltb free point.load less) (stays_free swept less)
-      ]
+-- a crowd goes on up to a place
+pub swept_crowd : (points : List Point) (free from width last start n place r : ℕ) → (load : ℕ → ℕ) × IsEndedProfile load points last → 1 ≤ width → place + n ≡ r → r ≤ length points → ((k : ℕ) → place ≤ k → k < length points → from < (get_or points k no_point).cycle) →
+    ((k : ℕ) → place ≤ k → k < r → free < (get_or points k no_point).load) → IsSwept points free from width last place start true → IsSwept points free from width last r start true
+swept_crowd points free from width last start zero place r witness some ends le behind crowded swept = subst (λ (k : ℕ). IsSwept points free from width last k start true) (omega (arith, ends)) swept
+swept_crowd points free from width last start (suc n) place r witness some ends le behind crowded swept =
+    swept_crowd points free from width last start n (place + 1) r witness some (omega (arith, ends)) le (λ k low inside. behind k (omega (arith, low)) inside) (λ k low less. crowded k (omega (arith, low)) less)
+    (more_crowded points free from width last place start witness some (omega (arith, ends, le)) (behind place (omega arith) (omega (arith, ends, le))) true swept (λ (no' : true ≡ false). absurd cc) (crowded place (omega arith) (omega (arith, ends))))
+
+-- and what is free
+pub swept_free : (points : List Point) (free from width last start n place r : ℕ) → (load : ℕ → ℕ) × IsEndedProfile load points last → 1 ≤ width → place + n ≡ r → r ≤ length points → ((k : ℕ) → place ≤ k → k < length points → from < (get_or points k no_point).cycle) →
+    ((k : ℕ) → place ≤ k → k < r → (get_or points k no_point).load ≤ free) → IsSwept points free from width last place start false → IsSwept points free from width last r start false
+swept_free points free from width last start zero place r witness some ends le behind low' swept = subst (λ (k : ℕ). IsSwept points free from width last k start false) (omega (arith, ends)) swept
+swept_free points free from width last start (suc n) place r witness some ends le behind low' swept =
+    swept_free points free from width last start n (place + 1) r witness some (omega (arith, ends)) le (λ k low inside. behind k (omega (arith, low)) inside) (λ k low less. low' k (omega (arith, low)) less)
+    (stays_free points free from width last place start witness some (omega (arith, ends, le)) (behind place (omega arith) (omega (arith, ends, le))) swept (low' place (omega arith) (omega (arith, ends))))
 
 -- where the sweep is through, enough is free from the start on
-pub swept_through : (points : List Point) (free from width last place start : ℕ) (crowded : Bool) → IsSwept points free from width last place start crowded → (let b : Bool = not crowded && nat_le (start + width) (get_or points place no_point).cycle in b) ≡ true →
+pub swept_through : (points : List Point) (free from width last place start : ℕ) → IsSwept points free from width last place start false → start + width ≤ (get_or points place no_point).cycle →
     ((load : ℕ → ℕ) → IsEndedProfile load points last → IsFreeFor load free width start) × ((load : ℕ → ℕ) → IsEndedProfile load points last → (other : ℕ) → from ≤ other → IsFreeFor load free width other → start ≤ other)
-swept_through points free from width last place start true swept through = absurd cc
-swept_through points free from width last place start false swept through =
-    let late : start + width ≤ (get_or points place no_point).cycle = leb-true (start + width) (get_or points place no_point).cycle through in
+swept_through points free from width last place start swept late =
     ((λ load ended c low high. swept.clear refl load ended c low (λ _. omega (arith, late, high))), swept.low refl)
 
 -- and where it is over

@@ -1,6 +1,6 @@
 // Where a profile of power leaves enough free for a step of a test, and for long enough.
-ghost use Rattle.std.specs.Prelude.{◌≡◌, ℕ, ◌+◌, ◌^◌, ◌<◌, ◌≤◌, ◌⊎◌, ◌&&◌, not, nat_lt, nat_le, if◌then◌else◌};
-ghost use Rattle.resource_table.specs.Profiles.{IsEndedProfile, IsFreeFor};
+ghost use Rattle.std.specs.Prelude.{◌≡◌, ℕ, ◌+◌, ◌^◌, ◌<◌, ◌≤◌, ◌⊎◌, nat_lt, length, slice_index_or};
+ghost use Rattle.resource_table.specs.Profiles.{no_point, IsEndedProfile, IsFreeFor};
 
 use crate::points::{Point, load_before, places_before_near};
 
@@ -11,27 +11,45 @@ fn is_crowded(load: u64, free: u64) -> bool
     load > free
 }
 
-/// Whether enough was left free from a start on for so many cycles, as a sweep comes to a point.
-fn is_through(crowded: bool, point: Point, start: u64, width: u64) -> bool
-    requires { start + width < 2 ^ 64 }
-    ensures { result ≡ (not crowded && nat_le (start + width) point.cycle) }
+/// The place, from one on, of the first point from which on no more is drawn than is free; the end where there is none.
+fn crowd_end(points: &[Point], from: usize, free: u64) -> usize
+    requires { from ≤ length points.now }
+    ensures from { from ≤ result }
+    ensures bound { result ≤ length points.now }
+    ensures crowded { (k : ℕ) → from ≤ k → k < result → free < (slice_index_or points.now k no_point).load }
+    ensures end { result < length points.now → (slice_index_or points.now result no_point).load ≤ free }
 {
-    !crowded && start + width <= point.cycle
+    for place in from..points.len() {
+        if points[place].load <= free {
+            return place;
+        }
+    }
+    points.len()
 }
 
-/// The start from which on enough is left free, as a sweep goes on from a point: this one where a crowd ends there.
-fn start_from(crowded: bool, point: Point, start: u64, free: u64) -> u64
-    ensures { result ≡ (if crowded && nat_le point.load free then point.cycle else start) }
+/// The place, from one on, of the first point from which on more is drawn than is free, or that doesn't stand before a cycle; the
+/// end where there is none.
+fn free_end(points: &[Point], from: usize, free: u64, cycle: u64) -> usize
+    requires { from ≤ length points.now }
+    ensures from { from ≤ result }
+    ensures bound { result ≤ length points.now }
+    ensures free { (k : ℕ) → from ≤ k → k < result → (slice_index_or points.now k no_point).load ≤ free }
+    ensures end { result < length points.now → (slice_index_or points.now result no_point).cycle < cycle → free < (slice_index_or points.now result no_point).load }
 {
-    if crowded && point.load <= free {
-        point.cycle
-    } else {
-        start
+    for place in from..points.len() {
+        let point = points[place];
+        if point.load > free {
+            return place;
+        }
+        if point.cycle >= cycle {
+            return place;
+        }
     }
+    points.len()
 }
 
 /// The least cycle from `from` on from which no more than so much is drawn for so many cycles. It is found by one sweep over
-/// the points, from the one that tells the load at `from` on, which is sought from a near place.
+/// the points, from crowd to crowd, from the one that tells the load at `from` on, which is sought from a near place.
 pub fn after_crowds(
     points: &[Point],
     near: usize,
@@ -49,19 +67,28 @@ pub fn after_crowds(
     ensures free { (load : ℕ → ℕ) → IsEndedProfile load points.now last → IsFreeFor load free width result }
     ensures least { (load : ℕ → ℕ) → IsEndedProfile load points.now last → (other : ℕ) → from ≤ other → IsFreeFor load free width other → result ≤ other }
 {
-    let first = places_before_near(points, near, from + 1);
+    let mut place = places_before_near(points, near, from + 1);
     let mut start = from;
-    let mut crowded = is_crowded(load_before(points, first), free);
-    for place in first..points.len() {
-        let point = points[place];
-        if is_through(crowded, point, start, width) {
+    let mut crowded = is_crowded(load_before(points, place), free);
+    'crowds: loop {
+        if crowded {
+            let end = crowd_end(points, place, free);
+            if end == points.len() {
+                return last;
+            }
+            start = points[end].cycle;
+            place = end + 1;
+            crowded = false;
+            continue 'crowds;
+        }
+        let end = free_end(points, place, free, start + width);
+        if end == points.len() {
             return start;
         }
-        start = start_from(crowded, point, start, free);
-        crowded = is_crowded(point.load, free);
+        if start + width <= points[end].cycle {
+            return start;
+        }
+        place = end + 1;
+        crowded = true;
     }
-    if crowded {
-        return last;
-    }
-    start
 }

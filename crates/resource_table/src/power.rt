@@ -1,5 +1,5 @@
 // What tests draw, step by step.
-ghost use Rattle.std.specs.Prelude.{◌≡◌, ℕ, ◌+◌, ◌^◌, ◌<◌, ◌≤◌, ◌++◌, drop, length as length_of, vec_len, vec_capacity};
+ghost use Rattle.std.specs.Prelude.{◌≡◌, ℕ, ◌+◌, ◌^◌, ◌<◌, ◌≤◌, ◌++◌, ◌∷◌, [], drop, length as length_of, vec_len, vec_capacity};
 ghost use Rattle.std.specs.List.{All};
 ghost use Rattle.soc_model.specs.declared.TheConstants.{POWER_MOST, NUMBER_WORD_MOST};
 ghost use Rattle.resource_table.specs.Resources.{step_end as step_end_of, draws_from, StepsFit};
@@ -105,8 +105,39 @@ fn next_within(
     found
 }
 
-/// The least start from `start` on at which a test of these steps stays within the limit beside what the points tell.
-pub fn after_power(
+/// The least start from `start` on at which a test of one step stays within the limit beside what the points tell.
+fn after_only(
+    points: &[Point],
+    limit: u64,
+    step: (u64, u64),
+    length: u64,
+    start: u64,
+    last: u64,
+) -> u64
+    requires start { start ≤ last }
+    requires last { last + length < 2 ^ 63 }
+    requires profile { (load : ℕ → ℕ) × IsEndedProfile load points.now last }
+    requires within { step.1 ≤ limit }
+    ensures from { start ≤ result }
+    ensures most { result ≤ last }
+    ensures fits { (load : ℕ → ℕ) → IsEndedProfile load points.now last → StepsFit load limit result length (step ∷ []) }
+    ensures least { (load : ℕ → ℕ) → IsEndedProfile load points.now last → (other : ℕ) → start ≤ other → StepsFit load limit other length (step ∷ []) → result ≤ other }
+{
+    let (offset, power) = step;
+    after_step(
+        points,
+        points.len(),
+        limit - power,
+        offset,
+        length,
+        start,
+        last,
+    )
+}
+
+/// The least start from `start` on at which a test of these steps stays within the limit beside what the points tell. They
+/// are looked at again and again, until none moves it.
+fn after_steps(
     points: &[Point],
     limit: u64,
     steps: &[(u64, u64)],
@@ -133,4 +164,28 @@ pub fn after_power(
         }
         found = next;
     }
+}
+
+/// The least start from `start` on at which a test of these steps stays within the limit beside what the points tell.
+pub fn after_power(
+    points: &[Point],
+    limit: u64,
+    steps: &[(u64, u64)],
+    length: u64,
+    start: u64,
+    last: u64,
+) -> u64
+    requires start { start ≤ last }
+    requires last { last + length < 2 ^ 63 }
+    requires profile { (load : ℕ → ℕ) × IsEndedProfile load points.now last }
+    requires within { All (λ (s : ℕ × ℕ). s.1 ≤ limit) steps.now }
+    ensures from { start ≤ result }
+    ensures most { result ≤ last }
+    ensures fits { (load : ℕ → ℕ) → IsEndedProfile load points.now last → StepsFit load limit result length steps.now }
+    ensures least { (load : ℕ → ℕ) → IsEndedProfile load points.now last → (other : ℕ) → start ≤ other → StepsFit load limit other length steps.now → result ≤ other }
+{
+    if steps.len() == 1 {
+        return after_only(points, limit, steps[0], length, start, last);
+    }
+    after_steps(points, limit, steps, length, start, last)
 }

@@ -240,28 +240,28 @@ impl<J> TableOf<J> {
         self.ready(test) + self.own.tests[test].length
     }
 
-    /// A start from `start` on before which a test meets a placed one that excludes it; `start` where it meets none.
+    /// The least start from `start` on at which a test meets no placed one that excludes it.
     fn after_times(&self, test: usize, start: u64, last: u64) -> u64
         requires in_job { test < length self.now.job.tests }
         requires start { start ≤ last }
         requires last { last ≡ last_end_of self.now.job self.now.placed }
         ensures from { start ≤ result }
         ensures most { result ≤ last }
-        ensures apart { result ≡ start → MeetsNone self.now.job self.now.placed test start }
+        ensures apart { MeetsNone self.now.job self.now.placed test result }
         ensures least { (other : ℕ) → start ≤ other → MeetsNone self.now.job self.now.placed test other → result ≤ other }
     {
         let wanted = &self.own.tests[test];
         after_busy(&self.times, wanted, start, last)
     }
 
-    /// A start from `start` on before which a test passes the limit on power; `start` where it stays within.
+    /// The least start from `start` on at which a test stays within the limit on power.
     fn after_draws(&self, test: usize, start: u64, last: u64) -> u64
         requires in_job { test < length self.now.job.tests }
         requires start { start ≤ last }
         requires last { last ≡ last_end_of self.now.job self.now.placed }
         ensures from { start ≤ result }
         ensures most { result ≤ last }
-        ensures within { result ≡ start → StaysWithin self.now.job self.now.placed test start }
+        ensures within { StaysWithin self.now.job self.now.placed test result }
         ensures least { (other : ℕ) → start ≤ other → StaysWithin self.now.job self.now.placed test other → result ≤ other }
     {
         let Some(limit) = self.own.power else {
@@ -276,24 +276,6 @@ impl<J> TableOf<J> {
             start,
             last,
         )
-    }
-
-    /// A start from `start` on before which a test doesn't fit; `start` where it fits.
-    fn next_start(&self, test: usize, start: u64, last: u64) -> u64
-        requires in_job { test < length self.now.job.tests }
-        requires start { start ≤ last }
-        requires last { last ≡ last_end_of self.now.job self.now.placed }
-        requires after { ComesAfter self.now.job self.now.placed test start }
-        ensures from { start ≤ result }
-        ensures most { result ≤ last }
-        ensures fits { result ≡ start → Fits self.now.job self.now.placed test start }
-        ensures least { (other : ℕ) → start ≤ other → Fits self.now.job self.now.placed test other → result ≤ other }
-    {
-        let next = self.after_times(test, start, last);
-        if next > start {
-            return next;
-        }
-        self.after_draws(test, start, last)
     }
 
     /// The end of the test that ends last, 0 where none is placed.
@@ -324,13 +306,18 @@ impl<J> TableOf<J> {
         ensures sound { IsSoundTable self.now }
     {
         let last = self.last();
-        let mut start = self.begin(test);
+        let first = self.begin(test);
+        let mut free = self.after_times(test, first, last);
         'starts: loop {
-            let next = self.next_start(test, start, last);
-            if next == start {
-                return start;
+            let within = self.after_draws(test, free, last);
+            if within == free {
+                return free;
             }
-            start = next;
+            let next = self.after_times(test, within, last);
+            if next == within {
+                return within;
+            }
+            free = next;
         }
     }
 
@@ -343,6 +330,18 @@ impl<J> TableOf<J> {
         self.earliest(test) + self.own.tests[test].length
     }
 
+    /// The least start at which a test fits, as [`TableOf::earliest`] answers it. It is noted, as by [`TableOf::note`].
+    pub fn noted_start(&mut self, test: usize) -> u64
+        requires in_job { test < length self.old.job.tests }
+        ensures earliest { IsEarliest self.old.job self.old.placed test result }
+        ensures same { self.new ≡ self.old }
+        ensures sound { IsSoundTable self.new }
+    {
+        let start = self.earliest(test);
+        raise(&mut self.bounds, test, start);
+        start
+    }
+
     /// Notes the least start at which a test fits, so that it is found sooner beside more placed tests. What is placed stays
     /// as it was. Notes are taken back with the placement under which they were made; where there is no room, nothing is
     /// noted.
@@ -351,8 +350,7 @@ impl<J> TableOf<J> {
         ensures same { self.new ≡ self.old }
         ensures sound { IsSoundTable self.new }
     {
-        let start = self.earliest(test);
-        raise(&mut self.bounds, test, start);
+        self.noted_start(test);
     }
 
     /// Appends a placement, and answers how many there were.

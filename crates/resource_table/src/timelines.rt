@@ -207,19 +207,42 @@ pub fn remove_time(times: &mut Timelines, test: &JobTest, span: Span)
     clear(&mut times.children, test.parent, span);
 }
 
-/// A start from `start` on before which a test meets a placed one that it may not meet; `start` where it meets none.
+/// A start from `start` on before which a test meets a placed test of its module, of that one's direct parent or of a direct
+/// child; `start` where it meets none.
+fn after_modules(times: &Timelines, test: &JobTest, start: u64, last: u64) -> u64
+    requires start { start ≤ last }
+    requires last { last + test.now.length < 2 ^ 63 }
+    requires times { AreOrdered times.now last }
+    ensures from { start ≤ result }
+    ensures most { result ≤ last }
+    ensures own { result ≡ start → AreFree times.now.modules.items (Some test.now.place) test.now.length start }
+    ensures parent { result ≡ start → AreFree times.now.modules.items test.now.parent test.now.length start }
+    ensures children { result ≡ start → AreFree times.now.children.items (Some test.now.place) test.now.length start }
+    ensures least { (other : ℕ) → start ≤ other → IsFree times.now (test_value test.now) other → result ≤ other }
+{
+    let length = test.length;
+    let own = after_alone(&times.modules, Some(test.place), length, start, last);
+    let parent = after_alone(&times.modules, test.parent, length, own, last);
+    after_together(&times.children, test.place, length, parent, last)
+}
+
+/// The least start from `start` on at which a test meets no placed one that it may not meet.
 pub fn after_busy(times: &Timelines, test: &JobTest, start: u64, last: u64) -> u64
     requires start { start ≤ last }
     requires last { last + test.now.length < 2 ^ 63 }
     requires times { AreOrdered times.now last }
     ensures from { start ≤ result }
     ensures most { result ≤ last }
-    ensures free { result ≡ start → IsFree times.now (test_value test.now) start }
+    ensures free { IsFree times.now (test_value test.now) result }
     ensures least { (other : ℕ) → start ≤ other → IsFree times.now (test_value test.now) other → result ≤ other }
 {
-    let length = test.length;
-    let bus = after_alone(&times.buses, test.bus, length, start, last);
-    let own = after_alone(&times.modules, Some(test.place), length, bus, last);
-    let parent = after_alone(&times.modules, test.parent, length, own, last);
-    after_together(&times.children, test.place, length, parent, last)
+    let mut found = start;
+    'starts: loop {
+        let bus = after_alone(&times.buses, test.bus, test.length, found, last);
+        let next = after_modules(times, test, bus, last);
+        if next == bus {
+            return bus;
+        }
+        found = next;
+    }
 }

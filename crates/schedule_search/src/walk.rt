@@ -1,9 +1,10 @@
 // The walk over the orders of a job, depth first, within a budget of prefixes that are entered.
 ghost use Rattle.std.specs.Prelude.{◌≡◌, ℕ, ◌+◌, ◌-◌, ◌<◌, ◌≤◌, ◌++◌, ◌∷◌, [], true, false, length, vec_capacity};
-ghost use Rattle.resource_table.specs.Jobs.{job_value};
-ghost use Rattle.resource_table.specs.Schedules.{last_end, IsEarliest, IsSoundTable};
+ghost use Rattle.resource_table.specs.Jobs.{job_value, cycles_of};
+ghost use Rattle.resource_table.specs.Schedules.{last_end, ready_at, IsEarliest, IsSoundTable};
+ghost use Rattle.schedule_search.specs.Estimates.{CanAsk};
 ghost use Rattle.schedule_search.specs.OrderCycles.{HasPlaced};
-ghost use Rattle.schedule_search.specs.Walks.{is_in, walk_from, IsOpen};
+ghost use Rattle.schedule_search.specs.Walks.{is_in, may_follow, walk_from, IsOpen};
 ghost use Rattle.schedule_search.specs.Prefixes.{outside, HasPrefixRoom, IsAt};
 ghost use Rattle.schedule_search.specs.Progress.{AreTries, branch, stand_of, IsBest, NoneBefore, Explored};
 ghost use Rattle.schedule_search.specs.Late.{IsLateAt, AreInTime, AreUnplaced};
@@ -55,46 +56,109 @@ fn offer(progress: &mut Progress, order: &[usize], cycles: u64)
     }
 }
 
+/// Whether a test that isn't placed ends, by its estimate, as late as so many cycles, or later. Its least start is noted, so
+/// that it is found the sooner beside more placed tests. Where it ends in time if it is placed now, no estimate is later, and
+/// none is asked for.
+fn ends_late<J, E: Estimate<J>>(
+    job: &Job,
+    ahead: &E,
+    table: &mut TableOf<J>,
+    test: usize,
+    cycles: u64,
+) -> bool
+    requires job { table.old.job ≡ job_value job.now }
+    requires estimates { E.estimates ahead.now }
+    requires asked { CanAsk table.old test }
+    ensures late { result ≡ true → (start : ℕ) → IsEarliest table.old.job table.old.placed test start → cycles ≤ start + cycles_of table.old.job test }
+    ensures in_time { result ≡ false → ready_at table.old.job table.old.placed test + cycles_of table.old.job test < cycles }
+    ensures same { table.new ≡ table.old }
+{
+    let start = table.noted_start(test);
+    if start < cycles.saturating_sub(cycles_at(job, test)) {
+        return false;
+    }
+    ahead.ask(table, test) >= cycles
+}
+
 /// Whether one of some tests ends, by its estimate, as late as so many cycles, or later. The tests are those that aren't
 /// placed, longest first. Each starts at the end of the last placed test at the latest, and so the look ends at the first
 /// of them that is in time even then.
 fn is_late<J, E: Estimate<J>>(
     job: &Job,
     ahead: &E,
-    table: &TableOf<J>,
+    table: &mut TableOf<J>,
     rest: &[usize],
     end: u64,
     cycles: u64,
 ) -> bool
-    requires job { table.now.job ≡ job_value job.now }
+    requires job { table.old.job ≡ job_value job.now }
     requires estimates { E.estimates ahead.now }
-    requires sound { IsSoundTable table.now }
-    requires ends { end ≡ last_end table.now.job table.now.placed }
-    requires rest { AreUnplaced table.now.job table.now.placed rest.now }
-    ensures late { result ≡ true → IsLateAt table.now cycles }
-    ensures in_time { result ≡ false → AreInTime table.now cycles }
+    requires sound { IsSoundTable table.old }
+    requires ends { end ≡ last_end table.old.job table.old.placed }
+    requires rest { AreUnplaced table.old.job table.old.placed rest.now }
+    ensures late { result ≡ true → IsLateAt table.old cycles }
+    ensures in_time { result ≡ false → AreInTime table.old cycles }
+    ensures same { table.new ≡ table.old }
 {
     let left = cycles.saturating_sub(end);
     for test in rest {
         if cycles_at(job, *test) < left {
             return false;
         }
-        if ahead.ask(table, *test) >= cycles {
+        if ends_late(job, ahead, table, *test, cycles) {
             return true;
         }
     }
     false
 }
 
-/// The least start at which a test fits. It is noted, so that it is found the sooner beside more placed tests: the orders that
-/// go on from here with other tests ask for it and place it again and again.
-fn noted_start<J>(table: &mut TableOf<J>, test: usize) -> u64
-    requires in_job { test < length table.old.job.tests }
-    ensures same { table.new ≡ table.old }
-    ensures earliest { IsEarliest table.old.job table.old.placed test result }
+/// Goes on with all orders that begin with the placed tests and then with one more, which waits for none. Its start is noted:
+/// the orders that go on from here with other tests ask for it and place it again and again.
+#[cycle(explore)]
+fn go_on<J, E: Estimate<J>>(
+    job: &Job,
+    tries: &Tries,
+    ahead: &E,
+    table: &mut TableOf<J>,
+    prefix: &mut Prefix,
+    progress: &mut Progress,
+    end: u64,
+    test: usize,
+)
+    requires job { table.old.job ≡ job_value job.now }
+    requires sound { IsSoundTable table.old }
+    requires tries { AreTries (job_value job.now) tries.now }
+    requires estimates { E.estimates ahead.now }
+    requires placed { HasPlaced table.old prefix.old.tests.items end }
+    requires in_job { test < length (job_value job.now).tests }
+    requires may { may_follow (job_value job.now) prefix.old.tests.items test ≡ true }
+    requires unplaced { is_in prefix.old.tests.items test ≡ false }
+    requires at { IsAt (job_value job.now) prefix.old.tests.items (outside (job_value job.now) (prefix.old.tests.items ++ test ∷ [])) prefix.old }
+    requires left { length (outside (job_value job.now) (prefix.old.tests.items ++ test ∷ [])) + length prefix.old.tests.items + 1 ≡ length (job_value job.now).tests }
+    requires best_room { length (job_value job.now).tests ≤ vec_capacity progress.old.best }
+    requires going { progress.old.refused ≡ false }
+    requires within { progress.old.entered ≤ tries.now.budget }
+    requires opened { IsOpen (job_value job.now) (prefix.old.tests.items ++ test ∷ []) }
+    requires best { IsBest (job_value job.now) (stand_of progress.old) }
+    requires none_before { NoneBefore (job_value job.now) (prefix.old.tests.items ++ test ∷ []) progress.old.best.items }
+    ensures table { table.new ≡ table.old }
+    ensures at { progress.new.refused ≡ false → IsAt (job_value job.now) prefix.old.tests.items (outside (job_value job.now) (prefix.old.tests.items ++ test ∷ [])) prefix.new }
+    ensures room { HasPrefixRoom (length (job_value job.now).tests) prefix.new }
+    ensures best_room { vec_capacity progress.new.best ≡ vec_capacity progress.old.best }
+    ensures within { progress.new.entered ≤ tries.now.budget }
+    ensures best { IsBest (job_value job.now) (stand_of progress.new) }
+    ensures explored { Explored (job_value job.now) tries.now.budget (branch (job_value job.now) (length (job_value job.now).tests - length prefix.old.tests.items - 1) prefix.old.tests.items test) (stand_of progress.old) (stand_of progress.new) }
 {
-    table.note(test);
-    table.earliest(test)
+    list_schedules_are_short();
+    let start = table.noted_start(test);
+    let next_end = end.max(start + cycles_at(job, test));
+    prefix.add(job, tries, test);
+    let mut frame = table.place(test, start);
+    explore(job, tries, ahead, frame.table(), prefix, progress, next_end);
+    frame.undo();
+    if !progress.refused {
+        prefix.take_back(job, tries);
+    }
 }
 
 /// Goes on with all orders that begin with the placed tests and then with one more, where it may follow them.
@@ -135,16 +199,7 @@ fn follow<J, E: Estimate<J>>(
     if prefix.waits(test) {
         return;
     }
-    list_schedules_are_short();
-    let start = noted_start(table, test);
-    let next_end = end.max(start + cycles_at(job, test));
-    prefix.add(job, tries, test);
-    let mut frame = table.place(test, start);
-    explore(job, tries, ahead, frame.table(), prefix, progress, next_end);
-    frame.undo();
-    if !progress.refused {
-        prefix.take_back(job, tries);
-    }
+    go_on(job, tries, ahead, table, prefix, progress, end, test);
 }
 
 /// Goes on with all orders that begin with the placed tests. Where a prefix was refused, the walk is over, and its own

@@ -113,7 +113,7 @@ sum_zeros f lengths (suc w) =
     let ih : sum_by f (replicate w 0) ≡ sum_by f (map (scan_length lengths) (replicate w [])) = sum_zeros f lengths w in
     omega (arith, sum_by-cons f 0 (replicate w 0), sum_by-cons f 0 (map (scan_length lengths) (replicate w [])))
 
-greatest_zeros : (lengths : List ℕ) (w : ℕ) → 0 ≡ greatest (map (scan_length lengths) (replicate w []))
+pub greatest_zeros : (lengths : List ℕ) (w : ℕ) → 0 ≡ greatest (map (scan_length lengths) (replicate w []))
 greatest_zeros lengths zero = refl
 greatest_zeros lengths (suc w) = let ih : 0 ≡ greatest (map (scan_length lengths) (replicate w [])) = greatest_zeros lengths w in omega arith
 

@@ -1,5 +1,7 @@
 // The scan chains of a mode, in the order in which they go into chains.
-ghost use Rattle.std.specs.Prelude.{◌≡◌, ◌^◌, ◌<◌, IfOk, sum};
+ghost use Rattle.std.specs.Prelude.{◌≡◌, ◌^◌, ◌<◌, map, IfOk, sum};
+ghost use Rattle.plan_model.specs.Plans.{greatest};
+ghost use Rattle.wrapper_design.specs.declared.order.ScanChain.{ScanChain};
 ghost use Rattle.wrapper_design.specs.Loads.{IsOrder};
 
 use std::alloc::{AllocError, Global};
@@ -35,4 +37,15 @@ pub fn longest_first(alloc: Global, lengths: &[u64]) -> Result<Vec<ScanChain>, A
     }
     order.sort()?;
     Ok(order)
+}
+
+/// The length of the longest of some scan chains, 0 where there is none.
+pub fn longest_of(order: &[ScanChain]) -> u64
+    ensures { result ≡ greatest (map (λ (c : ScanChain). c.length.0) order.now) }
+{
+    let mut longest: u64 = 0;
+    for chain in order {
+        longest = longest.max(chain.length.0);
+    }
+    longest
 }

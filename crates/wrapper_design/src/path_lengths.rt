@@ -8,7 +8,7 @@ ghost use Rattle.wrapper_design.specs.Balance.{in_length_of, out_length_of};
 
 use crate::dealing::level;
 use crate::loads::longest_part;
-use crate::order::{ScanChain, flops_of, longest_first};
+use crate::order::{ScanChain, flops_of, longest_first, longest_of};
 use soc_model::{Module, mode_chains};
 use std::alloc::{AllocError, Global};
 use std::marker::Model;
@@ -19,6 +19,7 @@ use std::marker::Model;
 pub struct PathLengths<'a> {
     lengths: &'a [u64],
     order: Vec<ScanChain>,
+    longest_chain: u64,
     loads: Vec<u64>,
     flops: u64,
     ins: u64,
@@ -33,7 +34,7 @@ impl<'a> Model for PathLengths<'a> {
 
     ghost view = { λ d. record { lengths = d.lengths.now; ins = d.ins; outs = d.outs } };
 
-    ghost invariant = { λ d. IsPrepared d.lengths.now d.order.items d.flops d.ins d.outs };
+    ghost invariant = { λ d. IsPrepared d.lengths.now d.order.items d.longest_chain d.flops d.ins d.outs };
 }
 
 impl<'a> PathLengths<'a> {
@@ -46,9 +47,11 @@ impl<'a> PathLengths<'a> {
         let lengths = mode_chains(module, scan);
         let order = longest_first(alloc, lengths)?;
         let flops = flops_of(lengths);
+        let longest_chain = longest_of(&order);
         Ok(PathLengths {
             lengths,
             order,
+            longest_chain,
             loads: Vec::new(alloc),
             flops,
             ins: module.inputs + module.bidirs,
@@ -56,13 +59,17 @@ impl<'a> PathLengths<'a> {
         })
     }
 
-    /// The longest scan length of the design on `width` wires.
+    /// The longest scan length of the design on `width` wires. Where there are no fewer wires than scan chains, each of these
+    /// has a chain of its own.
     fn longest(&mut self, width: u64) -> Result<u64, AllocError>
         requires some_wire { 1 ≤ width }
         requires few_wires { width ≤ 256 }
         ensures kept { self.new ≡ self.old }
         ensures longest { IfOk result (λ longest. longest ≡ longest_part self.old.lengths width) }
     {
+        if self.order.len() <= width as usize {
+            return Ok(self.longest_chain);
+        }
         self.loads.clear();
         self.loads.resize(width as usize, 0)?;
         Ok(longest_part(&self.order, &mut self.loads))

@@ -1,9 +1,14 @@
-use Rattle.std.proofs.Common.{◌≤◌}
+use Rattle.std.proofs.Common.{ℕ, ◌-◌, ◌<◌, ◌≤◌, length, get_or}
+use Rattle.resource_table.specs.Profiles.{no_point}
 use Rattle.resource_table.proofs.Sweeps.{IsSwept}
 use Rattle.resource_table.proofs.crowds.after_crowds.Given as goal
 
-abbrev pub invariant-loop-place : goal.invariant-loop-place
-invariant-loop-place l = record {
-  first : l.first ≤ l.place;
+abbrev pub invariant-crowds : goal.invariant-crowds
+invariant-crowds l = record {
+  bound : l.place ≤ length l.points;
+  behind : (k : ℕ) → l.place ≤ k → k < length l.points → l.from < (get_or l.points k no_point).cycle;
   swept : IsSwept l.points l.free l.from l.width l.last l.place l.start l.crowded;
 }
+
+abbrev pub decreases-crowds : goal.decreases-crowds
+decreases-crowds l = length l.points - l.place

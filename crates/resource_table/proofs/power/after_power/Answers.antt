@@ -1,15 +1,17 @@
-use Rattle.std.proofs.Common.{arith}
+use Rattle.std.proofs.Common.{◌≡◌, ℕ, List, [], ◌∷◌, length, get_or, sym, subst, arith, refl}
+use Rattle.resource_table.specs.Resources.{StepsFit}
 use Rattle.resource_table.proofs.power.after_power.Goals as goal
 
-pub starts-preserved : goal.starts-preserved
-starts-preserved c =
-    let from = c.starts.invariant.from in
-    let later = c.next_within-next.ensures.from in
-    record {
-      from = omega arith;
-      most = c.next_within-next.ensures.most;
-      least = (λ load ended other le fit. c.next_within-next.ensures.least load ended other (c.starts.invariant.least load ended other le fit) fit);
-    }
+one_item : (steps : List (ℕ × ℕ)) (d : ℕ × ℕ) → length steps ≡ 1 → get_or steps 0 d ∷ [] ≡ steps
+one_item [] d one = absurd (omega (arith, one))
+one_item (s ∷ []) d one = refl
+one_item (s ∷ t ∷ steps) d one = absurd (omega (arith, one))
 
-pub returns-then-next-found-clause-fits : goal.returns-then-next-found-clause-fits
-returns-then-next-found-clause-fits c = λ load ended. c.next_within-next.ensures.fits load ended c.if-next-found.true
+pub after_only-requires-clause-within : goal.after_only-requires-clause-within
+after_only-requires-clause-within c = c.requires.within 0 (0, 0) (let one = c.if-steps-eq1.true in omega (arith, one))
+
+pub returns-then-steps-eq1-clause-fits : goal.returns-then-steps-eq1-clause-fits
+returns-then-steps-eq1-clause-fits c = λ load ended. subst (StepsFit load c.args.limit c.after_only.result c.args.length) (one_item c.args.steps.now (0, 0) c.if-steps-eq1.true) (c.after_only.ensures.fits load ended)
+
+pub returns-then-steps-eq1-clause-least : goal.returns-then-steps-eq1-clause-least
+returns-then-steps-eq1-clause-least c = λ load ended other after fit. c.after_only.ensures.least load ended other after (subst (StepsFit load c.args.limit other c.args.length) (sym (one_item c.args.steps.now (0, 0) c.if-steps-eq1.true)) fit)

@@ -75,7 +75,7 @@ explore-loop-place-init g t c =
     let short : length path ≡ length job.tests → ⊥ = λ long. omega (arith, long, some, ap length c.requires.at.rest_are, c.requires.left) in
     let own : IsAt job path c.args.prefix.now.rest.items c.args.prefix.now = subst (λ (l : List ℕ). IsAt job path l c.args.prefix.now) (sym c.requires.at.rest_are) c.requires.at in
     record {
-      table = refl;
+      table = c.is_late.ensures.same;
       at = subst (λ (l : List ℕ). IsAt job path (remove l 0) c.take_first-test.new.self) c.requires.at.rest_are (c.take_first-test.ensures.at job path own);
       test = λ within. c.take_first-test.ensures.test ∙ ap (λ (l : List ℕ). get_or l 0 0) c.requires.at.rest_are;
       best_room = refl;
@@ -113,7 +113,7 @@ explore-follow-requires g t c κs within_measure =
     let most : AtMostFirst job c.enter.new.progress.cycles = subst (AtMostFirst job) (sym cycles_same) c.requires.best.at_most_first in
     let opened : IsOpen job (now ++ test ∷ []) = open_below c.args.table.now job path (now ++ test ∷ []) c.args.end c.enter.new.progress.cycles test c.requires.job c.requires.placed (c.is_late.ensures.in_time c.if-is_late.false) most c.requires.opened (ap (λ (l : List ℕ). l ++ test ∷ []) now_is) in
     let none_before : NoneBefore job (now ++ test ∷ []) c.loop-place.progress.best.items = subst (λ (l : List ℕ). NoneBefore job (l ++ test ∷ []) c.loop-place.progress.best.items) (sym now_is) (subst (λ (n : ℕ). NoneBefore job (path ++ n ∷ []) c.loop-place.progress.best.items) (sym (inv.test within')) (inv.none_before place (omega arith) within')) in
-    let measure : (length job.tests - length now) * 2 < (length job.tests - length path) * 2 + 1 = omega (arith, ap length now_is) in
+    let measure : (length job.tests - length now) * 3 + 1 < (length job.tests - length path) * 3 + 2 = omega (arith, ap length now_is) in
     let going = inv.going in
     let within = inv.within in
     let best = inv.best in
@@ -206,20 +206,31 @@ follow-returns-then-waits-clause-explored g t c =
     let may : may_follow job path test ≡ false = waits_not job path c.args.prefix.now.missing.items test c.waits.result c.requires.at.missing_are c.requires.in_job c.waits.ensures c.if-waits.true in
     branch_passed job c.args.tries.now.budget (length job.tests - length path - 1) path test (stand_of c.args.progress.now) may c.requires.going
 
-pub follow-place-frame-requires : goal.follow-place-frame-requires
-follow-place-frame-requires g t c =
+pub follow-go_on-requires : goal.follow-go_on-requires
+follow-go_on-requires g t c κs within_measure =
     let job = job_value c.args.job.now in
     let path : List ℕ = c.args.prefix.now.tests.items in
     let test : ℕ = c.args.test in
     let may : may_follow job path test ≡ true = waits_then job path c.args.prefix.now.missing.items test c.waits.result c.requires.at.missing_are c.requires.in_job c.requires.unplaced c.waits.ensures c.if-waits.false in
+    let measure : (length job.tests - length path) * 3 < (length job.tests - length path) * 3 + 1 = omega arith in
+    search rules
+
+-- ---- go_on
+
+pub go_on-place-frame-requires : goal.go_on-place-frame-requires
+go_on-place-frame-requires g t c =
+    let job = job_value c.args.job.now in
+    let path : List ℕ = c.args.prefix.now.tests.items in
+    let test : ℕ = c.args.test in
+    let may = c.requires.may in
     let free = may_place c.args.table.now job path c.args.end test c.noted_start-start.result c.requires.job c.requires.sound c.requires.placed c.requires.in_job may c.noted_start-start.ensures.earliest in
     let inside : test < length c.args.table.now.job.tests = subst (λ (j : JobValue). test < length j.tests) (sym c.requires.job) c.requires.in_job in
     let new : is_placed c.args.table.now.placed test ≡ false = unplaced_in c.args.table.now.placed path test c.requires.placed.in_order c.requires.unplaced in
     let placed : MayPlace c.args.table.now.job c.args.table.now.placed test c.noted_start-start.result = free (c.list_schedules_are_short.ensures.fits c.args.table.now test c.noted_start-start.result c.requires.sound c.requires.placed.list inside new c.noted_start-start.ensures.earliest) in
     subst (λ (t : TableValue). MayPlace t.job t.placed test c.noted_start-start.result) (sym c.noted_start-start.ensures.same) placed
 
-pub follow-overflow_add-start : goal.follow-overflow_add-start
-follow-overflow_add-start g t c =
+pub go_on-overflow_add-start : goal.go_on-overflow_add-start
+go_on-overflow_add-start g t c =
     let path : List ℕ = c.args.prefix.now.tests.items in
     let test : ℕ = c.args.test in
     let inside : test < length c.args.table.now.job.tests = subst (λ (j : JobValue). test < length j.tests) (sym c.requires.job) c.requires.in_job in
@@ -229,8 +240,8 @@ follow-overflow_add-start g t c =
     let small : c.noted_start-start.result + c.cycles_at.result ≤ 10 ^ 18 = omega (arith, most, cycles) in
     search rules
 
-pub follow-explore-requires : goal.follow-explore-requires
-follow-explore-requires g t c κs within_measure =
+pub go_on-explore-requires : goal.go_on-explore-requires
+go_on-explore-requires g t c κs within_measure =
     let job = job_value c.args.job.now in
     let path : List ℕ = c.args.prefix.now.tests.items in
     let test : ℕ = c.args.test in
@@ -247,39 +258,39 @@ follow-explore-requires g t c κs within_measure =
     let left : length (outside job more) + length more ≡ length job.tests = omega (arith, long, ap (λ (l : List ℕ). length (outside job l)) more_is, c.requires.left) in
     let opened : IsOpen job more = subst (IsOpen job) (sym more_is) c.requires.opened in
     let none_before : NoneBefore job more c.args.progress.now.best.items = subst (λ (l : List ℕ). NoneBefore job l c.args.progress.now.best.items) (sym more_is) c.requires.none_before in
-    let measure : (length job.tests - length more) * 2 + 1 < (length job.tests - length path) * 2 = omega (arith, long, left) in
+    let measure : (length job.tests - length more) * 3 + 2 < (length job.tests - length path) * 3 = omega (arith, long, left) in
     search rules
 
-pub follow-returns-then-not-progress-clause-table : goal.follow-returns-then-not-progress-clause-table
-follow-returns-then-not-progress-clause-table g t c =
+pub go_on-returns-then-not-progress-clause-table : goal.go_on-returns-then-not-progress-clause-table
+go_on-returns-then-not-progress-clause-table g t c =
     let test : ℕ = c.args.test in
     let grown : c.table.result.now ≡ record c.args.table.now { placed = c.args.table.now.placed ++ at_start test c.noted_start-start.result ∷ [] } = c.table.ensures.value ∙ c.place-frame.ensures.table ∙ ap (λ (t : TableValue). record t { placed = t.placed ++ at_start test c.noted_start-start.result ∷ [] }) c.noted_start-start.ensures.same in
     let back : c.undo.new.self.0 ≡ c.args.table.now = taken_back c.args.table.now c.explore.new.table c.undo.new.self.0 c.place-frame.result.before test c.noted_start-start.result c.undo.ensures.table (c.explore.ensures.table ∙ grown) (c.place-frame.ensures.before ∙ ap (λ (t : TableValue). length t.placed) c.noted_start-start.ensures.same) in
     search rules
 
-pub follow-returns-then-not-progress-clause-room : goal.follow-returns-then-not-progress-clause-room
-follow-returns-then-not-progress-clause-room g t c =
+pub go_on-returns-then-not-progress-clause-room : goal.go_on-returns-then-not-progress-clause-room
+go_on-returns-then-not-progress-clause-room g t c =
     (c.take_back.ensures c.args.prefix.now.tests.items c.args.test ((c.explore.ensures.at c.if-not-progress.true).tests_are ∙ c.add.ensures.tests_are)).has_room
 
-pub follow-returns-then-not-progress-clause-explored : goal.follow-returns-then-not-progress-clause-explored
-follow-returns-then-not-progress-clause-explored g t c =
+pub go_on-returns-then-not-progress-clause-explored : goal.go_on-returns-then-not-progress-clause-explored
+go_on-returns-then-not-progress-clause-explored g t c =
     let job = job_value c.args.job.now in
     let path : List ℕ = c.args.prefix.now.tests.items in
     let test : ℕ = c.args.test in
-    let may : may_follow job path test ≡ true = waits_then job path c.args.prefix.now.missing.items test c.waits.result c.requires.at.missing_are c.requires.in_job c.requires.unplaced c.waits.ensures c.if-waits.false in
+    let may = c.requires.may in
     branch_followed job c.args.tries.now.budget (length job.tests) path c.add.new.self.tests.items test (stand_of c.args.progress.now) (stand_of c.explore.new.progress) c.add.ensures.tests_are may c.explore.ensures.explored
 
-pub follow-returns-else-not-progress-clause-table : goal.follow-returns-else-not-progress-clause-table
-follow-returns-else-not-progress-clause-table g t c =
+pub go_on-returns-else-not-progress-clause-table : goal.go_on-returns-else-not-progress-clause-table
+go_on-returns-else-not-progress-clause-table g t c =
     let test : ℕ = c.args.test in
     let grown : c.table.result.now ≡ record c.args.table.now { placed = c.args.table.now.placed ++ at_start test c.noted_start-start.result ∷ [] } = c.table.ensures.value ∙ c.place-frame.ensures.table ∙ ap (λ (t : TableValue). record t { placed = t.placed ++ at_start test c.noted_start-start.result ∷ [] }) c.noted_start-start.ensures.same in
     let back : c.undo.new.self.0 ≡ c.args.table.now = taken_back c.args.table.now c.explore.new.table c.undo.new.self.0 c.place-frame.result.before test c.noted_start-start.result c.undo.ensures.table (c.explore.ensures.table ∙ grown) (c.place-frame.ensures.before ∙ ap (λ (t : TableValue). length t.placed) c.noted_start-start.ensures.same) in
     search rules
 
-pub follow-returns-else-not-progress-clause-explored : goal.follow-returns-else-not-progress-clause-explored
-follow-returns-else-not-progress-clause-explored g t c =
+pub go_on-returns-else-not-progress-clause-explored : goal.go_on-returns-else-not-progress-clause-explored
+go_on-returns-else-not-progress-clause-explored g t c =
     let job = job_value c.args.job.now in
     let path : List ℕ = c.args.prefix.now.tests.items in
     let test : ℕ = c.args.test in
-    let may : may_follow job path test ≡ true = waits_then job path c.args.prefix.now.missing.items test c.waits.result c.requires.at.missing_are c.requires.in_job c.requires.unplaced c.waits.ensures c.if-waits.false in
+    let may = c.requires.may in
     branch_followed job c.args.tries.now.budget (length job.tests) path c.add.new.self.tests.items test (stand_of c.args.progress.now) (stand_of c.explore.new.progress) c.add.ensures.tests_are may c.explore.ensures.explored

@@ -7,14 +7,17 @@ use Rattle.schedule_search.proofs.Walking.{tried}
 use Rattle.schedule_search.proofs.walk.+explore.Given as goal
 
 abbrev pub decreases-explore : goal.decreases-explore
-decreases-explore g l = (length (job_value l.job.now).tests - length l.prefix.now.tests.items) * 2 + 1
+decreases-explore g l = (length (job_value l.job.now).tests - length l.prefix.now.tests.items) * 3 + 2
 
 abbrev pub decreases-follow : goal.decreases-follow
-decreases-follow g l = (length (job_value l.job.now).tests - length l.prefix.now.tests.items) * 2
+decreases-follow g l = (length (job_value l.job.now).tests - length l.prefix.now.tests.items) * 3 + 1
+
+abbrev pub decreases-go_on : goal.decreases-go_on
+decreases-go_on g l = (length (job_value l.job.now).tests - length l.prefix.now.tests.items) * 3
 
 abbrev pub invariant-explore-loop-place : goal.invariant-explore-loop-place
 invariant-explore-loop-place g l = record {
-  table : l.table ≡ l.initial.table;
+  table : l.table ≡ l.fn.table;
   at : IsAt (job_value l.job) l.fn.prefix.tests.items (remove (outside (job_value l.job) l.fn.prefix.tests.items) l.place) l.prefix;
   test : l.place < length (outside (job_value l.job) l.fn.prefix.tests.items) → l.test ≡ get_or (outside (job_value l.job) l.fn.prefix.tests.items) l.place 0;
   best_room : vec_capacity l.progress.best ≡ vec_capacity l.initial.progress.best;

@@ -1,8 +1,9 @@
-use Rattle.std.proofs.Common.{◌≡◌, ◌+◌, ◌<◌, ℕ, Some}
-use Rattle.std.specs.Prelude.{slice_get}
-use Rattle.resource_table.specs.Jobs.{cycles_of}
-use Rattle.resource_table.specs.Schedules.{ready_at}
+use Rattle.std.proofs.Common.{◌≡◌}
+use Rattle.schedule_search.proofs.Lateness.{AreInTimeBelow}
 use Rattle.schedule_search.proofs.walk.is_late.Given as goal
 
 abbrev pub invariant-loop-test : goal.invariant-loop-test
-invariant-loop-test g l = (n test : ℕ) → n < l.test-index → slice_get l.rest n ≡ Some test → ready_at l.table.job l.table.placed test + cycles_of l.table.job test < l.cycles
+invariant-loop-test g l = record {
+  same : l.table ≡ l.fn.table;
+  below : AreInTimeBelow l.fn.table l.rest l.test-index l.cycles;
+}

@@ -3,7 +3,7 @@ use Rattle.std.specs.Prelude.{IfSome}
 use Rattle.std.specs.List.{flat_map}
 use Rattle.resource_table.specs.Profiles.{ArePoints}
 use Rattle.resource_table.specs.Jobs.{job_value, test_value}
-use Rattle.resource_table.specs.Resources.{load_of, marks_of, StepsFit}
+use Rattle.resource_table.specs.Resources.{load_of, marks_of}
 use Rattle.resource_table.specs.Schedules.{TableValue, last_end, StaysWithin}
 use Rattle.resource_table.proofs.KeptStarts.{wanted_is, short_enough, profile_here, steps_within_limit, steps_here, within_here}
 use Rattle.resource_table.proofs.table.TableOf.after_draws.Goals as goal
@@ -36,8 +36,8 @@ returns-clause-within g c =
     let wanted = wanted_is c.self.inside.own.tests.items c.args.test c.index-wanted.result.now inside c.index-wanted.ensures in
     let last = subst (λ (t : TableValue). c.args.last ≡ last_end t.job t.placed) (sym c.self.view_is) c.requires.last in
     let profile = profile_here (job_value c.self.inside.own) c.self.inside.trail c.self.inside.ends c.self.inside.lasts c.self.inside.draws c.self.invariant.0 c.args.test inside (test_value c.index-wanted.result.now) wanted c.self.inside.points.items c.deref.result.now c.args.last (subst (λ (o : Option ℕ). IfSome o (λ _. ArePoints c.self.inside.draws.items (flat_map (marks_of (job_value c.self.inside.own)) c.self.inside.trail.items) c.self.inside.points.items)) c.in-Some.is c.self.invariant.2.are) c.deref.ensures.value last in
-    subst (λ (t : TableValue). c.after_power.result ≡ c.args.start → StaysWithin t.job t.placed c.args.test c.args.start) c.self.view_is
-    (λ same. within_here (job_value c.self.inside.own) c.self.inside.trail c.self.inside.ends c.self.inside.lasts c.self.inside.draws c.self.invariant.0 c.args.test inside (test_value c.index-wanted.result.now) wanted c.args.start c.in-Some.limit c.self.inside.draws.items c.deref-2.result.now refl c.deref-2.ensures.value c.in-Some.is (subst (λ (v : ℕ). StepsFit (load_of c.self.inside.draws.items) c.in-Some.limit v c.index-wanted.result.now.length c.deref-2.result.now) same (c.after_power.ensures.fits (load_of c.self.inside.draws.items) profile)))
+    subst (λ (t : TableValue). StaysWithin t.job t.placed c.args.test c.after_power.result) c.self.view_is
+    (within_here (job_value c.self.inside.own) c.self.inside.trail c.self.inside.ends c.self.inside.lasts c.self.inside.draws c.self.invariant.0 c.args.test inside (test_value c.index-wanted.result.now) wanted c.after_power.result c.in-Some.limit c.self.inside.draws.items c.deref-2.result.now refl c.deref-2.ensures.value c.in-Some.is (c.after_power.ensures.fits (load_of c.self.inside.draws.items) profile))
 
 pub returns-clause-least : goal.returns-clause-least
 returns-clause-least g c =

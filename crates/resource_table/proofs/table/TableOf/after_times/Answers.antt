@@ -23,9 +23,9 @@ pub returns-clause-apart : goal.returns-clause-apart
 returns-clause-apart g c =
     let inside = subst (λ (t : TableValue). c.args.test < length t.job.tests) (sym c.self.view_is) c.requires.in_job in
     let wanted = wanted_is c.self.inside.own.tests.items c.args.test c.index-wanted.result.now inside c.index-wanted.ensures in
-    subst (λ (t : TableValue). c.after_busy.result ≡ c.args.start → MeetsNone t.job t.placed c.args.test c.args.start) c.self.view_is
-    (λ same. meets_from_free (job_value c.self.inside.own) c.self.inside.trail.items c.self.invariant.0.sound c.self.inside.times c.self.invariant.3 c.args.test c.args.start
-    (subst (λ (t : TestValue). IsFree c.self.inside.times t c.args.start) wanted (c.after_busy.ensures.free same)))
+    subst (λ (t : TableValue). MeetsNone t.job t.placed c.args.test c.after_busy.result) c.self.view_is
+    (meets_from_free (job_value c.self.inside.own) c.self.inside.trail.items c.self.invariant.0.sound c.self.inside.times c.self.invariant.3 c.args.test c.after_busy.result
+    (subst (λ (t : TestValue). IsFree c.self.inside.times t c.after_busy.result) wanted c.after_busy.ensures.free))
 
 pub returns-clause-least : goal.returns-clause-least
 returns-clause-least g c =

@@ -2,7 +2,7 @@ use Rattle.std.proofs.Common.{◌<◌, length, sym, subst}
 use Rattle.resource_table.specs.Jobs.{job_value}
 use Rattle.resource_table.specs.Schedules.{TableValue, IsEarliest}
 use Rattle.resource_table.proofs.Bounds.{bounded_note}
-use Rattle.resource_table.proofs.table.TableOf.note.Goals as goal
+use Rattle.resource_table.proofs.table.TableOf.noted_start.Goals as goal
 
 pub invariant_of-self : goal.invariant_of-self
 invariant_of-self g c =

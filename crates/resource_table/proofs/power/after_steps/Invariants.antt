@@ -1,7 +1,7 @@
 use Rattle.std.proofs.Common.{ℕ, ◌-◌, ◌≤◌}
 use Rattle.resource_table.specs.Resources.{StepsFit}
 use Rattle.resource_table.specs.Profiles.{IsEndedProfile}
-use Rattle.resource_table.proofs.power.after_power.Given as goal
+use Rattle.resource_table.proofs.power.after_steps.Given as goal
 
 abbrev pub invariant-starts : goal.invariant-starts
 invariant-starts l = record {
