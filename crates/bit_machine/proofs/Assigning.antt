@@ -10,7 +10,7 @@ use Rattle.plan_model.specs.Plans.{PlannedTest, uses, is_active, end_of}
 use Rattle.plan_model.specs.Runs.{Content}
 use Rattle.plan_model.specs.Right.{IsAt}
 use Rattle.bit_machine.specs.Lanes.{lane_on, IsWired, IsLane}
-use Rattle.bit_machine.specs.Machines.{FitLanes, AreLanes, AreOnWires, AreUsers, AreUsersBelow, AreUnchanged, IsUnchanged, IsLaneUnchanged, IsMachine}
+use Rattle.bit_machine.specs.Machines.{FitLanes, AreLanes, AreOnWires, AreUsers, AreUsersBelow, AreUnchanged, AreNow, AreSomeLanes, AreSomeUsers, IsUnchanged, IsLaneUnchanged, IsMachine, IsSomeMachine}
 use Rattle.bit_machine.specs.declared.lane.Lane.{Lane}
 use Rattle.bit_machine.specs.declared.machine.Machine.{Machine}
 
@@ -83,10 +83,10 @@ pub nobody_below : (tests : List PlannedTest) (c : ℕ) (users : List (Option �
 nobody_below tests c users none = record { user = λ w i at. absurd (none w i at); every = λ w i t h. absurd (omega arith) }
 
 -- a lane is on exactly where its test is active over the wires
-on_is : (content : Content) (t : PlannedTest) (l : Lane) (c : ℕ) → IsLane content t l → lane_on l c ≡ (t.tam && is_active c t)
+pub on_is : (content : Content) (t : PlannedTest) (l : Lane) (c : ℕ) → IsLane content t l → lane_on l c ≡ (t.tam && is_active c t)
 on_is content t l c is = rw (is.tam, is.start, is.ends) refl
 
-uses_from : (content : Content) (t : PlannedTest) (l : Lane) (c w : ℕ) → IsLane content t l → lane_on l c ≡ true → l.first_wire ≤ w → w < l.first_wire + l.width → uses c w t ≡ true
+pub uses_from : (content : Content) (t : PlannedTest) (l : Lane) (c w : ℕ) → IsLane content t l → lane_on l c ≡ true → l.first_wire ≤ w → w < l.first_wire + l.width → uses c w t ≡ true
 uses_from content t l c w is on low high =
     let e : (t.tam && is_active c t) ≡ true = sym (on_is content t l c is) ∙ on in
     let p = and_parts t.tam (is_active c t) e in
@@ -95,12 +95,12 @@ uses_from content t l c w is on low high =
     let width : l.width ≡ t.width = wired.width in
     rw (p.0, p.1, le-leb t.first_wire w (omega arith), lt-ltb w (t.first_wire + t.width) (omega arith)) refl
 
-record Within (l : Lane) (c w : ℕ) : Type 0 where
+pub record Within (l : Lane) (c w : ℕ) : Type 0 where
   pub on : lane_on l c ≡ true
   pub low : l.first_wire ≤ w
   pub high : w < l.first_wire + l.width
 
-from_uses : (content : Content) (t : PlannedTest) (l : Lane) (c w : ℕ) → IsLane content t l → uses c w t ≡ true → Within l c w
+pub from_uses : (content : Content) (t : PlannedTest) (l : Lane) (c w : ℕ) → IsLane content t l → uses c w t ≡ true → Within l c w
 from_uses content t l c w is used =
     let a = and_parts t.tam (is_active c t && (leb t.first_wire w && ltb w (t.first_wire + t.width))) used in
     let b = and_parts (is_active c t) (leb t.first_wire w && ltb w (t.first_wire + t.width)) a.1 in
@@ -170,19 +170,34 @@ same_lt c n change h (inr later) = lt-ltb (c + 1) n (omega arith) ∙ sym (lt-lt
 same_uses : (c w change : ℕ) (t : PlannedTest) → c + 1 < change → IsUnchanged c change t.start × IsUnchanged c change (end_of t) → uses (c + 1) w t ≡ uses c w t
 same_uses c w change t h u = rw (same_le c t.start change h u.0, same_lt c (end_of t) change h u.1) refl
 
-pub next_machine : (content : Content) (tests : List PlannedTest) (m : Machine) (n : ℕ) → n ≡ m.cycle + 1 → n < m.change → IsMachine content tests m → IsMachine content tests (record { lanes = m.lanes; users = m.users; cycle = n; change = m.change })
-next_machine content tests m n is_next h is = rw is_next (record {
-  lanes = is.lanes;
-  wires = is.wires;
-  users = record {
-    user = λ w i there. let u = is.users.user w i there in (u.0, u.1, same_uses m.cycle w m.change u.0 (omega arith) (is.change i u.0 u.1) ∙ u.2);
-    every = λ w i t less at used. is.users.every w i t less at (sym (same_uses m.cycle w m.change t (omega arith) (is.change i t at)) ∙ used);
-  };
-  change = λ i t at. let u = is.change i t at in (later u.0, later u.1);
+-- the users at the next cycle
+pub next_users : (content : Content) (tests : List PlannedTest) (m : Machine) (n : ℕ) → n ≡ m.cycle + 1 → n < m.change → IsMachine content tests m → AreUsers tests n m.users.items
+next_users content tests m n is_next h is = rw is_next (record {
+  user = λ w i there. let u = is.users.user w i there in (u.0, u.1, same_uses m.cycle w m.change u.0 (omega (arith, h, is_next)) (is.change i u.0 u.1) ∙ u.2);
+  every = λ w i t less at used. is.users.every w i t less at (sym (same_uses m.cycle w m.change t (omega (arith, h, is_next)) (is.change i t at)) ∙ used);
 })
+
+pub next_some : (m : Machine) (n : ℕ) → n ≡ m.cycle + 1 → n < m.change → IsSomeMachine m → (seen : List Lane) (users : List (Option ℕ)) → seen ≡ m.lanes.items → users ≡ m.users.items → AreSomeUsers seen n users
+next_some m n is_next h s seen users e f = record {
+  content = s.content;
+  tests = s.tests;
+  are = subst (AreLanes s.content s.tests) (sym e) s.is.lanes;
+  on = subst (λ (v : List (Option ℕ)). AreOnWires s.tests (length v)) (sym f) s.is.wires;
+  by = subst (AreUsers s.tests n) (sym f) (next_users s.content s.tests m n is_next h s.is);
+}
+
+pub next_machine : (content : Content) (tests : List PlannedTest) (m : Machine) (lanes : Vec Lane) (n : ℕ) → n ≡ m.cycle + 1 → n < m.change → AreLanes content tests lanes.items → AreNow lanes.items n → IsMachine content tests m →
+    IsMachine content tests (record { lanes = lanes; users = m.users; cycle = n; change = m.change })
+next_machine content tests m lanes n is_next h are now is = record {
+  lanes = are;
+  wires = is.wires;
+  users = next_users content tests m n is_next h is;
+  change = λ i t at. let u = is.change i t at in (later u.0, later u.1);
+  now = now;
+}
   where
-    later : {x : ℕ} → (x ≤ m.cycle) ⊎ (m.change ≤ x) → (x ≤ m.cycle + 1) ⊎ (m.change ≤ x)
-    later (inl past) = inl (omega arith)
+    later : {x : ℕ} → (x ≤ m.cycle) ⊎ (m.change ≤ x) → (x ≤ n) ⊎ (m.change ≤ x)
+    later (inl past) = inl (omega (arith, is_next))
     later (inr after) = inr after
 
 -- what the lanes say of the change, the tests do
@@ -240,17 +255,30 @@ assign_more content tests n lanes are on c p l old new there long g below =
     some_test (t ∷ ts) (suc i) h = some_test ts i (omega arith)
 
 -- a machine that stands at a cycle
-pub stood : (content : Content) (tests : List PlannedTest) (lanes : Vec Lane) (users : Vec (Option ℕ)) (seen seen' : List Lane) (given new : List (Option ℕ)) (c change : ℕ) → seen ≡ lanes.items → seen' ≡ lanes.items → given ≡ users.items → length new ≡ length given →
-    ((i : ℕ) (l : Lane) → slice_get seen i ≡ Some l → IsLaneUnchanged c change l) → (AreLanes content tests seen' → AreOnWires tests (length given) → AreUsers tests c new) →
-    AreLanes content tests lanes.items → AreOnWires tests (length users.items) → IsMachine content tests (record { lanes = lanes; users = with_items users new; cycle = c; change = change })
-stood content tests lanes users seen seen' given new c change e e' f long each assigned are on =
-    let same : length given ≡ length users.items = ap length f in
-    let items : (with_items users new).items ≡ new = with_items_is users new (omega (arith, users.ok.0)) in
-    let on' : AreOnWires tests (length given) = subst (AreOnWires tests) (sym same) on in
-    let n : length (with_items users new).items ≡ length users.items = ap length items ∙ long ∙ same in
+pub stood : (content : Content) (tests : List PlannedTest) (lanes now_lanes : Vec Lane) (users : Vec (Option ℕ)) (seen : List Lane) (new : List (Option ℕ)) (c change : ℕ) → seen ≡ lanes.items → length new ≡ length users.items →
+    ((i : ℕ) (l : Lane) → slice_get seen i ≡ Some l → IsLaneUnchanged c change l) → AreUsers tests c new →
+    AreLanes content tests lanes.items → AreLanes content tests now_lanes.items → AreNow now_lanes.items c → AreOnWires tests (length users.items) → IsMachine content tests (record { lanes = now_lanes; users = with_items users new; cycle = c; change = change })
+stood content tests lanes now_lanes users seen new c change e long each assigned are stand now on =
+    let items : (with_items users new).items ≡ new = with_items_is users new (omega (arith, long, users.ok.0)) in
+    let n : length (with_items users new).items ≡ length users.items = ap length items ∙ long in
     record {
-      lanes = are;
+      lanes = stand;
       wires = subst (AreOnWires tests) (sym n) on;
-      users = subst (AreUsers tests c) (sym items) (assigned (subst (AreLanes content tests) (sym e') are) on');
+      users = subst (AreUsers tests c) (sym items) assigned;
       change = tests_unchanged content tests lanes.items c change are (subst (λ (ls : List Lane). (i : ℕ) (l : Lane) → slice_get ls i ≡ Some l → IsLaneUnchanged c change l) e each);
+      now = now;
+    }
+
+-- the users who were given their wires
+pub users_stand : (lanes : List Lane) (users : Vec (Option ℕ)) (s : AreSomeLanes lanes (length users.items)) (seen seen' : List Lane) (given new now : List (Option ℕ)) (c : ℕ) → seen ≡ lanes → given ≡ users.items → length new ≡ length given →
+    ((content : Content) (tests : List PlannedTest) → AreLanes content tests seen → AreOnWires tests (length given) → AreUsers tests c new) → seen' ≡ lanes → now ≡ (with_items users new).items → AreSomeUsers seen' c now
+users_stand lanes users s seen seen' given new now c e f long assigned e' g =
+    let same : length given ≡ length users.items = ap length f in
+    let items : now ≡ new = g ∙ with_items_is users new (omega (arith, long, same, users.ok.0)) in
+    record {
+      content = s.content;
+      tests = s.tests;
+      are = subst (AreLanes s.content s.tests) (sym e') s.are;
+      on = subst (AreOnWires s.tests) (sym (ap length items ∙ long ∙ same)) s.on;
+      by = subst (AreUsers s.tests c) (sym items) (assigned s.content s.tests (subst (AreLanes s.content s.tests) (sym e) s.are) (subst (AreOnWires s.tests) (sym same) s.on));
     }

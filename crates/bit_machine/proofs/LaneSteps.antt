@@ -1,22 +1,22 @@
 -- One live test, chain by chain.
-use Rattle.std.proofs.Common.{◌≡◌, ℕ, zero, suc, ◌+◌, ◌-◌, ◌≤◌, ◌<◌, ◌⊎◌, Bool, true, false, Option, Some, List, [], ◌∷◌, length, get_or, set, refl, ap, sym, ◌∙◌, arith, inl, inr}
-use Rattle.std.specs.Prelude.{slice_get, ◌&&◌, option_map}
+use Rattle.std.proofs.Common.{◌≡◌, ℕ, zero, suc, ◌+◌, ◌-◌, ◌≤◌, ◌<◌, ◌⊎◌, Bool, true, false, Some, List, [], ◌∷◌, length, get_or, map, drop, set, refl, ap, sym, subst, ◌∙◌, arith, inl, inr}
+use Rattle.std.specs.Prelude.{slice_get, slice_index, nat_lt, ◌&&◌, ◌%◌}
+use Rattle.std.specs.Global.{Vec}
 use Rattle.std.specs.List.{zip, list_all}
 use Rattle.std.specs.Vec.{with_item}
 use Rattle.std.proofs.lemmas.List.{length-map, map-set, length-set, get_or-map}
 use Rattle.std.proofs.lemmas.Option.{slice_get-get_or, get_or_from_slice_get, slice_get_within}
-use Rattle.std.proofs.lemmas.Bool.{cases_lt}
-use Rattle.plan_model.specs.Cells.{Cell}
+use Rattle.std.proofs.lemmas.Bool.{cases_lt, lt-ltb, le-ltb}
+use Rattle.plan_model.specs.Cells.{Cell, in_length}
 use Rattle.plan_model.specs.Plans.{PlannedTest}
-use Rattle.plan_model.specs.Runs.{Content, chain_at, next_bits}
+use Rattle.plan_model.specs.Runs.{Content, chain_at, next_bits, wanted}
 use Rattle.bit_machine.specs.Chips.{chain_holds, holds}
-use Rattle.bit_machine.specs.Paths.{path_bits, path_stimulus, path_response, answer_by, IsPath}
-use Rattle.plan_model.specs.Moments.{turn_value, moment_operation, moment_behind, IsMoment}
-use Rattle.bit_machine.specs.Lanes.{lane_bits, IsSound, IsWired, IsLane, IsAnswer}
+use Rattle.bit_machine.specs.Packed.{is_set}
+use Rattle.bit_machine.specs.Paths.{made_from, path_bits, path_stimulus, path_response, is_answered, IsPath}
+use Rattle.plan_model.specs.Moments.{phase_ops, moment_operation, moment_ahead, moment_behind, wanted_by, ArePhases}
+use Rattle.bit_machine.specs.Lanes.{lane_bits, lane_on, loaded_bit, ArePages, IsSound, IsNow, IsSameTest, IsWired, IsLane}
 use Rattle.bit_machine.specs.declared.path.Path.{Path}
 use Rattle.bit_machine.specs.declared.lane.Lane.{Lane}
-use Rattle.plan_model.specs.declared.moments.Moment.{Moment}
-use Rattle.plan_model.specs.declared.moments.Turn.{Turn}
 
 -- ---- an item of a list
 
@@ -37,7 +37,6 @@ from_set (x ∷ xs) (suc i) (suc j) y z e = elim (from_set xs i j y z e) [
 
 pub sound_path : (inputs : ℕ) (lengths : List ℕ) (cells : List Cell) (p : Path) → IsPath inputs lengths cells p → IsSound p
 sound_path inputs lengths cells p is = record {
-  ring = is.ring;
   loads = let a = is.loads_long in let b = is.long in let d = is.chain.in_fit in omega arith;
   answers = let a = is.answers_long in let b = is.long in let d = is.chain.out_fit in omega arith;
 }
@@ -46,18 +45,48 @@ pub bits_of_path : (lane : Lane) (j : ℕ) (p : Path) → slice_get lane.paths.i
 bits_of_path lane j p at =
     get_or-map path_bits lane.paths.items j p [] (slice_get_within lane.paths.items j p at) ∙ ap path_bits (get_or_from_slice_get lane.paths.items j p p at)
 
+-- ---- what the test does now
+
+pub op_now : (content : Content) (t : PlannedTest) (lane : Lane) (cycle : ℕ) → t.tam ≡ true → IsLane content t lane → IsNow lane cycle → slice_get t.operations (cycle - t.start) ≡ Some (moment_operation lane.moment)
+op_now content t lane cycle tam is now = let w : IsWired content t lane = is.wired tam in rw (w.operations, ← is.start) now.is.operation
+
+wanted_now : (content : Content) (t : PlannedTest) (lane : Lane) (cycle j : ℕ) → t.tam ≡ true → IsLane content t lane → IsNow lane cycle →
+    wanted (content.stimulus t.id) (chain_at t j) (drop (cycle - t.start) t.operations) ≡ wanted_by (content.stimulus t.id) (chain_at t j) (moment_ahead lane.moment)
+wanted_now content t lane cycle j tam is now =
+    let w : IsWired content t lane = is.wired tam in
+    rw (w.operations, ← is.start) (now.is.wants (content.stimulus t.id) (chain_at t j))
+
+some_item : {X : Type 0} (xs : List X) (i : ℕ) → i < length xs → (x : X) × (slice_get xs i ≡ Some x)
+some_item [] i h = absurd (omega arith)
+some_item (x ∷ xs) zero h = (x, refl)
+some_item (x ∷ xs) (suc i) h = some_item xs i (omega arith)
+
+-- a bit of the page is what is wanted
+pub wanted_bit : (content : Content) (t : PlannedTest) (lane : Lane) (cycle j s k : ℕ) → t.tam ≡ true → IsLane content t lane → IsNow lane cycle → moment_ahead lane.moment ≡ Some (s, k) → j < length lane.pages.items →
+    is_set (slice_index lane.pages.items j) (s % 64) ≡ wanted (content.stimulus t.id) (chain_at t j) (drop (cycle - t.start) t.operations)
+wanted_bit content t lane cycle j s k tam is now ahead h =
+    let w : IsWired content t lane = is.wired tam in
+    let p = some_item lane.paths.items j (omega (arith, h, is.ready.pages.many)) in
+    let path : IsPath w.inputs w.lengths (chain_at t j) p.0 = w.path j p.0 p.1 in
+    let low : s % 64 < 64 = omega arith in
+    let there : s - s % 64 + s % 64 ≡ s = omega arith in
+    let word = is.ready.pages.each (record { pattern = k; first = s - s % 64 }) (now.page s k ahead) j p.0 p.1 (s % 64) low in
+    word ∙ ap (loaded_bit lane.base k (p.0).loads) there ∙ by p.0 path (cases_lt s (in_length (chain_at t j)))
+    ∙ sym (wanted_now content t lane cycle j tam is now ∙ ap (wanted_by (content.stimulus t.id) (chain_at t j)) ahead ∙ ap (λ f. wanted_by f (chain_at t j) (Some (s, k))) w.stimulus)
+  where
+    by : (p : Path) → IsPath (is.wired tam).inputs (is.wired tam).lengths (chain_at t j) p → (s < in_length (chain_at t j)) ⊎ (in_length (chain_at t j) ≤ s) →
+        loaded_bit lane.base k p.loads s ≡ wanted_by (path_stimulus lane.base (is.wired tam).inputs (is.wired tam).lengths) (chain_at t j) (Some (s, k))
+    by p path (inl less) =
+        rw (lt-ltb s (length p.loads) (omega (arith, path.loads_long, less)), lt-ltb s (in_length (chain_at t j)) less) (ap (λ n. made_from lane.base k n 0) (path.load s less))
+    by p path (inr past) = rw (le-ltb s (length p.loads) (omega (arith, path.loads_long, past)), le-ltb s (in_length (chain_at t j)) past) refl
+
 -- ---- what is read
 
-pub answer_is : (content : Content) (t : PlannedTest) (lane : Lane) (cycle j : ℕ) (p : Path) (m : Moment) (b : Option Turn) (r : Option Bool) → t.tam ≡ true → IsLane content t lane → slice_get lane.paths.items j ≡ Some p →
-    IsMoment lane.phases (cycle - lane.start) m → option_map turn_value b ≡ moment_behind m →
-    ((inputs : ℕ) (lengths : List ℕ) (cells : List Cell) → IsPath inputs lengths cells p → r ≡ answer_by (path_response lane.base lengths) cells (option_map turn_value b)) → IsAnswer content t lane cycle j r
-answer_is content t lane cycle j p m b r tam is at here behind bits =
+pub read_within : (content : Content) (t : PlannedTest) (lane : Lane) (j s k : ℕ) (p : Path) → t.tam ≡ true → IsLane content t lane → slice_get lane.paths.items j ≡ Some p → moment_behind lane.moment ≡ Some (s, k) →
+    nat_lt s (length p.answers) ≡ is_answered (chain_at t j) (moment_behind lane.moment)
+read_within content t lane j s k p tam is at behind =
     let w : IsWired content t lane = is.wired tam in
-    record {
-      moment = m;
-      is = here;
-      bit = bits w.inputs w.lengths (chain_at t j) (w.path j p at) ∙ rw (behind, w.response) refl;
-    }
+    ap (nat_lt s) (w.path j p at).answers_long ∙ sym (ap (is_answered (chain_at t j)) behind)
 
 -- ---- what is held
 
@@ -115,11 +144,10 @@ with_path lane j q = record {
   first_wire = lane.first_wire;
   width = lane.width;
   paths = with_item lane.paths j q;
+  moment = lane.moment;
+  page = lane.page;
+  pages = lane.pages;
 }
-
--- what a step does to a path, whatever its cells are
-abbrev pub Steps : Lane → Moment → Bool → Path → Path → Type 0
-Steps lane m drive p q = (inputs : ℕ) (lengths : List ℕ) (cells : List Cell) → IsPath inputs lengths cells p → IsPath inputs lengths cells q
 
 wired_path : (content : Content) (t : PlannedTest) (lane : Lane) (j : ℕ) (p q : Path) → IsWired content t lane → slice_get lane.paths.items j ≡ Some p → ((inputs : ℕ) (lengths : List ℕ) (cells : List Cell) → IsPath inputs lengths cells p → IsPath inputs lengths cells q) → IsWired content t (with_path lane j q)
 wired_path content t lane j p q w at steps = record {
@@ -138,14 +166,22 @@ wired_path content t lane j p q w at steps = record {
   ];
 }
 
-pub lane_stepped : (content : Content) (t : PlannedTest) (lane : Lane) (j : ℕ) (p q : Path) → t.tam ≡ true → IsLane content t lane → slice_get lane.paths.items j ≡ Some p →
+pub lane_stepped : (content : Content) (t : PlannedTest) (lane : Lane) (j : ℕ) (p q : Path) → t.tam ≡ true → IsLane content t lane → slice_get lane.paths.items j ≡ Some p → q.loads ≡ p.loads →
     ((inputs : ℕ) (lengths : List ℕ) (cells : List Cell) → IsPath inputs lengths cells p → IsPath inputs lengths cells q) → IsLane content t (with_path lane j q)
-lane_stepped content t lane j p q tam is at steps =
+lane_stepped content t lane j p q tam is at loads steps =
     let w : IsWired content t lane = is.wired tam in
     record {
       ready = record {
         base = is.ready.base;
         phases = is.ready.phases;
+        pages = record {
+          many = is.ready.pages.many ∙ sym (length-set lane.paths.items j q);
+          each = λ page own i r at'. elim (from_set lane.paths.items j i q r at') [
+            | inl here ↦
+                rw (here.0, here.1, loads) (is.ready.pages.each page own j p at)
+            | inr other ↦ is.ready.pages.each page own i r other
+          ];
+        };
         paths = λ i r at'. elim (from_set lane.paths.items j i q r at') [
           | inl here ↦ rw here.1 (sound_path w.inputs w.lengths (chain_at t j) q (steps w.inputs w.lengths (chain_at t j) (w.path j p at)))
           | inr other ↦ is.ready.paths i r other
@@ -158,14 +194,53 @@ lane_stepped content t lane j p q tam is at steps =
       alone = λ none. let e : true ≡ false = sym tam ∙ none in absurd cc;
     }
 
-pub lane_bits_stepped : (content : Content) (t : PlannedTest) (lane : Lane) (cycle j : ℕ) (p q : Path) (m : Moment) (drive : Bool) → t.tam ≡ true → IsLane content t lane → slice_get lane.paths.items j ≡ Some p → IsMoment lane.phases (cycle - lane.start) m →
-    ((inputs : ℕ) (lengths : List ℕ) (cells : List Cell) → IsPath inputs lengths cells p → path_bits q ≡ next_bits (path_response lane.base lengths) cells (Some (moment_operation m)) drive (path_bits p)) →
+pub lane_bits_stepped : (content : Content) (t : PlannedTest) (lane : Lane) (cycle j : ℕ) (p q : Path) (drive : Bool) → t.tam ≡ true → IsLane content t lane → IsNow lane cycle → slice_get lane.paths.items j ≡ Some p →
+    ((inputs : ℕ) (lengths : List ℕ) (cells : List Cell) → IsPath inputs lengths cells p → path_bits q ≡ next_bits (path_response lane.base lengths) cells (Some (moment_operation lane.moment)) drive (path_bits p)) →
     lane_bits (with_path lane j q) ≡ set (lane_bits lane) j (next_bits (content.response t.id) (chain_at t j) (slice_get t.operations (cycle - t.start)) drive (get_or (lane_bits lane) j []))
-lane_bits_stepped content t lane cycle j p q m drive tam is at here bits =
+lane_bits_stepped content t lane cycle j p q drive tam is now at bits =
     let w : IsWired content t lane = is.wired tam in
-    let op : slice_get t.operations (cycle - t.start) ≡ Some (moment_operation m) = rw (w.operations, ← is.start) here.operation in
+    let op : slice_get t.operations (cycle - t.start) ≡ Some (moment_operation lane.moment) = op_now content t lane cycle tam is now in
     map-set path_bits lane.paths.items j q
     ∙ ap (set (lane_bits lane) j) (bits w.inputs w.lengths (chain_at t j) (w.path j p at) ∙ rw (op, w.response, bits_of_path lane j p at) refl)
+
+pub now_stepped : (lane : Lane) (cycle j : ℕ) (q : Path) → IsNow lane cycle → IsNow (with_path lane j q) cycle
+now_stepped lane cycle j q now = record { is = now.is; page = now.page }
+
+-- ---- a lane at another moment
+
+pub same_lane : (content : Content) (t : PlannedTest) (old new : Lane) → IsSameTest old new → ArePages new → IsLane content t old → IsLane content t new
+same_lane content t old new s pages is = record {
+  ready = record {
+    base = rw s.base is.ready.base;
+    phases = subst ArePhases (sym s.phases) is.ready.phases;
+    pages = pages;
+    paths = λ j p at. is.ready.paths j p (subst (λ (v : Vec Path). slice_get v.items j ≡ Some p) s.paths at);
+  };
+  tam = s.tam ∙ is.tam;
+  start = s.start ∙ is.start;
+  ends = s.ends ∙ is.ends;
+  wired = λ tam.
+      let w : IsWired content t old = is.wired tam in
+      record {
+        operations = w.operations ∙ ap phase_ops (sym s.phases);
+        out_fits = λ j. rw s.phases (w.out_fits j);
+        first_wire = s.first_wire ∙ w.first_wire;
+        width = s.width ∙ w.width;
+        chains = ap (λ (v : Vec Path). length v.items) s.paths ∙ w.chains;
+        inputs = w.inputs;
+        lengths = w.lengths;
+        stimulus = w.stimulus ∙ ap (λ b. path_stimulus b w.inputs w.lengths) (sym s.base);
+        response = w.response ∙ ap (λ b. path_response b w.lengths) (sym s.base);
+        path = λ j p at. w.path j p (subst (λ (v : Vec Path). slice_get v.items j ≡ Some p) s.paths at);
+      };
+  alone = λ none. (ap (λ (v : Vec Path). length v.items) s.paths ∙ (is.alone none).0, (is.alone none).1);
+}
+
+pub same_bits : (old new : Lane) → IsSameTest old new → lane_bits new ≡ lane_bits old
+same_bits old new s = ap (λ (v : Vec Path). map path_bits v.items) s.paths
+
+pub same_on : (old new : Lane) (c : ℕ) → IsSameTest old new → lane_on new c ≡ lane_on old c
+same_on old new c s = rw (s.tam, s.start, s.ends) refl
 
 pub path_holds_next : (content : Content) (t : PlannedTest) (lane : Lane) (k n : ℕ) → ((j : ℕ) → j < n → PathHolds content t lane k j true) → PathHolds content t lane k n true → (j : ℕ) → j < n + 1 → PathHolds content t lane k j true
 path_holds_next content t lane k n before here j h = elim (cases_lt j n) [

@@ -6,6 +6,9 @@ pub mod Steps
 pub mod LayoutsMade
 pub mod SessionSteps
 pub mod MadeBits
+pub mod PackedBits
+pub mod Walks
+pub mod Standing
 pub mod Rings
 pub mod PathBits
 pub mod LaneSteps

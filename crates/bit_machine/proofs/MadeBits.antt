@@ -4,7 +4,7 @@ use Rattle.std.proofs.Math.Nat.{mod-add-div, add-mul-mod_self_left, mod-add-mod}
 use Rattle.bit_machine.specs.Chips.{has_odd_square, made_bit}
 use Rattle.bit_machine.specs.Paths.{made_from}
 
-same_rest : (m x y z : ℕ) → x ≡ y + m * z → x % m ≡ y % m
+pub same_rest : (m x y z : ℕ) → x ≡ y + m * z → x % m ≡ y % m
 same_rest m x y z e = ap (λ v. v % m) e ∙ add-mul-mod_self_left y m z
 
 -- what a seed, a module and a test add

@@ -10,23 +10,21 @@ use Rattle.soc_model.specs.Sizes.{test_work, work}
 use Rattle.soc_model.specs.SoundChips.{IsSoundChip}
 use Rattle.soc_model.proofs.Limits.{work-le}
 use Rattle.plan_model.specs.Plans.{PlanValue, LimitsValue, PlannedTest, planned, planned_test, chains_of, operations_of}
-use Rattle.plan_model.specs.Runs.{Content, chain_at, first_state}
+use Rattle.plan_model.specs.Runs.{Content, chain_at, bits_at, first_state}
 use Rattle.plan_model.specs.Rules.{IsGood, IsGoodAlone, Wrappers, Proper, bare_limits}
 use Rattle.plan_model.specs.Views.{bus_value}
 use Rattle.plan_model.proofs.ShortTests.{short_test, planned_operations}
 use Rattle.plan_model.specs.declared.Bus.{Bus}
 use Rattle.bit_machine.specs.Chips.{made_content, wires_of, at_first}
 use Rattle.bit_machine.specs.Lanes.{lane_bits, AreNewLanes}
-use Rattle.bit_machine.specs.Machines.{lanes_state, AreLanes, AreOnWires, IsMachine}
+use Rattle.bit_machine.specs.Machines.{lanes_state, AreLanes, AreOnWires, AreSomeLanes, IsMachine}
 use Rattle.bit_machine.specs.WholeChips.{to_come, IsChip}
 use Rattle.bit_machine.specs.declared.lane.Lane.{Lane}
 use Rattle.bit_machine.specs.declared.machine.Machine.{Machine}
-use Rattle.bit_machine.proofs.Assigning.{lanes_fit}
 use Rattle.bit_machine.proofs.GoodWires.{good_wires}
 use Rattle.bit_machine.proofs.WireSteps.{state_is, lanes_width}
 use Rattle.bit_machine.proofs.WholeChip.{chip_view}
 use Rattle.bit_machine.proofs.PlacedLanes.{widths_are}
-use Rattle.bit_machine.specs.Machines.{FitLanes}
 
 -- ---- the operations of all tests together are within the work
 
@@ -53,9 +51,13 @@ room_at_first soc limits plan sound good =
 pub new_lanes : (content : Content) (tests : List PlannedTest) (lanes : List Lane) → AreNewLanes content tests lanes → AreLanes content tests lanes
 new_lanes content tests lanes are = record { long = are.long; lane = λ i t l at there. (are.each i t l at there).is }
 
-pub new_fit : (soc : SocValue) (plan : PlanValue) (seed n : ℕ) (lanes : List Lane) → IsGoodAlone soc plan → n ≡ wires_of plan → AreNewLanes (made_content soc seed) (planned soc plan) lanes → FitLanes lanes n
-new_fit soc plan seed n lanes good wide are =
-    lanes_fit (made_content soc seed) (planned soc plan) lanes n (new_lanes (made_content soc seed) (planned soc plan) lanes are) (subst (AreOnWires (planned soc plan)) (sym wide) (good_wires soc (bare_limits plan) plan good (made_content soc seed)))
+pub new_some : (soc : SocValue) (plan : PlanValue) (seed n : ℕ) (lanes : List Lane) → IsGoodAlone soc plan → n ≡ wires_of plan → AreNewLanes (made_content soc seed) (planned soc plan) lanes → AreSomeLanes lanes n
+new_some soc plan seed n lanes good wide are = record {
+  content = made_content soc seed;
+  tests = planned soc plan;
+  are = new_lanes (made_content soc seed) (planned soc plan) lanes are;
+  on = subst (AreOnWires (planned soc plan)) (sym wide) (good_wires soc (bare_limits plan) plan good (made_content soc seed));
+}
 
 pub new_chip : (soc : SocValue) (plan : PlanValue) (seed n : ℕ) (lanes : List Lane) (m : Machine) → IsSoundChip soc → IsGoodAlone soc plan → n ≡ wires_of plan → AreNewLanes (made_content soc seed) (planned soc plan) lanes →
     m.cycle ≡ 0 → length m.users.items ≡ n → ((content : Content) (tests : List PlannedTest) → AreLanes content tests lanes → AreOnWires tests n → IsMachine content tests m) → IsChip soc plan seed m 0 0
@@ -73,15 +75,14 @@ some_lane [] i h = absurd (omega arith)
 some_lane (l ∷ ls) zero h = (l, refl)
 some_lane (l ∷ ls) (suc i) h = some_lane ls i (omega arith)
 
-pub new_state : (content : Content) (tests : List PlannedTest) (lanes : List Lane) (m : Machine) → IsMachine content tests m → m.lanes.items ≡ lanes → AreNewLanes content tests lanes → lanes_state m.lanes.items ≡ first_state content tests
+pub new_state : (content : Content) (tests : List PlannedTest) (lanes : List Lane) (m : Machine) → IsMachine content tests m → lanes_state m.lanes.items ≡ lanes_state lanes → AreNewLanes content tests lanes → lanes_state m.lanes.items ≡ first_state content tests
 unfolding first_state
 new_state content tests lanes m is same are =
     state_is (λ i t j. map (content.initial t.id) (chain_at t j)) 0 tests (lanes_state m.lanes.items) (length-map m.lanes.items lane_bits ∙ is.lanes.long) (lanes_width content tests m is) (λ i j t at h.
     let within : i < length tests = slice_get_within tests i t at in
     let long : length lanes ≡ length tests = are.long in
     let l = some_lane lanes i (omega arith) in
-    let there : slice_get m.lanes.items i ≡ Some l.0 = subst (λ ls. slice_get ls i ≡ Some l.0) (sym same) l.1 in
-    ap (λ bits. get_or bits j []) (get_or-map lane_bits m.lanes.items i l.0 [] (slice_get_within m.lanes.items i l.0 there) ∙ ap lane_bits (get_or_from_slice_get m.lanes.items i l.0 l.0 there)) ∙ (are.each i t l.0 at l.1).bits j h)
+    ap (λ state. bits_at state i j) same ∙ ap (λ bits. get_or bits j []) (get_or-map lane_bits lanes i l.0 [] (slice_get_within lanes i l.0 l.1) ∙ ap lane_bits (get_or_from_slice_get lanes i l.0 l.0 l.1)) ∙ (are.each i t l.0 at l.1).bits j h)
 
 pub first_value : (s : SocValue) (p : PlanValue) (seed : ℕ) (m : Machine) → m.cycle ≡ 0 → lanes_state m.lanes.items ≡ first_state (made_content s seed) (planned s p) → chip_view s p seed m 0 0 ≡ at_first s p seed
 first_value s p seed m e f = rw (e, f) refl

@@ -1,11 +1,11 @@
 -- The numbers of the cells of a chain, in a stimulus and in a response.
-use Rattle.std.proofs.Common.{◌≡◌, ℕ, zero, suc, ◌+◌, ◌-◌, ◌≤◌, ◌<◌, Bool, true, false, Some, List, [], ◌∷◌, ◌++◌, length, get_or, map, take, replicate, refl, ap, sym, ◌∙◌, arith, inl, inr, cond, append_assoc}
+use Rattle.std.proofs.Common.{◌≡◌, ℕ, zero, suc, ◌+◌, ◌-◌, ◌≤◌, ◌<◌, Bool, true, false, Some, List, [], ◌∷◌, ◌++◌, length, get_or, map, take, replicate, refl, ap, sym, subst, ◌∙◌, ◌^◌, arith, inl, inr, cond, append_assoc}
 use Rattle.std.specs.Prelude.{slice_get, slice_index}
-use Rattle.std.specs.List.{All, sum, count_by, flat_map, range_with_len}
+use Rattle.std.specs.List.{All, sum, sum_by, count_by, flat_map, range_with_len}
 use Rattle.std.proofs.lemmas.List.{length-append, length-map, get_or-map, get_or_append_left, get_or-append_right, take_more, append-nil, length-replicate}
 use Rattle.std.proofs.lemmas.List.FromFn.{length-range_with_len}
 use Rattle.std.proofs.lemmas.Grind.{flat_map-append}
-use Rattle.std.proofs.lemmas.List.Sums.{sum_by_more_le, sum_by-append}
+use Rattle.std.proofs.lemmas.List.Sums.{sum_by_more_le, sum_by-append, sum_by-cons}
 use Rattle.std.proofs.lemmas.List.Elements.{All-get_or, All-append, All-map, All-nil}
 use Rattle.plan_model.specs.Cells.{Cell, In, Flop, Out, is_loaded, is_read, in_length, out_length, in_cells, out_cells, flops}
 use Rattle.plan_model.proofs.CellOrder.{count_none, count_all}
@@ -15,21 +15,31 @@ use Rattle.bit_machine.specs.Layouts.{IsStarts}
 use Rattle.std.proofs.lemmas.Option.{same_Some}
 use Rattle.plan_model.proofs.Lists.{from_append}
 use Rattle.bit_machine.specs.Building.{flop_numbers, IsNewPath, AreNewPaths}
-use Rattle.bit_machine.specs.Paths.{IsChain, IsRing, path_bits}
+use Rattle.bit_machine.specs.Paths.{IsChain, path_bits}
+use Rattle.bit_machine.specs.Numbers.{run_numbers, all_numbers, IsFull}
+use Rattle.bit_machine.specs.declared.numbers.Run.{Run}
 use Rattle.bit_machine.specs.declared.path.Path.{Path}
 use Rattle.bit_machine.proofs.PathBits.{any_default}
 
 -- ---- pushed numbers
 
-pub range_more : (a n : ℕ) → range_with_len a (n + 1) ≡ range_with_len a n ++ (a + n) ∷ []
-range_more a zero = let e : a + 0 ≡ a = omega arith in rw e refl
-range_more a (suc n) =
-    let e : suc n + 1 ≡ suc (n + 1) = omega arith in
-    let f : (a + 1) + n ≡ a + suc n = omega arith in
-    rw e (ap (λ v. a ∷ v) (range_more (a + 1) n ∙ rw f refl))
+pub pushed_run : (runs new : List Run) (from count : ℕ) → new ≡ runs ++ record { from = from; count = count } ∷ [] → all_numbers new ≡ all_numbers runs ++ range_with_len from count
+pushed_run runs new from count pushed =
+    ap all_numbers pushed ∙ flat_map-append run_numbers runs (record { from = from; count = count } ∷ []) ∙ ap (λ v. all_numbers runs ++ v) (append-nil (range_with_len from count))
 
-pub numbers_more : (old now new : List ℕ) (from n x : ℕ) → now ≡ old ++ range_with_len from n → new ≡ now ++ x ∷ [] → x ≡ from + n → new ≡ old ++ range_with_len from (n + 1)
-numbers_more old now new from n x before pushed is = pushed ∙ rw (before, is, append_assoc, range_more from n) refl
+pub pushed_full : (runs new : List Run) (from count : ℕ) → new ≡ runs ++ record { from = from; count = count } ∷ [] → 1 ≤ count → from + count < 2 ^ 64 → All IsFull runs → All IsFull new
+pushed_full runs new from count pushed some fits full =
+    subst (All IsFull) (sym pushed) (All-append IsFull runs (record { from = from; count = count } ∷ []) full one)
+  where
+    one : All IsFull (record { from = from; count = count } ∷ [])
+    one zero d h = record { some = some; fits = fits }
+    one (suc k) d h = absurd (omega arith)
+
+pub length-flop_numbers : (base : ℕ) (lengths scans : List ℕ) → length (flat_map (flop_numbers base lengths) scans) ≡ sum_by (slice_index lengths) scans
+length-flop_numbers base lengths [] = refl
+length-flop_numbers base lengths (c ∷ cs) =
+    length-append (flop_numbers base lengths c) (flat_map (flop_numbers base lengths) cs)
+    ∙ omega (arith, length-range_with_len (base + sum (take c lengths)) (slice_index lengths c), length-flop_numbers base lengths cs, sum_by-cons (slice_index lengths) c cs)
 
 pub scans_more : (old now new : List ℕ) (f : ℕ → List ℕ) (scans : List ℕ) (k c : ℕ) → k < length scans → c ≡ get_or scans k 0 → now ≡ old ++ flat_map f (take k scans) → new ≡ now ++ f c → new ≡ old ++ flat_map f (take (k + 1) scans)
 scans_more old now new f scans k c h at before pushed =
@@ -176,13 +186,12 @@ zeros [] = refl
 zeros (x ∷ xs) = ap (λ v. false ∷ v) (zeros xs)
 
 -- a chain of these parts
-path_parts : (inputs : ℕ) (lengths : List ℕ) (a b c : List Cell) (p : Path) → Parts a b c → p.loads.items ≡ map (stimulus_place inputs lengths) (a ++ b) → p.answers.items ≡ map (response_place lengths) (b ++ c) → IsRing p.ring →
-    path_bits p ≡ replicate (length p.loads.items + length c) false → IsNewPath inputs lengths (a ++ b ++ c) p
-path_parts inputs lengths a b c p parts loads answers ring bits = record {
+path_parts : (inputs : ℕ) (lengths : List ℕ) (a b c : List Cell) (p : Path) → Parts a b c → p.loads ≡ map (stimulus_place inputs lengths) (a ++ b) → p.answers ≡ map (response_place lengths) (b ++ c) →
+    path_bits p ≡ replicate (length p.loads + length c) false → IsNewPath inputs lengths (a ++ b ++ c) p
+path_parts inputs lengths a b c p parts loads answers bits = record {
   is = record {
     chain = chain_parts a b c parts;
-    ring = ring;
-    long = ap length bits ∙ length-replicate (length p.loads.items + length c) false ∙ omega (arith, n, l);
+    long = ap length bits ∙ length-replicate (length p.loads + length c) false ∙ omega (arith, n, l);
     loads_long = l ∙ sym (in_is a b c parts);
     load = λ r h.
         let less : r < length a + length b = omega (arith, h, in_is a b c parts) in
@@ -193,22 +202,22 @@ path_parts inputs lengths a b c p parts loads answers ring bits = record {
         let less : q < length b + length c = omega (arith, place, h, n) in
         rw (answers, get_or-map (response_place lengths) (b ++ c) q (In 0) 0 (omega (arith, less, length-append b c)), back_at a b c r q place) refl;
   };
-  zero = bits ∙ (let total : length p.loads.items + length c ≡ length (a ++ b ++ c) = omega (arith, n, l) in rw total (sym (zeros (a ++ b ++ c))));
+  zero = bits ∙ (let total : length p.loads + length c ≡ length (a ++ b ++ c) = omega (arith, n, l) in rw total (sym (zeros (a ++ b ++ c))));
 }
   where
     n : length (a ++ b ++ c) ≡ length a + length b + length c
     n = long_is a b c
 
-    l : length p.loads.items ≡ length a + length b
+    l : length p.loads ≡ length a + length b
     l = ap length loads ∙ length-map (a ++ b) (stimulus_place inputs lengths) ∙ length-append a b
 
-pub new_path : (inputs : ℕ) (lengths : List ℕ) (i o ins outs from : ℕ) (scans : List ℕ) (p : Path) → p.loads.items ≡ range_with_len i ins ++ flat_map (flop_numbers inputs lengths) scans → p.answers.items ≡ flat_map (flop_numbers 0 lengths) scans ++ range_with_len from outs →
-    from ≡ sum lengths + o → IsRing p.ring → path_bits p ≡ replicate (length p.loads.items + outs) false → IsNewPath inputs lengths (in_cells i ins ++ flat_map (flops lengths) scans ++ out_cells o outs) p
-new_path inputs lengths i o ins outs from scans p loads answers start ring bits =
+pub new_path : (inputs : ℕ) (lengths : List ℕ) (i o ins outs from : ℕ) (scans : List ℕ) (p : Path) → p.loads ≡ range_with_len i ins ++ flat_map (flop_numbers inputs lengths) scans → p.answers ≡ flat_map (flop_numbers 0 lengths) scans ++ range_with_len from outs →
+    from ≡ sum lengths + o → path_bits p ≡ replicate (length p.loads + outs) false → IsNewPath inputs lengths (in_cells i ins ++ flat_map (flops lengths) scans ++ out_cells o outs) p
+new_path inputs lengths i o ins outs from scans p loads answers start bits =
     path_parts inputs lengths (in_cells i ins) (flat_map (flops lengths) scans) (out_cells o outs) p
     (record { ins_in = ins_loaded i ins; ins_out = ins_unread i ins; mid_in = flops_loaded lengths scans; mid_out = flops_read lengths scans; outs_in = outs_unloaded o outs; outs_out = outs_read o outs })
     (loads ∙ sym (map_append (stimulus_place inputs lengths) (in_cells i ins) (flat_map (flops lengths) scans) ∙ rw (ins_numbers inputs lengths i ins, flop_loads inputs lengths scans) refl))
-    (answers ∙ sym (map_append (response_place lengths) (flat_map (flops lengths) scans) (out_cells o outs) ∙ rw (flop_answers lengths scans, outs_numbers lengths o outs, start) refl)) ring
+    (answers ∙ sym (map_append (response_place lengths) (flat_map (flops lengths) scans) (out_cells o outs) ∙ rw (flop_answers lengths scans, outs_numbers lengths o outs, start) refl))
     (bits ∙ rw (length-map (range_with_len o outs) (λ k. Out k) ∙ length-range_with_len o outs) refl)
 
 -- one chain more
@@ -227,3 +236,24 @@ paths_more inputs lengths chains n paths new p are pushed is = rw pushed (record
         let same : p ≡ q = same_Some _ _ at in
         rw (← here, ← same) is
     the_last j q (suc k) place at = absurd cc
+
+-- how many numbers a chain loads, and how many it answers
+pub long_loads : (none first all : List Run) (from ins base : ℕ) (lengths scans : List ℕ) → none ≡ [] → all_numbers first ≡ all_numbers none ++ range_with_len from ins → all_numbers all ≡ all_numbers first ++ flat_map (flop_numbers base lengths) scans →
+    length (all_numbers all) ≡ ins + sum_by (slice_index lengths) scans
+long_loads none first all from ins base lengths scans empty a b =
+    let start : length (all_numbers none) ≡ 0 = ap (λ runs. length (all_numbers runs)) empty in
+    let x = ap length a ∙ length-append (all_numbers none) (range_with_len from ins) in
+    let y = ap length b ∙ length-append (all_numbers first) (flat_map (flop_numbers base lengths) scans) in
+    omega (arith, x, y, start, length-range_with_len from ins, length-flop_numbers base lengths scans)
+
+pub long_answers : (none first all : List Run) (from outs : ℕ) (lengths scans : List ℕ) → none ≡ [] → all_numbers first ≡ all_numbers none ++ flat_map (flop_numbers 0 lengths) scans → all_numbers all ≡ all_numbers first ++ range_with_len from outs →
+    length (all_numbers all) ≡ outs + sum_by (slice_index lengths) scans
+long_answers none first all from outs lengths scans empty a b =
+    let start : length (all_numbers none) ≡ 0 = ap (λ runs. length (all_numbers runs)) empty in
+    let x = ap length a ∙ length-append (all_numbers none) (flat_map (flop_numbers 0 lengths) scans) in
+    let y = ap length b ∙ length-append (all_numbers first) (range_with_len from outs) in
+    omega (arith, x, y, start, length-range_with_len from outs, length-flop_numbers 0 lengths scans)
+
+pub length-loads : (base : ℕ) (lengths : List ℕ) (from ins : ℕ) (scans : List ℕ) → length (range_with_len from ins ++ flat_map (flop_numbers base lengths) scans) ≡ ins + sum_by (slice_index lengths) scans
+length-loads base lengths from ins scans =
+    length-append (range_with_len from ins) (flat_map (flop_numbers base lengths) scans) ∙ omega (arith, length-range_with_len from ins, length-flop_numbers base lengths scans)

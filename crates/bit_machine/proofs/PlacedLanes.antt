@@ -149,6 +149,9 @@ over_some : (tam : Bool) (bus over : ℕ) → bus_over tam bus ≡ Some over →
 over_some true bus over e = (refl, same_Some bus over e)
 over_some false bus over e = absurd cc
 
+none_some : {X : Type 0} {x : X} → None ≡ Some x → ⊥
+none_some e = cc
+
 self_new : (content : Content) (plan : PlanValue) (p : ℕ) (m : ModuleValue) (t : Test) (u : PlannedTest) (placed : PlacedTest) (l : Lane) → PlannedIs plan p m t u → placed ≡ placed_of u → placed.bus ≡ None → IsSelfLane placed l → IsNewLane content u l
 self_new content plan p m t u placed l is same none lane =
     let self' : u.tam ≡ false = over_none u.tam u.bus (ap (λ (q : PlacedTest). q.bus) (sym same) ∙ none) in
@@ -158,6 +161,7 @@ self_new content plan p m t u placed l is same none lane =
         ready = record {
           base = rw lane.base (omega arith);
           phases = lane.phases;
+          pages = record { many = lane.pages ∙ sym lane.none; each = λ page own. absurd (none_some (sym lane.page ∙ own)) };
           paths = λ j q at. absurd (let within = slice_get_within l.paths.items j q at in let none = lane.none in omega arith);
         };
         tam = lane.tam ∙ sym self';
@@ -187,6 +191,7 @@ wired_new soc sound plan seed p q m t u placed over l at there live fits is same
     ready = record {
       base = rw base (mod_below (seed + 31 * p + 17 * q) 997 (omega arith));
       phases = phases;
+      pages = record { many = lane.pages; each = λ page own. absurd (none_some (sym lane.page ∙ own)) };
       paths = λ j r at'. sound_path (m.inputs + m.bidirs) (scan_lengths m t.scan) (get_or (chains_of plan m t) j []) r ((lane.paths.each j r at').is);
     };
     tam = lane.tam ∙ sym (is.tam ∙ tam);
@@ -312,9 +317,6 @@ never_lost soc sound plan i u placed r at same found none =
     let o : Origin soc plan i u = origin soc plan i u at in
     let f = from_filter is_live o.l.core.tests o.n o.l.test o.test_at in
     none_some (sym none ∙ found ∙ ap (test_places soc) (ap (λ (q : PlacedTest). q.id) same) ∙ places_of_origin soc sound plan i u o f.0 f.1)
-  where
-    none_some : {X : Type 0} {x : X} → None ≡ Some x → ⊥
-    none_some e = cc
 
 -- a test over the wires of a bus
 pub over_wires : (plan : PlanValue) (p : ℕ) (m : ModuleValue) (t : Test) (u : PlannedTest) (placed : PlacedTest) (over : ℕ) → planned_test plan p m t ≡ u → placed ≡ placed_of u → placed.bus ≡ Some over → (t.tam ≡ true) × (over ≡ bus_place m.number 0 plan.buses)

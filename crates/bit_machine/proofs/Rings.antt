@@ -1,9 +1,9 @@
--- The bits of a ring after one of them is written.
-use Rattle.std.proofs.Common.{◌≡◌, ℕ, ◌+◌, ◌-◌, ◌≤◌, ◌<◌, ◌⊎◌, Bool, List, ◌++◌, length, take, drop, set, refl, sym, ◌∙◌, arith, inl, inr, length-drop}
-use Rattle.std.proofs.lemmas.List.{length-append, length-take-le, drop-set-add, drop-set-lt, take-set-le, set-append_left, set-append_right}
-use Rattle.std.proofs.Math.Seq.{take-set-lt}
-use Rattle.bit_machine.specs.declared.ring.Ring.{Ring}
-use Rattle.bit_machine.specs.Paths.{ring_bits, IsRing}
+-- The bits of a ring after one of them is written, or one enters.
+use Rattle.std.proofs.Common.{◌≡◌, ℕ, zero, suc, ◌+◌, ◌-◌, ◌≤◌, ◌<◌, ◌⊎◌, Bool, List, [], ◌∷◌, ◌++◌, length, take, drop, set, refl, ap, sym, ◌∙◌, arith, inl, inr, length-drop}
+use Rattle.std.proofs.lemmas.List.{length-append, length-take-le, drop-set-add, drop-set-lt, drop_more, take-set-le, take-append-le, set-append_left, set-append_right}
+use Rattle.std.proofs.Math.Seq.{take-set-lt, take-append-add, take-length}
+use Rattle.bit_machine.specs.Rings.{IsHead}
+use Rattle.bit_machine.specs.Sessions.{entered}
 
 pub put_at : (bits : List Bool) (head cell place : ℕ) (b : Bool) → cell < length bits → head ≤ length bits → place < length bits → (place ≡ head + cell) ⊎ (place + length bits ≡ head + cell) →
     drop head (set bits place b) ++ take head (set bits place b) ≡ set (drop head bits ++ take head bits) cell b
@@ -15,11 +15,35 @@ put_at bits head cell place b h fits within (inr round) =
     let number : cell - (length bits - head) ≡ place = omega arith in
     rw (drop-set-lt head bits place b (omega arith), take-set-lt head bits place b (omega arith)) (sym (set-append_right (drop head bits) (take head bits) (length bits - head) cell b long (omega arith) ∙ rw number refl))
 
-pub head_fits : (r : Ring) → IsRing r → r.head ≤ length r.bits.items
-head_fits r (inl less) = omega arith
-head_fits r (inr none) = omega (arith, none.0)
+pub head_fits : (head : ℕ) (bits : List Bool) → IsHead head bits → head ≤ length bits
+head_fits head bits (inl less) = omega arith
+head_fits head bits (inr none) = omega (arith, none.0)
 
-pub ring_long : (r : Ring) → IsRing r → length (ring_bits r) ≡ length r.bits.items
-ring_long r is =
-    let fits : r.head ≤ length r.bits.items = head_fits r is in
-    length-append (drop r.head r.bits.items) (take r.head r.bits.items) ∙ omega (arith, length-drop r.head r.bits.items, length-take-le r.head r.bits.items fits)
+pub ring_long : (head : ℕ) (bits : List Bool) → head ≤ length bits → length (drop head bits ++ take head bits) ≡ length bits
+ring_long head bits fits = length-append (drop head bits) (take head bits) ∙ omega (arith, length-drop head bits, length-take-le head bits fits)
+
+-- what stands from the place of the new head on
+from_first : (bits : List Bool) (first : ℕ) (b : Bool) → first < length bits → drop first (set bits first b) ≡ b ∷ drop (first + 1) bits
+from_first bits first b h =
+    let none : first + 0 ≡ first = omega arith in
+    ap (λ n. drop first (set bits n b)) (sym none) ∙ drop-set-add first bits 0 b ∙ ap (λ l. set l 0 b) (drop_more bits first b h)
+
+pub enter_at : (bits : List Bool) (head first : ℕ) (b : Bool) → first < length bits → head < length bits → (first + 1 ≡ head) ⊎ ((head ≡ 0) × (first + 1 ≡ length bits)) →
+    drop first (set bits first b) ++ take first (set bits first b) ≡ entered b (drop head bits ++ take head bits)
+enter_at bits head first b within h (inl before) =
+    let long : length (drop head bits) ≡ length bits - head = length-drop head bits in
+    let all : length (drop head bits ++ take head bits) ≡ suc (length (drop head bits) + first) = ring_long head bits (omega arith) ∙ omega (arith, long, before, h) in
+    let front : take first (take head bits) ≡ take first bits = rw (← before) (take_front first bits) in
+    rw (from_first bits first b within, take-set-le first bits first b (omega arith), before)
+    (sym (ap (λ n. take n (b ∷ (drop head bits ++ take head bits))) all ∙ ap (λ l. b ∷ l) (take-append-add (drop head bits) (take head bits) first ∙ ap (λ l. drop head bits ++ l) front)))
+  where
+    take_front : (n : ℕ) (l : List Bool) → take n (take (n + 1) l) ≡ take n l
+    take_front zero l = refl
+    take_front (suc n) [] = let e : suc n + 1 ≡ suc (n + 1) = omega arith in rw e refl
+    take_front (suc n) (x ∷ l) = let e : suc n + 1 ≡ suc (n + 1) = omega arith in rw e (ap (λ l. x ∷ l) (take_front n l))
+enter_at bits head first b within h (inr round) =
+    let all : length (drop head bits ++ take head bits) ≡ suc first = ring_long head bits (omega arith) ∙ omega (arith, round.1) in
+    let over : drop (first + 1) bits ≡ [] = ap (λ n. drop n bits) round.1 ∙ Rattle.std.proofs.Math.Seq.drop-length bits in
+    let whole : drop head bits ++ take head bits ≡ bits = rw round.0 (Rattle.std.proofs.lemmas.List.append-nil bits) in
+    rw (from_first bits first b within, take-set-le first bits first b (omega arith), over)
+    (sym (ap (λ n. take n (b ∷ (drop head bits ++ take head bits))) all ∙ ap (λ l. b ∷ take first l) whole))

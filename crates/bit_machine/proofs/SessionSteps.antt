@@ -1,51 +1,45 @@
 -- What a session holds after one cycle.
 use Rattle.std.proofs.Common.{◌≡◌, ℕ, Bool, false, List, [], ◌∷◌, length, get_or, map, refl, ap, ◌∙◌, sym, arith, subst}
-use Rattle.std.specs.Global.{Vec}
-use Rattle.std.specs.Vec.{with_items}
-use Rattle.std.proofs.lemmas.List.{with_items_is, length-take-le}
+use Rattle.std.proofs.lemmas.List.{length-take-le}
 use Rattle.plan_model.specs.Cells.{Cell}
 use Rattle.plan_model.specs.Operations.{Shift, Capture}
 use Rattle.plan_model.specs.Runs.{captured}
 use Rattle.bit_machine.specs.declared.layout.Layout.{Layout}
-use Rattle.bit_machine.specs.Sessions.{SessionValue, after, entered, each_with, bits_of, response_bit}
+use Rattle.bit_machine.specs.Sessions.{SessionValue, after, entered, each_with, response_bit}
 use Rattle.bit_machine.specs.Layouts.{layout_cells, IsLong}
 use Rattle.bit_machine.proofs.Captures.{length-captured}
 use Rattle.bit_machine.proofs.EachWith.{each_with-map, each_with-lengths}
 use Rattle.bit_machine.proofs.Layouts.{length-bits, length-layout}
 
--- what was written over all items of a list in memory
-pub written : (v : Vec (Vec Bool)) (new : List (Vec Bool)) → length new ≡ length v.items → (with_items v new).items ≡ new
-written v new long = with_items_is v new (omega (arith, v.ok.0))
-
 -- what clauses see of a session
-abbrev pub view_of : Layout → List (Vec Bool) → SessionValue
-view_of l bits = record { lengths = l.lengths.items; cells = layout_cells l; bits = bits_of bits }
+abbrev pub view_of : Layout → List (List Bool) → SessionValue
+view_of l bits = record { lengths = l.lengths.items; cells = layout_cells l; bits = bits }
 
 -- ---- there is still a bit for each cell
 
 pub entered-long : (drive : Bool) (bits : List Bool) → length (entered drive bits) ≡ length bits
 entered-long drive bits = length-take-le (length bits) (drive ∷ bits) (omega arith)
 
-pub shifted_long : (l : Layout) (drive : List Bool) (before next : List (Vec Bool)) → IsLong l (bits_of before) → bits_of next ≡ each_with entered drive (bits_of before) → IsLong l (bits_of next)
-shifted_long l drive before next long is = ap (map (λ (b : List Bool). length b)) is ∙ each_with-lengths entered entered-long drive (bits_of before) ∙ long
+pub shifted_long : (l : Layout) (drive : List Bool) (before next : List (List Bool)) → IsLong l before → next ≡ each_with entered drive before → IsLong l next
+shifted_long l drive before next long is = ap (map (λ (b : List Bool). length b)) is ∙ each_with-lengths entered entered-long drive before ∙ long
 
-pub captured_long : (l : Layout) (f : Cell → Bool) (before next : List (Vec Bool)) → IsLong l (bits_of before) → bits_of next ≡ each_with (captured f) (layout_cells l) (bits_of before) → IsLong l (bits_of next)
-captured_long l f before next long is = ap (map (λ (b : List Bool). length b)) is ∙ each_with-lengths (captured f) (length-captured f) (layout_cells l) (bits_of before) ∙ long
+pub captured_long : (l : Layout) (f : Cell → Bool) (before next : List (List Bool)) → IsLong l before → next ≡ each_with (captured f) (layout_cells l) before → IsLong l next
+captured_long l f before next long is = ap (map (λ (b : List Bool). length b)) is ∙ each_with-lengths (captured f) (length-captured f) (layout_cells l) before ∙ long
 
 -- ---- and each chain has made the step of its test
 
-long_cells : (l : Layout) (before : List (Vec Bool)) → IsLong l (bits_of before) → length (layout_cells l) ≡ length (bits_of before)
-long_cells l before long = length-layout l.lengths.items 0 0 l.chains.items ∙ sym (length-bits l (bits_of before) long)
+long_cells : (l : Layout) (before : List (List Bool)) → IsLong l before → length (layout_cells l) ≡ length before
+long_cells l before long = length-layout l.lengths.items 0 0 l.chains.items ∙ sym (length-bits l before long)
 
-pub shifted_bits : (l : Layout) (before next : List (Vec Bool)) (drive : List Bool) (s : SessionValue) (response : ℕ → Cell → Bool) → IsLong l (bits_of before) → view_of l before ≡ s → length drive ≡ length s.cells →
-    bits_of next ≡ each_with entered drive (bits_of before) → bits_of next ≡ after response Shift (λ j. get_or drive j false) s
+pub shifted_bits : (l : Layout) (before next : List (List Bool)) (drive : List Bool) (s : SessionValue) (response : ℕ → Cell → Bool) → IsLong l before → view_of l before ≡ s → length drive ≡ length s.cells →
+    next ≡ each_with entered drive before → next ≡ after response Shift (λ j. get_or drive j false) s
 shifted_bits l before next drive s response long same driven is =
     let wide : length drive ≡ length (layout_cells l) = driven ∙ ap (λ (s : SessionValue). length s.cells) (sym same) in
-    subst (λ (s : SessionValue). bits_of next ≡ after response Shift (λ j. get_or drive j false) s) same
-    (is ∙ each_with-map entered drive (bits_of before) false [] (wide ∙ long_cells l before long) ∙ rw wide refl)
+    subst (λ (s : SessionValue). next ≡ after response Shift (λ j. get_or drive j false) s) same
+    (is ∙ each_with-map entered drive before false [] (wide ∙ long_cells l before long) ∙ rw wide refl)
 
-pub captured_bits : (l : Layout) (before next : List (Vec Bool)) (answer : List Bool) (s : SessionValue) (k : ℕ) (drive : ℕ → Bool) → IsLong l (bits_of before) → view_of l before ≡ s →
-    bits_of next ≡ each_with (captured (response_bit l.lengths.items answer)) (layout_cells l) (bits_of before) → bits_of next ≡ after (λ k. response_bit s.lengths answer) (Capture k) drive s
+pub captured_bits : (l : Layout) (before next : List (List Bool)) (answer : List Bool) (s : SessionValue) (k : ℕ) (drive : ℕ → Bool) → IsLong l before → view_of l before ≡ s →
+    next ≡ each_with (captured (response_bit l.lengths.items answer)) (layout_cells l) before → next ≡ after (λ k. response_bit s.lengths answer) (Capture k) drive s
 captured_bits l before next answer s k drive long same is =
-    subst (λ (s : SessionValue). bits_of next ≡ after (λ k. response_bit s.lengths answer) (Capture k) drive s) same
-    (is ∙ each_with-map (captured (response_bit l.lengths.items answer)) (layout_cells l) (bits_of before) [] [] (long_cells l before long))
+    subst (λ (s : SessionValue). next ≡ after (λ k. response_bit s.lengths answer) (Capture k) drive s) same
+    (is ∙ each_with-map (captured (response_bit l.lengths.items answer)) (layout_cells l) before [] [] (long_cells l before long))

@@ -1,50 +1,36 @@
 -- The loops over chains and their parts, one step more.
-use Rattle.std.proofs.Common.{◌≡◌, ℕ, zero, suc, ◌+◌, ◌≤◌, ◌<◌, Bool, List, [], ◌∷◌, ◌++◌, length, get_or, map, take, drop, refl, ap, ◌∙◌, sym, arith}
-use Rattle.std.specs.Global.{Vec}
-use Rattle.std.specs.Vec.{with_items}
+use Rattle.std.proofs.Common.{◌≡◌, ℕ, zero, suc, ◌+◌, ◌-◌, ◌≤◌, ◌<◌, Bool, List, [], ◌∷◌, ◌++◌, length, get_or, map, take, drop, refl, ap, ◌∙◌, sym, arith}
 use Rattle.std.specs.Prelude.{slice_index}
 use Rattle.std.specs.List.{sum, sum_by, flat_map}
 use Rattle.std.proofs.Math.ListN.{set}
-use Rattle.std.proofs.lemmas.List.{with_items_is, get_or-map, map-set, length-map, take_more, append_assoc, append-nil, length-append}
+use Rattle.std.proofs.lemmas.List.{length-map, take_more, drop_more, length-take-le, set-append_right, append_assoc, append-nil, length-append}
 use Rattle.std.proofs.lemmas.Grind.{flat_map-append}
 use Rattle.plan_model.specs.Cells.{Cell, Flop, in_cells, flops}
 use Rattle.plan_model.specs.Runs.{captured}
-use Rattle.bit_machine.specs.Sessions.{each_with, bits_of, response_bit}
+use Rattle.bit_machine.specs.Sessions.{each_with, response_bit}
 use Rattle.bit_machine.proofs.EachWith.{length-each_with, each_with-past, each_with-more}
 use Rattle.bit_machine.proofs.Captures.{AreRead, read_numbered, captured-more, flop_answers}
+use Rattle.bit_machine.proofs.PathBits.{any_default}
 use Rattle.bit_machine.proofs.Layouts.{length-ins, length-flops, length-flop}
 
 -- ---- a list of chains
 
-same_length : {X : Type 0} (f : X → List Bool → List Bool) (xs : List X) (before now : List (Vec Bool)) → bits_of now ≡ each_with f xs (bits_of before) → length now ≡ length before
-same_length f xs before now same =
-    sym (length-map now (λ (v : Vec Bool). v.items)) ∙ ap length same ∙ length-each_with f xs (bits_of before) ∙ length-map before (λ (v : Vec Bool). v.items)
+pub same_length : {X : Type 0} (f : X → List Bool → List Bool) (xs : List X) (before now : List (List Bool)) → now ≡ each_with f xs before → length now ≡ length before
+same_length f xs before now same = ap length same ∙ length-each_with f xs before
 
 -- a chain that no step has reached
-pub item_before : {X : Type 0} (f : X → List Bool → List Bool) (xs : List X) (before now : List (Vec Bool)) (j : ℕ) (e : Vec Bool) → j < length before → bits_of now ≡ each_with f (take j xs) (bits_of before) →
-    (get_or now j e).items ≡ get_or (bits_of before) j []
+pub item_before : {X : Type 0} (f : X → List Bool → List Bool) (xs : List X) (before now : List (List Bool)) (j : ℕ) (e : List Bool) → j < length before → now ≡ each_with f (take j xs) before → get_or now j e ≡ get_or before j []
 item_before f xs before now j e h same =
     let long : length now ≡ length before = same_length f (take j xs) before now same in
-    let long' : length (bits_of before) ≡ length before = length-map before (λ (v : Vec Bool). v.items) in
-    sym (get_or-map (λ (v : Vec Bool). v.items) now j e [] (omega arith)) ∙ ap (λ bits. get_or bits j []) same ∙ each_with-past f xs (bits_of before) j [] (omega arith)
+    any_default now j e [] (omega (arith, long)) ∙ ap (λ bits. get_or bits j []) same ∙ each_with-past f xs before j [] h
 
-step_bits : {X : Type 0} (f : X → List Bool → List Bool) (xs : List X) (before now : List (Vec Bool)) (j : ℕ) (d : X) (e v : Vec Bool) → j < length xs → j < length before →
-    bits_of now ≡ each_with f (take j xs) (bits_of before) → v.items ≡ f (get_or xs j d) (get_or now j e).items → bits_of (set now j v) ≡ each_with f (take (j + 1) xs) (bits_of before)
-step_bits f xs before now j d e v h h' same new =
+-- one chain more
+pub step_chain : {X : Type 0} (f : X → List Bool → List Bool) (xs : List X) (before now : List (List Bool)) (j : ℕ) (d : X) (e new : List Bool) → j < length xs → j < length before →
+    now ≡ each_with f (take j xs) before → new ≡ f (get_or xs j d) (get_or now j e) → set now j new ≡ each_with f (take (j + 1) xs) before
+step_chain f xs before now j d e new h h' same is =
     let next : j + 1 ≡ suc j = omega arith in
-    let long' : length (bits_of before) ≡ length before = length-map before (λ (v : Vec Bool). v.items) in
-    let there : v.items ≡ f (get_or xs j d) (get_or (bits_of before) j []) = new ∙ ap (f (get_or xs j d)) (item_before f xs before now j e h' same) in
-    map-set (λ (v : Vec Bool). v.items) now j v
-    ∙ rw (same, there, next) (sym (each_with-more f xs (bits_of before) j d [] h (omega arith)))
-
--- the same where one chain was written in its place
-pub step_chain : {X : Type 0} (f : X → List Bool → List Bool) (xs : List X) (before now : List (Vec Bool)) (j : ℕ) (d : X) (e : Vec Bool) (new : List Bool) → j < length xs → j < length before →
-    bits_of now ≡ each_with f (take j xs) (bits_of before) → length new ≡ length (get_or now j e).items → new ≡ f (get_or xs j d) (get_or now j e).items →
-    bits_of (set now j (with_items (get_or now j e) new)) ≡ each_with f (take (j + 1) xs) (bits_of before)
-step_chain f xs before now j d e new h h' same long is =
-    let v : Vec Bool = get_or now j e in
-    let kept : length new ≡ v.len = omega (arith, v.ok.0) in
-    step_bits f xs before now j d e (with_items (get_or now j e) new) h h' same (with_items_is v new kept ∙ is)
+    let there : new ≡ f (get_or xs j d) (get_or before j []) = is ∙ ap (f (get_or xs j d)) (item_before f xs before now j e h' same) in
+    rw (same, there, next) (sym (each_with-more f xs before j d [] h h'))
 
 -- what is filled from the front
 pub step_map : {X Y : Type 0} (g : X → Y) (xs : List X) (ys now : List Y) (j : ℕ) (d : X) (y : Y) → j < length xs → j < length ys →
@@ -58,6 +44,20 @@ step_map g xs ys now j d y h h' same new =
     fill (x ∷ xs) [] j h h' = absurd (omega arith)
     fill (x ∷ xs) (y ∷ ys) zero h h' = refl
     fill (x ∷ xs) (y ∷ ys) (suc j) h h' = ap (λ v. g x ∷ v) (fill xs ys j (omega arith) (omega arith))
+
+-- one bit more of an answer
+pub put_more : (old now new answer : List Bool) (at place : ℕ) (b : Bool) → place < length answer → at + length answer ≤ length old → b ≡ get_or answer place b → new ≡ set now (at + place) b →
+    now ≡ take at old ++ take place answer ++ drop (at + place) old → new ≡ take at old ++ take (place + 1) answer ++ drop (at + (place + 1)) old
+put_more old now new answer at place b h fits is put same =
+    let front : length (take at old ++ take place answer) ≡ at + place = length-append (take at old) (take place answer) ∙ omega (arith, length-take-le at old (omega (arith, fits)), length-take-le place answer (omega (arith, h))) in
+    let none : at + place - (at + place) ≡ 0 = omega arith in
+    let next : at + place + 1 ≡ at + (place + 1) = omega arith in
+    let rest : set (drop (at + place) old) 0 b ≡ b ∷ drop (at + place + 1) old = ap (λ l. set l 0 b) (drop_more old (at + place) b (omega (arith, h, fits))) in
+    let more : take (place + 1) answer ≡ take place answer ++ b ∷ [] = take_more answer place b h ∙ ap (λ x. take place answer ++ x ∷ []) (sym is) in
+    put ∙ ap (λ l. set l (at + place) b) same
+    ∙ set-append_right (take at old ++ take place answer) (drop (at + place) old) (at + place) (at + place) b front (omega arith)
+    ∙ rw none (ap (λ l. (take at old ++ take place answer) ++ l) (rest ∙ ap (λ n. b ∷ drop n old) next)
+    ∙ rw more (sym (append_assoc (take at old ++ take place answer) (b ∷ []) (drop (at + (place + 1)) old)) ∙ ap (λ l. l ++ drop (at + (place + 1)) old) (append_assoc (take at old) (take place answer) (b ∷ []))))
 
 -- ---- the parts of one chain
 

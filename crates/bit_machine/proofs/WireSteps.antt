@@ -11,7 +11,7 @@ use Rattle.plan_model.specs.Plans.{PlannedTest, uses}
 use Rattle.plan_model.specs.Runs.{Content, State, chain_at, bits_at, next_bits, operation_at, each_chain, step}
 use Rattle.plan_model.specs.Right.{IsAt}
 use Rattle.plan_model.proofs.ChainsInTheRun.{idle_before, at_operation, uses_wire}
-use Rattle.bit_machine.specs.Lanes.{lane_bits, IsLane}
+use Rattle.bit_machine.specs.Lanes.{lane_bits, IsLane, IsNow}
 use Rattle.bit_machine.specs.Machines.{lanes_state, IsMachine, IsUser, IsWireStep, AreWireSteps}
 use Rattle.bit_machine.specs.declared.lane.Lane.{Lane}
 use Rattle.bit_machine.specs.declared.machine.Machine.{Machine}
@@ -143,9 +143,9 @@ unused_step content tests m is w drive none = record {
         unused (inr no') = no'
 
 -- the machine with one lane stepped
-pub with_lane : (content : Content) (tests : List PlannedTest) (m : Machine) (is : IsMachine content tests m) (w p : ℕ) (l l' : Lane) (u : IsUser content tests m w p l) → IsLane content u.t l' →
+pub with_lane : (content : Content) (tests : List PlannedTest) (m : Machine) (is : IsMachine content tests m) (w p : ℕ) (l l' : Lane) (u : IsUser content tests m w p l) → IsLane content u.t l' → IsNow l' m.cycle →
     IsMachine content tests (record { lanes = with_item m.lanes p l'; users = m.users; cycle = m.cycle; change = m.change })
-with_lane content tests m is w p l l' u lane = record {
+with_lane content tests m is w p l l' u lane now = record {
   lanes = record {
     long = length-set m.lanes.items p l' ∙ is.lanes.long;
     lane = λ i t k at there. elim (from_set m.lanes.items p i l' k there) [
@@ -158,6 +158,10 @@ with_lane content tests m is w p l l' u lane = record {
   wires = is.wires;
   users = is.users;
   change = is.change;
+  now = λ i k there on. elim (from_set m.lanes.items p i l' k there) [
+    | inl here ↦ subst (λ k. IsNow k m.cycle) (sym here.1) now
+    | inr other ↦ is.now i k other on
+  ];
 }
 
 -- ---- all wires

@@ -4,7 +4,7 @@ use Rattle.std.specs.Prelude.{slice_get}
 use Rattle.std.proofs.lemmas.List.{get_or-map, get_or_past, get_or-reverse, length-reverse}
 use Rattle.std.proofs.lemmas.List.Sums.{count_by-le-length}
 use Rattle.std.proofs.lemmas.Option.{slice_get-get_or, get_or_from_slice_get, slice_get_within, same_Some}
-use Rattle.std.proofs.lemmas.Bool.{cases_lt, false_from_ne_true, lt-ltb, le-ltb}
+use Rattle.std.proofs.lemmas.Bool.{cases_lt, false_from_ne_true, lt-ltb, ltb-true}
 use Rattle.plan_model.specs.Cells.{Cell, In, is_read, out_length}
 use Rattle.plan_model.specs.Operations.{Operation, Capture}
 use Rattle.plan_model.specs.Plans.{PlannedTest, uses, IsActive, end_of}
@@ -12,14 +12,14 @@ use Rattle.plan_model.specs.Runs.{Content, wanted, last_bit, chain_at, bits_at, 
 use Rattle.plan_model.specs.OneTest.{from_end}
 use Rattle.plan_model.specs.Right.{IsAt, IsReadAt}
 use Rattle.plan_model.proofs.ChainsInTheRun.{at_first_user_is}
-use Rattle.plan_model.proofs.LawOfOneTest.{reverse_is}
 use Rattle.plan_model.proofs.LoadsAndReads.{begun_at, at_start_plus, chain_is}
 use Rattle.plan_model.proofs.TestsInGoodPlans.{Uses, uses_is}
-use Rattle.bit_machine.specs.Chips.{IsCompared, expected}
-use Rattle.bit_machine.specs.Paths.{answer_by}
+use Rattle.bit_machine.specs.Chips.{IsCompared}
+use Rattle.bit_machine.specs.Paths.{is_answered}
 use Rattle.plan_model.specs.Moments.{phase_ops, moment_behind}
-use Rattle.bit_machine.specs.Lanes.{lane_bits, IsBusy, IsWired, IsLane, IsAnswer}
+use Rattle.bit_machine.specs.Lanes.{lane_bits, IsBusy, IsWired, IsLane, IsNow}
 use Rattle.bit_machine.specs.Machines.{lanes_state, IsMachine, IsSomeMachine, IsUser, HasWire, HasNoUser}
+use Rattle.bit_machine.proofs.Assigning.{from_uses}
 use Rattle.bit_machine.specs.declared.lane.Lane.{Lane}
 use Rattle.bit_machine.specs.declared.machine.Machine.{Machine}
 
@@ -37,7 +37,7 @@ user_place content tests m is w i there =
     let within : i < length tests = slice_get_within tests i u.0 u.1 in
     omega arith
 
-busy_of : (content : Content) (t : PlannedTest) (l : Lane) (c : ℕ) → IsWired content t l → l.start ≡ t.start → IsActive t c → IsBusy l c
+pub busy_of : (content : Content) (t : PlannedTest) (l : Lane) (c : ℕ) → IsWired content t l → l.start ≡ t.start → IsActive t c → IsBusy l c
 busy_of content t l c w start active =
     let begun : t.start ≤ c = active.0 in
     let going : c < end_of t = active.1 in
@@ -50,7 +50,7 @@ user_lane content tests m is w i l there at =
     let x : Uses m.cycle w u.0 = uses_is m.cycle w u.0 u.2 in
     let lane : IsLane content u.0 l = is.lanes.lane i u.0 l u.1 at in
     let wired : IsWired content u.0 l = lane.wired x.tam in
-    record { t = u.0; at = u.1; lane_at = at; tam = x.tam; used = u.2; lane = lane; first = wired.first_wire; begun = x.active.0 }
+    record { t = u.0; at = u.1; lane_at = at; tam = x.tam; used = u.2; lane = lane; first = wired.first_wire; begun = x.active.0; now = is.now i l at (from_uses content u.0 l m.cycle w lane u.2).on }
 
 pub has_wire : (m : Machine) (s : IsSomeMachine m) (w i : ℕ) (l : Lane) → slice_get m.users.items w ≡ Some (Some i) → slice_get m.lanes.items i ≡ Some l → HasWire m w l
 has_wire m s w i l there at =
@@ -60,7 +60,6 @@ has_wire m s w i l there at =
     let first : l.first_wire ≡ u.t.first_wire = u.first in
     record {
       ready = u.lane.ready;
-      busy = busy_of s.content u.t l m.cycle (u.lane.wired u.tam) u.lane.start x.active;
       low = omega arith;
       user = λ content tests is. (i, user_lane content tests m is w i l there at);
     }
@@ -105,8 +104,8 @@ shown_none content tests m is w none = sym (nobody (λ i t j. last_bit (bits_at 
 -- ---- the response bit that is read
 
 -- what is read is on a wire that the test uses, some Shifts behind its capture
-pub answer_read : (content : Content) (tests : List PlannedTest) (m : Machine) (is : IsMachine content tests m) (w i : ℕ) (l : Lane) (u : IsUser content tests m w i l) (b : Option Bool) →
-    ((content : Content) (t : PlannedTest) → t.tam ≡ true → IsLane content t l → IsAnswer content t l m.cycle (w - l.first_wire) b) → (r : IsCompared tests m.cycle w) → b ≡ Some (expected content r)
+pub answer_read : (content : Content) (tests : List PlannedTest) (m : Machine) (is : IsMachine content tests m) (w i : ℕ) (l : Lane) (u : IsUser content tests m w i l) (b : Bool) →
+    ((content : Content) (t : PlannedTest) → t.tam ≡ true → IsLane content t l → b ≡ is_answered (chain_at t (w - l.first_wire)) (moment_behind l.moment)) → (r : IsCompared tests m.cycle w) → b ≡ true
 answer_read content tests m is w i l u b answers r =
     let used : uses m.cycle w r.test ≡ true = is.wires.reads r.place r.pattern m.cycle w r.test r.cell r.at r.read in
     let place : r.place ≡ i = is.wires.alone m.cycle w i r.place u.t r.test u.at r.at u.used used in
@@ -114,11 +113,11 @@ answer_read content tests m is w i l u b answers r =
     let lane : IsLane content r.test l = subst (λ t. IsLane content t l) same u.lane in
     let x : Uses m.cycle w r.test = uses_is m.cycle w r.test used in
     let first : l.first_wire ≡ r.test.first_wire = u.first ∙ ap (λ (t : PlannedTest). t.first_wire) same in
-    reading content r.test l m.cycle w b x.tam lane first (answers content r.test x.tam lane) r.pattern r.cell r.read
+    reading content r.test l m.cycle w b x.tam lane u.now first (answers content r.test x.tam lane) r.pattern r.cell r.read
   where
-    reading : (content : Content) (t : PlannedTest) (l : Lane) (c w : ℕ) (b : Option Bool) → t.tam ≡ true → IsLane content t l → l.first_wire ≡ t.first_wire → IsAnswer content t l c (w - l.first_wire) b →
-        (k : ℕ) (x : Cell) → IsReadAt t k x c w → b ≡ Some (content.response t.id k x)
-    reading content t l c w b tam lane first a k x read =
+    reading : (content : Content) (t : PlannedTest) (l : Lane) (c w : ℕ) (b : Bool) → t.tam ≡ true → IsLane content t l → IsNow l c → l.first_wire ≡ t.first_wire → b ≡ is_answered (chain_at t (w - l.first_wire)) (moment_behind l.moment) →
+        (k : ℕ) (x : Cell) → IsReadAt t k x c w → b ≡ true
+    reading content t l c w b tam lane now first a k x read =
         let wired : IsWired content t l = lane.wired tam in
         let begun = begun_at t read.capture (Capture k) read.captures in
         let early : t.start ≤ read.capture = begun.0 in
@@ -129,27 +128,19 @@ answer_read content tests m is w i l u b answers r =
         let cells : chain_at t read.chain ≡ read.cells = chain_is t read.chain read.cells read.there in
         let out : out_length (chain_at t read.chain) ≤ l.phases.so = wired.out_fits read.chain in
         let within : read.shifts < out_length (chain_at t read.chain) = rw cells read.within in
-        let behind : moment_behind a.moment ≡ Some (read.shifts, k) = a.is.every read.shifts k (read.capture - t.start) (rw (← wired.operations) begun.1) (omega arith) (omega arith) in
-        let last : from_end (chain_at t read.chain) read.shifts ≡ x = rw cells (reverse_is read.cells read.shifts x read.cell) in
-        a.bit ∙ rw (chain, behind, lt-ltb read.shifts (out_length (chain_at t read.chain)) within, last) refl
-
-none_some : {X : Type 0} {x : X} → None ≡ Some x → ⊥
-none_some e = cc
+        let behind : moment_behind l.moment ≡ Some (read.shifts, k) = now.is.every read.shifts k (read.capture - t.start) (rw (← wired.operations) begun.1) (omega arith) (omega arith) in
+        a ∙ rw (chain, behind) (lt-ltb read.shifts (out_length (chain_at t read.chain)) within)
 
 -- and what is found there is read
-from_answer : (response : ℕ → Cell → Bool) (cells : List Cell) (a : Option (ℕ × ℕ)) (b : Bool) → answer_by response cells a ≡ Some b → (s : ℕ) × (k : ℕ) × (a ≡ Some (s, k)) × (s < out_length cells)
-from_answer response cells None b e = absurd cc
-from_answer response cells (Some a) b e = go (cases_lt a.0 (out_length cells)) where
-  go : (a.0 < out_length cells) ⊎ (out_length cells ≤ a.0) → (s : ℕ) × (k : ℕ) × (Some a ≡ Some (s, k)) × (s < out_length cells)
-  go (inl less) = (a.0, a.1, refl, less)
-  go (inr past) = let none = rw (le-ltb a.0 (out_length cells) past) at e in absurd (none_some none)
+from_answered : (cells : List Cell) (a : Option (ℕ × ℕ)) → is_answered cells a ≡ true → (s : ℕ) × (k : ℕ) × (a ≡ Some (s, k)) × (s < out_length cells)
+from_answered cells None e = absurd cc
+from_answered cells (Some a) e = (a.0, a.1, refl, ltb-true a.0 (out_length cells) e)
 
-pub answer_compared : (content : Content) (tests : List PlannedTest) (m : Machine) (w i : ℕ) (l : Lane) (u : IsUser content tests m w i l) (b : Option Bool) (v : Bool) → l.first_wire ≤ w →
-    ((content : Content) (t : PlannedTest) → t.tam ≡ true → IsLane content t l → IsAnswer content t l m.cycle (w - l.first_wire) b) → b ≡ Some v → IsCompared tests m.cycle w
-answer_compared content tests m w i l u b v low answers some =
-    let a : IsAnswer content u.t l m.cycle (w - l.first_wire) b = answers content u.t u.tam u.lane in
-    let f = from_answer (content.response u.t.id) (chain_at u.t (w - l.first_wire)) (moment_behind a.moment) v (sym a.bit ∙ some) in
-    let q = a.is.behind f.0 f.1 f.2 in
+pub answer_compared : (content : Content) (tests : List PlannedTest) (m : Machine) (w i : ℕ) (l : Lane) (u : IsUser content tests m w i l) (b : Bool) → l.first_wire ≤ w →
+    ((content : Content) (t : PlannedTest) → t.tam ≡ true → IsLane content t l → b ≡ is_answered (chain_at t (w - l.first_wire)) (moment_behind l.moment)) → b ≡ true → IsCompared tests m.cycle w
+answer_compared content tests m w i l u b low answers some =
+    let f = from_answered (chain_at u.t (w - l.first_wire)) (moment_behind l.moment) (sym (answers content u.t u.tam u.lane) ∙ some) in
+    let q = u.now.is.behind f.0 f.1 f.2 in
     let wired : IsWired content u.t l = u.lane.wired u.tam in
     let start : l.start ≡ u.t.start = u.lane.start in
     let first : l.first_wire ≡ u.t.first_wire = u.first in

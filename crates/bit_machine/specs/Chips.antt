@@ -110,10 +110,6 @@ pub record IsCompared (tests : List PlannedTest) (c w : ℕ) : Type 0 where
   pub at : IsAt tests place test
   pub read : IsReadAt test pattern cell c w
 
--- the response bit that is read
-abbrev pub expected : {tests : List PlannedTest} {c w : ℕ} → Content → IsCompared tests c w → Bool
-expected content r = content.response r.test.id r.pattern r.cell
-
 -- ---- what is counted
 
 abbrev pub is_capture : Option Operation → Bool

@@ -1,15 +1,16 @@
 -- How the machine of a whole chip keeps one live test.
-use Rattle.std.specs.Prelude.{◌≡◌, ℕ, ◌-◌, ◌<◌, ◌≤◌, Bool, true, false, Option, Some, None, List, [], map, length, get_or, slice_get, nat_le, nat_lt, ◌&&◌}
+use Rattle.std.specs.Prelude.{◌≡◌, ℕ, ◌+◌, ◌-◌, ◌%◌, ◌<◌, ◌≤◌, Bool, true, false, Option, Some, None, List, [], map, length, get_or, slice_get, slice_index, nat_le, nat_lt, ◌&&◌, if◌then◌else◌}
 use Rattle.plan_model.specs.Cells.{Cell, out_length}
 use Rattle.plan_model.specs.Operations.{Operation, Setup, Shift, Capture, SelfTest}
 use Rattle.plan_model.specs.Plans.{PlannedTest, end_of}
 use Rattle.plan_model.specs.Runs.{Content, chain_at}
 use Rattle.bit_machine.specs.declared.path.Path.{Path}
 use Rattle.bit_machine.specs.declared.lane.Lane.{Lane}
-use Rattle.plan_model.specs.declared.moments.Moment.{Moment}
+use Rattle.bit_machine.specs.declared.lane.Page.{Page}
 use Rattle.bit_machine.specs.Chips.{holds}
-use Rattle.bit_machine.specs.Paths.{path_bits, path_stimulus, path_response, answer_by, IsRing, IsPath}
-use Rattle.plan_model.specs.Moments.{phase_ops, moment_behind, ArePhases, IsMoment}
+use Rattle.bit_machine.specs.Packed.{is_set}
+use Rattle.bit_machine.specs.Paths.{made_from, path_bits, path_stimulus, path_response, IsPath}
+use Rattle.plan_model.specs.Moments.{phase_ops, moment_ahead, ArePhases, IsMoment}
 
 -- the bits of the chains
 abbrev pub lane_bits : Lane → List (List Bool)
@@ -21,14 +22,27 @@ lane_on lane cycle = lane.tam && (nat_le lane.start cycle && nat_lt cycle lane.e
 
 -- a path that can be stepped
 pub record IsSound (p : Path) : Type 0 where
-  pub ring : IsRing p.ring
-  pub loads : length p.loads.items ≤ length (path_bits p)
-  pub answers : length p.answers.items ≤ length (path_bits p)
+  pub loads : length p.loads ≤ length p.ring
+  pub answers : length p.answers ≤ length p.ring
+
+-- the bit that the cell at a place loads, 0 past the last one that is loaded
+abbrev pub loaded_bit : (base k : ℕ) → List ℕ → ℕ → Bool
+loaded_bit base k loads i = if nat_lt i (length loads) then made_from base k (slice_index loads i) 0 else false
+
+-- the word has what a chain loads of a page
+abbrev pub IsPageWord : (base : ℕ) → Page → List ℕ → (word : ℕ) → Type 0
+IsPageWord base page loads word = (i : ℕ) → i < 64 → is_set word i ≡ loaded_bit base page.pattern loads (page.first + i)
+
+-- there is a word of its page for each chain
+pub record ArePages (lane : Lane) : Type 0 where
+  pub many : length lane.pages.items ≡ length lane.paths.items
+  pub each : (page : Page) → lane.page ≡ Some page → (j : ℕ) (p : Path) → slice_get lane.paths.items j ≡ Some p → IsPageWord lane.base page p.loads (slice_index lane.pages.items j)
 
 -- a live test that can be stepped
 pub record IsReady (lane : Lane) : Type 0 where
   pub base : lane.base < 997
   pub phases : ArePhases lane.phases
+  pub pages : ArePages lane
   pub paths : (j : ℕ) (p : Path) → slice_get lane.paths.items j ≡ Some p → IsSound p
 
 -- it is in the middle of its operations
@@ -58,11 +72,21 @@ pub record IsLane (content : Content) (t : PlannedTest) (lane : Lane) : Type 0 w
   pub wired : t.tam ≡ true → IsWired content t lane
   pub alone : t.tam ≡ false → (length lane.paths.items ≡ 0) × (length t.chains ≡ 0)
 
--- the response bit that is read on a chain of the test, by what lies behind its operation
-pub record IsAnswer (content : Content) (t : PlannedTest) (lane : Lane) (cycle j : ℕ) (answer : Option Bool) : Type 0 where
-  pub moment : Moment
-  pub is : IsMoment lane.phases (cycle - lane.start) moment
-  pub bit : answer ≡ answer_by (content.response t.id) (chain_at t j) (moment_behind moment)
+-- the lane knows what its test does at the cycle, and has the page of what its chains want
+pub record IsNow (lane : Lane) (cycle : ℕ) : Type 0 where
+  pub is : IsMoment lane.phases (cycle - lane.start) lane.moment
+  pub page : (s k : ℕ) → moment_ahead lane.moment ≡ Some (s, k) → lane.page ≡ Some (record { pattern = k; first = s - s % 64 })
+
+-- the same test with the same bits, at another moment
+pub record IsSameTest (old new : Lane) : Type 0 where
+  pub tam : new.tam ≡ old.tam
+  pub base : new.base ≡ old.base
+  pub start : new.start ≡ old.start
+  pub ends : new.end ≡ old.end
+  pub phases : new.phases ≡ old.phases
+  pub first_wire : new.first_wire ≡ old.first_wire
+  pub width : new.width ≡ old.width
+  pub paths : new.paths ≡ old.paths
 
 -- a capture, and whether it finds its stimulus
 abbrev pub capture_answer : (stimulus : ℕ → Cell → Bool) → Option Operation → List (List Cell) → List (List Bool) → Option Bool

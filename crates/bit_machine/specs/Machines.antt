@@ -8,7 +8,7 @@ use Rattle.plan_model.specs.Right.{IsAt, IsReadAt}
 use Rattle.bit_machine.specs.declared.lane.Lane.{Lane}
 use Rattle.bit_machine.specs.declared.machine.Machine.{Machine}
 use Rattle.bit_machine.specs.Chips.{is_capture, loads_right, IsCompared}
-use Rattle.bit_machine.specs.Lanes.{lane_bits, IsReady, IsBusy, IsLane}
+use Rattle.bit_machine.specs.Lanes.{lane_bits, lane_on, ArePages, IsReady, IsNow, IsLane, IsSameTest}
 
 -- the bits of the chains of each test
 abbrev pub lanes_state : List Lane → State
@@ -40,14 +40,36 @@ IsUnchanged c change n = (n ≤ c) ⊎ (change ≤ n)
 abbrev pub AreUnchanged : List PlannedTest → ℕ → ℕ → Type 0
 AreUnchanged tests c change = (i : ℕ) (t : PlannedTest) → IsAt tests i t → IsUnchanged c change t.start × IsUnchanged c change (end_of t)
 
+-- each lane that is on knows what its test does
+abbrev pub AreNow : List Lane → ℕ → Type 0
+AreNow lanes c = (i : ℕ) (l : Lane) → slice_get lanes i ≡ Some l → lane_on l c ≡ true → IsNow l c
+
+-- so does each whose bus begins below a wire
+abbrev pub AreNowBelow : List Lane → (c w : ℕ) → Type 0
+AreNowBelow lanes c w = (i : ℕ) (l : Lane) → slice_get lanes i ≡ Some l → lane_on l c ≡ true → l.first_wire < w → IsNow l c
+
 -- the machine of the tests of a good plan
 pub record IsMachine (content : Content) (tests : List PlannedTest) (m : Machine) : Type 0 where
   pub lanes : AreLanes content tests m.lanes.items
   pub wires : AreOnWires tests (length m.users.items)
   pub users : AreUsers tests m.cycle m.users.items
   pub change : AreUnchanged tests m.cycle m.change
+  pub now : AreNow m.lanes.items m.cycle
 
 -- of some tests
+pub record AreSomeLanes (lanes : List Lane) (wires : ℕ) : Type 0 where
+  pub content : Content
+  pub tests : List PlannedTest
+  pub are : AreLanes content tests lanes
+  pub on : AreOnWires tests wires
+
+pub record AreSomeUsers (lanes : List Lane) (c : ℕ) (users : List (Option ℕ)) : Type 0 where
+  pub content : Content
+  pub tests : List PlannedTest
+  pub are : AreLanes content tests lanes
+  pub on : AreOnWires tests (length users)
+  pub by : AreUsers tests c users
+
 pub record IsSomeMachine (m : Machine) : Type 0 where
   pub content : Content
   pub tests : List PlannedTest
@@ -63,11 +85,11 @@ pub record IsUser (content : Content) (tests : List PlannedTest) (m : Machine) (
   pub lane : IsLane content t l
   pub first : l.first_wire ≡ t.first_wire
   pub begun : t.start ≤ m.cycle
+  pub now : IsNow l m.cycle
 
 -- a lane that has a wire now
 pub record HasWire (m : Machine) (w : ℕ) (l : Lane) : Type 0 where
   pub ready : IsReady l
-  pub busy : IsBusy l m.cycle
   pub low : l.first_wire ≤ w
   pub user : (content : Content) (tests : List PlannedTest) → IsMachine content tests m → (i : ℕ) × IsUser content tests m w i l
 
@@ -120,3 +142,12 @@ pub record AreUsersBelow (tests : List PlannedTest) (c p : ℕ) (users : List (O
 pub record IsMark (tests : List PlannedTest) (c w : ℕ) (b : Bool) : Type 0 where
   pub read : IsCompared tests c w → b ≡ true
   pub only : b ≡ true → IsCompared tests c w
+
+-- the lane at a place, where it stands at the cycle if the wire is the first one of its bus
+pub record IsStood (lanes : List Lane) (place wire cycle : ℕ) (new : Lane) : Type 0 where
+  pub old : Lane
+  pub at : slice_get lanes place ≡ Some old
+  pub same : IsSameTest old new
+  pub pages : ArePages new
+  pub stands : old.first_wire ≡ wire → IsNow new cycle
+  pub stays : IsNow old cycle → IsNow new cycle

@@ -1,5 +1,5 @@
 -- What a lane has of its test, its wrapper and its bus.
-use Rattle.std.specs.Prelude.{◌≡◌, ℕ, ◌+◌, ◌*◌, ◌%◌, true, false, map, length, take, slice_index}
+use Rattle.std.specs.Prelude.{◌≡◌, ℕ, ◌+◌, ◌*◌, ◌%◌, true, false, None, map, length, take, slice_index}
 use Rattle.std.specs.List.{sum}
 use Rattle.soc_model.specs.declared.Test.{Test}
 use Rattle.soc_model.specs.Chips.{ModuleValue}
@@ -21,6 +21,8 @@ pub record IsSelfLane (placed : PlacedTest) (l : Lane) : Type 0 where
   pub ends : l.end ≡ placed.end
   pub phases : ArePhases l.phases
   pub none : length l.paths.items ≡ 0
+  pub page : l.page ≡ None
+  pub pages : length l.pages.items ≡ 0
 
 -- the lane of a test over the wires of a bus; `at` is its place in its module
 pub record IsWiredLane (plan : PlanValue) (seed : ℕ) (placed : PlacedTest) (bus at : ℕ) (m : ModuleValue) (test : Test) (l : Lane) : Type 0 where
@@ -35,6 +37,8 @@ pub record IsWiredLane (plan : PlanValue) (seed : ℕ) (placed : PlacedTest) (bu
   pub first_wire : l.first_wire ≡ sum (take bus (widths plan))
   pub width : l.width ≡ slice_index (widths plan) bus
   pub paths : AreNewPaths (m.inputs + m.bidirs) (scan_lengths m test.scan) (chains_of plan m test) (length (chains_of plan m test)) l.paths.items
+  pub page : l.page ≡ None
+  pub pages : length l.pages.items ≡ length l.paths.items
 
 -- the test is in this wrapper of its mode
 pub record IsInWrapper (plan : PlanValue) (m : ModuleValue) (test : Test) (w : Wrapper) : Type 0 where

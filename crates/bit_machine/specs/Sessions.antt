@@ -1,7 +1,6 @@
 -- One module in its wrapper, cycle by cycle.
 use Rattle.std.specs.Prelude.{ℕ, ◌+◌, Bool, false, Some, List, [], ◌∷◌, map, length, take, slice_index_or}
 use Rattle.std.specs.List.{sum, range_with_len}
-use Rattle.std.specs.Global.{Vec}
 use Rattle.soc_model.specs.Chips.{ModuleValue}
 use Rattle.plan_model.specs.Cells.{Cell, In, Flop, Out, ChainValue, chain_cells}
 use Rattle.soc_model.specs.Modes.{scan_lengths}
@@ -48,7 +47,3 @@ each_with f (x ∷ xs) (y ∷ ys) = f x y ∷ each_with f xs ys
 -- every bit one place on, with this bit in the first cell
 abbrev pub entered : Bool → List Bool → List Bool
 entered drive bits = take (length bits) (drive ∷ bits)
-
--- the bits of the chains, without where they lie in memory
-abbrev pub bits_of : List (Vec Bool) → List (List Bool)
-bits_of chains = map (λ (bits : Vec Bool). bits.items) chains

@@ -1,47 +1,87 @@
-// The bits of chains, from wire in to wire out.
-ghost use Rattle.std.specs.Prelude.{◌≡◌, ◌+◌, ◌≤◌, ◌∷◌, ◌++◌, length, map, take, drop};
-ghost use Rattle.plan_model.specs.Runs.{last_bit};
-ghost use Rattle.bit_machine.specs.Sessions.{each_with, entered, bits_of};
+// A list of bits, 64 in a word.
+ghost use Rattle.std.specs.Prelude.{◌≡◌, ◌≢◌, ℕ, ◌<◌, false, length, get_or, replicate, set, IfOk};
+ghost use Rattle.bit_machine.specs.Packed.{is_set};
 
-/// The last bit of a chain, 0 where it has no cell.
-fn last_of(bits: &[bool]) -> bool
-    ensures { result ≡ last_bit bits.now }
+use outside::NoMemory;
+use std::alloc::Global;
+use std::marker::Model;
+
+/// The bits of a word.
+pub const WORD_BITS: usize = 64;
+
+/// A list of bits. They lie in words of 64, the first one lowest.
+#[derive(Drop)]
+pub struct Bits {
+    words: Vec<u64>,
+    count: usize,
+}
+
+impl Model for Bits {
+    ghost use Rattle.std.specs.Prelude.{◌*◌, ◌≤◌, Bool, List, length};
+    ghost use Rattle.bit_machine.specs.Packed.{packed};
+
+    ghost Value = { List Bool };
+
+    ghost view = { λ b. packed b.words.items b.count };
+
+    ghost invariant = { λ b. b.count ≤ 64 * length b.words.items };
+}
+
+/// Whether a bit of a word is set.
+pub fn is_set(word: u64, place: usize) -> bool
+    requires { place < 64 }
+    ensures { result ≡ is_set word place }
 {
-    match bits.last() {
-        Some(bit) => *bit,
-        None => false,
+    (word >> place) & 1 == 1
+}
+
+/// The word with one bit written.
+pub fn with_bit(word: u64, place: usize, bit: bool) -> u64
+    requires { place < 64 }
+    ensures here { is_set result place ≡ bit }
+    ensures others { (i : ℕ) → i < 64 → i ≢ place → is_set result i ≡ is_set word i }
+{
+    let mask = 1u64 << place;
+    if bit { word | mask } else { word & !mask }
+}
+
+/// So many words without a bit.
+fn zero_words(alloc: Global, count: usize) -> Result<Vec<u64>, NoMemory>
+    ensures { IfOk result (λ words. words.items ≡ replicate count 0) }
+{
+    vec![in alloc; 0u64; count].map_err(|_| NoMemory)
+}
+
+impl Bits {
+    /// So many bits 0.
+    pub fn zeros(alloc: Global, count: usize) -> Result<Bits, NoMemory>
+        ensures { IfOk result (λ bits. bits ≡ replicate count false) }
+    {
+        let words = zero_words(alloc, count.div_ceil(WORD_BITS))?;
+        Ok(Bits { words, count })
     }
-}
 
-/// Moves every bit one place on. `drive` enters the first cell, and the last bit leaves.
-fn enter(bits: &mut [bool], drive: bool)
-    ensures { bits.new ≡ entered drive bits.old }
-{
-    let cells = bits.len();
-    if cells == 0 {
-        return;
+    /// The number of bits.
+    pub fn len(&self) -> usize
+        ensures { result ≡ length self.now }
+    {
+        self.count
     }
-    bits.copy_within(..cells - 1, 1);
-    bits[0] = drive;
-}
 
-/// Writes an answer over the bits from a place on.
-pub fn put_bits(bits: &mut [bool], at: usize, answer: &[bool])
-    requires { at + length answer.now ≤ length bits.old }
-    ensures { bits.new ≡ take at bits.old ++ answer.now ++ drop (at + length answer.now) bits.old }
-{
-    bits[at..at + answer.len()].copy_from_slice(answer);
-}
+    /// The bit at a place.
+    pub fn bit(&self, place: usize) -> bool
+        requires { place < length self.now }
+        ensures { result ≡ get_or self.now place false }
+    {
+        is_set(self.words[place / WORD_BITS], place % WORD_BITS)
+    }
 
-/// Reads the last bit of each chain and then moves its bits one place on.
-pub fn shift_all(chains: &mut [Vec<bool>], drive: &[bool], read: &mut [bool])
-    requires driven { length drive.now ≡ length chains.old }
-    requires shown { length read.old ≡ length chains.old }
-    ensures bits { bits_of chains.new ≡ each_with entered drive.now (bits_of chains.old) }
-    ensures read { read.new ≡ map last_bit (bits_of chains.old) }
-{
-    for place in 0..chains.len() {
-        read[place] = last_of(&chains[place]);
-        enter(&mut chains[place], drive[place]);
+    /// Writes the bit at a place.
+    pub fn put(&mut self, place: usize, bit: bool)
+        requires { place < length self.old }
+        ensures { self.new ≡ set self.old place bit }
+    {
+        let word = self.words[place / WORD_BITS];
+        self.words[place / WORD_BITS] = with_bit(word, place % WORD_BITS, bit);
     }
 }

@@ -3,10 +3,11 @@ ghost use Rattle.std.specs.Prelude.{◌≡◌, ℕ, ◌+◌, ◌^◌, ◌<◌, �
 ghost use Rattle.std.specs.List.{All, sum, sum_by, flat_map, range_with_len};
 ghost use Rattle.plan_model.specs.Views.{chain_value};
 ghost use Rattle.bit_machine.specs.Layouts.{chain_of, chain_length, layout_cells, IsLayout};
-ghost use Rattle.bit_machine.specs.Paths.{ring_bits, IsRing};
+ghost use Rattle.bit_machine.specs.Numbers.{all_numbers, IsFull};
 ghost use Rattle.bit_machine.specs.Building.{flop_numbers, IsNewPath, AreNewPaths};
 
-use crate::layout::{Layout, zero_chain};
+use crate::layout::Layout;
+use crate::numbers::{Numbers, Run};
 use crate::path::Path;
 use crate::ring::Ring;
 use outside::{NoMemory, push};
@@ -14,53 +15,50 @@ use plan_model::ChainPlan;
 use std::alloc::Global;
 
 /// Appends so many numbers from one on.
-fn push_numbers(numbers: &mut Vec<u64>, from: u64, count: u64) -> Result<(), NoMemory>
-    requires { from + count < 2 ^ 64 }
-    ensures { OnOk result (numbers.new.items ≡ numbers.old.items ++ range_with_len from count) }
+fn push_numbers(runs: &mut Vec<Run>, from: u64, count: u64) -> Result<(), NoMemory>
+    requires full { All IsFull runs.old.items }
+    requires fits { from + count < 2 ^ 64 }
+    ensures full { OnOk result (All IsFull runs.new.items) }
+    ensures numbers { OnOk result (all_numbers runs.new.items ≡ all_numbers runs.old.items ++ range_with_len from count) }
 {
-    for step in 0..count {
-        push(numbers, from + step)?;
+    if count == 0 {
+        return Ok(());
     }
-    Ok(())
+    push(runs, Run { from, count })
 }
 
 /// Appends the numbers of the cells of a scan chain.
-fn push_flops(numbers: &mut Vec<u64>, base: u64, layout: &Layout, scan: u64) -> Result<(), NoMemory>
+fn push_flops(runs: &mut Vec<Run>, base: u64, layout: &Layout, scan: u64) -> Result<(), NoMemory>
+    requires full { All IsFull runs.old.items }
     requires layout { IsLayout layout.now }
     requires scan { scan < length layout.now.lengths.items }
     requires fits { base + sum layout.now.lengths.items < 2 ^ 63 }
-    ensures { OnOk result (numbers.new.items ≡ numbers.old.items ++ flop_numbers base layout.now.lengths.items scan) }
+    ensures full { OnOk result (All IsFull runs.new.items) }
+    ensures numbers { OnOk result (all_numbers runs.new.items ≡ all_numbers runs.old.items ++ flop_numbers base layout.now.lengths.items scan) }
 {
     let place = scan as usize;
     let from = base + layout.starts[place] as u64;
-    push_numbers(numbers, from, layout.lengths[place])
+    push_numbers(runs, from, layout.lengths[place])
 }
 
 /// Appends the numbers of the cells of scan chains.
 fn push_scans(
-    numbers: &mut Vec<u64>,
+    runs: &mut Vec<Run>,
     base: u64,
     layout: &Layout,
     scans: &[u64],
 ) -> Result<(), NoMemory>
+    requires full { All IsFull runs.old.items }
     requires layout { IsLayout layout.now }
     requires listed { All (λ c. c < length layout.now.lengths.items) scans.now }
     requires fits { base + sum layout.now.lengths.items < 2 ^ 63 }
-    ensures { OnOk result (numbers.new.items ≡ numbers.old.items ++ flat_map (flop_numbers base layout.now.lengths.items) scans.now) }
+    ensures full { OnOk result (All IsFull runs.new.items) }
+    ensures numbers { OnOk result (all_numbers runs.new.items ≡ all_numbers runs.old.items ++ flat_map (flop_numbers base layout.now.lengths.items) scans.now) }
 {
     for scan in scans {
-        push_flops(numbers, base, layout, *scan)?;
+        push_flops(runs, base, layout, *scan)?;
     }
     Ok(())
-}
-
-/// A ring of so many cells with bit 0.
-fn ring_of(alloc: Global, cells: usize) -> Result<Ring, NoMemory>
-    ensures ring { IfOk result IsRing }
-    ensures bits { IfOk result (λ ring. ring_bits ring ≡ replicate cells false) }
-{
-    let bits = zero_chain(alloc, cells)?;
-    Ok(Ring { bits, head: 0 })
 }
 
 /// The numbers of the bits that a chain loads: of its input cells, from `ins_from` on, and of its scan cells, behind all
@@ -71,17 +69,18 @@ fn loads_of(
     layout: &Layout,
     chain: &ChainPlan,
     ins_from: u64,
-) -> Result<Vec<u64>, NoMemory>
+) -> Result<Numbers, NoMemory>
     requires layout { IsLayout layout.now }
     requires listed { All (λ c. c < length layout.now.lengths.items) chain.now.scans.items }
+    requires long { chain_length layout.now.lengths.items chain.now ≤ 10 ^ 18 }
     requires fits { inputs + sum layout.now.lengths.items < 2 ^ 63 }
     requires ins { ins_from + chain.now.ins < 2 ^ 63 }
-    ensures { IfOk result (λ loads. loads.items ≡ range_with_len ins_from chain.now.ins ++ flat_map (flop_numbers inputs layout.now.lengths.items) chain.now.scans.items) }
+    ensures { IfOk result (λ loads. loads ≡ range_with_len ins_from chain.now.ins ++ flat_map (flop_numbers inputs layout.now.lengths.items) chain.now.scans.items) }
 {
     let mut loads = Vec::new(alloc);
     push_numbers(&mut loads, ins_from, chain.ins)?;
     push_scans(&mut loads, inputs, layout, &chain.scans)?;
-    Ok(loads)
+    Ok(Numbers::new(loads))
 }
 
 /// The numbers of the bits that a chain answers: of its scan cells, and of its output cells, from `outs_from` on.
@@ -90,17 +89,18 @@ fn answers_of(
     layout: &Layout,
     chain: &ChainPlan,
     outs_from: u64,
-) -> Result<Vec<u64>, NoMemory>
+) -> Result<Numbers, NoMemory>
     requires layout { IsLayout layout.now }
     requires listed { All (λ c. c < length layout.now.lengths.items) chain.now.scans.items }
+    requires long { chain_length layout.now.lengths.items chain.now ≤ 10 ^ 18 }
     requires fits { sum layout.now.lengths.items < 2 ^ 63 }
     requires outs { outs_from + chain.now.outs < 2 ^ 63 }
-    ensures { IfOk result (λ answers. answers.items ≡ flat_map (flop_numbers 0 layout.now.lengths.items) chain.now.scans.items ++ range_with_len outs_from chain.now.outs) }
+    ensures { IfOk result (λ answers. answers ≡ flat_map (flop_numbers 0 layout.now.lengths.items) chain.now.scans.items ++ range_with_len outs_from chain.now.outs) }
 {
     let mut answers = Vec::new(alloc);
     push_scans(&mut answers, 0, layout, &chain.scans)?;
     push_numbers(&mut answers, outs_from, chain.outs)?;
-    Ok(answers)
+    Ok(Numbers::new(answers))
 }
 
 /// A chain whose input cells are numbered from `ins_from` on, and whose output cells answer from `outs_from` on.
@@ -122,7 +122,7 @@ fn path_of(
 {
     let loads = loads_of(alloc, inputs, layout, chain, ins_from)?;
     let answers = answers_of(alloc, layout, chain, outs_from)?;
-    let ring = ring_of(alloc, loads.len() + chain.outs as usize)?;
+    let ring = Ring::zeros(alloc, loads.len() + chain.outs as usize)?;
     Ok(Path {
         ring,
         loads,

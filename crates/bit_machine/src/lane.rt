@@ -1,13 +1,27 @@
 // One live test of a chip under test.
-ghost use Rattle.std.specs.Prelude.{◌≡◌, ℕ, ◌-◌, ◌<◌, ◌≤◌, true, false, Some, List, [], length, drop, get_or, set, slice_get};
+ghost use Rattle.std.specs.Prelude.{◌≡◌, ℕ, ◌-◌, ◌%◌, ◌<◌, ◌≤◌, true, false, Some, List, [], length, drop, get_or, set, slice_get, slice_index};
 ghost use Rattle.plan_model.specs.Plans.{PlannedTest};
+ghost use Rattle.plan_model.specs.Moments.{moment_behind};
 ghost use Rattle.plan_model.specs.Runs.{Content, wanted, next_bits, last_bit, chain_at};
 ghost use Rattle.bit_machine.specs.Chips.{holds};
-ghost use Rattle.plan_model.specs.Moments.{IsMoment};
-ghost use Rattle.bit_machine.specs.Lanes.{lane_on, lane_bits, capture_answer, IsReady, IsBusy, IsLane, IsAnswer};
+ghost use Rattle.bit_machine.specs.Lanes.{lane_on, lane_bits, capture_answer, ArePages, IsReady, IsBusy, IsNow, IsLane, IsSameTest};
+ghost use Rattle.bit_machine.specs.Numbers.{IsLineWord};
+ghost use Rattle.bit_machine.specs.Paths.{is_answered};
+ghost use Rattle.bit_machine.specs.declared.path.Path.{Path};
 
+use crate::bits::is_set;
+use crate::made::Line;
 use crate::path::Path;
 use plan_model::{Moment, Phases};
+
+/// A part of a pattern's stimulus, for each chain of a test: the bits of the 64 cells from one on.
+#[derive(Clone, Copy, Drop)]
+pub struct Page {
+    /// The pattern, counted from 1.
+    pub pattern: u64,
+    /// The first of the cells, counted from wire in.
+    pub first: u64,
+}
 
 /// A live test as its plan places it, with the bits of its chains. A self test has none.
 #[derive(Drop)]
@@ -28,6 +42,11 @@ pub struct Lane {
     pub width: usize,
     /// The chains.
     pub paths: Vec<Path>,
+    /// What the test does at the cycle that it stands at.
+    pub moment: Moment,
+    /// The part of a stimulus that is wanted now, with its bits for each chain.
+    pub page: Option<Page>,
+    pub pages: Vec<u64>,
 }
 
 impl Lane {
@@ -38,50 +57,86 @@ impl Lane {
         self.tam && (self.start <= cycle && cycle < self.end)
     }
 
-    /// What the test does at a cycle at which it is active.
-    fn moment(&self, cycle: u64) -> Moment
-        requires ready { IsReady self.now }
-        requires busy { IsBusy self.now cycle }
-        ensures { IsMoment self.now.phases (cycle - self.now.start) result }
+    /// Stands at a cycle at which the test is active.
+    pub fn stand(&mut self, cycle: u64)
+        requires ready { IsReady self.old }
+        requires busy { IsBusy self.old cycle }
+        ensures same { IsSameTest self.old self.new }
+        ensures pages { ArePages self.new }
+        ensures now { IsNow self.new cycle }
     {
-        self.phases.at(cycle - self.start)
+        let moment = self.phases.at(cycle - self.start);
+        self.moment = moment;
+        if let Some(turn) = moment.ahead() {
+            let page = Page {
+                pattern: turn.pattern,
+                first: turn.shifts - turn.shifts % 64,
+            };
+            if !self.has_page(page) {
+                self.turn_to(page);
+            }
+        }
+    }
+
+    /// Whether the words are those of a page.
+    fn has_page(&self, page: Page) -> bool
+        ensures { result ≡ true → self.now.page ≡ Some page }
+    {
+        match self.page {
+            Some(own) => own.pattern == page.pattern && own.first == page.first,
+            None => false,
+        }
+    }
+
+    /// Makes the words of a page.
+    fn turn_to(&mut self, page: Page)
+        requires ready { IsReady self.old }
+        ensures same { IsSameTest self.old self.new }
+        ensures moment { self.new.moment ≡ self.old.moment }
+        ensures page { self.new.page ≡ Some page }
+        ensures pages { ArePages self.new }
+    {
+        let line = Line::of(self.base, page.pattern, 0);
+        let first = page.first as usize;
+        fill(&mut self.pages, &self.paths, &line, first);
+        self.page = Some(page);
     }
 
     /// The bit that a wire of the bus carries, counted from the first wire of the bus.
-    pub fn wanted(&self, cycle: u64, chain: usize) -> bool
-        requires ready { IsReady self.now }
-        requires busy { IsBusy self.now cycle }
-        ensures { (content : Content) (t : PlannedTest) → t.tam ≡ true → IsLane content t self.now → result ≡ wanted (content.stimulus t.id) (chain_at t chain) (drop (cycle - t.start) t.operations) }
+    pub fn wanted(&self, chain: usize) -> bool
+        requires { IsReady self.now }
+        ensures { (content : Content) (t : PlannedTest) (cycle : ℕ) → t.tam ≡ true → IsLane content t self.now → IsNow self.now cycle → result ≡ wanted (content.stimulus t.id) (chain_at t chain) (drop (cycle - t.start) t.operations) }
     {
-        if chain >= self.paths.len() {
+        if chain >= self.pages.len() {
             return false;
         }
-        let ahead = self.moment(cycle).ahead();
-        self.paths[chain].wanted(self.base, ahead)
+        match self.moment.ahead() {
+            Some(turn) => is_set(self.pages[chain], (turn.shifts % 64) as usize),
+            None => false,
+        }
     }
 
     /// The bit that a wire of the bus shows.
     pub fn shown(&self, chain: usize) -> bool
-        requires { IsReady self.now }
         ensures { result ≡ last_bit (get_or (lane_bits self.now) chain []) }
     {
         if chain >= self.paths.len() {
             return false;
         }
-        self.paths[chain].last()
+        self.paths[chain].ring.last()
     }
 
-    /// The response bit that is read on a wire of the bus.
-    pub fn answer(&self, cycle: u64, chain: usize) -> Option<bool>
-        requires ready { IsReady self.now }
-        requires busy { IsBusy self.now cycle }
-        ensures { (content : Content) (t : PlannedTest) → t.tam ≡ true → IsLane content t self.now → IsAnswer content t self.now cycle chain result }
+    /// Whether a response bit is read on a wire of the bus.
+    pub fn is_read(&self, chain: usize) -> bool
+        ensures { (content : Content) (t : PlannedTest) → t.tam ≡ true → IsLane content t self.now → result ≡ is_answered (chain_at t chain) (moment_behind self.now.moment) }
     {
-        let behind = self.moment(cycle).behind();
         if chain >= self.paths.len() {
-            return None;
+            return false;
         }
-        self.paths[chain].answer(self.base, behind)
+        match self.moment.behind() {
+            Some(turn) => turn.shifts < self.paths[chain].answers.len() as u64,
+            None => false,
+        }
     }
 
     /// Whether all chains hold a pattern.
@@ -97,30 +152,40 @@ impl Lane {
         true
     }
 
-    /// Whether the test captures at this cycle, and whether its whole stimulus stands in the cells.
-    pub fn capture_of(&self, cycle: u64) -> Option<bool>
-        requires ready { IsReady self.now }
-        requires busy { IsBusy self.now cycle }
-        ensures { (content : Content) (t : PlannedTest) → t.tam ≡ true → IsLane content t self.now → result ≡ capture_answer (content.stimulus t.id) (slice_get t.operations (cycle - t.start)) t.chains (lane_bits self.now) }
+    /// Whether the test captures now, and whether its whole stimulus stands in the cells.
+    pub fn capture_of(&self) -> Option<bool>
+        requires { IsReady self.now }
+        ensures { (content : Content) (t : PlannedTest) (cycle : ℕ) → t.tam ≡ true → IsLane content t self.now → IsNow self.now cycle → result ≡ capture_answer (content.stimulus t.id) (slice_get t.operations (cycle - t.start)) t.chains (lane_bits self.now) }
     {
-        match self.moment(cycle) {
+        match self.moment {
             Moment::Capture { pattern } => Some(self.holds(pattern)),
             _ => None,
         }
     }
 
     /// One cycle of the chain on a wire of the bus.
-    pub fn step(&mut self, cycle: u64, chain: usize, drive: bool)
-        requires ready { IsReady self.old }
-        requires busy { IsBusy self.old cycle }
+    pub fn step(&mut self, chain: usize, drive: bool)
+        requires { IsReady self.old }
         ensures lane { (content : Content) (t : PlannedTest) → t.tam ≡ true → IsLane content t self.old → IsLane content t self.new }
-        ensures bits { (content : Content) (t : PlannedTest) → t.tam ≡ true → IsLane content t self.old → lane_bits self.new ≡ set (lane_bits self.old) chain (next_bits (content.response t.id) (chain_at t chain) (slice_get t.operations (cycle - t.start)) drive (get_or (lane_bits self.old) chain [])) }
+        ensures bits { (content : Content) (t : PlannedTest) (cycle : ℕ) → t.tam ≡ true → IsLane content t self.old → IsNow self.old cycle → lane_bits self.new ≡ set (lane_bits self.old) chain (next_bits (content.response t.id) (chain_at t chain) (slice_get t.operations (cycle - t.start)) drive (get_or (lane_bits self.old) chain [])) }
+        ensures now { (cycle : ℕ) → IsNow self.old cycle → IsNow self.new cycle }
     {
         if chain >= self.paths.len() {
             return;
         }
-        let moment = self.moment(cycle);
-        let base = self.base;
-        self.paths[chain].step(base, moment, drive);
+        self.paths[chain].step(self.base, self.moment, drive);
+    }
+}
+
+/// Fills for each chain the word of what its cells from one on load.
+fn fill(words: &mut [u64], paths: &[Path], line: &Line, first: usize)
+    requires first { line.now.first < 997 }
+    requires step { line.now.step < 997 }
+    requires many { length words.old ≡ length paths.now }
+    ensures many { length words.new ≡ length paths.now }
+    ensures words { (j : ℕ) (p : Path) → slice_get paths.now j ≡ Some p → IsLineWord line.now p.loads first (slice_index words.new j) }
+{
+    for place in 0..words.len() {
+        words[place] = paths[place].loads.word(line, first);
     }
 }

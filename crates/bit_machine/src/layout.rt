@@ -1,5 +1,5 @@
 // How the cells of a module stand in the chains of a wrapper, and where their bits stand in a response.
-ghost use Rattle.std.specs.Prelude.{◌≡◌, ℕ, ◌+◌, ◌^◌, ◌<◌, ◌≤◌, length, map, replicate, take, drop, false, slice_index, IfOk};
+ghost use Rattle.std.specs.Prelude.{◌≡◌, ℕ, ◌+◌, ◌^◌, ◌<◌, ◌≤◌, ◌++◌, length, map, take, drop, slice_index, IfOk};
 ghost use Rattle.std.specs.List.{All, sum, sum_by};
 ghost use Rattle.soc_model.specs.Chips.{module_value};
 ghost use Rattle.plan_model.specs.Cells.{IsProper};
@@ -7,10 +7,10 @@ ghost use Rattle.soc_model.specs.Modes.{scan_lengths};
 ghost use Rattle.plan_model.specs.Listing.{module_size};
 ghost use Rattle.plan_model.specs.Runs.{captured};
 ghost use Rattle.plan_model.specs.Views.{chain_value};
-ghost use Rattle.bit_machine.specs.Sessions.{each_with, bits_of, response_bit, zero_bits};
+ghost use Rattle.bit_machine.specs.Sessions.{each_with, response_bit, zero_bits};
 ghost use Rattle.bit_machine.specs.Layouts.{chain_of, chain_length, layout_cells, IsLayout, IsStarts, IsLong};
 
-use crate::bits::put_bits;
+use crate::ring::Ring;
 use outside::{NoMemory, copied, push};
 use plan_model::{ChainPlan, Wrapper};
 use soc_model::{Module, mode_chains};
@@ -81,11 +81,15 @@ fn length_of(lengths: &[u64], chain: &ChainPlan) -> usize
     (chain.ins + flops + chain.outs) as usize
 }
 
-/// So many bits 0.
-pub fn zero_chain(alloc: Global, cells: usize) -> Result<Vec<bool>, NoMemory>
-    ensures { IfOk result (λ bits. bits.items ≡ replicate cells false) }
+/// Writes an answer over the bits from a place on.
+fn put_bits(bits: &mut Ring, at: usize, answer: &[bool])
+    requires { at + length answer.now ≤ length bits.old }
+    ensures { bits.new ≡ take at bits.old ++ answer.now ++ drop (at + length answer.now) bits.old }
 {
-    vec![in alloc; false; cells].map_err(|_| NoMemory)
+    let _cells = bits.len();
+    for place in 0..answer.len() {
+        bits.put(at + place, answer[place]);
+    }
 }
 
 /// So many bits from a place on.
@@ -117,14 +121,14 @@ impl Layout {
     }
 
     /// A bit 0 for each cell of each chain.
-    pub fn zeros(&self, alloc: Global) -> Result<Vec<Vec<bool>>, NoMemory>
+    pub fn zeros(&self, alloc: Global) -> Result<Vec<Ring>, NoMemory>
         requires { IsLayout self.now }
-        ensures { IfOk result (λ bits. bits_of bits.items ≡ zero_bits (layout_cells self.now)) }
+        ensures { IfOk result (λ bits. bits.items ≡ zero_bits (layout_cells self.now)) }
     {
         let mut all = Vec::new(alloc);
         for chain in &self.chains {
             let cells = length_of(&self.lengths, chain);
-            push(&mut all, zero_chain(alloc, cells)?)?;
+            push(&mut all, Ring::zeros(alloc, cells)?)?;
         }
         Ok(all)
     }
@@ -142,13 +146,7 @@ impl Layout {
 
     /// Writes the answer of a chain's scan cells and then of its output cells, whose bits stand in the response from
     /// `outs_from` on.
-    fn capture_chain(
-        &self,
-        chain: &ChainPlan,
-        outs_from: usize,
-        response: &[bool],
-        bits: &mut [bool],
-    )
+    fn capture_chain(&self, chain: &ChainPlan, outs_from: usize, response: &[bool], bits: &mut Ring)
         requires layout { IsLayout self.now }
         requires listed { All (λ c. c < length self.now.lengths.items) chain.now.scans.items }
         requires flops { sum self.now.lengths.items ≤ outs_from }
@@ -156,6 +154,7 @@ impl Layout {
         requires long { length bits.old ≡ chain_length self.now.lengths.items chain.now }
         ensures { (i o : ℕ) → sum self.now.lengths.items + o ≡ outs_from → bits.new ≡ captured (response_bit self.now.lengths.items response.now) (chain_of self.now.lengths.items i o (chain_value chain.now)) bits.old }
     {
+        let _cells = bits.len();
         let mut at = chain.ins as usize;
         for scan in &chain.scans {
             let answer = self.scan_answer(*scan as usize, response);
@@ -166,11 +165,11 @@ impl Layout {
     }
 
     /// Writes a response into the chains: the cells that are read take their bits of it.
-    pub fn capture(&self, response: &[bool], bits: &mut [Vec<bool>])
+    pub fn capture(&self, response: &[bool], bits: &mut [Ring])
         requires layout { IsLayout self.now }
-        requires long { IsLong self.now (bits_of bits.old) }
+        requires long { IsLong self.now bits.old }
         requires answered { length response.now ≡ sum self.now.lengths.items + sum_by (λ c. c.outs) self.now.chains.items }
-        ensures { bits_of bits.new ≡ each_with (captured (response_bit self.now.lengths.items response.now)) (layout_cells self.now) (bits_of bits.old) }
+        ensures { bits.new ≡ each_with (captured (response_bit self.now.lengths.items response.now)) (layout_cells self.now) bits.old }
     {
         let mut outs_from = self.flops;
         for place in 0..bits.len() {

@@ -13,6 +13,7 @@ mod laws;
 mod layout;
 mod machine;
 mod made;
+mod numbers;
 mod path;
 mod placing;
 mod ring;

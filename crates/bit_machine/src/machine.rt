@@ -1,11 +1,11 @@
 // All live tests of a chip, and which of them each wire belongs to.
-ghost use Rattle.std.specs.Prelude.{◌≡◌, ℕ, ◌+◌, ◌^◌, ◌<◌, ◌≤◌, ◌⊎◌, Bool, List, Some, None, length, get_or, slice_get, slice_index_or, true, false, IfSome, IfNone};
+ghost use Rattle.std.specs.Prelude.{◌≡◌, ◌≢◌, ℕ, ◌+◌, ◌^◌, ◌<◌, ◌≤◌, ◌⊎◌, Bool, List, Some, None, length, get_or, slice_get, slice_index_or, true, false, IfSome, IfNone};
 ghost use Rattle.plan_model.specs.Plans.{PlannedTest};
 ghost use Rattle.plan_model.specs.Runs.{Content, carried, shown, step};
-ghost use Rattle.bit_machine.specs.Chips.{IsCompared, expected, captures_at, right_loads_at};
-ghost use Rattle.bit_machine.specs.Lanes.{lane_on};
+ghost use Rattle.bit_machine.specs.Chips.{captures_at, right_loads_at};
+ghost use Rattle.bit_machine.specs.Lanes.{lane_on, IsBusy, IsReady};
 ghost use Rattle.bit_machine.specs.declared.lane.Lane.{Lane};
-ghost use Rattle.bit_machine.specs.Machines.{lanes_state, FitLanes, AreLanes, AreOnWires, AreUsers, IsUnchanged, IsLaneUnchanged, IsMachine, IsSomeMachine, HasWire, HasNoUser, IsWireStep, IsWireCapture, IsMark, one_capture, one_right};
+ghost use Rattle.bit_machine.specs.Machines.{lanes_state, FitLanes, AreLanes, AreOnWires, AreUsers, AreNow, AreNowBelow, AreSomeLanes, AreSomeUsers, IsStood, IsUnchanged, IsLaneUnchanged, IsMachine, IsSomeMachine, HasWire, HasNoUser, IsWireStep, IsWireCapture, IsMark, one_capture, one_right};
 
 use crate::lane::Lane;
 
@@ -113,12 +113,55 @@ fn assign(users: &mut [Option<usize>], lanes: &[Lane], cycle: u64)
     }
 }
 
+/// The test of a place stands at a cycle, where a wire is the first one of its bus.
+fn stand_at(lanes: &mut [Lane], place: usize, wire: usize, cycle: u64)
+    requires within { place < length lanes.old }
+    requires ready { (l : Lane) → slice_get lanes.old place ≡ Some l → IsReady l × IsBusy l cycle }
+    ensures long { length lanes.new ≡ length lanes.old }
+    ensures others { (i : ℕ) → i ≢ place → slice_get lanes.new i ≡ slice_get lanes.old i }
+    ensures own { (l : Lane) → slice_get lanes.new place ≡ Some l → IsStood lanes.old place wire cycle l }
+{
+    if lanes[place].first_wire != wire {
+        return;
+    }
+    lanes[place].stand(cycle);
+}
+
+/// The test that uses a wire stands at a cycle, where the wire is the first one of its bus.
+fn stand_wire(lanes: &mut [Lane], users: &[Option<usize>], wire: usize, cycle: u64)
+    requires some { AreSomeUsers lanes.old cycle users.now }
+    requires wire { wire < length users.now }
+    ensures long { length lanes.new ≡ length lanes.old }
+    ensures some { AreSomeUsers lanes.new cycle users.now }
+    ensures state { lanes_state lanes.new ≡ lanes_state lanes.old }
+    ensures lanes { (content : Content) (tests : List PlannedTest) → AreLanes content tests lanes.old → AreLanes content tests lanes.new }
+    ensures now { AreNowBelow lanes.old cycle wire → AreNowBelow lanes.new cycle (wire + 1) }
+{
+    match users[wire] {
+        Some(place) => stand_at(lanes, place, wire, cycle),
+        None => {}
+    }
+}
+
+/// All tests that have wires stand at a cycle.
+fn stand_all(lanes: &mut [Lane], users: &[Option<usize>], cycle: u64)
+    requires { AreSomeUsers lanes.old cycle users.now }
+    ensures long { length lanes.new ≡ length lanes.old }
+    ensures state { lanes_state lanes.new ≡ lanes_state lanes.old }
+    ensures lanes { (content : Content) (tests : List PlannedTest) → AreLanes content tests lanes.old → AreLanes content tests lanes.new }
+    ensures now { AreNow lanes.new cycle }
+{
+    for wire in 0..users.len() {
+        stand_wire(lanes, users, wire, cycle);
+    }
+}
+
 impl Machine {
     /// Stands before the first cycle.
     pub fn new(lanes: Vec<Lane>, users: Vec<Option<usize>>) -> Machine
-        requires { FitLanes lanes.items (length users.items) }
+        requires { AreSomeLanes lanes.items (length users.items) }
         ensures cycle { result.cycle ≡ 0 }
-        ensures lanes { result.lanes ≡ lanes }
+        ensures state { lanes_state result.lanes.items ≡ lanes_state lanes.items }
         ensures long { length result.users.items ≡ length users.items }
         ensures machine { (content : Content) (tests : List PlannedTest) → AreLanes content tests lanes.items → AreOnWires tests (length users.items) → IsMachine content tests result }
     {
@@ -134,15 +177,16 @@ impl Machine {
 
     /// Stands at a cycle.
     fn stand(&mut self, cycle: u64)
-        requires { FitLanes self.old.lanes.items (length self.old.users.items) }
+        requires { AreSomeLanes self.old.lanes.items (length self.old.users.items) }
         ensures cycle { self.new.cycle ≡ cycle }
-        ensures lanes { self.new.lanes ≡ self.old.lanes }
+        ensures state { lanes_state self.new.lanes.items ≡ lanes_state self.old.lanes.items }
         ensures long { length self.new.users.items ≡ length self.old.users.items }
         ensures machine { (content : Content) (tests : List PlannedTest) → AreLanes content tests self.old.lanes.items → AreOnWires tests (length self.old.users.items) → IsMachine content tests self.new }
     {
         self.cycle = cycle;
         self.change = next_change(&self.lanes, cycle);
         assign(&mut self.users, &self.lanes, cycle);
+        stand_all(&mut self.lanes, &self.users, cycle);
     }
 
     /// The test that uses a wire.
@@ -165,7 +209,7 @@ impl Machine {
         ensures { (content : Content) (tests : List PlannedTest) → IsMachine content tests self.now → result ≡ carried content tests self.now.cycle wire }
     {
         match self.user(wire) {
-            Some(lane) => lane.wanted(self.cycle, wire - lane.first_wire),
+            Some(lane) => lane.wanted(wire - lane.first_wire),
             None => false,
         }
     }
@@ -182,27 +226,14 @@ impl Machine {
         }
     }
 
-    /// The response bit that is read on a wire.
-    pub fn answer(&self, wire: usize) -> Option<bool>
-        requires machine { IsSomeMachine self.now }
-        requires wire { wire < length self.now.users.items }
-        ensures read { (content : Content) (tests : List PlannedTest) → IsMachine content tests self.now → (r : IsCompared tests self.now.cycle wire) → result ≡ Some (expected content r) }
-        ensures only { (content : Content) (tests : List PlannedTest) → IsMachine content tests self.now → (b : Bool) → result ≡ Some b → IsCompared tests self.now.cycle wire }
-    {
-        match self.user(wire) {
-            Some(lane) => lane.answer(self.cycle, wire - lane.first_wire),
-            None => None,
-        }
-    }
-
     /// Whether a response bit is read on a wire.
     fn is_compared(&self, wire: usize) -> bool
         requires machine { IsSomeMachine self.now }
         requires wire { wire < length self.now.users.items }
         ensures { (content : Content) (tests : List PlannedTest) → IsMachine content tests self.now → IsMark tests self.now.cycle wire result }
     {
-        match self.answer(wire) {
-            Some(_) => true,
+        match self.user(wire) {
+            Some(lane) => lane.is_read(wire - lane.first_wire),
             None => false,
         }
     }
@@ -252,7 +283,7 @@ impl Machine {
         match self.user(wire) {
             Some(lane) => {
                 if lane.first_wire == wire {
-                    lane.capture_of(self.cycle)
+                    lane.capture_of()
                 } else {
                     None
                 }
@@ -285,12 +316,11 @@ impl Machine {
         ensures machine { (content : Content) (tests : List PlannedTest) → IsMachine content tests self.old → IsMachine content tests self.new }
         ensures bits { (content : Content) (tests : List PlannedTest) → IsMachine content tests self.old → IsWireStep content tests self.old.cycle wire drive (lanes_state self.old.lanes.items) (lanes_state self.new.lanes.items) }
     {
-        let cycle = self.cycle;
         match self.users[wire] {
             Some(place) => {
                 let lane = &mut self.lanes[place];
                 let chain = wire - lane.first_wire;
-                lane.step(cycle, chain, drive);
+                lane.step(chain, drive);
             }
             None => {}
         }
@@ -316,13 +346,14 @@ impl Machine {
         requires machine { IsSomeMachine self.old }
         requires fits { self.old.cycle + 1 < 2 ^ 64 }
         ensures cycle { self.new.cycle ≡ self.old.cycle + 1 }
-        ensures lanes { self.new.lanes ≡ self.old.lanes }
+        ensures state { lanes_state self.new.lanes.items ≡ lanes_state self.old.lanes.items }
         ensures long { length self.new.users.items ≡ length self.old.users.items }
         ensures machine { (content : Content) (tests : List PlannedTest) → IsMachine content tests self.old → IsMachine content tests self.new }
     {
         let next = self.cycle + 1;
         if next < self.change {
             self.cycle = next;
+            stand_all(&mut self.lanes, &self.users, next);
         } else {
             self.stand(next);
         }

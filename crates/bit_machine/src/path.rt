@@ -1,77 +1,53 @@
 // One chain of a test over the wires, with the numbers of its bits in the patterns.
-ghost use Rattle.std.specs.Prelude.{◌≡◌, ℕ, ◌<◌, ◌≤◌, Some, List, length, option_map};
+ghost use Rattle.std.specs.Prelude.{◌≡◌, ℕ, ◌-◌, ◌%◌, ◌<◌, ◌≤◌, Some, List, length};
 ghost use Rattle.plan_model.specs.Cells.{Cell};
-ghost use Rattle.plan_model.specs.Runs.{captured, next_bits, last_bit};
+ghost use Rattle.plan_model.specs.Runs.{captured, next_bits};
+ghost use Rattle.plan_model.specs.Moments.{moment_operation};
 ghost use Rattle.bit_machine.specs.Chips.{chain_holds};
-ghost use Rattle.bit_machine.specs.Paths.{path_stimulus, path_response, answer_by, path_bits, IsRing, IsPath};
-ghost use Rattle.plan_model.specs.Moments.{turn_value, moment_operation, wanted_by};
+ghost use Rattle.bit_machine.specs.Numbers.{IsLineWord};
+ghost use Rattle.bit_machine.specs.Paths.{path_stimulus, path_response, IsPath};
 
-use crate::made::made;
+use crate::bits::{WORD_BITS, is_set};
+use crate::made::Line;
+use crate::numbers::Numbers;
 use crate::ring::Ring;
-use plan_model::{Moment, Turn};
+use plan_model::Moment;
 
 /// The bits of a chain, and for each cell that is loaded and each that is read the number of its bit in a stimulus and in
 /// a response, both from wire in on.
 #[derive(Drop)]
 pub struct Path {
     pub ring: Ring,
-    pub loads: Vec<u64>,
-    pub answers: Vec<u64>,
+    pub loads: Numbers,
+    pub answers: Numbers,
+}
+
+/// The word with the bit of a place, given the word of the place before. A new word begins at each multiple of 64.
+fn word_at(numbers: &Numbers, line: &Line, place: usize, word: u64) -> u64
+    requires first { line.now.first < 997 }
+    requires step { line.now.step < 997 }
+    requires before { 0 < place % 64 → IsLineWord line.now numbers.now (place - place % 64) word }
+    ensures { IsLineWord line.now numbers.now (place - place % 64) result }
+{
+    if place % WORD_BITS == 0 {
+        numbers.word(line, place)
+    } else {
+        word
+    }
 }
 
 impl Path {
-    /// The bit that the chain wants before the capture that lies ahead.
-    pub fn wanted(&self, base: u64, ahead: Option<Turn>) -> bool
-        requires base { base < 997 }
-        ensures { (inputs : ℕ) (lengths : List ℕ) (cells : List Cell) → IsPath inputs lengths cells self.now → result ≡ wanted_by (path_stimulus base inputs lengths) cells (option_map turn_value ahead) }
-    {
-        match ahead {
-            Some(turn) => {
-                if turn.shifts < self.loads.len() as u64 {
-                    made(base, turn.pattern, self.loads[turn.shifts as usize], 0)
-                } else {
-                    false
-                }
-            }
-            None => false,
-        }
-    }
-
-    /// The response bit that is read behind the capture that lies behind.
-    pub fn answer(&self, base: u64, behind: Option<Turn>) -> Option<bool>
-        requires base { base < 997 }
-        ensures { (inputs : ℕ) (lengths : List ℕ) (cells : List Cell) → IsPath inputs lengths cells self.now → result ≡ answer_by (path_response base lengths) cells (option_map turn_value behind) }
-    {
-        match behind {
-            Some(turn) => {
-                if turn.shifts < self.answers.len() as u64 {
-                    let place = self.answers.len() - 1 - turn.shifts as usize;
-                    Some(made(base, turn.pattern, self.answers[place], 1))
-                } else {
-                    None
-                }
-            }
-            None => None,
-        }
-    }
-
-    /// The last bit.
-    pub fn last(&self) -> bool
-        requires { IsRing self.now.ring }
-        ensures { result ≡ last_bit (path_bits self.now) }
-    {
-        self.ring.last()
-    }
-
     /// Whether the cells that are loaded hold a pattern.
     pub fn holds(&self, base: u64, pattern: u64) -> bool
         requires base { base < 997 }
-        requires ring { IsRing self.now.ring }
-        requires fits { length self.now.loads.items ≤ length (path_bits self.now) }
-        ensures { (inputs : ℕ) (lengths : List ℕ) (cells : List Cell) → IsPath inputs lengths cells self.now → result ≡ chain_holds (path_stimulus base inputs lengths pattern) cells (path_bits self.now) }
+        requires fits { length self.now.loads ≤ length self.now.ring }
+        ensures { (inputs : ℕ) (lengths : List ℕ) (cells : List Cell) → IsPath inputs lengths cells self.now → result ≡ chain_holds (path_stimulus base inputs lengths pattern) cells self.now.ring }
     {
+        let line = Line::of(base, pattern, 0);
+        let mut word = 0;
         for cell in 0..self.loads.len() {
-            if self.ring.bit(cell) != made(base, pattern, self.loads[cell], 0) {
+            word = word_at(&self.loads, &line, cell, word);
+            if self.ring.bit(cell) != is_set(word, cell % WORD_BITS) {
                 return false;
             }
         }
@@ -81,16 +57,18 @@ impl Path {
     /// The cells that are read take the response of a pattern.
     fn capture(&mut self, base: u64, pattern: u64)
         requires base { base < 997 }
-        requires ring { IsRing self.old.ring }
-        requires fits { length self.old.answers.items ≤ length (path_bits self.old) }
-        ensures ring { IsRing self.new.ring }
+        requires fits { length self.old.answers ≤ length self.old.ring }
         ensures loads { self.new.loads ≡ self.old.loads }
         ensures answers { self.new.answers ≡ self.old.answers }
-        ensures bits { (inputs : ℕ) (lengths : List ℕ) (cells : List Cell) → IsPath inputs lengths cells self.old → path_bits self.new ≡ captured (path_response base lengths pattern) cells (path_bits self.old) }
+        ensures bits { (inputs : ℕ) (lengths : List ℕ) (cells : List Cell) → IsPath inputs lengths cells self.old → self.new.ring ≡ captured (path_response base lengths pattern) cells self.old.ring }
     {
-        let from = self.ring.len() - self.answers.len();
-        for place in 0..self.answers.len() {
-            let bit = made(base, pattern, self.answers[place], 1);
+        let line = Line::of(base, pattern, 1);
+        let count = self.answers.len();
+        let from = self.ring.len() - count;
+        let mut word = 0;
+        for place in 0..count {
+            word = word_at(&self.answers, &line, place, word);
+            let bit = is_set(word, place % WORD_BITS);
             self.ring.put(from + place, bit);
         }
     }
@@ -98,10 +76,10 @@ impl Path {
     /// One cycle of the chain, with the bit on its wire.
     pub fn step(&mut self, base: u64, moment: Moment, drive: bool)
         requires base { base < 997 }
-        requires ring { IsRing self.old.ring }
-        requires fits { length self.old.answers.items ≤ length (path_bits self.old) }
+        requires fits { length self.old.answers ≤ length self.old.ring }
+        ensures loads { self.new.loads ≡ self.old.loads }
         ensures path { (inputs : ℕ) (lengths : List ℕ) (cells : List Cell) → IsPath inputs lengths cells self.old → IsPath inputs lengths cells self.new }
-        ensures bits { (inputs : ℕ) (lengths : List ℕ) (cells : List Cell) → IsPath inputs lengths cells self.old → path_bits self.new ≡ next_bits (path_response base lengths) cells (Some (moment_operation moment)) drive (path_bits self.old) }
+        ensures bits { (inputs : ℕ) (lengths : List ℕ) (cells : List Cell) → IsPath inputs lengths cells self.old → self.new.ring ≡ next_bits (path_response base lengths) cells (Some (moment_operation moment)) drive self.old.ring }
     {
         match moment {
             Moment::Setup => {}

@@ -21,7 +21,7 @@ use crate::layout::Layout;
 use crate::made::base_of;
 use live_tests::{PlacedTest, PlacedTests, first_wire};
 use outside::{NoMemory, push};
-use plan_model::{Bus, Phases, Plan, Wrapper, lengths, wrapper_of};
+use plan_model::{Bus, Moment, Phases, Plan, Wrapper, lengths, wrapper_of};
 use soc_model::{Module, Soc, find_test, module_at};
 use std::alloc::Global;
 
@@ -65,7 +65,17 @@ fn self_test(alloc: Global, placed: &PlacedTest) -> Lane
         first_wire: 0,
         width: 0,
         paths: Vec::new(alloc),
+        moment: Moment::Setup,
+        page: None,
+        pages: Vec::new(alloc),
     }
+}
+
+/// A word for each chain.
+fn no_pages(alloc: Global, chains: usize) -> Result<Vec<u64>, NoMemory>
+    ensures { IfOk result (λ pages. length pages.items ≡ chains) }
+{
+    vec![in alloc; 0u64; chains].map_err(|_| NoMemory)
 }
 
 /// A chip, its plan, and the seed of its contents.
@@ -105,6 +115,7 @@ impl<'a> Setting<'a> {
             patterns: test.patterns,
         };
         let paths = paths_of(alloc, module.inputs + module.bidirs, &layout)?;
+        let pages = no_pages(alloc, paths.len())?;
         Ok(Lane {
             tam: true,
             base: base_of(self.seed, placed.place, at),
@@ -114,6 +125,9 @@ impl<'a> Setting<'a> {
             first_wire: first_wire(&self.plan.buses, bus),
             width: self.plan.buses[bus].width as usize,
             paths,
+            moment: Moment::Setup,
+            page: None,
+            pages,
         })
     }
 

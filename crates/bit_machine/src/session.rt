@@ -6,10 +6,10 @@ ghost use Rattle.plan_model.specs.Listing.{module_size};
 ghost use Rattle.plan_model.specs.Operations.{Shift, Capture};
 ghost use Rattle.plan_model.specs.Runs.{last_bit};
 ghost use Rattle.plan_model.specs.Views.{chain_value};
-ghost use Rattle.bit_machine.specs.Sessions.{at_rest, after, response_bit};
+ghost use Rattle.bit_machine.specs.Sessions.{at_rest, after, each_with, entered, response_bit};
 
-use crate::bits::shift_all;
 use crate::layout::Layout;
+use crate::ring::Ring;
 use outside::NoMemory;
 use plan_model::Wrapper;
 use soc_model::Module;
@@ -21,18 +21,31 @@ use std::marker::Model;
 #[derive(Drop)]
 pub struct Session {
     layout: Layout,
-    bits: Vec<Vec<bool>>,
+    bits: Vec<Ring>,
 }
 
 impl Model for Session {
-    ghost use Rattle.bit_machine.specs.Sessions.{SessionValue, bits_of};
+    ghost use Rattle.bit_machine.specs.Sessions.{SessionValue};
     ghost use Rattle.bit_machine.specs.Layouts.{layout_cells, IsLayout, IsLong};
 
     ghost Value = { SessionValue };
 
-    ghost view = { λ s. record { lengths = s.layout.lengths.items; cells = layout_cells s.layout; bits = bits_of s.bits.items } };
+    ghost view = { λ s. record { lengths = s.layout.lengths.items; cells = layout_cells s.layout; bits = s.bits.items } };
 
-    ghost invariant = { λ s. IsLayout s.layout × IsLong s.layout (bits_of s.bits.items) };
+    ghost invariant = { λ s. IsLayout s.layout × IsLong s.layout s.bits.items };
+}
+
+/// Reads the last bit of each chain and then moves its bits one place on.
+fn shift_all(chains: &mut [Ring], drive: &[bool], read: &mut [bool])
+    requires driven { length drive.now ≡ length chains.old }
+    requires shown { length read.old ≡ length chains.old }
+    ensures bits { chains.new ≡ each_with entered drive.now chains.old }
+    ensures read { read.new ≡ map last_bit chains.old }
+{
+    for place in 0..chains.len() {
+        read[place] = chains[place].last();
+        chains[place].enter(drive[place]);
+    }
 }
 
 impl Session {

@@ -6,7 +6,7 @@ use Rattle.std.proofs.lemmas.List.Sums.{sum_by_more, sum_by_more_le}
 use Rattle.plan_model.specs.Cells.{Cell, Out, in_cells, out_cells, flops}
 use Rattle.plan_model.specs.Runs.{captured}
 use Rattle.bit_machine.specs.Sessions.{response_bit}
-use Rattle.bit_machine.proofs.Captures.{captured-ins, read_numbered, out_answers}
+use Rattle.bit_machine.proofs.Captures.{captured-ins, length-captured, read_numbered, out_answers}
 use Rattle.bit_machine.proofs.Layouts.{length-ins, length-flops, length-outs}
 use Rattle.bit_machine.proofs.Steps.{step_scan, step_part}
 use Rattle.bit_machine.proofs.layout.Layout.capture_chain.Goals as goal
@@ -24,7 +24,8 @@ put_bits-requires c =
     let e = c.deref-scan-items.ensures.value in
     let within : c.loop-scan.scan-index < length c.args.chain.now.scans.items = rw e at c.loop-scan-test.true in
     let long = rw e at c.scan_answer-answer.ensures.long in
-    omega (arith, c.loop-scan.invariant.0, long, sum_by_more_le (slice_index c.args.self.now.lengths.items) c.args.chain.now.scans.items c.loop-scan.scan-index 0 within, c.loop-scan.auto.bits, c.requires.long)
+    let same : length c.loop-scan.bits ≡ length c.args.bits.now = ap length (c.loop-scan.invariant.1 0) ∙ length-captured (response_bit c.args.self.now.lengths.items c.args.response.now) (in_cells 0 c.args.chain.now.ins ++ flat_map (flops c.args.self.now.lengths.items) (take c.loop-scan.scan-index c.args.chain.now.scans.items)) c.args.bits.now in
+    omega (arith, c.loop-scan.invariant.0, long, sum_by_more_le (slice_index c.args.self.now.lengths.items) c.args.chain.now.scans.items c.loop-scan.scan-index 0 within, same, c.requires.long)
 
 pub loop-scan-preserved : goal.loop-scan-preserved
 loop-scan-preserved c =
@@ -58,3 +59,19 @@ returns c = λ i o same.
     step_part (response_bit c.args.self.now.lengths.items c.args.response.now) (in_cells i c.args.chain.now.ins ++ flat_map (flops c.args.self.now.lengths.items) c.args.chain.now.scans.items) (out_cells o c.args.chain.now.outs)
     c.args.bits.now c.loop-scan.bits c.put_bits-2.new.bits c.part.result.now c.loop-scan.at c.args.chain.now.outs (read_numbered (λ n. Out n) (λ n. refl) o c.args.chain.now.outs) long (length-outs o c.args.chain.now.outs)
     (out_answers c.args.self.now.lengths.items c.args.response.now o c.args.chain.now.outs c.args.outs_from same c.requires.answered ∙ sym c.part.ensures.part) (omega (arith, at, c.requires.long)) now c.put_bits-2.ensures
+
+pub put_bits-requires-2 : goal.put_bits-requires-2
+put_bits-requires-2 c =
+    let e = c.deref-scan-items.ensures.value in
+    let past : length c.args.chain.now.scans.items ≤ c.loop-scan.scan-index = rw e at c.loop-scan-test.false in
+    let all : take c.loop-scan.scan-index c.args.chain.now.scans.items ≡ c.args.chain.now.scans.items = take_all c.loop-scan.scan-index c.args.chain.now.scans.items past in
+    let at = rw all at c.loop-scan.invariant.0 in
+    let same : length c.loop-scan.bits ≡ length c.args.bits.now = ap length (c.loop-scan.invariant.1 0) ∙ length-captured (response_bit c.args.self.now.lengths.items c.args.response.now) (in_cells 0 c.args.chain.now.ins ++ flat_map (flops c.args.self.now.lengths.items) (take c.loop-scan.scan-index c.args.chain.now.scans.items)) c.args.bits.now in
+    omega (arith, at, same, c.part.ensures.long, c.requires.long)
+
+pub overflow_add-at : goal.overflow_add-at
+overflow_add-at c =
+    let e = c.deref-scan-items.ensures.value in
+    let within : c.loop-scan.scan-index < length c.args.chain.now.scans.items = rw e at c.loop-scan-test.true in
+    let long = rw e at c.scan_answer-answer.ensures.long in
+    omega (arith, c.loop-scan.invariant.0, long, sum_by_more_le (slice_index c.args.self.now.lengths.items) c.args.chain.now.scans.items c.loop-scan.scan-index 0 within, c.requires.long, c.len-cells.ensures, c.len-cells.type_inv)

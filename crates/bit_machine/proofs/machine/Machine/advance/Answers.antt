@@ -1,12 +1,20 @@
-use Rattle.std.proofs.Common.{◌+◌, length, refl}
-use Rattle.bit_machine.proofs.Assigning.{lanes_fit, next_machine}
+use Rattle.std.proofs.Common.{◌+◌, ap, sym, subst, length, List, refl, arith}
+use Rattle.std.specs.Vec.{with_items}
+use Rattle.std.proofs.lemmas.List.{with_items_is}
+use Rattle.bit_machine.specs.Machines.{AreLanes, AreNow}
+use Rattle.bit_machine.specs.declared.lane.Lane.{Lane}
+use Rattle.bit_machine.proofs.Assigning.{next_some, next_machine}
 use Rattle.bit_machine.proofs.machine.Machine.advance.Goals as goal
 
-pub stand-requires : goal.stand-requires
-stand-requires c = lanes_fit c.requires.machine.content c.requires.machine.tests c.args.self.now.lanes.items (length c.args.self.now.users.items) c.requires.machine.is.lanes c.requires.machine.is.wires
+pub stand_all-requires : goal.stand_all-requires
+stand_all-requires c = next_some c.args.self.now (c.args.self.now.cycle + 1) refl c.if-next-self.true c.requires.machine c.deref_mut.result.now c.deref.result.now c.deref_mut.ensures.value c.deref.ensures.value
 
 pub returns-then-next-self-clause-machine : goal.returns-then-next-self-clause-machine
-returns-then-next-self-clause-machine c = λ content tests is. next_machine content tests c.args.self.now (c.args.self.now.cycle + 1) refl c.if-next-self.true is
+returns-then-next-self-clause-machine c = λ content tests is.
+    let items = with_items_is c.args.self.now.lanes c.stand_all.new.lanes (omega (arith, c.stand_all.ensures.long, ap length c.deref_mut.ensures.value, c.args.self.now.lanes.ok.0)) in
+    next_machine content tests c.args.self.now (with_items c.args.self.now.lanes c.stand_all.new.lanes) (c.args.self.now.cycle + 1) refl c.if-next-self.true
+    (subst (AreLanes content tests) (sym items) (c.stand_all.ensures.lanes content tests (subst (AreLanes content tests) (sym c.deref_mut.ensures.value) is.lanes)))
+    (subst (λ (ls : List Lane). AreNow ls (c.args.self.now.cycle + 1)) (sym items) c.stand_all.ensures.now) is
 
 pub returns-else-next-self-clause-machine : goal.returns-else-next-self-clause-machine
 returns-else-next-self-clause-machine c = λ content tests is. c.stand.ensures.machine content tests is.lanes is.wires

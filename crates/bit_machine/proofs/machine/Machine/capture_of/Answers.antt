@@ -4,7 +4,7 @@ use Rattle.bit_machine.proofs.machine.Machine.capture_of.Goals as goal
 pub returns-then-lane-wire : goal.returns-then-lane-wire
 returns-then-lane-wire c = λ content tests is.
     let u = c.in-Some.ensures.some.user content tests is in
-    capture_here content tests c.args.self.now is c.args.wire u.0 c.in-Some.lane.now u.1 c.capture_of.result c.if-lane-wire.true (c.capture_of.ensures content (u.1).t (u.1).tam (u.1).lane)
+    capture_here content tests c.args.self.now is c.args.wire u.0 c.in-Some.lane.now u.1 c.capture_of.result c.if-lane-wire.true (c.capture_of.ensures content (u.1).t c.args.self.now.cycle (u.1).tam (u.1).lane (u.1).now)
 
 pub returns-else-lane-wire : goal.returns-else-lane-wire
 returns-else-lane-wire c = λ content tests is.

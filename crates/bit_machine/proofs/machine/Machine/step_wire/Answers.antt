@@ -19,21 +19,13 @@ overflow_sub-chain c =
     let wire : HasWire c.args.self.now c.args.wire c.index_mut-lane.result.now = has_wire c.args.self.now c.requires.machine c.args.wire c.in-Some.place c.index_mut-lane.result.now there at in
     wire.low
 
-pub step-requires-clause-ready : goal.step-requires-clause-ready
-step-requires-clause-ready c =
+pub step-requires : goal.step-requires
+step-requires c =
     let there = slice_at c.args.self.now.users.items c.args.wire c.index.result.now c.requires.wire c.index.ensures ∙ ap Some c.in-Some.is in
     let place = user_place c.requires.machine.content c.requires.machine.tests c.args.self.now c.requires.machine.is c.args.wire c.in-Some.place there in
     let at = slice_at c.args.self.now.lanes.items c.in-Some.place c.index_mut-lane.result.now place c.index_mut-lane.ensures.value in
     let wire : HasWire c.args.self.now c.args.wire c.index_mut-lane.result.now = has_wire c.args.self.now c.requires.machine c.args.wire c.in-Some.place c.index_mut-lane.result.now there at in
     wire.ready
-
-pub step-requires-clause-busy : goal.step-requires-clause-busy
-step-requires-clause-busy c =
-    let there = slice_at c.args.self.now.users.items c.args.wire c.index.result.now c.requires.wire c.index.ensures ∙ ap Some c.in-Some.is in
-    let place = user_place c.requires.machine.content c.requires.machine.tests c.args.self.now c.requires.machine.is c.args.wire c.in-Some.place there in
-    let at = slice_at c.args.self.now.lanes.items c.in-Some.place c.index_mut-lane.result.now place c.index_mut-lane.ensures.value in
-    let wire : HasWire c.args.self.now c.args.wire c.index_mut-lane.result.now = has_wire c.args.self.now c.requires.machine c.args.wire c.in-Some.place c.index_mut-lane.result.now there at in
-    wire.busy
 
 pub returns-in-Some-clause-machine : goal.returns-in-Some-clause-machine
 returns-in-Some-clause-machine c = λ content tests is.
@@ -41,7 +33,7 @@ returns-in-Some-clause-machine c = λ content tests is.
     let place = user_place c.requires.machine.content c.requires.machine.tests c.args.self.now c.requires.machine.is c.args.wire c.in-Some.place there in
     let at = slice_at c.args.self.now.lanes.items c.in-Some.place c.index_mut-lane.result.now place c.index_mut-lane.ensures.value in
     let u = user_lane content tests c.args.self.now is c.args.wire c.in-Some.place c.index_mut-lane.result.now there at in
-    with_lane content tests c.args.self.now is c.args.wire c.in-Some.place c.index_mut-lane.result.now c.step.new.self u (c.step.ensures.lane content u.t u.tam u.lane)
+    with_lane content tests c.args.self.now is c.args.wire c.in-Some.place c.index_mut-lane.result.now c.step.new.self u (c.step.ensures.lane content u.t u.tam u.lane) (c.step.ensures.now c.args.self.now.cycle u.now)
 
 pub returns-in-Some-clause-bits : goal.returns-in-Some-clause-bits
 returns-in-Some-clause-bits c = λ content tests is.
@@ -50,7 +42,7 @@ returns-in-Some-clause-bits c = λ content tests is.
     let at = slice_at c.args.self.now.lanes.items c.in-Some.place c.index_mut-lane.result.now place c.index_mut-lane.ensures.value in
     let wire : HasWire c.args.self.now c.args.wire c.index_mut-lane.result.now = has_wire c.args.self.now c.requires.machine c.args.wire c.in-Some.place c.index_mut-lane.result.now there at in
     let u = user_lane content tests c.args.self.now is c.args.wire c.in-Some.place c.index_mut-lane.result.now there at in
-    user_step content tests c.args.self.now is c.args.wire c.in-Some.place c.index_mut-lane.result.now c.step.new.self c.args.drive u wire.low (c.step.ensures.bits content u.t u.tam u.lane)
+    user_step content tests c.args.self.now is c.args.wire c.in-Some.place c.index_mut-lane.result.now c.step.new.self c.args.drive u wire.low (c.step.ensures.bits content u.t c.args.self.now.cycle u.tam u.lane u.now)
 
 pub returns-in-None-clause-bits : goal.returns-in-None-clause-bits
 returns-in-None-clause-bits c = λ content tests is.

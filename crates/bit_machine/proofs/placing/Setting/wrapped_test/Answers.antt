@@ -34,4 +34,6 @@ returns c = λ test there.
       first_wire = first_is c.args.self.now.plan.now.buses.items c.deref.result.now c.args.bus c.first_wire.result c.first_wire.ensures c.deref.ensures.value;
       width = width_is c.args.self.now.plan.now.buses.items c.args.bus c.index.result.now c.index.ensures c.requires.bus;
       paths = paths_are (plan_value c.args.self.now.plan.now) (module_value c.args.module.now) c.index-test.result.now (c.args.module.now.inputs + c.args.module.now.bidirs) c.args.wrapper.now.scan (map chain_value c.args.wrapper.now.chains.items) c.in_ok-layout.layout c.in_ok-paths.paths.items c.in_ok-layout.ensures.lengths c.in_ok-layout.ensures.chains w.mode w.chains c.in_ok-paths.ensures;
+      page = refl;
+      pages = omega (arith, c.in_ok-pages.ensures, c.len.ensures, c.in_ok-paths.paths.ok.0);
     })

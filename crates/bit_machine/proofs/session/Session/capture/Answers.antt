@@ -1,22 +1,23 @@
-use Rattle.std.proofs.Common.{◌∙◌, ap, sym, subst, length}
+use Rattle.std.proofs.Common.{◌∙◌, ap, sym, subst, length, arith}
+use Rattle.std.proofs.lemmas.List.{with_items_is}
 use Rattle.plan_model.specs.Runs.{captured}
-use Rattle.bit_machine.specs.Sessions.{bits_of, each_with, response_bit}
+use Rattle.bit_machine.specs.Sessions.{each_with, response_bit}
 use Rattle.bit_machine.specs.Layouts.{IsLong, layout_cells}
-use Rattle.bit_machine.proofs.SessionSteps.{written, captured_long, captured_bits}
+use Rattle.bit_machine.proofs.SessionSteps.{captured_long, captured_bits}
 use Rattle.bit_machine.proofs.session.Session.capture.Goals as goal
 
 pub invariant_of-self : goal.invariant_of-self
 invariant_of-self c =
     let same = c.capture.auto.bits ∙ ap length c.deref_mut.ensures.value in
-    let steps = c.capture.ensures ∙ ap (λ v. each_with (captured (response_bit c.self.inside.layout.lengths.items c.args.response.now)) (layout_cells c.self.inside.layout) (bits_of v)) c.deref_mut.ensures.value in (
+    let steps = c.capture.ensures ∙ ap (each_with (captured (response_bit c.self.inside.layout.lengths.items c.args.response.now)) (layout_cells c.self.inside.layout)) c.deref_mut.ensures.value in (
       c.self.invariant.0,
-      subst (λ v. IsLong c.self.inside.layout (bits_of v)) (sym (written c.self.inside.bits c.capture.new.bits same))
+      subst (IsLong c.self.inside.layout) (sym (with_items_is c.self.inside.bits c.capture.new.bits (omega (arith, same, c.self.inside.bits.ok.0))))
           (captured_long c.self.inside.layout (response_bit c.self.inside.layout.lengths.items c.args.response.now) c.self.inside.bits.items c.capture.new.bits c.self.invariant.1 steps),
     )
 
 pub returns-clause-bits : goal.returns-clause-bits
 returns-clause-bits c = λ k drive.
     let same = c.capture.auto.bits ∙ ap length c.deref_mut.ensures.value in
-    let steps = c.capture.ensures ∙ ap (λ v. each_with (captured (response_bit c.self.inside.layout.lengths.items c.args.response.now)) (layout_cells c.self.inside.layout) (bits_of v)) c.deref_mut.ensures.value in
-    ap bits_of (written c.self.inside.bits c.capture.new.bits same)
+    let steps = c.capture.ensures ∙ ap (each_with (captured (response_bit c.self.inside.layout.lengths.items c.args.response.now)) (layout_cells c.self.inside.layout)) c.deref_mut.ensures.value in
+    with_items_is c.self.inside.bits c.capture.new.bits (omega (arith, same, c.self.inside.bits.ok.0))
     ∙ captured_bits c.self.inside.layout c.self.inside.bits.items c.capture.new.bits c.args.response.now c.args.self.now k drive c.self.invariant.1 c.self.view_is steps

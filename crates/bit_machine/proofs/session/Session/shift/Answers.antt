@@ -1,21 +1,22 @@
-use Rattle.std.proofs.Common.{◌∙◌, ap, sym, subst, length}
-use Rattle.bit_machine.specs.Sessions.{bits_of, each_with, entered}
+use Rattle.std.proofs.Common.{◌∙◌, ap, sym, subst, length, arith}
+use Rattle.std.proofs.lemmas.List.{with_items_is}
+use Rattle.bit_machine.specs.Sessions.{each_with, entered}
 use Rattle.bit_machine.specs.Layouts.{IsLong}
-use Rattle.bit_machine.proofs.SessionSteps.{written, shifted_long, shifted_bits}
+use Rattle.bit_machine.proofs.SessionSteps.{shifted_long, shifted_bits}
 use Rattle.bit_machine.proofs.session.Session.shift.Goals as goal
 
 pub invariant_of-self : goal.invariant_of-self
 invariant_of-self c =
     let same = c.shift_all.auto.chains ∙ ap length c.deref_mut.ensures.value in
-    let steps = c.shift_all.ensures.bits ∙ ap (λ v. each_with entered c.args.drive.now (bits_of v)) c.deref_mut.ensures.value in (
+    let steps = c.shift_all.ensures.bits ∙ ap (each_with entered c.args.drive.now) c.deref_mut.ensures.value in (
       c.self.invariant.0,
-      subst (λ v. IsLong c.self.inside.layout (bits_of v)) (sym (written c.self.inside.bits c.shift_all.new.chains same))
+      subst (IsLong c.self.inside.layout) (sym (with_items_is c.self.inside.bits c.shift_all.new.chains (omega (arith, same, c.self.inside.bits.ok.0))))
           (shifted_long c.self.inside.layout c.args.drive.now c.self.inside.bits.items c.shift_all.new.chains c.self.invariant.1 steps),
     )
 
 pub returns-clause-bits : goal.returns-clause-bits
 returns-clause-bits c = λ response.
     let same = c.shift_all.auto.chains ∙ ap length c.deref_mut.ensures.value in
-    let steps = c.shift_all.ensures.bits ∙ ap (λ v. each_with entered c.args.drive.now (bits_of v)) c.deref_mut.ensures.value in
-    ap bits_of (written c.self.inside.bits c.shift_all.new.chains same)
+    let steps = c.shift_all.ensures.bits ∙ ap (each_with entered c.args.drive.now) c.deref_mut.ensures.value in
+    with_items_is c.self.inside.bits c.shift_all.new.chains (omega (arith, same, c.self.inside.bits.ok.0))
     ∙ shifted_bits c.self.inside.layout c.self.inside.bits.items c.shift_all.new.chains c.args.drive.now c.args.self.now response c.self.invariant.1 c.self.view_is c.requires.driven steps

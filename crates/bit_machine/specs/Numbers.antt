@@ -1,0 +1,47 @@
+-- Numbers of bits as runs of numbers one after another, and the made bits of one pattern by their numbers.
+use Rattle.std.specs.Prelude.{◌≡◌, ℕ, ◌+◌, ◌*◌, ◌%◌, ◌^◌, ◌<◌, ◌≤◌, Bool, false, List, ◌∷◌, ◌++◌, drop, length, nat_lt, slice_index, if◌then◌else◌}
+use Rattle.std.specs.List.{flat_map, range_with_len}
+use Rattle.bit_machine.specs.Chips.{has_odd_square}
+use Rattle.bit_machine.specs.Packed.{is_set}
+use Rattle.bit_machine.specs.declared.made.Line.{Line}
+use Rattle.bit_machine.specs.declared.numbers.Run.{Run}
+use Rattle.bit_machine.specs.declared.numbers.Walk.{Walk}
+
+-- the numbers of a run, and of all runs
+abbrev pub run_numbers : Run → List ℕ
+run_numbers r = range_with_len r.from r.count
+
+abbrev pub all_numbers : List Run → List ℕ
+all_numbers runs = flat_map run_numbers runs
+
+-- a run has a number, and all are a machine's numbers
+pub record IsFull (r : Run) : Type 0 where
+  pub some : 1 ≤ r.count
+  pub fits : r.from + r.count < 2 ^ 64
+
+-- what the bit of a number is made from, and the bit
+abbrev pub line_value : Line → ℕ → ℕ
+line_value l n = (l.first + l.step * n) % 997
+
+abbrev pub line_bit : Line → ℕ → Bool
+line_bit l n = has_odd_square (line_value l n)
+
+-- the walk has these numbers before it
+pub record IsWalk (runs : List Run) (line : Line) (w : Walk) (rest : List ℕ) : Type 0 where
+  pub number : ℕ
+  pub value : w.value ≡ line_value line number
+  pub rest_is : rest ≡ range_with_len number w.left ++ all_numbers (drop w.run runs)
+
+-- there is a number before it
+pub record HasNext (runs : List Run) (line : Line) (w : Walk) : Type 0 where
+  pub next : ℕ
+  pub more : List ℕ
+  pub is : IsWalk runs line w (next ∷ more)
+
+-- the bit of the number at a place, 0 past the last one
+abbrev pub bit_at_place : Line → List ℕ → ℕ → Bool
+bit_at_place line numbers i = if nat_lt i (length numbers) then line_bit line (slice_index numbers i) else false
+
+-- the word has the bits of the numbers from a place on
+abbrev pub IsLineWord : Line → List ℕ → (first word : ℕ) → Type 0
+IsLineWord line numbers first word = (i : ℕ) → i < 64 → is_set word i ≡ bit_at_place line numbers (first + i)

@@ -1,0 +1,169 @@
+// The numbers of the bits that the cells of a chain load or answer, as stretches of numbers one after another.
+ghost use Rattle.std.specs.Prelude.{◌≡◌, ℕ, ◌+◌, ◌^◌, ◌<◌, ◌≤◌, ◌∷◌, List, false, drop, length, slice_index};
+ghost use Rattle.std.specs.List.{All};
+ghost use Rattle.bit_machine.specs.Numbers.{all_numbers, line_bit, IsWalk, HasNext, IsFull, IsLineWord};
+ghost use Rattle.bit_machine.specs.Packed.{is_set};
+
+use crate::bits::{WORD_BITS, with_bit};
+use crate::made::{Line, bit_of};
+use std::marker::Model;
+
+/// So many numbers from one on, at least one.
+#[derive(Clone, Copy, Drop)]
+pub struct Run {
+    pub from: u64,
+    pub count: u64,
+}
+
+/// A list of numbers, as runs one after another.
+#[derive(Drop)]
+pub struct Numbers {
+    runs: Vec<Run>,
+    count: usize,
+}
+
+impl Model for Numbers {
+    ghost use Rattle.std.specs.Prelude.{◌≡◌, ℕ, List, length};
+    ghost use Rattle.std.specs.List.{All};
+    ghost use Rattle.bit_machine.specs.Numbers.{all_numbers, IsFull};
+
+    ghost Value = { List ℕ };
+
+    ghost view = { λ n. all_numbers n.runs.items };
+
+    ghost invariant = { λ n. (n.count ≡ length (all_numbers n.runs.items)) × All IsFull n.runs.items };
+}
+
+/// A walk over the made bits of numbers: the run that is next, how many numbers are left of the one before it, and what the
+/// bit of the first of these is made from.
+#[derive(Clone, Copy)]
+pub struct Walk {
+    pub run: usize,
+    pub left: u64,
+    pub value: u64,
+}
+
+/// Begins a walk at a place.
+fn walk_from(runs: &[Run], line: &Line, place: u64) -> Walk
+    requires first { line.now.first < 997 }
+    requires step { line.now.step < 997 }
+    requires full { All IsFull runs.now }
+    requires place { place < length (all_numbers runs.now) }
+    ensures { IsWalk runs.now line.now result (drop place (all_numbers runs.now)) }
+{
+    let mut before = place;
+    for run in 0..runs.len() {
+        let (from, count) = (runs[run].from, runs[run].count);
+        if before < count {
+            return Walk {
+                run: run + 1,
+                left: count - before,
+                value: line.value(from + before),
+            };
+        }
+        before -= count;
+    }
+    unreachable!()
+}
+
+/// The walk with numbers left of its run.
+fn refilled(runs: &[Run], line: &Line, walk: Walk) -> Walk
+    requires first { line.now.first < 997 }
+    requires step { line.now.step < 997 }
+    requires full { All IsFull runs.now }
+    requires next { HasNext runs.now line.now walk }
+    ensures some { 1 ≤ result.left }
+    ensures walk { (rest : List ℕ) → IsWalk runs.now line.now walk rest → IsWalk runs.now line.now result rest }
+{
+    if walk.left > 0 {
+        return walk;
+    }
+    let (from, count) = (runs[walk.run].from, runs[walk.run].count);
+    Walk {
+        run: walk.run + 1,
+        left: count,
+        value: line.value(from),
+    }
+}
+
+/// The bit of the number that a walk is at. It goes on to the next number.
+fn step(runs: &[Run], line: &Line, walk: &mut Walk) -> bool
+    requires first { line.now.first < 997 }
+    requires step { line.now.step < 997 }
+    requires full { All IsFull runs.now }
+    requires next { HasNext runs.now line.now walk.old }
+    ensures bit { (n : ℕ) (more : List ℕ) → IsWalk runs.now line.now walk.old (n ∷ more) → result ≡ line_bit line.now n }
+    ensures walk { (n : ℕ) (more : List ℕ) → IsWalk runs.now line.now walk.old (n ∷ more) → IsWalk runs.now line.now walk.new more }
+{
+    let here = refilled(runs, line, *walk);
+    *walk = Walk {
+        run: here.run,
+        left: here.left - 1,
+        value: line.next(here.value),
+    };
+    bit_of(here.value)
+}
+
+/// The made bits of so many numbers from a place on.
+fn word_of(runs: &[Run], line: &Line, first: usize, count: usize) -> u64
+    requires first { line.now.first < 997 }
+    requires step { line.now.step < 997 }
+    requires full { All IsFull runs.now }
+    requires some { 1 ≤ count }
+    requires few { count ≤ 64 }
+    requires within { first + count ≤ length (all_numbers runs.now) }
+    ensures bits { (i : ℕ) → i < count → is_set result i ≡ line_bit line.now (slice_index (all_numbers runs.now) (first + i)) }
+    ensures rest { (i : ℕ) → count ≤ i → i < 64 → is_set result i ≡ false }
+{
+    let mut walk = walk_from(runs, line, first as u64);
+    let mut word = 0;
+    for place in 0..count {
+        let bit = step(runs, line, &mut walk);
+        word = with_bit(word, place, bit);
+    }
+    word
+}
+
+/// The numbers of all runs together.
+fn count_of(runs: &[Run]) -> usize
+    requires { length (all_numbers runs.now) < 2 ^ 63 }
+    ensures { result ≡ length (all_numbers runs.now) }
+{
+    let mut count = 0;
+    for run in runs {
+        count += run.count as usize;
+    }
+    count
+}
+
+impl Numbers {
+    /// The numbers of runs that aren't empty.
+    pub fn new(runs: Vec<Run>) -> Numbers
+        requires full { All IsFull runs.items }
+        requires long { length (all_numbers runs.items) < 2 ^ 63 }
+        ensures { result ≡ all_numbers runs.items }
+    {
+        let count = count_of(&runs);
+        Numbers { runs, count }
+    }
+
+    /// How many numbers there are.
+    pub fn len(&self) -> usize
+        ensures { result ≡ length self.now }
+    {
+        self.count
+    }
+
+    /// The made bits of the numbers from a place on, 64 in a word: 0 past the last number.
+    pub fn word(&self, line: &Line, first: usize) -> u64
+        requires first { line.now.first < 997 }
+        requires step { line.now.step < 997 }
+        ensures { IsLineWord line.now self.now first result }
+    {
+        if first >= self.count {
+            return 0;
+        }
+        let count = (self.count - first).min(WORD_BITS);
+        word_of(&self.runs, line, first, count)
+    }
+}
