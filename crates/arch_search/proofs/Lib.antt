@@ -1,0 +1,3 @@
+pub mod OtherBuses
+pub mod Listing
+pub mod Sent

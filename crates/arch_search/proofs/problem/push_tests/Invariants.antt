@@ -1,0 +1,12 @@
+use Rattle.std.proofs.Common.{◌≡◌, ℕ, ◌+◌, ◌<◌, length, take}
+use Rattle.std.specs.Prelude.{IfSome}
+use Rattle.std.specs.List.{All, filter}
+use Rattle.soc_model.specs.Chips.{is_live}
+use Rattle.arch_search.specs.Problems.{IsTimed}
+use Rattle.arch_search.proofs.problem.push_tests.Given as goal
+
+abbrev pub invariant-loop-test : goal.invariant-loop-test
+invariant-loop-test l = record {
+  timed : (modules : ℕ) → IfSome l.number (λ m. m < modules) → All (IsTimed l.table.wires modules) l.initial.tests.items → All (IsTimed l.table.wires modules) l.tests.items;
+  count : length l.tests.items ≡ length l.initial.tests.items + length (filter is_live (take l.test-index l.«module».tests.items));
+}

@@ -1,0 +1,4 @@
+pub mod States
+pub mod Problems
+pub mod Rooms
+pub mod Searches

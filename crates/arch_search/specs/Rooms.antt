@@ -1,0 +1,32 @@
+-- Room for the schedules of a search.
+use Rattle.std.specs.Prelude.{◌≡◌, ℕ, ◌<◌, ◌≤◌, List, length, IfSome, Option, slice_index}
+use Rattle.std.specs.List.{All, sum_by}
+use Rattle.plan_model.specs.declared.TheConstants.{WIRES_MOST, START_MOST}
+use Rattle.resource_table.specs.Jobs.{JobValue, cycles_of}
+use Rattle.arch_search.specs.declared.problem.Problem.{Problem}
+use Rattle.arch_search.specs.declared.scheduling.Room.{Room}
+
+-- no chip has a bus of a later slot
+abbrev pub IsSlot : Option ℕ → Type 0
+IsSlot bus = IfSome bus (λ k. k < WIRES_MOST)
+
+-- room for so many tests over so many wires
+pub record HasRoom (tests wires : ℕ) (r : Room) : Type 0 where
+  pub slots : length r.slots.items ≡ tests
+  pub cycles : length r.cycles.items ≡ tests
+  pub loads : length r.loads.items ≡ wires
+  pub starts : length r.starts.items ≡ tests
+  pub in_slots : All IsSlot r.slots.items
+  pub small_starts : All (λ s. s ≤ START_MOST) r.starts.items
+
+abbrev pub HasRoomFor : Problem → Room → Type 0
+HasRoomFor p r = HasRoom (length p.tests.items) p.wires r
+
+-- each test lasts a cycle at least, and all of them together end by the greatest start
+pub record AreShort (cycles : List ℕ) : Type 0 where
+  pub last : All (λ c. 1 ≤ c) cycles
+  pub short : sum_by (λ (c : ℕ). c) cycles ≤ START_MOST
+
+-- these are the cycles of the tests of a job
+abbrev pub AreCyclesOf : JobValue → List ℕ → Type 0
+AreCyclesOf job cycles = (test : ℕ) → test < length job.tests → slice_index cycles test ≡ cycles_of job test

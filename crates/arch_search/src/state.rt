@@ -1,0 +1,300 @@
+// A state of the search: buses, an order of the tests, and the cycles that their schedule takes.
+ghost use Rattle.std.specs.Prelude.{◌≡◌, ℕ, ◌+◌, ◌<◌, ◌≤◌, length, replicate, IfOk, IfSome};
+ghost use Rattle.std.specs.List.{All, sum_by};
+ghost use Rattle.std.specs.List.Sorted.{IsPermutation};
+ghost use Rattle.soc_model.specs.Chips.{soc_value};
+ghost use Rattle.plan_model.specs.Rules.{live_ids};
+ghost use Rattle.resource_table.specs.Jobs.{job_value, IsSoundJob};
+ghost use Rattle.arch_search.specs.States.{AreBuses, AreAlike};
+ghost use Rattle.arch_search.specs.Problems.{IsProblem, IsStateOf, AreFirstBuses};
+
+use crate::buses::Buses;
+use crate::problem::Problem;
+use crate::scheduling::zeros;
+use live_tests::LiveTests;
+use outside::{NoMemory, copied, push};
+use plan_model::Plan;
+use resource_table::Job;
+use soc_model::Soc;
+use std::alloc::Global;
+
+/// Buses and an order of the tests, and what is known of the schedule of the tests in that order.
+#[derive(Drop)]
+pub struct State {
+    /// The buses.
+    pub buses: Buses,
+    /// The live tests, in the order in which they are placed.
+    pub order: Vec<usize>,
+    /// The end of the test that ends last.
+    pub cycles: u64,
+    /// The slot of the late bus: that of the first test over the wires that ends last.
+    pub late: Option<usize>,
+}
+
+/// Copies a list over one of the same length.
+fn write_over<T: Copy>(to: &mut Vec<T>, from: &[T])
+    requires { length from.now ≡ length to.old.items }
+    ensures { to.new.items ≡ from.now }
+{
+    to.copy_from_slice(from);
+}
+
+impl State {
+    /// A copy in memory of its own.
+    pub(crate) fn copy(&self, alloc: Global) -> Result<State, NoMemory>
+        ensures { (p : Problem) → IsStateOf p self.now → IfOk result (IsStateOf p) }
+    {
+        let widths = copied(alloc, &self.buses.widths)?;
+        let slots = copied(alloc, &self.buses.slots)?;
+        let order = copied(alloc, &self.order)?;
+        Ok(State {
+            buses: Buses { widths, slots },
+            order,
+            cycles: self.cycles,
+            late: self.late,
+        })
+    }
+
+    /// Becomes as another state of the same problem. It takes no memory.
+    pub(crate) fn become_as(&mut self, problem: &Problem, other: &State)
+        requires own { IsStateOf problem.now self.old }
+        requires other { IsStateOf problem.now other.now }
+        ensures state { IsStateOf problem.now self.new }
+        ensures cycles { self.new.cycles ≡ other.now.cycles }
+    {
+        let _wires = problem.wires;
+        write_over(&mut self.buses.widths, &other.buses.widths);
+        write_over(&mut self.buses.slots, &other.buses.slots);
+        write_over(&mut self.order, &other.order);
+        self.cycles = other.cycles;
+        self.late = other.late;
+    }
+}
+
+/// A test with what it is sorted by.
+#[derive(Clone, Copy, Drop)]
+struct Keyed {
+    key: u64,
+    test: usize,
+}
+
+/// The tests with their keys.
+fn with_keys(alloc: Global, keys: &[u64]) -> Result<Vec<Keyed>, NoMemory>
+    ensures long { IfOk result (λ all. length all.items ≡ length keys.now) }
+    ensures tests { IfOk result (λ all. All (λ (k : Keyed). k.test < length keys.now) all.items) }
+{
+    let mut all = Vec::new(alloc);
+    for test in 0..keys.len() {
+        let key = keys[test];
+        push(&mut all, Keyed { key, test })?;
+    }
+    Ok(all)
+}
+
+/// Sorts tests by their keys.
+fn sort_keyed(all: &mut [Keyed])
+    ensures { IsPermutation all.old all.new }
+{
+    all.sort_unstable_by_key(|keyed| keyed.key);
+}
+
+/// The tests of a list.
+fn tests_of(alloc: Global, all: &[Keyed]) -> Result<Vec<usize>, NoMemory>
+    ensures long { IfOk result (λ order. length order.items ≡ length all.now) }
+    ensures tests { (n : ℕ) → All (λ (k : Keyed). k.test < n) all.now → IfOk result (λ order. All (λ test. test < n) order.items) }
+{
+    let mut order = Vec::new(alloc);
+    for keyed in all {
+        push(&mut order, keyed.test)?;
+    }
+    Ok(order)
+}
+
+/// The tests, sorted by a key for each.
+fn sorted_by(alloc: Global, keys: &[u64]) -> Result<Vec<usize>, NoMemory>
+    ensures long { IfOk result (λ order. length order.items ≡ length keys.now) }
+    ensures tests { IfOk result (λ order. All (λ test. test < length keys.now) order.items) }
+{
+    let mut sorted = with_keys(alloc, keys)?;
+    sort_keyed(&mut sorted);
+    tests_of(alloc, &sorted)
+}
+
+/// Whether each precedence goes from a lesser to a greater key.
+fn keeps(before: &[(usize, usize)], keys: &[u64]) -> bool
+    requires { All (λ (p : ℕ × ℕ). (p.0 < length keys.now) × (p.1 < length keys.now)) before.now }
+{
+    for (earlier, later) in before {
+        if keys[*earlier] >= keys[*later] {
+            return false;
+        }
+    }
+    true
+}
+
+/// For each test its place in the list of a plan's starts.
+fn listed_places(alloc: Global, names: &LiveTests, plan: &Plan) -> Result<Vec<u64>, NoMemory>
+    ensures { IfOk result (λ places. length places.items ≡ length names.now) }
+{
+    let mut places = zeros(alloc, names.names().len())?;
+    for place in 0..plan.starts.len() {
+        if let Some(test) = names.place(plan.starts[place].0) {
+            places[test] = place as u64;
+        }
+    }
+    Ok(places)
+}
+
+/// For each test its start in a plan.
+fn planned_starts(alloc: Global, names: &LiveTests, plan: &Plan) -> Result<Vec<u64>, NoMemory>
+    ensures { IfOk result (λ starts. length starts.items ≡ length names.now) }
+{
+    let mut starts = zeros(alloc, names.names().len())?;
+    for (id, start) in &plan.starts {
+        if let Some(test) = names.place(*id) {
+            starts[test] = *start;
+        }
+    }
+    Ok(starts)
+}
+
+/// The order of the tests at first: that in which the plan lists their starts, where it keeps the precedences, else that of
+/// the starts.
+fn first_order(
+    alloc: Global,
+    names: &LiveTests,
+    job: &Job,
+    plan: &Plan,
+) -> Result<Vec<usize>, NoMemory>
+    requires sound { IsSoundJob (job_value job.now) }
+    requires names { length names.now ≡ length (job_value job.now).tests }
+    ensures long { IfOk result (λ order. length order.items ≡ length (job_value job.now).tests) }
+    ensures tests { IfOk result (λ order. All (λ test. test < length (job_value job.now).tests) order.items) }
+{
+    let listed = listed_places(alloc, names, plan)?;
+    if keeps(&job.before, &listed) {
+        return sorted_by(alloc, &listed);
+    }
+    let starts = planned_starts(alloc, names, plan)?;
+    sorted_by(alloc, &starts)
+}
+
+/// The first slot for so many modules.
+fn first_slots(alloc: Global, modules: usize) -> Result<Vec<usize>, NoMemory>
+    ensures { IfOk result (λ v. v.items ≡ replicate modules 0) }
+{
+    vec![in alloc; 0; modules].map_err(|_| NoMemory)
+}
+
+/// Puts a module on the bus of a slot, which has so many wires at first; where the slot was unused, these are taken from
+/// those that are left. Answers how many are left then.
+fn settle(buses: &mut Buses, module: usize, slot: usize, width: u64, left: u64) -> u64
+    requires there { «module» < length buses.old.slots.items }
+    requires slot { slot < length buses.old.widths.items }
+    requires within { All (λ k. k < length buses.old.widths.items) buses.old.slots.items }
+    requires wires { sum_by (λ (w : ℕ). w) buses.old.widths.items + left ≡ length buses.old.widths.items }
+    ensures within { All (λ k. k < length buses.new.widths.items) buses.new.slots.items }
+    ensures wires { sum_by (λ (w : ℕ). w) buses.new.widths.items + result ≡ length buses.new.widths.items }
+    ensures alike { AreAlike buses.old buses.new }
+{
+    buses.slots[module] = slot;
+    let own = buses.widths[slot];
+    if own > 0 {
+        return left;
+    }
+    let taken = width.min(left);
+    buses.widths[slot] = taken;
+    left - taken
+}
+
+/// Gives the wires that are left to the first module's bus.
+fn give_rest(buses: &mut Buses, left: u64)
+    requires within { All (λ k. k < length buses.old.widths.items) buses.old.slots.items }
+    requires wires { sum_by (λ (w : ℕ). w) buses.old.widths.items + left ≡ length buses.old.widths.items }
+    ensures buses { AreBuses buses.new }
+    ensures alike { AreAlike buses.old buses.new }
+{
+    if buses.slots.is_empty() {
+        return;
+    }
+    let first = buses.slots[0];
+    buses.widths[first] += left;
+}
+
+/// The bus of a test in a plan, by the slot that it takes, with its wires.
+fn bus_of(job: &Job, plan: &Plan, test: usize, slots: usize) -> Option<(usize, u64)>
+    requires { test < length (job_value job.now).tests }
+    ensures { IfSome result (λ r. r.0 < slots) }
+{
+    let bus = job.tests[test].bus?;
+    if bus >= slots || bus >= plan.buses.len() {
+        return None;
+    }
+    Some((bus, plan.buses[bus].width))
+}
+
+/// Settles the module of a test, where it has one and the plan a bus for it. Answers how many wires are left then.
+fn settle_test(
+    buses: &mut Buses,
+    problem: &Problem,
+    job: &Job,
+    plan: &Plan,
+    test: usize,
+    left: u64,
+) -> u64
+    requires problem { IsProblem (job_value job.now) problem.now }
+    requires test { test < length problem.now.tests.items }
+    requires first { AreFirstBuses problem.now buses.old left }
+    ensures { AreFirstBuses problem.now buses.new result }
+{
+    let Some(module) = problem.tests[test].module else {
+        return left;
+    };
+    let Some((slot, width)) = bus_of(job, plan, test, problem.wires) else {
+        return left;
+    };
+    settle(buses, module, slot, width, left)
+}
+
+/// The buses at first: those of the plan with modules that have tests over the wires. Wires of no such bus go to the bus of
+/// the first module.
+fn first_buses(alloc: Global, problem: &Problem, job: &Job, plan: &Plan) -> Result<Buses, NoMemory>
+    requires { IsProblem (job_value job.now) problem.now }
+    ensures buses { IfOk result AreBuses }
+    ensures wires { IfOk result (λ b. length b.widths.items ≡ problem.now.wires) }
+    ensures modules { IfOk result (λ b. length b.slots.items ≡ length problem.now.modules.items) }
+{
+    let widths = zeros(alloc, problem.wires)?;
+    let slots = first_slots(alloc, problem.modules.len())?;
+    let mut buses = Buses { widths, slots };
+    let mut left = problem.wires as u64;
+    for test in 0..problem.tests.len() {
+        left = settle_test(&mut buses, problem, job, plan, test, left);
+    }
+    give_rest(&mut buses, left);
+    Ok(buses)
+}
+
+/// The first state: the buses of a plan and the order of its tests. `NoMemory` where there is none.
+pub(crate) fn first_state(
+    alloc: Global,
+    soc: &Soc,
+    problem: &Problem,
+    job: &Job,
+    plan: &Plan,
+) -> Result<State, NoMemory>
+    requires sound { IsSoundJob (job_value job.now) }
+    requires problem { IsProblem (job_value job.now) problem.now }
+    requires names { length (live_ids (soc_value soc.now)) ≡ length (job_value job.now).tests }
+    ensures { IfOk result (IsStateOf problem.now) }
+{
+    let names = LiveTests::new(alloc, soc)?;
+    let buses = first_buses(alloc, problem, job, plan)?;
+    let order = first_order(alloc, &names, job, plan)?;
+    Ok(State {
+        buses,
+        order,
+        cycles: u64::MAX,
+        late: None,
+    })
+}
