@@ -1,15 +1,10 @@
-pub mod AllFiles
-pub mod ProgramAnswers
-pub mod Completeness
-pub mod FileStages
 pub mod Headlines
-pub mod LineFacts
 mod LiveCounts
 pub mod LogFiles
 mod MadeLimits
-pub mod Refusals
+pub mod PartsServed
+pub mod ProgramAnswers
 mod Rows
-pub mod Settled
+pub mod SettledCommands
 pub mod TreeFiles
 pub mod WidthLines
-pub mod PartsServed

@@ -13,17 +13,21 @@ use Rattle.fail_locate.specs.declared.LogFault.TheVariants as log_fault
 use Rattle.fail_locate.specs.LogAnswers.{SaysLog, LogRead}
 use Rattle.fail_locate.proofs.ReadLogs.{one_log}
 use Rattle.fail_locate.proofs.LogProgress.{logs_not_refused, logs_once}
-use Rattle.soctest.specs.declared.FileKind.TheVariants.{Log}
-use Rattle.soctest.specs.declared.Verdict.{Verdict}
-use Rattle.soctest.specs.declared.loading.Accepted.{Accepted}
+use Rattle.commands.specs.declared.FileKind.TheVariants.{Log}
+use Rattle.commands.specs.declared.Verdict.{Verdict}
+use Rattle.commands.specs.declared.loading.Accepted.{Accepted}
 use Rattle.soctest.specs.LocateText.{locate_text}
-use Rattle.soctest.specs.Readings.{most_of, IsRead, RefusesFails}
+use Rattle.commands.specs.Readings.{most_of, IsRead}
+use Rattle.soctest.specs.LogReadings.{RefusesFails}
 use Rattle.soctest.specs.Texts.{log_line}
-use Rattle.soctest.specs.Procedures.{Procedure, nothing, with_all, with_log, done_with}
-use Rattle.soctest.specs.Decides.{Follows, AreRead, LoadsBytes, LoadsLog, RefusesLogText}
-use Rattle.soctest.proofs.AllFiles.{after_all}
-use Rattle.soctest.proofs.FileStages.{after_file, no_value, refused, without_bytes}
-use Rattle.soctest.proofs.Settled.{SaysOne, RefusesOne, IsSettled, done_once}
+use Rattle.commands.specs.Procedures.{Procedure, nothing, with_all, done_with}
+use Rattle.soctest.specs.LogReadings.{with_log}
+use Rattle.commands.specs.Decides.{Follows, AreRead, LoadsBytes}
+use Rattle.soctest.specs.LogReadings.{LoadsLog, RefusesLogText}
+use Rattle.commands.proofs.AllFiles.{after_all}
+use Rattle.commands.proofs.FileStages.{after_file, no_value, refused, without_bytes}
+use Rattle.commands.specs.Settled.{SaysOne, RefusesOne, IsSettled}
+use Rattle.commands.proofs.Settled.{done_once}
 
 -- ---- the file
 

@@ -29,21 +29,20 @@ use Rattle.split_plan.proofs.Lists.{at_map}
 use Rattle.split_plan.proofs.PartLaws.{each_once, are_parts}
 use Rattle.soctest.specs.declared.Command.{Command}
 use Rattle.soctest.specs.declared.Command.TheVariants as command
-use Rattle.soctest.specs.declared.FileKind.TheVariants.{Soc, Limits}
-use Rattle.soctest.specs.declared.Status.{Status}
-use Rattle.soctest.specs.declared.Status.TheVariants.{Done, Refused}
-use Rattle.soctest.specs.declared.Verdict.{Verdict}
-use Rattle.soctest.specs.declared.Verdict.TheVariants.{Answered, CannotRead, NoMemory as OutOfMemory}
-use Rattle.soctest.specs.Answers.{Answers, IsAnswer}
+use Rattle.commands.specs.declared.FileKind.TheVariants.{Soc, Limits}
+use Rattle.commands.specs.declared.Status.{Status}
+use Rattle.commands.specs.declared.Status.TheVariants.{Done, Refused}
+use Rattle.commands.specs.declared.Verdict.{Verdict}
+use Rattle.commands.specs.declared.Verdict.TheVariants.{Answered, CannotRead, NoMemory as OutOfMemory}
+use Rattle.commands.specs.Answers.{Answers}
 use Rattle.soctest.specs.Commands.{CommandValue, SplitTests, command_value, IsInRange}
-use Rattle.soctest.specs.Decides.{Follows, GivesAny, GivesText, Refuses}
-use Rattle.soctest.specs.Ends.{MayAnswer, Ends}
-use Rattle.soctest.specs.Procedures.{Unless, Answer, done_with_split}
-use Rattle.soctest.specs.Readings.{IsRead, SaysLimits}
-use Rattle.soctest.specs.SplitEnds.{HasPatternsOf, IsLoadedAndRead, IsServedOnce, IsTrustworthySplit, SplitHeadline}
+use Rattle.commands.specs.Procedures.{Unless}
+use Rattle.soctest.specs.Procedures.{done_with_split, procedure_of}
+use Rattle.commands.specs.Readings.{IsRead, SaysLimits}
+use Rattle.soctest.specs.SplitEnds.{HasPatternsOf, IsLoadedAndRead, IsServedOnce, IsTrustworthySplit}
 use Rattle.soctest.specs.SplitText.{passed_as, first_passed, split_refusal, split_text}
-use Rattle.soctest.specs.Texts.{is_line}
-use Rattle.soctest.proofs.Headlines.{Laws, after_both}
+use Rattle.commands.specs.Texts.{is_line}
+use Rattle.commands.proofs.Trusted.{TrustLaws, both_done, not_refused}
 
 -- ---- the first limit that is passed
 
@@ -83,44 +82,6 @@ passed_first soc Work n first =
     let c = none_as soc Chains (first.earlier Chains (omega arith)) in
     let d = none_as soc Power (first.earlier Power (omega arith)) in
     rw (a, b, c, d, some_as soc Work n first.passes) refl
-
--- ---- verdicts
-
--- a text that is allowed where nothing refuses it, or want of memory for it
-pub gives_text : (refusal : Option (List ℕ)) (May : List ℕ → Type 0) (made : Result (Vec ℕ) MemoryFault) (verdict : Verdict) → refusal ≡ None → IfOk made (λ text. May text.items) → GivesText Done made verdict → GivesAny refusal May verdict
-gives_text refusal May made verdict none may d = subst (λ (r : Option (List ℕ)). GivesAny r May verdict) (sym none) (go made verdict may d)
-  where
-    go : (made : Result (Vec ℕ) MemoryFault) (verdict : Verdict) → IfOk made (λ text. May text.items) → GivesText Done made verdict → GivesAny None May verdict
-    go (Err fault) verdict may d = rw d tt
-    go (Ok text) (CannotRead missed) may d = absurd d
-    go (Ok text) OutOfMemory may d = tt
-    go (Ok text) (Answered status bytes) may d = (d.0, rw d.1 may)
-
--- the line that refuses, or want of memory for it
-pub gives_line : (refusal : Option (List ℕ)) (line : List ℕ) (May : List ℕ → Type 0) (made : Result (Vec ℕ) MemoryFault) (verdict : Verdict) → refusal ≡ Some line → IfOk made (λ text. text.items ≡ line) → IfOk made (λ text. IsTrue (is_line text.items)) → GivesText Refused made verdict → GivesAny refusal May verdict
-gives_line refusal line May made verdict some is ends d = subst (λ (r : Option (List ℕ)). GivesAny r May verdict) (sym some) (go made verdict is ends d)
-  where
-    go : (made : Result (Vec ℕ) MemoryFault) (verdict : Verdict) → IfOk made (λ text. text.items ≡ line) → IfOk made (λ text. IsTrue (is_line text.items)) → GivesText Refused made verdict → Refuses line verdict
-    go (Err fault) verdict is ends d = rw d tt
-    go (Ok text) (CannotRead missed) is ends d = absurd d
-    go (Ok text) OutOfMemory is ends d = tt
-    go (Ok text) (Answered status bytes) is ends d = (d.0, d.1 ∙ is, rw d.1 ends)
-
--- want of memory
-pub gives_none : (refusal : Option (List ℕ)) (May : List ℕ → Type 0) → GivesAny refusal May OutOfMemory
-gives_none None May = tt
-gives_none (Some line) May = tt
-
--- what is given follows
-pub unless_any : (refusal : Option (List ℕ)) (May : List ℕ → Type 0) (held : Option Files) (before after : ℕ) (verdict : Verdict) → GivesAny refusal May verdict → Follows (Unless refusal (Answer (λ status text. (status ≡ Done) × May text))) held before after verdict
-unless_any None May None before after (Answered status text) d = (rw d.0 tt, tt)
-unless_any None May (Some files) before after (Answered status text) d = (rw d.0 tt, d)
-unless_any None May held before after (CannotRead missed) d = absurd d
-unless_any None May held before after OutOfMemory d = tt
-unless_any (Some line) May None before after (Answered status text) d = (rw d.0 d.2, tt)
-unless_any (Some line) May (Some files) before after (Answered status text) d = (rw d.0 d.2, (d.0, d.1))
-unless_any (Some line) May held before after (CannotRead missed) d = absurd d
-unless_any (Some line) May held before after OutOfMemory d = tt
 
 -- ---- words
 
@@ -220,15 +181,10 @@ served chip bounds most plan some sound right whole content has i l n at one mos
 
 -- ---- the headline
 
--- an answer that isn't refused
-not_refused : (files : Files) (refusal : Option (List ℕ)) (May : List ℕ → Type 0) (text : List ℕ) → Answers (Unless refusal (Answer (λ status text. (status ≡ Done) × May text))) files Done text → May text
-not_refused files None May text answer = answer.1
-not_refused files (Some line) May text answer = let wrong : Done ≡ Refused = answer.0 in absurd cc
-
-printed : Laws → (files : Files) (soc limits : List ℕ) (most : ℕ) → 1 ≤ most → (text : List ℕ) (old new : Option (List ℕ)) → IsAnswer (Some (SplitTests soc limits most)) files Done text → Appended old text new → IsTrustworthySplit files soc limits most old new
-printed laws files soc limits most some text old new answer put =
-    let b = after_both files soc limits text (λ chip bounds. Unless (split_refusal chip bounds most) (done_with_split chip bounds most)) answer in
-    let m = not_refused files (split_refusal b.0 b.1 most) (λ (text : List ℕ). (value : PlanValue) × IsPlanned (split_chip b.1 most b.0) (split_limits b.1 most b.0) value × (text ≡ split_text (split_of b.0 b.1 most) value)) text b.4 in
+pub parts_printed : TrustLaws → (files : Files) (soc limits : List ℕ) (most : ℕ) → 1 ≤ most → (text : List ℕ) (old new : Option (List ℕ)) → Answers (procedure_of (SplitTests soc limits most)) files Done text → Appended old text new → IsTrustworthySplit files soc limits most old new
+parts_printed laws files soc limits most some text old new answer put =
+    let b = both_done files soc limits text (λ chip bounds. Unless (split_refusal chip bounds most) (done_with_split chip bounds most)) answer in
+    let m = (not_refused files (split_refusal b.0 b.1 most) (done_with_split b.0 b.1 most) text b.4).1 in
     go b.0 b.1 m.0 b.2 b.3 m.1 m.2
   where
     go : (chip : SocValue) (bounds : LimitsValue) (value : PlanValue) → IsRead Soc SaysChip (get files soc) chip → IsRead Limits (SaysLimits chip) (get files limits) bounds → IsPlanned (split_chip bounds most chip) (split_limits bounds most chip) value → text ≡ split_text (split_of chip bounds most) value →
@@ -244,9 +200,3 @@ printed laws files soc limits most some text old new answer put =
       bound = laws.bound (split_chip bounds most chip) (split_limits bounds most chip) value.bound b.says.sound.some_wire planned.accepted;
       written = subst (λ t. Appended old t new) is put;
     }
-
-pub split_headline : Laws → (command : Option CommandValue) (held : Option Files) (sb sa kb ka : ℕ) (old new : Option (List ℕ)) (end : Status) → ((soc limits : List ℕ) (most : ℕ) → command ≡ Some (SplitTests soc limits most) → 1 ≤ most) → Ends (MayAnswer command held sb sa) kb ka old end new → SplitHeadline command held old end new
-split_headline laws command held sb sa kb ka old new end range ends files soc limits most is names done =
-    let ends' = rw done at ends in
-    let answer = rw (is, names) at ends'.1 in
-    printed laws files soc limits most (range soc limits most names) ends'.0 old new answer ends'.2

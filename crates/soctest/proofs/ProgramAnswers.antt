@@ -20,17 +20,18 @@ use Rattle.shift_program.specs.RightPrograms.{AreRight}
 use Rattle.shift_program.specs.Faults.{needed_for, IsFault}
 use Rattle.shift_program.specs.Answers.{Says, RefusedAt, Means, IsReadProgram}
 use Rattle.shift_program.specs.Laws.{RightAreFaultless, OneFault, TextsHaveOneAnswer}
-use Rattle.soctest.specs.declared.FileKind.TheVariants.{Program}
-use Rattle.soctest.specs.declared.Status.TheVariants.{Done, Refused}
-use Rattle.soctest.specs.declared.Verdict.{Verdict}
-use Rattle.soctest.specs.declared.Verdict.TheVariants.{Answered, CannotRead, NoMemory as OutOfMemory}
-use Rattle.soctest.specs.Texts.{is_line}
-use Rattle.soctest.specs.Readings.{most_of}
+use Rattle.commands.specs.declared.FileKind.TheVariants.{Program}
+use Rattle.commands.specs.declared.Status.TheVariants.{Done, Refused}
+use Rattle.commands.specs.declared.Verdict.{Verdict}
+use Rattle.commands.specs.declared.Verdict.TheVariants.{Answered, CannotRead, NoMemory as OutOfMemory}
+use Rattle.commands.specs.Texts.{is_line}
+use Rattle.commands.specs.Readings.{most_of}
 use Rattle.soctest.specs.ShiftPrograms.{named_test, test_cycles, wrapper_for, planned_for, IsRightFor, RightIn, SaysRight, RefusedIn, RefusesProgram, program_line, program_fault_line, accepted_with, accepted_program, Judges, AnswersProgram}
-use Rattle.soctest.specs.Procedures.{done_with, with_program}
-use Rattle.soctest.specs.Decides.{Follows, GivesText, LoadsBytes}
-use Rattle.soctest.proofs.FileStages.{after_file, read_from, done, refused, without_bytes, no_value}
-use Rattle.soctest.proofs.Settled.{SaysOne, RefusesOne}
+use Rattle.commands.specs.Procedures.{done_with}
+use Rattle.soctest.specs.Procedures.{with_program}
+use Rattle.commands.specs.Decides.{Follows, GivesText, LoadsBytes}
+use Rattle.commands.proofs.FileStages.{after_file, read_from, done, refused, without_bytes, no_value}
+use Rattle.commands.specs.Settled.{SaysOne, RefusesOne}
 
 -- the laws that this rests on
 pub record ProgramLaws : Type 0 where

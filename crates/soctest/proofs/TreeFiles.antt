@@ -23,27 +23,27 @@ use Rattle.width_tree.proofs.Viable.{one_text}
 use Rattle.width_tree.proofs.Exact.{trees_not_refused, trees_refused_once}
 use Rattle.width_tree.proofs.Faults.{one_fault, no_fault}
 use Rattle.width_tree.proofs.CaseBounds.{accepted_bounds}
-use Rattle.soctest.specs.declared.FileKind.TheVariants.{Soc, Limits, Tree}
-use Rattle.soctest.specs.declared.Status.{Status}
-use Rattle.soctest.specs.declared.Status.TheVariants.{Done, Refused}
-use Rattle.soctest.specs.declared.Verdict.{Verdict}
-use Rattle.soctest.specs.declared.Verdict.TheVariants.{Answered, CannotRead, NoMemory as OutOfMemory}
-use Rattle.soctest.specs.declared.loading.Both.{Both}
-use Rattle.soctest.specs.Texts.{is_line}
+use Rattle.commands.specs.declared.FileKind.TheVariants.{Soc, Limits, Tree}
+use Rattle.commands.specs.declared.Status.{Status}
+use Rattle.commands.specs.declared.Status.TheVariants.{Done, Refused}
+use Rattle.commands.specs.declared.Verdict.{Verdict}
+use Rattle.commands.specs.declared.Verdict.TheVariants.{Answered, CannotRead, NoMemory as OutOfMemory}
+use Rattle.commands.specs.declared.loading.Both.{Both}
+use Rattle.commands.specs.Texts.{is_line}
 use Rattle.soctest.specs.TreeTexts.{bound_line, tree_line, tree_fault_line}
-use Rattle.soctest.specs.Readings.{most_of, IsRead, SaysLimits}
+use Rattle.commands.specs.Readings.{most_of, IsRead, SaysLimits}
 use Rattle.soctest.specs.TreeReadings.{SaysBound, RefusesTree}
-use Rattle.soctest.specs.Procedures.{nothing, with_tree, with_bound, with_both, done_with}
-use Rattle.soctest.specs.Answers.{Answers, IsAnswer}
-use Rattle.soctest.specs.Decides.{Follows, GivesText, LoadsBytes, BothRead}
+use Rattle.commands.specs.Procedures.{nothing, with_both, done_with}
+use Rattle.soctest.specs.Procedures.{with_tree, with_bound}
+use Rattle.commands.specs.Answers.{Answers}
+use Rattle.commands.specs.Decides.{Follows, GivesText, LoadsBytes, BothRead}
 use Rattle.soctest.specs.TreeDecides.{LoadsTree, RefusesTreeText, AnswersTree}
-use Rattle.soctest.specs.Commands.{CommandValue, TreeBound}
-use Rattle.soctest.specs.Ends.{MayAnswer, Ends}
-use Rattle.soctest.specs.TreeBounds.{IsShownBound, ShowsBound}
-use Rattle.soctest.proofs.FileStages.{without_bytes, refused, read_from, after_file, no_value, done_of}
-use Rattle.soctest.proofs.AllFiles.{not_both, after_both}
-use Rattle.soctest.proofs.Settled.{SaysOne, RefusesOne, IsSettled, done_once}
-use Rattle.soctest.proofs.Headlines.{stage_done, read_as_well, after_both as both_of_done}
+use Rattle.soctest.specs.TreeBounds.{IsShownBound}
+use Rattle.commands.proofs.FileStages.{without_bytes, refused, read_from, after_file, no_value, done_of}
+use Rattle.commands.proofs.AllFiles.{not_both, after_both}
+use Rattle.commands.proofs.Trusted.{stage_done, read_as_well, both_done}
+use Rattle.commands.specs.Settled.{SaysOne, RefusesOne, IsSettled}
+use Rattle.commands.proofs.Settled.{done_once}
 
 -- ---- verdicts
 
@@ -123,9 +123,9 @@ bound_settled tree chip bounds = (tree_one chip bounds, tree_refused_one chip bo
 
 -- ---- the bound that is printed
 
-shown : (files : Files) (soc limits tree text : List ℕ) (old new : Option (List ℕ)) → Answers (with_both soc limits (with_bound tree)) files Done text → Appended old text new → IsShownBound files soc limits tree old new
+pub shown : (files : Files) (soc limits tree text : List ℕ) (old new : Option (List ℕ)) → Answers (with_both soc limits (with_bound tree)) files Done text → Appended old text new → IsShownBound files soc limits tree old new
 shown files soc limits tree text old new answer put =
-    let b = both_of_done files soc limits text (with_bound tree) answer in
+    let b = both_done files soc limits text (with_bound tree) answer in
     let c = stage_done Tree (SaysBound b.0 b.1) (RefusesTree b.0 b.1) (λ value. Answers (done_with (bound_line value)) files) (get files tree) text b.4 in
     go b.0 b.1 c.0 b.2 b.3 c.1 c.2.1
   where
@@ -140,9 +140,3 @@ shown files soc limits tree text old new answer put =
       bound = accepted_bounds chip bounds value b.says.sound.some_wire c.says.1;
       written = subst (λ t. Appended old t new) is put;
     }
-
-pub shows_bound : (command : Option CommandValue) (held : Option Files) (sb sa kb ka : ℕ) (old new : Option (List ℕ)) (end : Status) → Ends (MayAnswer command held sb sa) kb ka old end new → ShowsBound command held old end new
-shows_bound command held sb sa kb ka old new end ends files soc limits tree is names done =
-    let ends' = rw done at ends in
-    let answer = rw (is, names) at ends'.1 in
-    shown files soc limits tree ends'.0 old new answer ends'.2

@@ -7,7 +7,7 @@ use Rattle.fail_locate.specs.declared.Cell.{Cell}
 use Rattle.fail_locate.specs.declared.Cell.TheVariants.{Flop, Out}
 use Rattle.fail_locate.specs.declared.Spot.{Spot}
 use Rattle.fail_locate.specs.SpotAt.{spot_at}
-use Rattle.soctest.specs.Texts.{test_text, two_numbers}
+use Rattle.commands.specs.Texts.{test_text, two_numbers}
 
 -- `flop CHAIN.PLACE` or `out NUMBER`
 abbrev pub cell_text : Cell → List ℕ

@@ -4,7 +4,7 @@ use Rattle.soc_model.specs.Chips.{SocValue, live_tests}
 use Rattle.plan_model.specs.Plans.{LimitsValue, PlanValue, WhyValue}
 use Rattle.plan_text.specs.PlanLines.{reason_key}
 use Rattle.plan_text.specs.Tokens.{spelling}
-use Rattle.soctest.specs.Texts.{two_numbers}
+use Rattle.commands.specs.Texts.{two_numbers}
 
 -- the limits of a made chip: 32 wires, a power of 300, and a search of 1,000 prefixes
 abbrev pub sample_limits : LimitsValue

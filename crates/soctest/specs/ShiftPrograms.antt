@@ -12,11 +12,11 @@ use Rattle.shift_program.specs.Programs.{ProgramValue, WrappedTest, wrapped_test
 use Rattle.shift_program.specs.RightPrograms.{AreRight}
 use Rattle.shift_program.specs.Faults.{needed_for, place_of, IsFault}
 use Rattle.shift_program.specs.Answers.{IsReadProgram, RefusesText}
-use Rattle.soctest.specs.declared.Status.{Status}
-use Rattle.soctest.specs.declared.Status.TheVariants.{Done, Refused}
-use Rattle.soctest.specs.declared.Verdict.{Verdict}
-use Rattle.soctest.specs.declared.Verdict.TheVariants.{Answered, CannotRead, NoMemory}
-use Rattle.soctest.specs.Texts.{is_line, test_text, two_numbers}
+use Rattle.commands.specs.declared.Status.{Status}
+use Rattle.commands.specs.declared.Status.TheVariants.{Done, Refused}
+use Rattle.commands.specs.declared.Verdict.{Verdict}
+use Rattle.commands.specs.declared.Verdict.TheVariants.{Answered, CannotRead, NoMemory}
+use Rattle.commands.specs.Texts.{is_line, test_text, two_numbers}
 
 -- ---- the test of a program
 

@@ -2,7 +2,6 @@
 -- once.
 use Rattle.std.specs.Prelude.{◌≡◌, ℕ, ◌+◌, ◌-◌, ◌≤◌, true, false, List, Option, Some, slice_get}
 use Rattle.std.specs.List.{Contains}
-use Rattle.std.specs.FinMap.{get}
 use Rattle.outside.specs.Held.{Files, Appended}
 use Rattle.soc_model.specs.declared.TestId.{TestId}
 use Rattle.soc_model.specs.Chips.{SocValue, LiveTest, live_tests, id_of}
@@ -12,15 +11,10 @@ use Rattle.plan_model.specs.Plans.{LimitsValue, PlanValue, PlannedTest, planned}
 use Rattle.plan_model.specs.Runs.{Content, operation_at, state_at, bits_at, shown}
 use Rattle.plan_model.specs.Right.{IsAt, IsReadAt, TestsItself, IsRight}
 use Rattle.plan_model.specs.Rules.{IsBound}
-use Rattle.soc_reader.specs.ChipForm.{SaysChip}
 use Rattle.split_plan.specs.declared.Part.{Part}
 use Rattle.split_plan.specs.Laws.{HasPattern}
 use Rattle.split_plan.specs.Parts.{split_chip, split_limits, split_parts, split_of}
-use Rattle.soctest.specs.declared.FileKind.TheVariants.{Soc, Limits}
-use Rattle.soctest.specs.declared.Status.{Status}
-use Rattle.soctest.specs.declared.Status.TheVariants.{Done}
-use Rattle.soctest.specs.Commands.{CommandValue, SplitTests}
-use Rattle.soctest.specs.Readings.{IsRead, SaysLimits}
+use Rattle.commands.specs.Trusted.{IsChipIn, AreLimitsIn}
 use Rattle.soctest.specs.SplitText.{split_text}
 
 -- A content of the parts has the patterns of a content of the chip that was cut; its bits at first may be any.
@@ -62,14 +56,9 @@ pub record IsTrustworthySplit (files : Files) (soc limits : List ℕ) (most : �
   pub chip : SocValue
   pub bounds : LimitsValue
   pub value : PlanValue
-  pub chip_read : IsRead Soc SaysChip (get files soc) chip
-  pub limits_read : IsRead Limits (SaysLimits chip) (get files limits) bounds
+  pub chip_read : IsChipIn files soc chip
+  pub limits_read : AreLimitsIn files limits chip bounds
   pub right : (content : Content) → IsRight (split_chip bounds most chip) (split_limits bounds most chip) value content
   pub each : (whole content : Content) → HasPatternsOf (split_parts bounds most chip) whole content → (i : ℕ) (l : LiveTest) (n : ℕ) → slice_get (live_tests chip) i ≡ Some l → 1 ≤ n → n ≤ l.test.patterns → IsServedOnce whole content (planned (split_chip bounds most chip) value) (split_parts bounds most chip) l n
   pub bound : IsBound (split_chip bounds most chip) (split_limits bounds most chip) value.bound.cycles
   pub written : Appended old (split_text (split_of chip bounds most) value) new
-
--- The headline for a plan of parts, where the shelf tells what it holds.
-abbrev pub SplitHeadline : Option CommandValue → Option Files → Option (List ℕ) → Status → Option (List ℕ) → Type 0
-SplitHeadline command held old end new =
-    (files : Files) (soc limits : List ℕ) (most : ℕ) → held ≡ Some files → command ≡ Some (SplitTests soc limits most) → end ≡ Done → IsTrustworthySplit files soc limits most old new

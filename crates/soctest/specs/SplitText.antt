@@ -13,7 +13,7 @@ use Rattle.limits_text.specs.Texts.{limits_text}
 use Rattle.plan_text.specs.PlanLines.{plan_text}
 use Rattle.split_plan.specs.declared.Part.{Part}
 use Rattle.split_plan.specs.Parts.{SplitValue, split_chip}
-use Rattle.soctest.specs.Texts.{limit_name, test_text, two_numbers}
+use Rattle.commands.specs.Texts.{limit_name, test_text, two_numbers}
 
 -- a part: its test, its first and its last pattern, and the test of the chip of parts that it is
 abbrev pub part_line : Part → List ℕ

@@ -10,14 +10,15 @@ use Rattle.width_tree.specs.declared.TreeTextFault.{TreeTextFault}
 use Rattle.width_tree.specs.declared.TreeTextFault.TheVariants as tree_fault
 use Rattle.width_tree.specs.Trees.{TreeValue, tree_value}
 use Rattle.width_tree.specs.Bounds.{IsAcceptedTree, IsTreeFault}
-use Rattle.soctest.specs.declared.FileKind.TheVariants.{Tree}
-use Rattle.soctest.specs.declared.Verdict.{Verdict}
-use Rattle.soctest.specs.declared.Verdict.TheVariants.{NoMemory as OutOfMemory}
+use Rattle.commands.specs.declared.FileKind.TheVariants.{Tree}
+use Rattle.commands.specs.declared.Verdict.{Verdict}
+use Rattle.commands.specs.declared.Verdict.TheVariants.{NoMemory as OutOfMemory}
 use Rattle.soctest.specs.TreeTexts.{tree_line, tree_fault_line}
-use Rattle.soctest.specs.Readings.{IsRead}
+use Rattle.commands.specs.Readings.{IsRead}
 use Rattle.soctest.specs.TreeReadings.{SaysBound}
-use Rattle.soctest.specs.Procedures.{nothing, with_tree}
-use Rattle.soctest.specs.Decides.{Follows, Refuses}
+use Rattle.commands.specs.Procedures.{nothing}
+use Rattle.soctest.specs.Procedures.{with_tree}
+use Rattle.commands.specs.Decides.{Follows, Refuses}
 
 -- a tree that is accepted for a chip under limits, read from what the shelf tells, or a verdict without one
 abbrev pub LoadsTree : SocValue → LimitsValue → (tree : List ℕ) → Option Files → ℕ → ℕ → Result TreeModel Verdict → Type 0

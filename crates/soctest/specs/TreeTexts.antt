@@ -3,7 +3,7 @@ use Rattle.std.specs.Prelude.{ℕ, ◌++◌, List, codes, decimal}
 use Rattle.width_tree.specs.declared.TreeFault.{TreeFault}
 use Rattle.width_tree.specs.declared.TreeFault.TheVariants.{BadNode, Less}
 use Rattle.width_tree.specs.Trees.{TreeValue}
-use Rattle.soctest.specs.Texts.{two_numbers}
+use Rattle.commands.specs.Texts.{two_numbers}
 
 -- a tree that is accepted: the cycles that no good plan goes below
 abbrev pub bound_line : TreeValue → List ℕ

@@ -13,14 +13,14 @@ ghost use Rattle.soctest.specs.Commands.{Print, Widths, MakePlan, Check, Chart, 
 ghost use Rattle.plan_model.specs.Rules.{IsGoodAlone};
 ghost use Rattle.bit_machine.specs.Chips.{wires_of, made_content};
 ghost use Rattle.tester_vectors.specs.VectorText.{vector_text as text_of_vectors};
+ghost use Rattle.commands.specs.Procedures.{asked};
 ghost use Rattle.soctest.specs.Procedures.{procedure_of, run_refusal};
-ghost use Rattle.soctest.specs.Decides.{Follows, Decides, GivesUnless};
+ghost use Rattle.commands.specs.Decides.{Follows, Decides, GivesUnless};
 
+use crate::Command;
 use crate::fails::locate_text;
 use crate::lines::{accepted_line, run_line};
-use crate::loading::{
-    answered, answered_with, load_all, load_both, load_chip, load_file, load_log, refused_with,
-};
+use crate::logs::load_log;
 use crate::programs::answer_program;
 use crate::samples::decide_sample;
 use crate::splitting::decide_split;
@@ -28,8 +28,11 @@ use crate::tree_lines::bound_line;
 use crate::trees::load_accepted_tree;
 use crate::widths::widths_text;
 use crate::words::command;
-use crate::{Command, FileKind, Status, Verdict};
 use chart::print_chart;
+use commands::{
+    FileKind, Status, Verdict, answered_with, bad_words, load_all, load_both, load_chip, load_file,
+    refused_with,
+};
 use outside::{NoMemory, Shelf};
 use plan_model::{Limits, Plan, good_without_limits};
 use plan_text::print_plan;
@@ -256,7 +259,7 @@ fn decide_shift<H: Shelf>(
 pub fn decide<H: Shelf>(alloc: Global, words: &[String], shelf: &mut H) -> Verdict
     ensures held_stays { H.held shelf.new ≡ H.held shelf.old }
     ensures faults_never_fall { H.faults shelf.old ≤ H.faults shelf.new }
-    ensures decides { Decides (command_of (map string_bytes words.now)) (H.held shelf.old) (H.faults shelf.old) (H.faults shelf.new) result }
+    ensures decides { Decides (asked procedure_of (command_of (map string_bytes words.now))) (H.held shelf.old) (H.faults shelf.old) (H.faults shelf.new) result }
     ensures untouched { command_of (map string_bytes words.now) ≡ None → shelf.new ≡ shelf.old }
     ensures patterns { (soc limits : List ℕ) (most : ℕ) → command_of (map string_bytes words.now) ≡ Some (SplitTests soc limits most) → 1 ≤ most }
 {
@@ -299,6 +302,6 @@ pub fn decide<H: Shelf>(alloc: Global, words: &[String], shelf: &mut H) -> Verdi
             decide_tree(alloc, soc, limits, tree, shelf)
         }
         Some(Command::Split { soc, limits, most }) => decide_split(alloc, soc, limits, most, shelf),
-        None => answered(alloc, Status::BadWords, b"bad words\n"),
+        None => bad_words(alloc),
     }
 }

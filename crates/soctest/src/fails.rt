@@ -6,7 +6,7 @@ ghost use Rattle.plan_model.specs.Rules.{IsGoodAlone};
 ghost use Rattle.plan_model.specs.Views.{plan_value};
 ghost use Rattle.soctest.specs.LocateText.{cell_text, fail_line, locate_text as whole_text, spot_text};
 
-use crate::lines::{push, push_decimal, push_test};
+use commands::{push, push_decimal, push_test};
 use fail_locate::{Cell, Locator, Spot};
 use outside::NoMemory;
 use plan_model::Plan;

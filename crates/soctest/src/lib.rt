@@ -2,12 +2,10 @@
 // once. The program over real files and standard output is `soctest_main`.
 #![tactic(auto)]
 
-ghost use Rattle.std.specs.Prelude.{◌≡◌};
-
 mod deciding;
 mod fails;
 mod lines;
-mod loading;
+mod logs;
 mod programs;
 mod samples;
 mod splitting;
@@ -17,42 +15,8 @@ mod trees;
 mod widths;
 mod words;
 
+pub use commands::Status;
 pub use top::soctest;
-
-/// The greatest length of a .soc file, a limits file, a log, a tree or a program, in bytes.
-pub const FILE_MOST: u64 = 1_048_576;
-/// The greatest length of a plan file, in bytes.
-pub const PLAN_FILE_MOST: u64 = 33_554_432;
-
-/// How a call of [`soctest`] ended. Its number is the status of the program.
-#[derive(Clone, Copy, PartialEq, Eq, Debug)]
-pub enum Status {
-    /// The answer is written.
-    Done,
-    /// A file is refused; one line says why.
-    Refused,
-    /// The words are no command.
-    BadWords,
-    /// A file can't be read.
-    ReadFault,
-    /// A file is longer than its limit.
-    TooLong,
-    /// The output failed; a prefix is written.
-    WriteFault,
-    /// Memory ran out; nothing is written.
-    NoMemory,
-}
-
-/// The files of a command.
-#[derive(Clone, Copy, PartialEq, Eq, Debug)]
-pub enum FileKind {
-    Soc,
-    Limits,
-    Plan,
-    Tree,
-    Program,
-    Log,
-}
 
 /// A command, with the names of its files.
 #[derive(Clone, Copy)]
@@ -121,31 +85,4 @@ pub enum Command<'a> {
         plan: &'a str,
         log: &'a str,
     },
-}
-
-/// How a command ends, decided before anything is written.
-#[derive(Drop)]
-pub enum Verdict {
-    Answered { status: Status, text: Vec<u8> },
-    CannotRead { file: FileKind },
-    NoMemory,
-}
-
-impl Status {
-    ghost use Rattle.soctest.specs.Ends.{status_number};
-
-    /// The exit status of the program.
-    pub fn number(&self) -> u8
-        ensures { result ≡ status_number self.now }
-    {
-        match self {
-            Status::Done => 0,
-            Status::Refused => 1,
-            Status::BadWords => 2,
-            Status::ReadFault => 3,
-            Status::TooLong => 4,
-            Status::WriteFault => 5,
-            Status::NoMemory => 6,
-        }
-    }
 }

@@ -12,12 +12,12 @@ ghost use Rattle.plan_model.specs.Rules.{IsGood, IsWrapped};
 ghost use Rattle.plan_model.specs.Views.{chain_value, limits_value, plan_value, wrapper_value};
 ghost use Rattle.shift_program.specs.Programs.{IsLasting, program_value, wrapped_test};
 ghost use Rattle.shift_program.specs.Faults.{place_of};
-ghost use Rattle.soctest.specs.Texts.{is_line, no_feed};
+ghost use Rattle.commands.specs.Texts.{is_line, no_feed};
 ghost use Rattle.soctest.specs.ShiftPrograms.{named_test, planned_for, fault_word as word_of_fault, accepted_with, program_line as program_line_text, program_test_line as program_test_text, program_fault_line as program_fault_text, Judges, AnswersProgram};
 
-use crate::lines::{numbered, push, push_decimal, push_test, push_two};
-use crate::loading::{answered_with, refused_with};
-use crate::{Status, Verdict};
+use commands::{
+    Status, Verdict, answered_with, numbered, push, push_decimal, push_test, push_two, refused_with,
+};
 use outside::NoMemory;
 use plan_model::{Limits, Plan, Wrapper, test_cycles, wrapper_of};
 use shift_program::{

@@ -13,13 +13,11 @@ ghost use Rattle.sample_maker.specs.Samples.{made_chip};
 ghost use Rattle.soctest.specs.Commands.{Sample};
 ghost use Rattle.soctest.specs.Procedures.{procedure_of};
 ghost use Rattle.soctest.specs.Samples.{sample_limits, sample_line as sample_line_text, sample_text, kind_text};
-ghost use Rattle.soctest.specs.Texts.{is_line};
-ghost use Rattle.soctest.specs.Decides.{Follows};
+ghost use Rattle.commands.specs.Texts.{is_line};
+ghost use Rattle.commands.specs.Decides.{Follows};
 
 use crate::deciding::planned;
-use crate::lines::{numbered, push, push_decimal};
-use crate::loading::{answered_with, refused_with};
-use crate::{Status, Verdict};
+use commands::{Status, Verdict, answered_with, numbered, push, push_decimal, refused_with};
 use outside::NoMemory;
 use plan_checker::{Scratch, check_plan};
 use plan_model::{Limits, Plan, Why};

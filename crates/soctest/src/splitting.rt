@@ -8,15 +8,16 @@ ghost use Rattle.plan_model.specs.Views.{limits_value, plan_value};
 ghost use Rattle.planner.specs.Plans.{IsPlanned};
 ghost use Rattle.split_plan.specs.Parts.{split_chip, split_limits, split_of as parts_of, split_value};
 ghost use Rattle.soctest.specs.Commands.{SplitTests};
-ghost use Rattle.soctest.specs.Decides.{Follows, GivesAny};
+ghost use Rattle.commands.specs.Decides.{Follows, GivesAny};
 ghost use Rattle.soctest.specs.Procedures.{procedure_of};
 ghost use Rattle.soctest.specs.SplitText.{part_line, parts_text, soc_and_limits, split_line as split_line_text, split_refusal, split_text as text_of_parts};
-ghost use Rattle.soctest.specs.Texts.{is_line};
+ghost use Rattle.commands.specs.Texts.{is_line};
 
 use crate::deciding::planned;
-use crate::lines::{limit_word, push, push_decimal, push_test, push_two};
-use crate::loading::{answered_with, load_both, refused_with};
-use crate::{Status, Verdict};
+use commands::{
+    Status, Verdict, answered_with, limit_word, load_both, push, push_decimal, push_test, push_two,
+    refused_with,
+};
 use limits_text::print_limits;
 use outside::{NoMemory, Shelf, extend};
 use plan_checker::{Scratch, check_plan};

@@ -1,18 +1,16 @@
 // The top call: it decides first, and then writes once.
 ghost use Rattle.std.specs.Prelude.{◌≡◌, ◌≤◌, None, map, string_bytes};
 ghost use Rattle.outside.specs.Held.{Rose};
+ghost use Rattle.commands.specs.Procedures.{asked};
+ghost use Rattle.commands.specs.Ends.{MayAnswer, Ends, OneLine, EndsByWords, Complete, Finishes, SaysBadWords};
 ghost use Rattle.soctest.specs.Commands.{command_of};
-ghost use Rattle.soctest.specs.Ends.{MayAnswer, Ends, OneLine, EndsByWords, Complete, Finishes, SaysBadWords, Headline};
-ghost use Rattle.soctest.specs.TreeBounds.{ShowsBound};
-ghost use Rattle.soctest.specs.SplitEnds.{SplitHeadline};
+ghost use Rattle.soctest.specs.Procedures.{procedure_of, fixes_text};
+ghost use Rattle.soctest.specs.Headlines.{Headline};
 
 use crate::deciding::decide;
-use crate::lines::unread_line;
-use crate::{Status, Verdict};
-use limits_text::texts_have_one_answer;
-use outside::{Shelf, Sink, WriteFault, put_all};
-use plan_model::{certificates_are_bounds, faults_are_exact, good_plans_run_right};
-use plan_text::{plans_are_not_refused, refused_once, say_one_plan};
+use commands::{Status, files_say_one_thing, write_verdict};
+use outside::{Shelf, Sink};
+use plan_model::{certificates_are_bounds, good_plans_run_right};
 use shift_program::{
     faultless_programs_are_right, program_faults_are_exact, program_texts_have_one_answer,
 };
@@ -32,46 +30,28 @@ pub fn soctest<H: Shelf, K: Sink>(
     ensures faults_never_fall { (H.faults shelf.old ≤ H.faults shelf.new) × (K.faults out.old ≤ K.faults out.new) }
 
     // What is written is an answer to the words and files, each status where its cause is.
-    ensures ends { Ends (MayAnswer (command_of (map string_bytes words.now)) (H.held shelf.old) (H.faults shelf.old) (H.faults shelf.new)) (K.faults out.old) (K.faults out.new) (K.written out.old) result (K.written out.new) }
+    ensures ends { Ends (MayAnswer (asked procedure_of (command_of (map string_bytes words.now))) (H.held shelf.old) (H.faults shelf.old) (H.faults shelf.new)) (K.faults out.old) (K.faults out.new) (K.written out.old) result (K.written out.new) }
     ensures one_line { OneLine (K.written out.old) result (K.written out.new) }
-    ensures by_words { EndsByWords (command_of (map string_bytes words.now)) (Rose (K.faults out.old) (K.faults out.new)) result }
+    ensures by_words { EndsByWords (asked procedure_of (command_of (map string_bytes words.now))) (Rose (K.faults out.old) (K.faults out.new)) result }
     ensures untouched { command_of (map string_bytes words.now) ≡ None → shelf.new ≡ shelf.old }
 
     // Where the files give an answer and nothing fails, it comes, but for want of memory.
-    ensures complete { Complete (command_of (map string_bytes words.now)) (H.held shelf.old) (Rose (H.faults shelf.old) (H.faults shelf.new)) (Rose (K.faults out.old) (K.faults out.new)) (K.written out.old) result (K.written out.new) }
+    ensures complete { Complete (fixes_text (command_of (map string_bytes words.now))) (asked procedure_of (command_of (map string_bytes words.now))) (H.held shelf.old) (Rose (H.faults shelf.old) (H.faults shelf.new)) (Rose (K.faults out.old) (K.faults out.new)) (K.written out.old) result (K.written out.new) }
 
-    ensures finishes { Finishes (command_of (map string_bytes words.now)) (H.held shelf.old) (Rose (H.faults shelf.old) (H.faults shelf.new)) (Rose (K.faults out.old) (K.faults out.new)) result }
+    ensures finishes { Finishes (asked procedure_of (command_of (map string_bytes words.now))) (H.held shelf.old) (Rose (H.faults shelf.old) (H.faults shelf.new)) (Rose (K.faults out.old) (K.faults out.new)) result }
 
     ensures bad_words { SaysBadWords (K.written out.old) result (K.written out.new) }
 
-    // The headline: a plan that is printed or accepted, by any command, runs right, and its bound is one.
+    // The headline: a plan that is printed or accepted, by any command, runs right, and its bound is one; so is the bound of a
+    // tree that is accepted, and a plan of parts loads and reads each pattern of the chip that was cut exactly once.
     ensures headline { Headline (command_of (map string_bytes words.now)) (H.held shelf.old) (K.written out.old) result (K.written out.new) }
-
-    // The bound of a tree that is accepted is one: no good plan has fewer cycles.
-    ensures bound { ShowsBound (command_of (map string_bytes words.now)) (H.held shelf.old) (K.written out.old) result (K.written out.new) }
-
-    // The headline of a plan of parts, for the chip that was cut: each pattern is loaded and read exactly once.
-    ensures parts { SplitHeadline (command_of (map string_bytes words.now)) (H.held shelf.old) (K.written out.old) result (K.written out.new) }
 {
     good_plans_run_right();
     certificates_are_bounds();
-    faults_are_exact();
-    texts_have_one_answer();
-    say_one_plan();
-    plans_are_not_refused();
-    refused_once();
+    files_say_one_thing();
     faultless_programs_are_right();
     program_faults_are_exact();
     program_texts_have_one_answer();
-    match decide(alloc, words, shelf) {
-        Verdict::Answered { status, text } => match put_all(out, text.as_slice()) {
-            Ok(()) => status,
-            Err(WriteFault) => Status::WriteFault,
-        },
-        Verdict::CannotRead { file } => match put_all(out, unread_line(file)) {
-            Ok(()) => Status::ReadFault,
-            Err(WriteFault) => Status::WriteFault,
-        },
-        Verdict::NoMemory => Status::NoMemory,
-    }
+    let verdict = decide(alloc, words, shelf);
+    write_verdict(verdict, out)
 }

@@ -2,10 +2,10 @@
 ghost use Rattle.std.specs.Prelude.{◌≡◌, IfOk, IsTrue};
 ghost use Rattle.width_tree.specs.Trees.{tree_value};
 ghost use Rattle.width_tree.specs.declared.TreeFault.TheVariants.{Less};
-ghost use Rattle.soctest.specs.Texts.{is_line};
+ghost use Rattle.commands.specs.Texts.{is_line};
 ghost use Rattle.soctest.specs.TreeTexts.{bound_line as bound_text, tree_line as tree_line_text, tree_fault_line as tree_fault_text};
 
-use crate::lines::{numbered, push, push_decimal, push_two};
+use commands::{numbered, push, push_decimal, push_two};
 use outside::NoMemory;
 use std::alloc::Global;
 use width_tree::{Tree, TreeFault};

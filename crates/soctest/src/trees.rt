@@ -7,9 +7,8 @@ ghost use Rattle.plan_model.specs.SoundLimits.{IsSoundLimits};
 ghost use Rattle.width_tree.specs.Trees.{IsOneTree, tree_value};
 ghost use Rattle.soctest.specs.TreeDecides.{AnswersTree, LoadsTree, RefusesTreeText};
 
-use crate::loading::{load_file, refused_with};
 use crate::tree_lines::{tree_fault_line, tree_line};
-use crate::{FileKind, Verdict};
+use commands::{FileKind, Verdict, load_file, refused_with};
 use outside::Shelf;
 use plan_model::Limits;
 use soc_model::Soc;

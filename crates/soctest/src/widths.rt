@@ -5,7 +5,7 @@ ghost use Rattle.soc_model.specs.SoundChips.{IsSoundChip};
 ghost use Rattle.width_table.specs.Tables.{places_of};
 ghost use Rattle.soctest.specs.WidthsText.{width_line, module_widths, widths_text as whole_text};
 
-use crate::lines::{push, push_decimal};
+use commands::{push, push_decimal};
 use outside::NoMemory;
 use soc_model::{Module, Soc, module_at};
 use std::alloc::Global;

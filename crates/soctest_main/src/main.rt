@@ -1,25 +1,10 @@
 // The program: the words of its command line, over the files of the system and standard output.
 #![tactic(auto)]
 
+use commands::{Status, words_after_name};
 use outside::{RealShelf, RealSink};
-use soctest::{Status, soctest};
-use std::env;
-use std::io::ErrorKind;
+use soctest::soctest;
 use std::process::ExitCode;
-use std::rt::Env;
-
-/// The words after the program's name: none where one of them is no text. None where there is no memory for them.
-fn words_after_name(rt: &(impl Env + AllocGlobal)) -> Option<Vec<String>> {
-    match env::args(rt) {
-        Ok(all) => all.skip(1).collect(rt.alloc()).ok(),
-        Err(e) => {
-            if e.kind() == ErrorKind::OutOfMemory {
-                return None;
-            }
-            Some(Vec::new(rt.alloc()))
-        }
-    }
-}
 
 fn main(rt: HostRuntime) -> ExitCode {
     let Some(words) = words_after_name(&rt) else {

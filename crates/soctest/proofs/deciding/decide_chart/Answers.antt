@@ -1,9 +1,9 @@
 use Rattle.chart.specs.ChartText.{chart_text}
 use Rattle.soc_model.specs.Chips.{soc_value}
-use Rattle.soctest.specs.Procedures.{done_with}
+use Rattle.commands.specs.Procedures.{done_with}
 use Rattle.plan_model.specs.Views.{limits_value, plan_value}
-use Rattle.soctest.proofs.FileStages.{done_of}
-use Rattle.soctest.proofs.AllFiles.{not_all, after_all}
+use Rattle.commands.proofs.FileStages.{done_of}
+use Rattle.commands.proofs.AllFiles.{not_all, after_all}
 use Rattle.soctest.proofs.deciding.decide_chart.Goals as goal
 
 pub returns-in-Ok-clause-follows : goal.returns-in-Ok-clause-follows

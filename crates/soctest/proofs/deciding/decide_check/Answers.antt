@@ -1,8 +1,8 @@
 use Rattle.soctest.specs.Texts.{accepted_line}
-use Rattle.soctest.specs.Procedures.{done_with}
+use Rattle.commands.specs.Procedures.{done_with}
 use Rattle.plan_model.specs.Views.{plan_value}
-use Rattle.soctest.proofs.FileStages.{done_of}
-use Rattle.soctest.proofs.AllFiles.{not_all, after_all}
+use Rattle.commands.proofs.FileStages.{done_of}
+use Rattle.commands.proofs.AllFiles.{not_all, after_all}
 use Rattle.soctest.proofs.deciding.decide_check.Goals as goal
 
 pub returns-in-Ok-clause-follows : goal.returns-in-Ok-clause-follows

@@ -5,13 +5,14 @@ use Rattle.outside.specs.Held.{Files}
 use Rattle.soc_model.specs.Chips.{soc_value}
 use Rattle.plan_model.specs.Views.{limits_value, plan_value}
 use Rattle.fail_locate.specs.LogAnswers.{SaysLog}
-use Rattle.soctest.specs.declared.FileKind.TheVariants.{Log}
+use Rattle.commands.specs.declared.FileKind.TheVariants.{Log}
 use Rattle.soctest.specs.LocateText.{locate_text}
-use Rattle.soctest.specs.Readings.{IsRead}
-use Rattle.soctest.specs.Procedures.{nothing, with_log}
-use Rattle.soctest.specs.Decides.{Follows}
-use Rattle.soctest.proofs.AllFiles.{not_all}
-use Rattle.soctest.proofs.FileStages.{done_of}
+use Rattle.commands.specs.Readings.{IsRead}
+use Rattle.commands.specs.Procedures.{nothing}
+use Rattle.soctest.specs.LogReadings.{with_log}
+use Rattle.commands.specs.Decides.{Follows}
+use Rattle.commands.proofs.AllFiles.{not_all}
+use Rattle.commands.proofs.FileStages.{done_of}
 use Rattle.soctest.proofs.LogFiles.{after_plan, after_log, not_log}
 use Rattle.soctest.proofs.deciding.decide_locate.Goals as goal
 

@@ -1,5 +1,5 @@
 use Rattle.soctest.specs.Procedures.{done_with_plan}
-use Rattle.soctest.proofs.AllFiles.{not_both}
+use Rattle.commands.proofs.AllFiles.{not_both}
 use Rattle.soctest.proofs.deciding.decide_plan.Goals as goal
 
 pub returns-in-Err-clause-follows : goal.returns-in-Err-clause-follows

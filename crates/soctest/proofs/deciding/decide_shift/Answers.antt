@@ -1,8 +1,9 @@
 use Rattle.soc_model.specs.Chips.{soc_value}
 use Rattle.plan_model.specs.Views.{plan_value}
-use Rattle.soctest.specs.Procedures.{done_with, with_program}
+use Rattle.commands.specs.Procedures.{done_with}
+use Rattle.soctest.specs.Procedures.{with_program}
 use Rattle.soctest.specs.ShiftPrograms.{accepted_program}
-use Rattle.soctest.proofs.AllFiles.{not_all, after_all}
+use Rattle.commands.proofs.AllFiles.{not_all, after_all}
 use Rattle.soctest.proofs.ProgramAnswers.{program_answered, program_unread}
 use Rattle.soctest.proofs.deciding.decide_shift.Goals as goal
 

@@ -2,9 +2,10 @@ use Rattle.bit_machine.specs.Chips.{made_content}
 use Rattle.tester_vectors.specs.VectorText.{vector_text}
 use Rattle.soc_model.specs.Chips.{soc_value}
 use Rattle.plan_model.specs.Views.{limits_value, plan_value}
-use Rattle.soctest.specs.Procedures.{Unless, done_with, run_refusal}
-use Rattle.soctest.proofs.FileStages.{unless_refused}
-use Rattle.soctest.proofs.AllFiles.{not_all, after_all}
+use Rattle.commands.specs.Procedures.{Unless, done_with}
+use Rattle.soctest.specs.Procedures.{run_refusal}
+use Rattle.commands.proofs.FileStages.{unless_refused}
+use Rattle.commands.proofs.AllFiles.{not_all, after_all}
 use Rattle.soctest.proofs.deciding.decide_vectors.Goals as goal
 
 pub returns-in-Ok-clause-follows : goal.returns-in-Ok-clause-follows

@@ -3,7 +3,7 @@ use Rattle.soc_model.specs.Chips.{soc_value}
 use Rattle.sample_maker.specs.declared.SampleFault.TheVariants.{SampleSize}
 use Rattle.soctest.specs.Procedures.{done_with_sample, sample_refusal}
 use Rattle.soctest.specs.Samples.{sample_line}
-use Rattle.soctest.proofs.FileStages.{line_refuses, unless_line}
+use Rattle.commands.proofs.FileStages.{line_refuses, unless_line}
 use Rattle.soctest.proofs.MadeLimits.{limits_sound, refused}
 use Rattle.soctest.proofs.samples.decide_sample.Goals as goal
 

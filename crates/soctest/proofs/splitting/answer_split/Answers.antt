@@ -6,7 +6,8 @@ use Rattle.plan_model.specs.Views.{limits_value}
 use Rattle.planner.specs.Plans.{IsPlanned}
 use Rattle.split_plan.specs.Parts.{SplitValue, split_chip, split_limits, split_of}
 use Rattle.soctest.specs.SplitText.{split_line, split_refusal, split_text}
-use Rattle.soctest.proofs.PartsServed.{none_passed, passed_first, gives_text, gives_line}
+use Rattle.soctest.proofs.PartsServed.{none_passed, passed_first}
+use Rattle.commands.proofs.FileStages.{gives_text, gives_line}
 use Rattle.soctest.proofs.splitting.answer_split.Goals as goal
 
 pub returns-in-Ok : goal.returns-in-Ok

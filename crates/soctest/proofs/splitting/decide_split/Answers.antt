@@ -4,10 +4,11 @@ use Rattle.plan_model.specs.Plans.{PlanValue}
 use Rattle.plan_model.specs.Views.{limits_value}
 use Rattle.planner.specs.Plans.{IsPlanned}
 use Rattle.split_plan.specs.Parts.{split_chip, split_limits, split_of}
-use Rattle.soctest.specs.Procedures.{Unless, done_with_split}
+use Rattle.commands.specs.Procedures.{Unless}
+use Rattle.soctest.specs.Procedures.{done_with_split}
 use Rattle.soctest.specs.SplitText.{split_refusal, split_text}
-use Rattle.soctest.proofs.AllFiles.{not_both, after_both}
-use Rattle.soctest.proofs.PartsServed.{unless_any}
+use Rattle.commands.proofs.AllFiles.{not_both, after_both}
+use Rattle.commands.proofs.FileStages.{unless_any}
 use Rattle.soctest.proofs.splitting.decide_split.Goals as goal
 
 pub returns-in-Ok-clause-follows : goal.returns-in-Ok-clause-follows

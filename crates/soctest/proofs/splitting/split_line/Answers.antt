@@ -1,8 +1,8 @@
 use Rattle.std.proofs.Common.{arith}
 use Rattle.std.specs.Prelude.{IsTrue}
 use Rattle.std.proofs.lemmas.Grind.{common_steps}
-use Rattle.soctest.specs.Texts.{no_feed}
-use Rattle.soctest.proofs.LineFacts.{line_from}
+use Rattle.commands.specs.Texts.{no_feed}
+use Rattle.commands.proofs.LineFacts.{line_from}
 use Rattle.soctest.proofs.splitting.split_line.Goals as goal
 
 pub returns-clause-line : goal.returns-clause-line

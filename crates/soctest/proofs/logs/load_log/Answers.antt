@@ -1,9 +1,9 @@
 use Rattle.std.proofs.Common.{rules, ◌≡◌, Err, subst}
 use Rattle.fail_locate.specs.LogAnswers.{LogRead, SaysLog}
-use Rattle.soctest.specs.declared.FileKind.TheVariants.{Log}
-use Rattle.soctest.proofs.FileStages.{read_from}
+use Rattle.commands.specs.declared.FileKind.TheVariants.{Log}
+use Rattle.commands.proofs.FileStages.{read_from}
 use Rattle.soctest.proofs.LogFiles.{log_refused, log_unread}
-use Rattle.soctest.proofs.loading.load_log.Goals as goal
+use Rattle.soctest.proofs.logs.load_log.Goals as goal
 
 pub returns-in_err-bytes-clause-loads : goal.returns-in_err-bytes-clause-loads
 returns-in_err-bytes-clause-loads g c =

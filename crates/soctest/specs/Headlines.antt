@@ -1,0 +1,53 @@
+-- What the commands promise of the plans and bounds that they print or accept.
+use Rattle.std.specs.Prelude.{◌≡◌, ℕ, List, Option, Some}
+use Rattle.std.specs.FinMap.{get}
+use Rattle.outside.specs.Held.{Files}
+use Rattle.soc_model.specs.Chips.{SocValue}
+use Rattle.plan_model.specs.Plans.{PlanValue}
+use Rattle.plan_text.specs.PlanLines.{plan_text}
+use Rattle.chart.specs.ChartText.{chart_text}
+use Rattle.bit_machine.specs.Chips.{made_content}
+use Rattle.tester_vectors.specs.VectorText.{vector_text}
+use Rattle.sample_maker.specs.Samples.{made_chip}
+use Rattle.fail_locate.specs.LogAnswers.{SaysLog}
+use Rattle.shift_program.specs.Programs.{ProgramValue}
+use Rattle.commands.specs.declared.FileKind.TheVariants.{Log, Program}
+use Rattle.commands.specs.declared.Status.{Status}
+use Rattle.commands.specs.declared.Status.TheVariants.{Done}
+use Rattle.commands.specs.Readings.{IsRead}
+use Rattle.commands.specs.Trusted.{IsChipIn, AreLimitsIn, IsPlanIn, IsMade, IsTrustworthy}
+use Rattle.soctest.specs.Commands.{CommandValue, Print, Widths, MakePlan, Check, Chart, Vectors, Sample, TreeBound, SplitTests, Shift, Locate}
+use Rattle.soctest.specs.Texts.{accepted_line}
+use Rattle.soctest.specs.Samples.{sample_limits, sample_text}
+use Rattle.soctest.specs.LocateText.{locate_text}
+use Rattle.soctest.specs.ShiftPrograms.{SaysRight, accepted_program}
+use Rattle.soctest.specs.TreeBounds.{IsShownBound}
+use Rattle.soctest.specs.SplitEnds.{IsTrustworthySplit}
+
+-- the fails of a file's log
+abbrev pub AreFailsIn : Files → (log : List ℕ) → List (ℕ × ℕ) → Type 0
+AreFailsIn files log fails = IsRead Log SaysLog (get files log) fails
+
+-- the text is that of a file's program, which is right for its test in the plan and takes at least the test's cycles
+abbrev pub TellsProgram : Files → (program : List ℕ) → SocValue → PlanValue → List ℕ → Type 0
+TellsProgram files program chip value text = (shifts : ProgramValue) × IsRead Program (SaysRight chip value) (get files program) shifts × (text ≡ accepted_program chip value shifts)
+
+-- what the commands over a plan or a bound promise of it, over the files that they name
+abbrev pub Trusts : CommandValue → Files → Option (List ℕ) → Option (List ℕ) → Type 0
+Trusts (Print soc) files old new = Unit {0}
+Trusts (Widths soc wires) files old new = Unit {0}
+Trusts (MakePlan soc limits) files old new = IsTrustworthy (IsChipIn files soc) (AreLimitsIn files limits) IsMade (λ chip value text. text ≡ plan_text value) old new
+Trusts (Check soc limits plan) files old new = IsTrustworthy (IsChipIn files soc) (AreLimitsIn files limits) (IsPlanIn files plan) (λ chip value text. text ≡ accepted_line value) old new
+Trusts (Chart soc limits plan) files old new = IsTrustworthy (IsChipIn files soc) (AreLimitsIn files limits) (IsPlanIn files plan) (λ chip value text. text ≡ chart_text chip value) old new
+Trusts (Vectors soc limits plan seed) files old new = IsTrustworthy (IsChipIn files soc) (AreLimitsIn files limits) (IsPlanIn files plan) (λ chip value text. text ≡ vector_text chip value (made_content chip seed)) old new
+Trusts (Sample n seed) files old new = IsTrustworthy (λ chip. chip ≡ made_chip n seed) (λ chip bounds. bounds ≡ sample_limits) IsMade (λ chip value text. text ≡ sample_text n seed chip value) old new
+Trusts (Shift soc limits plan program) files old new = IsTrustworthy (IsChipIn files soc) (AreLimitsIn files limits) (IsPlanIn files plan) (TellsProgram files program) old new
+Trusts (Locate soc limits plan log) files old new =
+    IsTrustworthy (IsChipIn files soc) (AreLimitsIn files limits) (IsPlanIn files plan) (λ chip value text. (fails : List (ℕ × ℕ)) × AreFailsIn files log fails × (text ≡ locate_text chip value fails)) old new
+Trusts (TreeBound soc limits tree) files old new = IsShownBound files soc limits tree old new
+Trusts (SplitTests soc limits most) files old new = IsTrustworthySplit files soc limits most old new
+
+-- The headline, for each command, where the shelf tells what it holds.
+abbrev pub Headline : Option CommandValue → Option Files → Option (List ℕ) → Status → Option (List ℕ) → Type 0
+Headline command held old end new =
+    (files : Files) (given : CommandValue) → held ≡ Some files → command ≡ Some given → end ≡ Done → Trusts given files old new
