@@ -1,11 +1,11 @@
 -- Pairs that are counted and listed one by one.
-use Rattle.std.proofs.Common.{◌≡◌, ◌⊎◌, inl, inr, ℕ, zero, suc, ◌+◌, ◌<◌, ◌≤◌, List, [], ◌∷◌, ◌++◌, length, get_or, take, map, Bool, true, false, cond, ◌&&◌, nat_eq, refl, sym, ◌∙◌, ap, arith, append-nil, add-zero}
-use Rattle.std.specs.Prelude.{slice_index, slice_index_or, slice_set}
+use Rattle.std.proofs.Common.{◌≡◌, ◌⊎◌, inl, inr, ℕ, zero, suc, ◌+◌, ◌<◌, ◌≤◌, List, [], ◌∷◌, ◌++◌, length, get_or, take, Bool, true, false, ◌&&◌, nat_eq, refl, sym, ◌∙◌, ap, arith, add-zero}
+use Rattle.std.specs.Prelude.{slice_index, slice_set}
 use Rattle.std.specs.List.{All}
 use Rattle.std.proofs.lemmas.Grind.{common_steps}
 use Rattle.std.proofs.lemmas.Bool.{cases_eq}
 use Rattle.std.proofs.lemmas.Bool.Decides.{nat_tests}
-use Rattle.std.proofs.lemmas.List.{take_more, map-set, get_or-map, length-map}
+use Rattle.std.proofs.lemmas.List.{take_more}
 use Rattle.std.proofs.lemmas.List.Elements.{All-get_or}
 use Rattle.limits_text.specs.Orders.{one_if, holds_back, held, Counts}
 

@@ -1,5 +1,5 @@
 -- What the reader's values stand for.
-use Rattle.std.specs.Prelude.{◌≡◌, ℕ, List, map, reverse, Option, None, Some, Result, Ok, Err}
+use Rattle.std.specs.Prelude.{◌≡◌, List, map, reverse, Option, None, Some, Result, Ok, Err}
 use Rattle.std.specs.List.{list_any}
 use Rattle.soc_model.specs.declared.TestId.{TestId}
 use Rattle.soc_model.specs.Chips.{same_test}
