@@ -135,7 +135,7 @@ pub running_first : (soc : SocValue) (plan : PlanValue) (seed : ℕ) → IsRunni
 unfolding run_with
 running_first soc plan seed = record { soc_is = refl; plan_is = refl; seed_is = refl; cycle_is = refl; state_is = refl }
 
-flat_more : (f : ℕ → List ℕ) (a n m : ℕ) → a + n ≡ m → flat_map f (range_with_len a (suc n)) ≡ flat_map f (range_with_len a n) ++ f m
+pub flat_more : (f : ℕ → List ℕ) (a n m : ℕ) → a + n ≡ m → flat_map f (range_with_len a (suc n)) ≡ flat_map f (range_with_len a n) ++ f m
 flat_more f a zero m e = let same : a ≡ m = omega arith in rw same (append-nil (f m))
 flat_more f a (suc n) m e =
     ap (λ (t : List ℕ). f a ++ t) (flat_more f (a + 1) n m (omega arith))

@@ -17,11 +17,11 @@ mod lines;
 mod text;
 
 pub use laws::{marks_are_reads, vectors_run_as_shown};
-use outside::{Sink, put_all};
+use outside::Sink;
 use plan_model::Plan;
 use soc_model::Soc;
 use std::alloc::Global;
-use text::{all_wires, is_too_long, made_text, wire_cycles};
+use text::{Run, all_wires, is_too_long, made_text, wire_cycles};
 
 /// The cycles of a run of vectors times its wires, at most. A plan without wires counts as one of one wire.
 pub const RUN_MOST: u128 = 20_000_000;
@@ -76,6 +76,8 @@ pub fn vector_text(alloc: Global, soc: &Soc, plan: &Plan, seed: u64) -> Result<V
 
 /// Writes the vectors of a good plan of a sound chip, with the made contents of a seed, as [`vector_text`] makes them.
 ///
+/// All memory is taken first. Then the first line is put by itself, and the others in blocks of whole lines.
+///
 /// `RunTooLong` comes exactly where cycles times wires pass [`RUN_MOST`]; then, and with `NoMemory`, nothing is written.
 /// `WriteFault` comes only where the number of the sink's faults rose, and a front of the text is then written.
 pub fn write_vectors<K: Sink>(
@@ -101,12 +103,17 @@ pub fn write_vectors<K: Sink>(
     ensures fault { result ≡ Outcome.WriteFault → Rose (K.faults out.old) (K.faults out.new) }
     ensures front { result ≡ Outcome.WriteFault → AppendedFront (K.written out.old) (whole_text (soc_value soc.now) (plan_value plan.now) (made_content (soc_value soc.now) seed)) (K.written out.new) }
 {
-    match vector_text(alloc, soc, plan, seed) {
-        Ok(text) => match put_all(out, &text) {
-            Ok(()) => Outcome::Written,
-            Err(_) => Outcome::WriteFault,
-        },
-        Err(VectorFault::RunTooLong { cells }) => Outcome::RunTooLong { cells },
-        Err(VectorFault::NoMemory) => Outcome::NoMemory,
+    let wires = all_wires(&plan.buses);
+    let cells = wire_cycles(plan.cycles, wires);
+    if is_too_long(cells) {
+        return Outcome::RunTooLong { cells };
+    }
+    let mut run = match Run::new(alloc, soc, plan, seed, wires) {
+        Ok(run) => run,
+        Err(_) => return Outcome::NoMemory,
+    };
+    match run.write(plan.cycles, out) {
+        Ok(()) => Outcome::Written,
+        Err(_) => Outcome::WriteFault,
     }
 }

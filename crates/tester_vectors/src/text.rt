@@ -1,23 +1,26 @@
-// The whole text, by stepping the chip.
-ghost use Rattle.std.specs.Prelude.{◌≡◌, ℕ, ◌+◌, ◌*◌, ◌++◌, ◌<◌, ◌≤◌, ◌^◌, true, length, map, max, slice_get, nat_lt, IfOk, OnOk};
-ghost use Rattle.std.specs.List.{flat_map, range_with_len, sum_by};
+// A run of vectors, cycle by cycle, and its text.
+ghost use Rattle.std.specs.Prelude.{◌≡◌, ℕ, ◌+◌, ◌*◌, ◌++◌, ◌<◌, ◌≤◌, true, length, max, slice_get, nat_lt, take, IfOk, OnOk, OnErr};
+ghost use Rattle.std.specs.List.{sum_by};
 ghost use Rattle.soc_model.specs.Chips.{soc_value};
 ghost use Rattle.soc_model.specs.SoundChips.{IsSoundChip};
+ghost use Rattle.outside.specs.Held.{Rose, Appended, AppendedFront};
 ghost use Rattle.plan_model.specs.declared.Bus.{Bus};
-ghost use Rattle.plan_model.specs.Plans.{planned};
 ghost use Rattle.plan_model.specs.Rules.{IsGoodAlone};
 ghost use Rattle.plan_model.specs.Views.{plan_value};
 ghost use Rattle.bit_machine.specs.Chips.{wires_of, made_content, chip_content, chip_tests, carried_bits, shown_bits, IsCompared};
 ghost use Rattle.tester_vectors.specs.VectorText.{head_line, cycle_line, vector_text};
-ghost use Rattle.tester_vectors.specs.Lines.{IsRunning, IsWide};
+ghost use Rattle.tester_vectors.specs.Lines.{lines_of, IsRunAt, IsRunning, IsWide};
 
 use crate::RUN_MOST;
-use crate::lines::push_line;
+use crate::lines::put_line;
 use bit_machine::Chip;
-use outside::{NoMemory, extend, push_number};
+use outside::{NoMemory, Sink, WriteFault, copied, extend, push_number, put_all};
 use plan_model::{Bus, Plan};
 use soc_model::Soc;
 use std::alloc::Global;
+
+/// How many bytes of lines are written at a time, some.
+const BLOCK: usize = 65_536;
 
 /// The wires of all buses.
 pub fn all_wires(buses: &[Bus]) -> u64
@@ -45,15 +48,28 @@ pub fn is_too_long(cells: u128) -> bool
     cells > RUN_MOST
 }
 
-/// An empty text with room for all lines.
-fn empty_text(alloc: Global, cycles: u64, wires: u64) -> Result<Vec<u8>, NoMemory>
-    requires few { wires ≤ 256 }
-    requires short { cycles * max 1 wires ≤ 20000000 }
-    ensures { IfOk result (λ text. length text.items ≡ 0) }
+/// The characters of a cycle's line: two for each wire, a space and a line feed.
+fn line_length(wires: usize) -> usize
+    requires { wires ≤ 256 }
+    ensures { result ≡ 2 * wires + 2 }
 {
-    let room = 64 + cycles * (2 * wires + 2);
-    let text = Vec::with_capacity(alloc, room as usize)?;
-    Ok(text)
+    2 * wires + 2
+}
+
+/// How many lines a block has, at least one: some [`BLOCK`] bytes, and no more lines than there are.
+fn lines_in_block(line: usize, cycles: u64) -> u64
+    requires { 1 ≤ line }
+    ensures some { 1 ≤ result }
+    ensures few { result * line ≤ 65536 + line }
+{
+    ((BLOCK / line) as u64).min(cycles).max(1)
+}
+
+/// So many bytes.
+fn bytes(alloc: Global, count: usize) -> Result<Vec<u8>, NoMemory>
+    ensures { IfOk result (λ text. length text.items ≡ count) }
+{
+    vec![in alloc; 0u8; count].map_err(|_| NoMemory)
 }
 
 /// Appends the first line.
@@ -116,40 +132,166 @@ impl Wires {
     }
 }
 
-/// Does one cycle of the chip, and appends its line.
-fn push_cycle(text: &mut Vec<u8>, chip: &mut Chip<'_>, wires: &mut Wires) -> Result<(), NoMemory>
+/// Does one cycle of the chip, and writes its line from a place on.
+fn put_cycle(text: &mut [u8], at: usize, chip: &mut Chip<'_>, wires: &mut Wires)
     requires left { chip.old.cycle < chip.old.plan.cycles }
     requires good { IsGoodAlone chip.old.soc chip.old.plan }
     requires running { IsRunning chip.old.soc chip.old.plan chip.old.seed chip.old.cycle chip.old }
     requires wide { IsWide (wires_of chip.old.plan) wires.old }
+    requires fits { at + (2 * wires_of chip.old.plan + 2) ≤ length text.old }
     ensures running { IsRunning chip.old.soc chip.old.plan chip.old.seed (chip.old.cycle + 1) chip.new }
     ensures wide { IsWide (wires_of chip.old.plan) wires.new }
-    ensures text { OnOk result (text.new.items ≡ text.old.items ++ cycle_line (chip_content chip.old) (chip_tests chip.old) (wires_of chip.old.plan) chip.old.cycle) }
+    ensures text { take (at + (2 * wires_of chip.old.plan + 2)) text.new ≡ take at text.old ++ cycle_line (chip_content chip.old) (chip_tests chip.old) (wires_of chip.old.plan) chip.old.cycle }
 {
     wires.step(chip);
-    push_line(text, &wires.drive, &wires.care, &wires.read)
+    put_line(text, at, &wires.drive, &wires.care, &wires.read);
 }
 
-/// Appends the lines of all cycles.
-fn push_cycles(
-    text: &mut Vec<u8>,
-    chip: &mut Chip<'_>,
-    wires: &mut Wires,
-    cycles: u64,
-) -> Result<(), NoMemory>
-    requires cycles { cycles ≡ chip.old.plan.cycles }
+/// Does so many cycles of the chip, and fills the front of a block with their lines.
+fn fill(text: &mut [u8], line: usize, chip: &mut Chip<'_>, wires: &mut Wires, count: u64)
+    requires line { line ≡ 2 * wires_of chip.old.plan + 2 }
+    requires left { chip.old.cycle + count ≤ chip.old.plan.cycles }
     requires good { IsGoodAlone chip.old.soc chip.old.plan }
-    requires running { IsRunning chip.old.soc chip.old.plan chip.old.seed 0 chip.old }
+    requires running { IsRunning chip.old.soc chip.old.plan chip.old.seed chip.old.cycle chip.old }
     requires wide { IsWide (wires_of chip.old.plan) wires.old }
-    ensures { OnOk result (text.new.items ≡ text.old.items ++ flat_map (cycle_line (chip_content chip.old) (chip_tests chip.old) (wires_of chip.old.plan)) (range_with_len 0 cycles)) }
+    requires fits { count * line ≤ length text.old }
+    ensures running { IsRunning chip.old.soc chip.old.plan chip.old.seed (chip.old.cycle + count) chip.new }
+    ensures wide { IsWide (wires_of chip.old.plan) wires.new }
+    ensures text { take (count * line) text.new ≡ lines_of chip.old chip.old.cycle count }
 {
-    for _cycle in 0..cycles {
-        push_cycle(text, chip, wires)?;
+    let mut at = 0;
+    for _line in 0..count {
+        put_cycle(text, at, chip, wires);
+        at += line;
     }
-    Ok(())
 }
 
-/// The whole text of a run that is short enough.
+/// All that a run of vectors needs, before its first cycle.
+#[derive(Drop)]
+pub struct Run<'a> {
+    chip: Chip<'a>,
+    wires: Wires,
+    /// The first line.
+    head: Vec<u8>,
+    /// The bytes of a line, the lines of a block, and the block.
+    line: usize,
+    lines: u64,
+    block: Vec<u8>,
+}
+
+impl<'a> Run<'a> {
+    /// A run of a good plan of a sound chip.
+    pub fn new(
+        alloc: Global,
+        soc: &'a Soc,
+        plan: &'a Plan,
+        seed: u64,
+        wires: u64,
+    ) -> Result<Run<'a>, NoMemory>
+        requires sound { IsSoundChip (soc_value soc.now) }
+        requires good { IsGoodAlone (soc_value soc.now) (plan_value plan.now) }
+        requires wires { wires ≡ wires_of (plan_value plan.now) }
+        requires few { wires ≤ 256 }
+        ensures { IfOk result (IsRunAt (soc_value soc.now) (plan_value plan.now) seed 0) }
+    {
+        let line = line_length(wires as usize);
+        let lines = lines_in_block(line, plan.cycles);
+        let block = bytes(alloc, lines as usize * line)?;
+        let chip = Chip::new(alloc, soc, plan, seed)?;
+        let wires_now = Wires::new(alloc, wires as usize)?;
+        let mut head = Vec::new(alloc);
+        push_head(&mut head, wires, plan.cycles)?;
+        Ok(Run {
+            chip,
+            wires: wires_now,
+            head,
+            line,
+            lines,
+            block,
+        })
+    }
+
+    /// Fills the block with the lines from a cycle on, as many as it has room for, and answers how many these are.
+    fn next_block(&mut self, done: u64, cycles: u64) -> u64
+        requires at { IsRunAt self.old.chip.soc self.old.chip.plan self.old.chip.seed done self.old }
+        requires good { IsGoodAlone self.old.chip.soc self.old.chip.plan }
+        requires cycles { cycles ≡ self.old.chip.plan.cycles }
+        requires left { done < cycles }
+        ensures some { 1 ≤ result }
+        ensures within { done + result ≤ cycles }
+        ensures at { IsRunAt self.old.chip.soc self.old.chip.plan self.old.chip.seed (done + result) self.new }
+        ensures size { result * self.new.line ≤ length self.new.block.items }
+        ensures head { self.new.head ≡ self.old.head }
+        ensures text { take (result * self.new.line) self.new.block.items ≡ lines_of self.old.chip done result }
+    {
+        let count = self.lines.min(cycles - done);
+        fill(
+            &mut self.block,
+            self.line,
+            &mut self.chip,
+            &mut self.wires,
+            count,
+        );
+        count
+    }
+
+    /// Writes the whole text: the first line by itself, and then block by block, each of whole lines.
+    pub fn write<K: Sink>(&mut self, cycles: u64, out: &mut K) -> Result<(), WriteFault>
+        requires at { IsRunAt self.old.chip.soc self.old.chip.plan self.old.chip.seed 0 self.old }
+        requires good { IsGoodAlone self.old.chip.soc self.old.chip.plan }
+        requires cycles { cycles ≡ self.old.chip.plan.cycles }
+        ensures faults_never_fall { K.faults out.old ≤ K.faults out.new }
+        ensures all { OnOk result (Appended (K.written out.old) (vector_text self.old.chip.soc self.old.chip.plan (chip_content self.old.chip)) (K.written out.new)) }
+        ensures front { OnErr result (AppendedFront (K.written out.old) (vector_text self.old.chip.soc self.old.chip.plan (chip_content self.old.chip)) (K.written out.new)) }
+        ensures fault { OnErr result (Rose (K.faults out.old) (K.faults out.new)) }
+    {
+        put_all(out, &self.head)?;
+        match self.write_lines(cycles, out) {
+            Ok(()) => Ok(()),
+            Err(fault) => Err(fault),
+        }
+    }
+
+    /// Writes the lines of all cycles.
+    fn write_lines<K: Sink>(&mut self, cycles: u64, out: &mut K) -> Result<(), WriteFault>
+        requires at { IsRunAt self.old.chip.soc self.old.chip.plan self.old.chip.seed 0 self.old }
+        requires good { IsGoodAlone self.old.chip.soc self.old.chip.plan }
+        requires cycles { cycles ≡ self.old.chip.plan.cycles }
+        ensures faults_never_fall { K.faults out.old ≤ K.faults out.new }
+        ensures all { OnOk result (Appended (K.written out.old) (lines_of self.old.chip 0 cycles) (K.written out.new)) }
+        ensures front { OnErr result (AppendedFront (K.written out.old) (lines_of self.old.chip 0 cycles) (K.written out.new)) }
+        ensures fault { OnErr result (Rose (K.faults out.old) (K.faults out.new)) }
+    {
+        let mut done = 0;
+        while done < cycles {
+            let count = self.next_block(done, cycles);
+            let size = count as usize * self.line;
+            put_all(out, &self.block[..size])?;
+            done += count;
+        }
+        Ok(())
+    }
+
+    /// The whole text in memory.
+    fn text(&mut self, alloc: Global, cycles: u64) -> Result<Vec<u8>, NoMemory>
+        requires at { IsRunAt self.old.chip.soc self.old.chip.plan self.old.chip.seed 0 self.old }
+        requires good { IsGoodAlone self.old.chip.soc self.old.chip.plan }
+        requires cycles { cycles ≡ self.old.chip.plan.cycles }
+        ensures { IfOk result (λ text. text.items ≡ vector_text self.old.chip.soc self.old.chip.plan (chip_content self.old.chip)) }
+    {
+        let mut text = copied(alloc, &self.head)?;
+        let mut done = 0;
+        while done < cycles {
+            let count = self.next_block(done, cycles);
+            let size = count as usize * self.line;
+            extend(&mut text, &self.block[..size])?;
+            done += count;
+        }
+        Ok(text)
+    }
+}
+
+/// The whole text of a run in memory.
 pub fn made_text(
     alloc: Global,
     soc: &Soc,
@@ -161,13 +303,8 @@ pub fn made_text(
     requires good { IsGoodAlone (soc_value soc.now) (plan_value plan.now) }
     requires wires { wires ≡ wires_of (plan_value plan.now) }
     requires few { wires ≤ 256 }
-    requires short { plan.now.cycles * max 1 wires ≤ 20000000 }
     ensures { IfOk result (λ text. text.items ≡ vector_text (soc_value soc.now) (plan_value plan.now) (made_content (soc_value soc.now) seed)) }
 {
-    let mut text = empty_text(alloc, plan.cycles, wires)?;
-    let mut chip = Chip::new(alloc, soc, plan, seed)?;
-    let mut bits = Wires::new(alloc, wires as usize)?;
-    push_head(&mut text, wires, plan.cycles)?;
-    push_cycles(&mut text, &mut chip, &mut bits, plan.cycles)?;
-    Ok(text)
+    let mut run = Run::new(alloc, soc, plan, seed, wires)?;
+    run.text(alloc, plan.cycles)
 }

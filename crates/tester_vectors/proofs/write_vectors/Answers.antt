@@ -1,14 +1,47 @@
+use Rattle.std.proofs.Common.{◌≡◌, false, ◌<◌, ℕ}
 use Rattle.soc_model.specs.Chips.{soc_value}
 use Rattle.plan_model.specs.Rules.{bare_limits}
 use Rattle.plan_model.specs.Views.{plan_value}
-use Rattle.bit_machine.specs.Chips.{made_content}
+use Rattle.bit_machine.specs.Chips.{wires_of, made_content}
+use Rattle.tester_vectors.proofs.Blocks.{not_too_long, wires_are}
+use Rattle.tester_vectors.proofs.CycleLines.{good_itself}
 use Rattle.tester_vectors.proofs.DrivenByText.{runs_as_shown}
+use Rattle.tester_vectors.proofs.ReadBits.{marks_read}
 use Rattle.tester_vectors.proofs.write_vectors.Goals as goal
 
-pub returns-in-Err-RunTooLong-clause-run : goal.returns-in-Err-RunTooLong-clause-run
-returns-in-Err-RunTooLong-clause-run g c =
-    runs_as_shown (soc_value c.args.soc.now) (bare_limits (plan_value c.args.plan.now)) (plan_value c.args.plan.now) (made_content (soc_value c.args.soc.now) c.args.seed) c.requires.good
+pub write-requires-clause-good : goal.write-requires-clause-good
+write-requires-clause-good g c = good_itself (soc_value c.args.soc.now) (plan_value c.args.plan.now) c.args.seed 0 c.in-Ok.run'.chip c.in-Ok.ensures.running c.requires.good
+
+pub returns-then-is_too_long-clause-run : goal.returns-then-is_too_long-clause-run
+returns-then-is_too_long-clause-run g c = runs_as_shown (soc_value c.args.soc.now) (bare_limits (plan_value c.args.plan.now)) (plan_value c.args.plan.now) (made_content (soc_value c.args.soc.now) c.args.seed) c.requires.good
+
+pub returns-then-is_too_long-clause-marks : goal.returns-then-is_too_long-clause-marks
+returns-then-is_too_long-clause-marks g c = marks_read (soc_value c.args.soc.now) (bare_limits (plan_value c.args.plan.now)) (plan_value c.args.plan.now) (made_content (soc_value c.args.soc.now) c.args.seed) c.requires.good
+
+pub returns-in-Err-clause-run : goal.returns-in-Err-clause-run
+returns-in-Err-clause-run g c = runs_as_shown (soc_value c.args.soc.now) (bare_limits (plan_value c.args.plan.now)) (plan_value c.args.plan.now) (made_content (soc_value c.args.soc.now) c.args.seed) c.requires.good
+
+pub returns-in-Err-clause-marks : goal.returns-in-Err-clause-marks
+returns-in-Err-clause-marks g c = marks_read (soc_value c.args.soc.now) (bare_limits (plan_value c.args.plan.now)) (plan_value c.args.plan.now) (made_content (soc_value c.args.soc.now) c.args.seed) c.requires.good
+
+pub returns-in-Ok-write-clause-run : goal.returns-in-Ok-write-clause-run
+returns-in-Ok-write-clause-run g c = runs_as_shown (soc_value c.args.soc.now) (bare_limits (plan_value c.args.plan.now)) (plan_value c.args.plan.now) (made_content (soc_value c.args.soc.now) c.args.seed) c.requires.good
+
+pub returns-in-Ok-write-clause-marks : goal.returns-in-Ok-write-clause-marks
+returns-in-Ok-write-clause-marks g c = marks_read (soc_value c.args.soc.now) (bare_limits (plan_value c.args.plan.now)) (plan_value c.args.plan.now) (made_content (soc_value c.args.soc.now) c.args.seed) c.requires.good
 
 pub returns-clause-run : goal.returns-clause-run
-returns-clause-run g c =
-    runs_as_shown (soc_value c.args.soc.now) (bare_limits (plan_value c.args.plan.now)) (plan_value c.args.plan.now) (made_content (soc_value c.args.soc.now) c.args.seed) c.requires.good
+returns-clause-run g c = runs_as_shown (soc_value c.args.soc.now) (bare_limits (plan_value c.args.plan.now)) (plan_value c.args.plan.now) (made_content (soc_value c.args.soc.now) c.args.seed) c.requires.good
+
+pub returns-clause-marks : goal.returns-clause-marks
+returns-clause-marks g c = marks_read (soc_value c.args.soc.now) (bare_limits (plan_value c.args.plan.now)) (plan_value c.args.plan.now) (made_content (soc_value c.args.soc.now) c.args.seed) c.requires.good
+
+pub returns-in-Ok-write-clause-too_long : goal.returns-in-Ok-write-clause-too_long
+returns-in-Ok-write-clause-too_long g c = λ long.
+    let wires : c.all_wires-wires.result ≡ wires_of (plan_value c.args.plan.now) = wires_are c.args.plan.now.buses.items c.deref.result.now c.all_wires-wires.result c.all_wires-wires.ensures c.deref.ensures.value in
+    absurd (not_too_long c.args.plan.now.cycles c.all_wires-wires.result (wires_of (plan_value c.args.plan.now)) c.wire_cycles-cells.result c.is_too_long.result wires c.wire_cycles-cells.ensures c.is_too_long.ensures c.if-is_too_long.false long)
+
+pub returns-clause-too_long : goal.returns-clause-too_long
+returns-clause-too_long g c = λ long.
+    let wires : c.all_wires-wires.result ≡ wires_of (plan_value c.args.plan.now) = wires_are c.args.plan.now.buses.items c.deref.result.now c.all_wires-wires.result c.all_wires-wires.ensures c.deref.ensures.value in
+    absurd (not_too_long c.args.plan.now.cycles c.all_wires-wires.result (wires_of (plan_value c.args.plan.now)) c.wire_cycles-cells.result c.is_too_long.result wires c.wire_cycles-cells.ensures c.is_too_long.ensures c.if-is_too_long.false long)
