@@ -22,3 +22,4 @@ pub mod Balance
 pub mod Summing
 pub mod Loads
 pub mod RoomSizes
+pub mod Levels
