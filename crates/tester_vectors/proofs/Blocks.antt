@@ -1,5 +1,5 @@
 -- Lines that are written into a block, and blocks one after another.
-use Rattle.std.proofs.Common.{◌≡◌, ℕ, zero, suc, ◌+◌, ◌-◌, ◌*◌, ◌≤◌, ◌<◌, Bool, List, [], ◌∷◌, ◌++◌, length, get_or, map, set, take, refl, ap, sym, subst, ◌∙◌, arith, append_assoc, Option, None, Some, true, false, true≢false, max}
+use Rattle.std.proofs.Common.{◌≡◌, ℕ, zero, suc, ◌+◌, ◌-◌, ◌*◌, ◌≤◌, ◌<◌, Bool, List, [], ◌∷◌, ◌++◌, length, get_or, map, set, take, refl, ap, sym, subst, ◌∙◌, arith, append_assoc, Option, false, true≢false, max}
 use Rattle.std.specs.Prelude.{nat_lt}
 use Rattle.std.proofs.lemmas.Bool.{lt-ltb}
 use Rattle.tester_vectors.specs.declared.TheConstants.{RUN_MOST}

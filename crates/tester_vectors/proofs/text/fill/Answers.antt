@@ -1,6 +1,6 @@
-use Rattle.std.proofs.Common.{◌≡◌, ◌+◌, ◌++◌, ◌*◌, ◌∙◌, ap, sym, subst, ℕ, take, arith}
+use Rattle.std.proofs.Common.{◌≡◌, ◌+◌, ◌++◌, ◌*◌, ap, sym, subst, take, arith}
 use Rattle.plan_model.specs.Plans.{PlanValue}
-use Rattle.bit_machine.specs.Chips.{ChipValue, wires_of, chip_content, chip_tests}
+use Rattle.bit_machine.specs.Chips.{wires_of, chip_content, chip_tests}
 use Rattle.tester_vectors.specs.Lines.{IsRunning, IsWide}
 use Rattle.tester_vectors.specs.VectorText.{cycle_line}
 use Rattle.tester_vectors.proofs.Blocks.{line_fits, block_more}

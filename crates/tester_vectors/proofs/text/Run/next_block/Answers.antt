@@ -1,4 +1,4 @@
-use Rattle.std.proofs.Common.{◌≡◌, ◌+◌, ◌*◌, ◌∙◌, ap, refl, subst, length, take, arith}
+use Rattle.std.proofs.Common.{◌≡◌, ◌*◌, ◌∙◌, ap, refl, subst, length, take, arith}
 use Rattle.std.proofs.lemmas.List.{with_items_is}
 use Rattle.tester_vectors.specs.Lines.{lines_of}
 use Rattle.tester_vectors.proofs.Blocks.{run_on, block_fits}

@@ -1,4 +1,4 @@
-use Rattle.std.proofs.Common.{◌≡◌, ◌+◌, ◌*◌, ◌++◌, ◌∙◌, ap, take}
+use Rattle.std.proofs.Common.{◌≡◌, ◌+◌, ◌*◌, ◌∙◌, ap, take}
 use Rattle.bit_machine.specs.Chips.{wires_of, chip_content, chip_tests}
 use Rattle.tester_vectors.specs.Lines.{lines_of}
 use Rattle.tester_vectors.specs.VectorText.{head_line, cycle_line}

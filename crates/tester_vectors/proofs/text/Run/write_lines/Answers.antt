@@ -1,4 +1,4 @@
-use Rattle.std.proofs.Common.{rules, ◌≡◌, ◌+◌, ◌-◌, ◌*◌, ◌++◌, ◌∙◌, Err, ap, sym, subst, take, List, ℕ, arith}
+use Rattle.std.proofs.Common.{rules, ◌≡◌, ◌+◌, ◌-◌, ◌*◌, ◌∙◌, Err, ap, subst, take, List, ℕ, arith}
 use Rattle.outside.specs.Held.{Appended}
 use Rattle.outside.proofs.PieceLemmas.{Appended-then}
 use Rattle.bit_machine.specs.Chips.{wires_of, chip_content, chip_tests}
