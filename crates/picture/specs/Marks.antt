@@ -6,7 +6,7 @@ use Rattle.live_tests.specs.declared.placed.PlacedTest.{PlacedTest}
 use Rattle.picture.specs.declared.panels.Outline.{Outline}
 use Rattle.picture.specs.declared.panels.Panel.{Panel}
 use Rattle.picture.specs.declared.panels.Drawn.{Drawn}
-use Rattle.picture.specs.Panels.{outline}
+use Rattle.picture.specs.Panels.{outline_of}
 
 -- the sides of a rectangle, behind the name of its class
 unfoldable pub sides : Outline → List ℕ
@@ -35,7 +35,7 @@ has_room o id = nat_le (7 * (length (decimal id.module) + length (decimal id.tes
 
 -- one of four fills, by the place of the module
 abbrev pub fill : (place : ℕ) → List ℕ
-fill place = 97 + place % 4 ∷ []
+fill place = (97 + place % 4) ∷ []
 
 -- what a reader is told of a test: its module and its number, the cycle at which it starts, and the first one after it
 unfoldable pub title_text : PlacedTest → List ℕ
@@ -50,7 +50,7 @@ unfoldable pub name_text : Outline → TestId → List ℕ
 name_text o id = if has_room o id then label_at (codes "m") (middle o.x o.width) (middle o.y o.height + 4) ++ (dotted_numbers id.module id.test ++ label_end) else []
 
 abbrev pub test_text : Panel → Drawn → List ℕ
-test_text p d = box_text (outline p d.rectangle) d.test ++ name_text (outline p d.rectangle) d.test.id
+test_text p d = box_text (outline_of p d.rectangle) d.test ++ name_text (outline_of p d.rectangle) d.test.id
 
 -- ---- buses
 
@@ -64,7 +64,7 @@ bus_name o place = if is_high o then label_at (codes "e") 74 (middle o.y o.heigh
 -- that of the bus at a place, over all cycles
 abbrev pub bus_text : Panel → (place : ℕ) → (wires : ℕ × ℕ) → List ℕ
 bus_text p place wires =
-    let o = outline p (record { start = 0; end = p.cycles; first = wires.0; last = wires.1 }) in
+    let o = outline_of p (record { start = 0; end = p.cycles; first = wires.0; last = wires.1 }) in
     bus_frame o place (wires.1 - wires.0) ++ bus_name o place
 
 abbrev pub bus_texts : Panel → (place : ℕ) → List (ℕ × ℕ) → List ℕ

@@ -17,8 +17,8 @@ abbrev pub row_line : Panel → (row : ℕ) → ℕ
 row_line p row = p.top + scaled row p.rows p.height
 
 -- a rectangle in units: at least one wide, and one high
-abbrev pub outline : Panel → Rectangle → Outline
-outline p r = record {
+abbrev pub outline_of : Panel → Rectangle → Outline
+outline_of p r = record {
   x = column r.start p.cycles;
   y = row_line p r.first;
   width = max 1 (column r.end p.cycles - column r.start p.cycles);

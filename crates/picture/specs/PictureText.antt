@@ -78,11 +78,14 @@ bound_side x = if nat_le 580 x then label_at (codes "e") (x - 4) 32 else label_a
 unfoldable pub bound_text : (x bound : ℕ) → List ℕ
 bound_text x bound = bound_side x ++ (codes "bound " ++ (decimal bound ++ label_end))
 
--- down to the end of the picture
-unfoldable pub lines_text : (cycles bound bottom : ℕ) → List ℕ
-lines_text cycles bound bottom =
-    codes "<path class='l' d='M1080 16V" ++ (decimal bottom ++ (codes "M" ++ (decimal (column bound cycles) ++ (codes " 32V" ++ (decimal bottom ++ (codes "'/>\n" ++
-    (label_at (codes "e") 1076 16 ++ (codes "cycles " ++ (decimal cycles ++ (label_end ++ bound_text (column bound cycles) bound))))))))))
+-- that of the bound at a place, both down to the end of the picture
+unfoldable pub lines_at : (x cycles bound bottom : ℕ) → List ℕ
+lines_at x cycles bound bottom =
+    codes "<path class='l' d='M1080 16V" ++ (decimal bottom ++ (codes "M" ++ (decimal x ++ (codes " 32V" ++ (decimal bottom ++ (codes "'/>\n" ++
+    (label_at (codes "e") 1076 16 ++ (codes "cycles " ++ (decimal cycles ++ (label_end ++ bound_text x bound))))))))))
+
+abbrev pub lines_text : (cycles bound bottom : ℕ) → List ℕ
+lines_text cycles bound bottom = lines_at (column bound cycles) cycles bound bottom
 
 -- ---- the whole
 

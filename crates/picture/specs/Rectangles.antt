@@ -1,6 +1,6 @@
 -- The rectangles of tests, in cycles and wires, or in cycles and lanes.
-use Rattle.std.specs.Prelude.{ℕ, ◌+◌, ◌≤◌, Bool, ◌&&◌, Option, None, Some, List, [], ◌∷◌, ◌++◌, length, set, slice_get, nat_eq, nat_le, nat_lt, is_none, if◌then◌else◌}
-use Rattle.std.specs.List.{filter, flat_map, position_or_len, range_with_len}
+use Rattle.std.specs.Prelude.{ℕ, ◌+◌, ◌≤◌, Bool, ◌&&◌, Option, None, Some, List, [], ◌∷◌, ◌++◌, length, position, set, slice_get, unwrap_or, nat_eq, nat_le, nat_lt, is_none, if◌then◌else◌}
+use Rattle.std.specs.List.{filter, flat_map, range_with_len}
 use Rattle.plan_model.specs.Plans.{PlanValue, widths}
 use Rattle.live_tests.specs.declared.placed.PlacedTest.{PlacedTest}
 use Rattle.picture.specs.declared.panels.Rectangle.{Rectangle}
@@ -52,7 +52,7 @@ by_start last tests = flat_map (λ c. filter (starts_at c) tests) (range_with_le
 
 -- the first lane that is free at a cycle, by the ends of the last tests of all lanes; else the one after them
 abbrev pub free_lane : (ends : List ℕ) → (start : ℕ) → ℕ
-free_lane ends start = position_or_len (λ end. nat_le end start) ends
+free_lane ends start = unwrap_or (position (λ end. nat_le end start) ends) (length ends)
 
 -- a test more in a lane
 abbrev pub with_end : (ends : List ℕ) → (lane end : ℕ) → List ℕ

@@ -9,18 +9,19 @@ ghost use Rattle.plan_model.specs.Rules.{IsGood};
 ghost use Rattle.plan_model.specs.SoundLimits.{IsSoundLimits};
 ghost use Rattle.plan_model.specs.Views.{limits_value, plan_value};
 ghost use Rattle.live_tests.specs.declared.placed.PlacedTest.{PlacedTest as the_placed};
-ghost use Rattle.live_tests.specs.Placed.{placed_tests};
 ghost use Rattle.power_events.specs.Events.{HasSteps};
 ghost use Rattle.power_events.specs.Loads.{drawn_by, load_steps};
-ghost use Rattle.picture.specs.Laws.{AreApart, AreParts, StaysWithin};
-ghost use Rattle.picture.specs.PictureText.{bottom_of as the_bottom, inner_text, picture_text, plan_steps, wires_text};
-ghost use Rattle.picture.specs.Rectangles.{bus_wires as wires_of_buses, wired as the_wired};
+ghost use Rattle.picture.specs.Laws.{AreParts};
+ghost use Rattle.picture.specs.PictureText.{bottom_of as the_bottom, inner_text, picture_text, wires_text};
+ghost use Rattle.picture.specs.Rectangles.{wired as the_wired};
 
+mod laws;
 mod marks;
 mod panels;
 mod rectangles;
 mod sections;
 
+pub use laws::good_plans_draw_right;
 use live_tests::{PlacedTest, PlacedTests};
 use marks::{push_buses, push_tests};
 use outside::{NoMemory, extend};
@@ -62,6 +63,20 @@ fn bottom_of(end: u64, cycles: u64, power: Option<u64>) -> u64
     }
 }
 
+/// The steps of what tests draw, which is at most a number.
+fn steps_below(
+    alloc: Global,
+    limits: &Limits,
+    tests: &[PlacedTest],
+    most: u64,
+) -> Result<Vec<(u64, u64)>, NoMemory>
+    requires steps { (i : ℕ) (t : the_placed) → slice_get tests.now i ≡ Some t → HasSteps (limits_value limits.now) t }
+    requires within { (c : ℕ) → drawn_by (limits_value limits.now) tests.now c ≤ most }
+    ensures { (last : ℕ) → ((i : ℕ) (t : the_placed) → slice_get tests.now i ≡ Some t → t.end ≤ last) → IfOk result (λ steps. steps.items ≡ load_steps (drawn_by (limits_value limits.now) tests.now) last) }
+{
+    power_steps(alloc, limits, tests)
+}
+
 /// The steps of what tests draw, where there is a limit on power.
 fn steps_under(
     alloc: Global,
@@ -73,7 +88,7 @@ fn steps_under(
     ensures { (last most : ℕ) → ((i : ℕ) (t : the_placed) → slice_get tests.now i ≡ Some t → t.end ≤ last) → limits.now.power ≡ Some most → IfOk result (λ steps. steps.items ≡ load_steps (drawn_by (limits_value limits.now) tests.now) last) }
 {
     match limits.power {
-        Some(_) => power_steps(alloc, limits, tests),
+        Some(most) => steps_below(alloc, limits, tests, most),
         None => Ok(Vec::new(alloc)),
     }
 }
@@ -153,8 +168,6 @@ pub fn print_picture(
     requires sound_limits { IsSoundLimits (soc_value soc.now) (limits_value limits.now) }
     requires good { IsGood (soc_value soc.now) (limits_value limits.now) (plan_value plan.now) }
     ensures text { IfOk result (λ text. text.items ≡ picture_text (soc_value soc.now) (limits_value limits.now) (plan_value plan.now)) }
-    ensures apart { AreApart (the_wired (wires_of_buses (plan_value plan.now)) (placed_tests (soc_value soc.now) (plan_value plan.now))) }
-    ensures within { StaysWithin (limits_value limits.now) (plan_steps (soc_value soc.now) (limits_value limits.now) (plan_value plan.now)) }
 {
     let parts = parts_of(alloc, soc, limits, plan)?;
     let mut text = Vec::new(alloc);

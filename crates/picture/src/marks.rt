@@ -3,7 +3,7 @@ ghost use Rattle.std.specs.Prelude.{◌≡◌, ◌++◌, ◌≤◌, ◌<◌, ◌
 ghost use Rattle.std.specs.List.{flat_map};
 ghost use Rattle.picture.specs.Marks.{box_text, bus_frame, bus_name, bus_text, bus_texts, fill, has_room as the_room, is_high as the_high, label_at, label_end, middle as the_middle, name_text, sides, test_text, title_text};
 
-use crate::panels::{Drawn, Outline, Panel, Rectangle, outline};
+use crate::panels::{Drawn, Outline, Panel, Rectangle, outline_of};
 use itoa::Buffer;
 use live_tests::PlacedTest;
 use outside::{NoMemory, extend, push, push_dotted, push_number};
@@ -131,7 +131,7 @@ fn push_name(text: &mut Vec<u8>, outline: &Outline, id: TestId) -> Result<(), No
 pub fn push_test(text: &mut Vec<u8>, panel: &Panel, drawn: &Drawn) -> Result<(), NoMemory>
     ensures { OnOk result (text.new.items ≡ text.old.items ++ test_text panel.now drawn.now) }
 {
-    let outline = outline(panel, &drawn.rectangle);
+    let outline = outline_of(panel, &drawn.rectangle);
     push_box(text, &outline, &drawn.test)?;
     push_name(text, &outline, drawn.test.id)
 }
@@ -195,7 +195,7 @@ fn push_bus(
         first,
         last,
     };
-    let outline = outline(panel, &all);
+    let outline = outline_of(panel, &all);
     push_frame(text, &outline, place, last.saturating_sub(first))?;
     push_bus_name(text, &outline, place)
 }

@@ -1,6 +1,6 @@
 // From cycles and rows to the units of a picture.
 ghost use Rattle.std.specs.Prelude.{◌≡◌, ◌-◌, ◌^◌, ◌≤◌, max};
-ghost use Rattle.picture.specs.Panels.{below as end_of_panel, column as the_column, lanes_panel as the_lanes, outline as the_outline, row_line as the_line, scaled as the_scaled, wires_panel as the_wires};
+ghost use Rattle.picture.specs.Panels.{below as end_of_panel, column as the_column, lanes_panel as the_lanes, outline_of as the_outline, row_line as the_line, scaled as the_scaled, wires_panel as the_wires};
 
 use live_tests::PlacedTest;
 
@@ -39,6 +39,7 @@ pub struct Outline {
 }
 
 /// Where a part of all stands on a stretch of so many units.
+#[tactic(auto, unfolding(crate::specs::Panels::scaled))]
 pub fn scaled(part: u64, all: u64, size: u32) -> u32
     ensures is { result ≡ the_scaled part all size }
     ensures within { result ≤ size }
@@ -74,7 +75,7 @@ fn gap(from: u64, to: u64) -> u64
 }
 
 /// A rectangle of a panel in units, at least one wide and one high.
-pub fn outline(panel: &Panel, rectangle: &Rectangle) -> Outline
+pub fn outline_of(panel: &Panel, rectangle: &Rectangle) -> Outline
     ensures { result ≡ the_outline panel.now rectangle.now }
 {
     let x = column(rectangle.start, panel.cycles);

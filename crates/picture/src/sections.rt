@@ -1,7 +1,7 @@
 // The parts of a picture, from its head to its lines.
 ghost use Rattle.std.specs.Prelude.{◌≡◌, ◌++◌, ◌≤◌, ◌^◌, OnOk};
 ghost use Rattle.std.specs.List.{flat_map};
-ghost use Rattle.picture.specs.PictureText.{bound_side, bound_text, frame_text, head_text, lanes_name, lanes_text, limit_text, lines_text, load_line as the_load_line, load_text, power_text, step_text, style_text};
+ghost use Rattle.picture.specs.PictureText.{bound_side, bound_text, frame_text, head_text, lanes_name, lanes_text, limit_text, lines_at, lines_text, load_line as the_load_line, load_text, power_text, step_text, style_text};
 
 use crate::marks::{end_label, push_entry, push_label, push_tests};
 use crate::panels::{Drawn, Panel, column, scaled};
@@ -197,17 +197,19 @@ fn push_bound(text: &mut Vec<u8>, x: u64, bound: u64) -> Result<(), NoMemory>
     end_label(text)
 }
 
-/// Appends the lines of the last cycle and of the bound, down to the end of the picture, with their numbers.
-#[tactic(auto, unfolding(crate::specs::PictureText::lines_text))]
-pub fn push_lines(
+/// Appends the lines of the last cycle and of the bound, which is at a place, with their numbers.
+#[tactic(auto, unfolding(crate::specs::PictureText::lines_at))]
+fn push_lines_at(
     text: &mut Vec<u8>,
+    x: u64,
     cycles: u64,
     bound: u64,
     bottom: u64,
 ) -> Result<(), NoMemory>
-    ensures { OnOk result (text.new.items ≡ text.old.items ++ lines_text cycles bound bottom) }
+    requires left { 80 ≤ x }
+    requires right { x ≤ 1080 }
+    ensures { OnOk result (text.new.items ≡ text.old.items ++ lines_at x cycles bound bottom) }
 {
-    let x = column(bound, cycles);
     push_entry(text, b"<path class='l' d='M1080 16V", bottom)?;
     push_entry(text, b"M", x)?;
     push_entry(text, b" 32V", bottom)?;
@@ -216,4 +218,16 @@ pub fn push_lines(
     push_entry(text, b"cycles ", cycles)?;
     end_label(text)?;
     push_bound(text, x, bound)
+}
+
+/// Appends the lines of the last cycle and of the bound, down to the end of the picture, with their numbers.
+pub fn push_lines(
+    text: &mut Vec<u8>,
+    cycles: u64,
+    bound: u64,
+    bottom: u64,
+) -> Result<(), NoMemory>
+    ensures { OnOk result (text.new.items ≡ text.old.items ++ lines_text cycles bound bottom) }
+{
+    push_lines_at(text, column(bound, cycles), cycles, bound, bottom)
 }

@@ -1,0 +1,4 @@
+pub mod Apart
+pub mod Joining
+pub mod PartsOfPlans
+pub mod Starts
