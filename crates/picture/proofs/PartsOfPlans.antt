@@ -1,8 +1,9 @@
 -- What a good plan says of the tests that a picture is drawn from.
-use Rattle.std.proofs.Common.{◌≡◌, ℕ, zero, suc, ◌+◌, ◌-◌, ◌≤◌, ◌<◌, ◌^◌, Bool, true, false, Option, None, Some, List, [], ◌∷◌, ◌++◌, length, get_or, map, refl, sym, ap, ◌∙◌, subst, fun_ext, arith, inl, inr}
+use Rattle.std.proofs.Common.{◌≡◌, ℕ, zero, suc, ◌+◌, ◌-◌, ◌≤◌, ◌<◌, ◌^◌, Bool, true, false, Option, None, Some, List, [], ◌∷◌, ◌++◌, length, get_or, map, refl, sym, ap, ◌∙◌, subst, arith, inl, inr}
 use Rattle.std.specs.Prelude.{slice_get, if◌then◌else◌}
 use Rattle.std.specs.List.{filter, sum, sum_by}
 use Rattle.std.proofs.lemmas.Option.{slice_get_within, get_or_from_slice_get}
+use Rattle.std.proofs.Math.Path.{fun_ext}
 use Rattle.soc_model.specs.Chips.{SocValue}
 use Rattle.soc_model.proofs.Sums.{sum_by-map}
 use Rattle.plan_model.specs.declared.Bus.{Bus}
@@ -89,4 +90,8 @@ inner_is soc limits plan parts power cycles bound end t4 t3 t2 t1 t0 p power_is 
     ∙ same_power (below lanes + 24) plan.cycles limits.power parts.steps.items (plan_steps soc limits plan) p.steps in
     let n : lines_text cycles bound parts.bottom ≡ lines_text plan.cycles plan.bound.cycles (bottom_of (below lanes) plan.cycles limits.power) =
     ap (λ v. lines_text v bound parts.bottom) cycles_is ∙ ap (λ v. lines_text plan.cycles v parts.bottom) bound_is ∙ ap (lines_text plan.cycles plan.bound.cycles) p.bottom in
-    behind (behind (behind (e4 ∙ ap (λ v. t3 ++ v) n) (e3 ∙ ap (λ v. t2 ++ v) s)) (e2 ∙ ap (λ v. t1 ++ v) l)) (e1 ∙ ap (λ v. t0 ++ v) w)
+    let w' = wires_text (wires_panel plan.cycles limits.wires) (bus_wires plan) (placed_tests soc plan) in
+    let l' = lanes_text lanes (laned [] (self_tests soc plan)) in
+    let s' = power_text (below lanes + 24) plan.cycles limits.power (plan_steps soc limits plan) in
+    let n' = lines_text plan.cycles plan.bound.cycles (bottom_of (below lanes) plan.cycles limits.power) in
+    behind t4 t1 t0 w' (l' ++ (s' ++ n')) (behind t4 t2 t1 l' (s' ++ n') (behind t4 t3 t2 s' n' (e4 ∙ ap (λ v. t3 ++ v) n) (e3 ∙ ap (λ v. t2 ++ v) s)) (e2 ∙ ap (λ v. t1 ++ v) l)) (e1 ∙ ap (λ v. t0 ++ v) w)

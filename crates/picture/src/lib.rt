@@ -28,7 +28,7 @@ use outside::{NoMemory, extend};
 use panels::{Drawn, Panel, below, lanes_panel, wires_panel};
 use plan_model::{Limits, Plan, good_without_limits};
 use power_events::power_steps;
-use rectangles::{bus_wires, by_start, laned, wired};
+use rectangles::{bus_wires, by_start, lane_count, laned, wired};
 use sections::{push_frame, push_head, push_lanes, push_lines, push_power};
 use soc_model::Soc;
 use std::alloc::Global;
@@ -53,13 +53,7 @@ fn bottom_of(end: u64, cycles: u64, power: Option<u64>) -> u64
 {
     match power {
         None => end,
-        Some(_) => {
-            if cycles == 0 {
-                end
-            } else {
-                end + 124
-            }
-        }
+        Some(_) => { if cycles == 0 { end } else { end + 124 } }
     }
 }
 
@@ -108,7 +102,7 @@ fn parts_of(alloc: Global, soc: &Soc, limits: &Limits, plan: &Plan) -> Result<Pa
     let own = by_start(alloc, placed)?;
     let lanes = laned(alloc, &own)?;
     let steps = steps_under(alloc, limits, placed)?;
-    let panel = lanes_panel(plan.cycles, limits.wires, lanes.ends.len() as u64);
+    let panel = lanes_panel(plan.cycles, limits.wires, lane_count(&lanes));
     let bottom = bottom_of(below(&panel), plan.cycles, limits.power);
     Ok(Parts {
         wires: wires_panel(plan.cycles, limits.wires),
@@ -174,7 +168,13 @@ pub fn print_picture(
     push_head(&mut text, parts.bottom + 12)?;
     push_frame(&mut text, &parts.wires)?;
     if plan.cycles != 0 {
-        push_inner(&mut text, &parts, limits.power, plan.cycles, plan.bound.cycles)?;
+        push_inner(
+            &mut text,
+            &parts,
+            limits.power,
+            plan.cycles,
+            plan.bound.cycles,
+        )?;
     }
     extend(&mut text, b"</svg>\n")?;
     Ok(text)

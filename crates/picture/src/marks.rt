@@ -201,11 +201,7 @@ fn push_bus(
 }
 
 /// Appends all buses.
-pub fn push_buses(
-    text: &mut Vec<u8>,
-    panel: &Panel,
-    buses: &[(u64, u64)],
-) -> Result<(), NoMemory>
+pub fn push_buses(text: &mut Vec<u8>, panel: &Panel, buses: &[(u64, u64)]) -> Result<(), NoMemory>
     ensures { OnOk result (text.new.items ≡ text.old.items ++ bus_texts panel.now 0 buses.now) }
 {
     for place in 0..buses.len() {

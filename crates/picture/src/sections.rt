@@ -221,12 +221,7 @@ fn push_lines_at(
 }
 
 /// Appends the lines of the last cycle and of the bound, down to the end of the picture, with their numbers.
-pub fn push_lines(
-    text: &mut Vec<u8>,
-    cycles: u64,
-    bound: u64,
-    bottom: u64,
-) -> Result<(), NoMemory>
+pub fn push_lines(text: &mut Vec<u8>, cycles: u64, bound: u64, bottom: u64) -> Result<(), NoMemory>
     ensures { OnOk result (text.new.items ≡ text.old.items ++ lines_text cycles bound bottom) }
 {
     push_lines_at(text, column(bound, cycles), cycles, bound, bottom)

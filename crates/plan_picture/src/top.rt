@@ -10,7 +10,7 @@ use commands::{
     Status, Verdict, answered_with, bad_words, files_say_one_thing, load_all, write_verdict,
 };
 use outside::{Shelf, Sink};
-use picture::print_picture;
+use picture::{good_plans_draw_right, print_picture};
 use plan_model::{certificates_are_bounds, good_plans_run_right};
 use std::alloc::Global;
 
@@ -100,6 +100,7 @@ pub fn draw<H: Shelf, K: Sink>(
     good_plans_run_right();
     certificates_are_bounds();
     files_say_one_thing();
+    good_plans_draw_right();
     let verdict = decide(alloc, words, shelf);
     write_verdict(verdict, out)
 }

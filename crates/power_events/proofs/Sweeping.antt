@@ -168,14 +168,14 @@ same_swept events at steps begun ended load begun' ended' d within swept other b
           let next : slice_get events (at + 1) ≡ Some g = slice_get-get_or events (at + 1) d more in
           elim (cases_eq (get_or events at d).cycle g.cycle) [
             | inl same ↦ record {
-                next = λ x there. omega (arith, cycle_is x there, same, s.next g next);
-                earlier = λ j x less there. elim (s.earlier j x (omega arith) there) [
-                  | inl low ↦ inl low
-                  | inr h ↦
-                      let g_is : (h.0).cycle ≡ g.cycle = ap (λ (e : Event). e.cycle) (some_is (sym h.1 ∙ next)) in
-                      inr (get_or events at d, here, omega (arith, h.2, g_is, same))
-                ];
-              }
+              next = λ x there. omega (arith, cycle_is x there, same, s.next g next);
+              earlier = λ j x less there. elim (s.earlier j x (omega arith) there) [
+                | inl low ↦ inl low
+                | inr h ↦
+                    let g_is : (h.0).cycle ≡ g.cycle = ap (λ (e : Event). e.cycle) (some_is (sym h.1 ∙ next)) in
+                    inr (get_or events at d, here, omega (arith, h.2, g_is, same))
+              ];
+            }
             | inr apart ↦ absurd (other (λ x y there there' same. apart (omega (arith, cycle_is x there, same, ap (λ (e : Event). e.cycle) (some_is (sym there' ∙ next))))))
           ]
       | inr past ↦ absurd (other (λ x y there there' same. omega (arith, slice_get_within events (at + 1) y there', past)))
@@ -183,9 +183,10 @@ same_swept events at steps begun ended load begun' ended' d within swept other b
 
 -- what the events by the cycle of a last one of its cycle begin and end
 pub swept_sums : (events : List Event) (at : ℕ) (steps : List (ℕ × ℕ)) (begun ended load : ℕ) (d : Event) → IsNonDecreasingBy (λ (e : Event). e.cycle) events → at < length events → IsSwept events at steps begun ended load → IsLastOf events at → (begun + (get_or events at d).begins ≡ begun_by events (get_or events at d).cycle) × (ended + (get_or events at d).ends ≡ ended_by events (get_or events at d).cycle)
-swept_sums events at steps begun ended load d sorted within swept last =
-    (omega (arith, swept.begun_is, sum_by_more begins_of events at d within, sum_to begins_of events (at + 1) (get_or events at d).cycle first later),
-     omega (arith, swept.ended_is, sum_by_more ends_of events at d within, sum_to ends_of events (at + 1) (get_or events at d).cycle first later))
+swept_sums events at steps begun ended load d sorted within swept last = (
+  omega (arith, swept.begun_is, sum_by_more begins_of events at d within, sum_to begins_of events (at + 1) (get_or events at d).cycle first later),
+  omega (arith, swept.ended_is, sum_by_more ends_of events at d within, sum_to ends_of events (at + 1) (get_or events at d).cycle first later),
+)
   where
     here : slice_get events at ≡ Some (get_or events at d)
     here = slice_get-get_or events at d within
@@ -260,10 +261,10 @@ last_swept events at steps steps' begun ended load begun' ended' now d sorted wi
         let now_here : f (get_or events at d).cycle ≡ now = load_from f n is s (get_or events at d).cycle (omega arith) low in
         let one : AreSteps f (suc (get_or events at d).cycle) steps' now = record {
           steps_are = pushed
-          ∙ ap (λ l. l ++ with_change load (get_or events at d).cycle now) a.steps_are
-          ∙ ap (λ v. steps_to f (get_or events at d).cycle ++ with_change v (get_or events at d).cycle now) a.load_is
-          ∙ ap (λ v. steps_to f (get_or events at d).cycle ++ with_change (before f (get_or events at d).cycle) (get_or events at d).cycle v) (sym now_here)
-          ∙ sym (step_more f (get_or events at d).cycle);
+              ∙ ap (λ l. l ++ with_change load (get_or events at d).cycle now) a.steps_are
+              ∙ ap (λ v. steps_to f (get_or events at d).cycle ++ with_change v (get_or events at d).cycle now) a.load_is
+              ∙ ap (λ v. steps_to f (get_or events at d).cycle ++ with_change (before f (get_or events at d).cycle) (get_or events at d).cycle v) (sym now_here)
+              ∙ sym (step_more f (get_or events at d).cycle);
           load_is = sym now_here;
         } in
         let k : ℕ = n - suc (get_or events at d).cycle in
