@@ -10,9 +10,9 @@ use Rattle.picture.specs.Panels.{below, wires_panel}
 use Rattle.picture.specs.PictureText.{bottom_of, lanes_of, plan_steps, self_tests}
 use Rattle.picture.specs.Rectangles.{bus_wires, covers, laned, wired}
 
--- no two rectangles have a cycle of a wire in common
+-- no two rectangles have a cycle of a row in common: of a wire, or of a lane
 abbrev pub AreApart : List Drawn → Type 0
-AreApart drawn = (cycle wire : ℕ) → length (filter (covers cycle wire) drawn) ≤ 1
+AreApart drawn = (cycle row : ℕ) → length (filter (covers cycle row) drawn) ≤ 1
 
 -- under a limit no step is above it
 abbrev pub StaysWithin : LimitsValue → List (ℕ × ℕ) → Type 0

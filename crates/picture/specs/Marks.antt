@@ -56,7 +56,7 @@ test_text p d = box_text (outline_of p d.rectangle) d.test ++ name_text (outline
 
 -- the frame of a bus, and beside it its place, where there is room
 unfoldable pub bus_frame : Outline → (place wires : ℕ) → List ℕ
-bus_frame o place wires = codes "<rect class='w" ++ (sides o ++ (codes "<title>bus " ++ (decimal place ++ (codes ": " ++ (decimal wires ++ codes " wires</title></rect>\n")))))
+bus_frame o place wires = codes "<rect class='w" ++ (sides o ++ (codes "<title>bus " ++ (decimal place ++ (codes ", width " ++ (decimal wires ++ codes "</title></rect>\n")))))
 
 unfoldable pub bus_name : Outline → (place : ℕ) → List ℕ
 bus_name o place = if is_high o then label_at (codes "e") 74 (middle o.y o.height + 4) ++ (codes "bus " ++ (decimal place ++ label_end)) else []

@@ -30,7 +30,7 @@ head_text height =
 
 -- the frame of the wires
 unfoldable pub frame_text : Panel → List ℕ
-frame_text p = codes "<rect class='w' x='80' y='40' width='1000' height='" ++ (decimal p.height ++ (codes "'><title>" ++ (decimal p.rows ++ codes " wires</title></rect>\n")))
+frame_text p = codes "<rect class='w' x='80' y='40' width='1000' height='" ++ (decimal p.height ++ (codes "'><title>wires " ++ (decimal p.rows ++ codes "</title></rect>\n")))
 
 -- ---- the wires and the lanes
 

@@ -34,9 +34,9 @@ over_bus buses t (Some bus) = over_wires t (slice_get buses bus)
 abbrev pub wired : List (ℕ × ℕ) → List PlacedTest → List Drawn
 wired buses tests = flat_map (λ t. over_bus buses t t.bus) tests
 
--- the rectangle has the cycle on the wire
-abbrev pub covers : (cycle wire : ℕ) → Drawn → Bool
-covers cycle wire d = (nat_le d.rectangle.start cycle && nat_lt cycle d.rectangle.end) && (nat_le d.rectangle.first wire && nat_lt wire d.rectangle.last)
+-- the rectangle has the cycle in the row
+abbrev pub covers : (cycle row : ℕ) → Drawn → Bool
+covers cycle row d = (nat_le d.rectangle.start cycle && nat_lt cycle d.rectangle.end) && (nat_le d.rectangle.first row && nat_lt row d.rectangle.last)
 
 -- ---- in lanes
 

@@ -160,8 +160,8 @@ fn push_frame(
     push_sides(text, outline)?;
     extend(text, b"<title>bus ")?;
     push_number(text, place as u128)?;
-    push_entry(text, b": ", wires)?;
-    extend(text, b" wires</title></rect>\n")
+    push_entry(text, b", width ", wires)?;
+    extend(text, b"</title></rect>\n")
 }
 
 /// Appends the place of a bus beside its frame, where there is room.

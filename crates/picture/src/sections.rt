@@ -52,8 +52,8 @@ pub fn push_frame(text: &mut Vec<u8>, panel: &Panel) -> Result<(), NoMemory>
         b"<rect class='w' x='80' y='40' width='1000' height='",
         u64::from(panel.height),
     )?;
-    push_entry(text, b"'><title>", panel.rows)?;
-    extend(text, b" wires</title></rect>\n")
+    push_entry(text, b"'><title>wires ", panel.rows)?;
+    extend(text, b"</title></rect>\n")
 }
 
 /// Appends what the lanes are, where there are any.

@@ -1,5 +1,5 @@
 -- A plan that is drawn is the one of its files, and runs right.
-use Rattle.std.proofs.Common.{◌≡◌, ℕ, List, Option, None, Some, true}
+use Rattle.std.proofs.Common.{◌≡◌, ℕ, List, [], Option, None, Some, true}
 use Rattle.std.specs.FinMap.{get}
 use Rattle.outside.specs.Held.{Files, Appended}
 use Rattle.plan_model.specs.Plans.{LimitsValue, PlanValue}
@@ -8,8 +8,8 @@ use Rattle.plan_text.specs.Answers.{SaysPlan}
 use Rattle.plan_model.specs.Rules.{IsGood}
 use Rattle.live_tests.specs.Placed.{placed_tests}
 use Rattle.picture.specs.Laws.{AreApart, StaysWithin}
-use Rattle.picture.specs.PictureText.{picture_text, plan_steps}
-use Rattle.picture.specs.Rectangles.{bus_wires, wired}
+use Rattle.picture.specs.PictureText.{picture_text, plan_steps, self_tests}
+use Rattle.picture.specs.Rectangles.{bus_wires, laned, wired}
 use Rattle.commands.specs.declared.FileKind.TheVariants.{Plan}
 use Rattle.commands.specs.declared.Status.{Status}
 use Rattle.commands.specs.declared.Status.TheVariants.{Done}
@@ -31,6 +31,7 @@ settled laws (Some names) = settled_all laws true names.soc names.limits names.p
 -- the laws of pictures
 pub record PictureLaws : Type 0 where
   pub apart : (soc : SocValue) (limits : LimitsValue) (plan : PlanValue) → IsGood soc limits plan → AreApart (wired (bus_wires plan) (placed_tests soc plan))
+  pub lanes : (soc : SocValue) (limits : LimitsValue) (plan : PlanValue) → IsGood soc limits plan → AreApart (laned [] (self_tests soc plan))
   pub within : (soc : SocValue) (limits : LimitsValue) (plan : PlanValue) → IsGood soc limits plan → StaysWithin limits (plan_steps soc limits plan)
 
 drawn : TrustLaws → PictureLaws → (files : Files) (names : FilesNamed) (text : List ℕ) (old new : Option (List ℕ)) → Answers (procedure_of names) files Done text → Appended old text new → IsDrawn files names old new
@@ -47,6 +48,7 @@ drawn laws pictures files names text old new answer put =
       right = λ content. laws.right b.0 b.1 c.0 content c.1.says.1.0;
       bound = laws.bound b.0 b.1 (c.0).bound b.3.says.sound.some_wire c.1.says.1.1;
       apart = pictures.apart b.0 b.1 c.0 c.1.says.1.0;
+      lanes = pictures.lanes b.0 b.1 c.0 c.1.says.1.0;
       within = pictures.within b.0 b.1 c.0 c.1.says.1.0;
       written = rw c.2.1 at put;
     }
