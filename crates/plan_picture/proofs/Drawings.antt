@@ -1,5 +1,5 @@
 -- A plan that is drawn is the one of its files, and runs right.
-use Rattle.std.proofs.Common.{◌≡◌, ℕ, List, [], Option, None, Some, true}
+use Rattle.std.proofs.Common.{◌≡◌, ℕ, List, [], Option, None, Some, subst, true}
 use Rattle.std.specs.FinMap.{get}
 use Rattle.outside.specs.Held.{Files, Appended}
 use Rattle.plan_model.specs.Plans.{LimitsValue, PlanValue}
@@ -56,4 +56,4 @@ drawn laws pictures files names text old new answer put =
 pub headline : TrustLaws → PictureLaws → (asked_for : Option FilesNamed) (held : Option Files) (sb sa kb ka : ℕ) (old new : Option (List ℕ)) (end : Status) → Ends (MayAnswer (asked procedure_of asked_for) held sb sa) kb ka old end new → Headline asked_for held old end new
 headline laws pictures asked_for held sb sa kb ka old new end ends files names is given done =
     let a = done_answer (asked procedure_of asked_for) held sb sa kb ka old new end files ends is done in
-    drawn laws pictures files names a.0 old new (rw given at a.1) a.2
+    drawn laws pictures files names a.0 old new (subst (λ (o : Option FilesNamed). Answers (asked procedure_of o) files Done a.0) given a.1) a.2
