@@ -1,0 +1,5 @@
+pub mod Apart
+pub mod Joining
+pub mod LanesApart
+pub mod PartsOfPlans
+pub mod Starts

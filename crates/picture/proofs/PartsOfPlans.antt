@@ -1,0 +1,97 @@
+-- What a good plan says of the tests that a picture is drawn from.
+use Rattle.std.proofs.Common.{◌≡◌, ℕ, zero, suc, ◌+◌, ◌-◌, ◌≤◌, ◌<◌, ◌^◌, Bool, true, false, Option, None, Some, List, [], ◌∷◌, ◌++◌, length, get_or, map, refl, sym, ap, ◌∙◌, subst, arith, inl, inr}
+use Rattle.std.specs.Prelude.{slice_get, if◌then◌else◌}
+use Rattle.std.specs.List.{filter, sum, sum_by}
+use Rattle.std.proofs.lemmas.Option.{slice_get_within, get_or_from_slice_get}
+use Rattle.std.proofs.Math.Path.{fun_ext}
+use Rattle.soc_model.specs.Chips.{SocValue}
+use Rattle.soc_model.proofs.Sums.{sum_by-map}
+use Rattle.plan_model.specs.declared.Bus.{Bus}
+use Rattle.plan_model.specs.Plans.{BusValue, PlanValue, LimitsValue, PlannedTest, ProfileValue, planned, end_of, greatest, is_active, power_at, power_of}
+use Rattle.plan_model.specs.Rules.{IsGood, Cycles, Power}
+use Rattle.plan_model.specs.SoundLimits.{IsSoundLimits, IsSoundProfile, Grow}
+use Rattle.plan_model.specs.Views.{bus_value}
+use Rattle.plan_model.proofs.Greatest.{le-greatest_at}
+use Rattle.plan_model.proofs.Lists.{from_filter, from_map}
+use Rattle.plan_model.proofs.Sums.{sum_by-filter}
+use Rattle.live_tests.specs.declared.placed.PlacedTest.{PlacedTest}
+use Rattle.live_tests.specs.Placed.{placed_of, placed_tests}
+use Rattle.power_events.specs.Events.{HasSteps, profile_place, steps_from, steps_of}
+use Rattle.power_events.specs.Loads.{drawn, drawn_by, load_steps}
+use Rattle.picture.specs.declared.Parts.{Parts}
+use Rattle.picture.specs.Laws.{AreParts}
+use Rattle.picture.specs.Panels.{below, wires_panel}
+use Rattle.picture.specs.PictureText.{bottom_of, inner_text, lanes_of, lanes_text, limit_text, lines_text, load_text, plan_steps, power_text, self_tests, wires_text}
+use Rattle.picture.specs.Rectangles.{bus_wires, laned, wired}
+use Rattle.picture.proofs.Joining.{behind}
+
+-- the widths of buses, seen both ways
+pub widths_are : (bs : List Bus) → map (λ (b : Bus). b.width) bs ≡ map (λ (b : BusValue). b.width) (map bus_value bs)
+widths_are [] = refl
+widths_are (b ∷ bs) = ap (λ ws. b.width ∷ ws) (widths_are bs)
+
+-- no test ends after the plan
+pub ends_by : (soc : SocValue) (limits : LimitsValue) (plan : PlanValue) → IsGood soc limits plan → (i : ℕ) (t : PlacedTest) → slice_get (placed_tests soc plan) i ≡ Some t → (t.start ≤ t.end) × (t.end ≤ plan.cycles)
+ends_by soc limits plan good i t at =
+    let u = from_map placed_of (planned soc plan) i t at in
+    let most : end_of u.0 ≤ greatest (map end_of (planned soc plan)) = le-greatest_at end_of (planned soc plan) i u.0 u.1 in
+    let cycles : plan.cycles ≡ greatest (map end_of (planned soc plan)) = good Cycles in
+    let start : (u.0).start ≡ t.start = ap (λ (t : PlacedTest). t.start) u.2 in
+    let end : end_of u.0 ≡ t.end = ap (λ (t : PlacedTest). t.end) u.2 in
+    (omega (arith, start, end), omega (arith, most, cycles, end))
+
+-- the steps of power of a test grow
+grows : (soc : SocValue) (limits : LimitsValue) (k own : ℕ) (o : Option ProfileValue) → IsSoundLimits soc limits → slice_get limits.profiles k ≡ o → Grow 0 (steps_from o own)
+grows soc limits k own None sound at = (omega arith, tt)
+grows soc limits k own (Some p) sound at =
+    let profile : IsSoundProfile soc p = rw (get_or_from_slice_get limits.profiles k p p at) at (sound.profiles k p (slice_get_within limits.profiles k p at)) in
+    profile.grows
+
+pub has_steps : (soc : SocValue) (limits : LimitsValue) (plan : PlanValue) → IsSoundLimits soc limits → IsGood soc limits plan → (i : ℕ) (t : PlacedTest) → slice_get (placed_tests soc plan) i ≡ Some t → HasSteps limits t
+has_steps soc limits plan sound good i t at = record {
+  ends_later = (ends_by soc limits plan good i t at).0;
+  grow = grows soc limits (profile_place limits t.id) t.power (slice_get limits.profiles (profile_place limits t.id)) sound refl;
+}
+
+-- what the placed tests draw is what the planned ones draw
+drawn_is : (limits : LimitsValue) (tests : List PlannedTest) (c : ℕ) → drawn_by limits (map placed_of tests) c ≡ power_at limits tests c
+drawn_is limits tests c = sum_by-map (drawn limits c) placed_of tests ∙ sym (sum_by-filter (is_active c) (λ t. power_of limits t (c - t.start)) tests)
+
+pub drawn_within : (soc : SocValue) (limits : LimitsValue) (plan : PlanValue) → IsGood soc limits plan → (most : ℕ) → limits.power ≡ Some most → (c : ℕ) → drawn_by limits (placed_tests soc plan) c ≤ most
+drawn_within soc limits plan good most limit c =
+    let low = rw limit at (good Power c) in
+    omega (arith, low, drawn_is limits (planned soc plan) c)
+
+pub steps_are : (soc : SocValue) (limits : LimitsValue) (plan : PlanValue) → load_steps (drawn_by limits (placed_tests soc plan)) plan.cycles ≡ plan_steps soc limits plan
+steps_are soc limits plan = ap (λ f. load_steps f plan.cycles) (fun_ext (drawn_is limits (planned soc plan)))
+
+-- ---- all that is in the frame
+
+-- without a limit on power the steps don't matter
+same_power : (top cycles : ℕ) (power : Option ℕ) (steps steps' : List (ℕ × ℕ)) → ((most : ℕ) → power ≡ Some most → steps ≡ steps') → power_text top cycles power steps ≡ power_text top cycles power steps'
+unfolding power_text
+same_power top cycles None steps steps' same = refl
+same_power top cycles (Some most) steps steps' same = ap (λ l. load_text top cycles most l ++ limit_text top most) (same most refl)
+
+pub wired_by : (soc : SocValue) (limits : LimitsValue) (plan : PlanValue) (parts : Parts) → AreParts soc limits plan parts → parts.wired.items ≡ wired parts.buses.items (placed_tests soc plan)
+wired_by soc limits plan parts p = p.wired_are ∙ ap (λ b. wired b (placed_tests soc plan)) (sym p.buses)
+
+pub inner_is : (soc : SocValue) (limits : LimitsValue) (plan : PlanValue) (parts : Parts) (power : Option ℕ) (cycles bound end : ℕ) (t4 t3 t2 t1 t0 : List ℕ) → AreParts soc limits plan parts → power ≡ limits.power → cycles ≡ plan.cycles → bound ≡ plan.bound.cycles → end ≡ below parts.lanes →
+    t1 ≡ t0 ++ wires_text parts.wires parts.buses.items (placed_tests soc plan) → t2 ≡ t1 ++ lanes_text parts.lanes parts.laned.items → t3 ≡ t2 ++ power_text (end + 24) cycles power parts.steps.items → t4 ≡ t3 ++ lines_text cycles bound parts.bottom → t4 ≡ t0 ++ inner_text soc limits plan
+unfolding inner_text
+inner_is soc limits plan parts power cycles bound end t4 t3 t2 t1 t0 p power_is cycles_is bound_is end_is e1 e2 e3 e4 =
+    let lanes = lanes_of soc limits plan in
+    let w : wires_text parts.wires parts.buses.items (placed_tests soc plan) ≡ wires_text (wires_panel plan.cycles limits.wires) (bus_wires plan) (placed_tests soc plan) =
+    ap (λ v. wires_text v parts.buses.items (placed_tests soc plan)) p.wires ∙ ap (λ v. wires_text (wires_panel plan.cycles limits.wires) v (placed_tests soc plan)) p.buses in
+    let l : lanes_text parts.lanes parts.laned.items ≡ lanes_text lanes (laned [] (self_tests soc plan)) = ap (λ v. lanes_text v parts.laned.items) p.lanes ∙ ap (lanes_text lanes) p.laned_are in
+    let top : end ≡ below lanes = end_is ∙ ap below p.lanes in
+    let s : power_text (end + 24) cycles power parts.steps.items ≡ power_text (below lanes + 24) plan.cycles limits.power (plan_steps soc limits plan) =
+    ap (λ v. power_text (v + 24) cycles power parts.steps.items) top ∙ ap (λ v. power_text (below lanes + 24) v power parts.steps.items) cycles_is ∙ ap (λ v. power_text (below lanes + 24) plan.cycles v parts.steps.items) power_is
+    ∙ same_power (below lanes + 24) plan.cycles limits.power parts.steps.items (plan_steps soc limits plan) p.steps in
+    let n : lines_text cycles bound parts.bottom ≡ lines_text plan.cycles plan.bound.cycles (bottom_of (below lanes) plan.cycles limits.power) =
+    ap (λ v. lines_text v bound parts.bottom) cycles_is ∙ ap (λ v. lines_text plan.cycles v parts.bottom) bound_is ∙ ap (lines_text plan.cycles plan.bound.cycles) p.bottom in
+    let w' = wires_text (wires_panel plan.cycles limits.wires) (bus_wires plan) (placed_tests soc plan) in
+    let l' = lanes_text lanes (laned [] (self_tests soc plan)) in
+    let s' = power_text (below lanes + 24) plan.cycles limits.power (plan_steps soc limits plan) in
+    let n' = lines_text plan.cycles plan.bound.cycles (bottom_of (below lanes) plan.cycles limits.power) in
+    behind t4 t1 t0 w' (l' ++ (s' ++ n')) (behind t4 t2 t1 l' (s' ++ n') (behind t4 t3 t2 s' n' (e4 ∙ ap (λ v. t3 ++ v) n) (e3 ∙ ap (λ v. t2 ++ v) s)) (e2 ∙ ap (λ v. t1 ++ v) l)) (e1 ∙ ap (λ v. t0 ++ v) w)

@@ -1,0 +1,12 @@
+use Rattle.picture.proofs.Apart.{rectangles_apart, steps_within}
+use Rattle.picture.proofs.LanesApart.{lanes_apart}
+use Rattle.picture.proofs.laws.good_plans_draw_right.Goals as goal
+
+pub returns-clause-apart : goal.returns-clause-apart
+returns-clause-apart c = rectangles_apart
+
+pub returns-clause-lanes : goal.returns-clause-lanes
+returns-clause-lanes c = lanes_apart
+
+pub returns-clause-within : goal.returns-clause-within
+returns-clause-within c = steps_within

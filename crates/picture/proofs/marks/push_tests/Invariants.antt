@@ -1,0 +1,7 @@
+use Rattle.std.proofs.Common.{◌≡◌, ◌++◌, take}
+use Rattle.std.specs.List.{flat_map}
+use Rattle.picture.specs.Marks.{test_text}
+use Rattle.picture.proofs.marks.push_tests.Given as goal
+
+abbrev pub invariant-loop-one : goal.invariant-loop-one
+invariant-loop-one l = l.text.items ≡ l.initial.text.items ++ flat_map (test_text l.panel) (take l.one-index l.drawn)

@@ -1,0 +1,30 @@
+-- What a picture is drawn from, and what holds of its rectangles and steps.
+use Rattle.std.specs.Prelude.{◌≡◌, ℕ, ◌≤◌, ◌^◌, Some, List, [], length, slice_get}
+use Rattle.std.specs.List.{filter}
+use Rattle.soc_model.specs.Chips.{SocValue}
+use Rattle.plan_model.specs.Plans.{LimitsValue, PlanValue}
+use Rattle.live_tests.specs.Placed.{placed_tests}
+use Rattle.picture.specs.declared.Parts.{Parts}
+use Rattle.picture.specs.declared.panels.Drawn.{Drawn}
+use Rattle.picture.specs.Panels.{below, wires_panel}
+use Rattle.picture.specs.PictureText.{bottom_of, lanes_of, plan_steps, self_tests}
+use Rattle.picture.specs.Rectangles.{bus_wires, covers, laned, wired}
+
+-- no two rectangles have a cycle of a row in common: of a wire, or of a lane
+abbrev pub AreApart : List Drawn → Type 0
+AreApart drawn = (cycle row : ℕ) → length (filter (covers cycle row) drawn) ≤ 1
+
+-- under a limit no step is above it
+abbrev pub StaysWithin : LimitsValue → List (ℕ × ℕ) → Type 0
+StaysWithin limits steps = (most i : ℕ) (s : ℕ × ℕ) → limits.power ≡ Some most → slice_get steps i ≡ Some s → s.1 ≤ most
+
+-- the parts of the picture of a plan; the steps are those of what is drawn where there is a limit
+pub record AreParts (soc : SocValue) (limits : LimitsValue) (plan : PlanValue) (parts : Parts) : Type 0 where
+  pub wires : parts.wires ≡ wires_panel plan.cycles limits.wires
+  pub buses : parts.buses.items ≡ bus_wires plan
+  pub wired_are : parts.wired.items ≡ wired (bus_wires plan) (placed_tests soc plan)
+  pub lanes : parts.lanes ≡ lanes_of soc limits plan
+  pub laned_are : parts.laned.items ≡ laned [] (self_tests soc plan)
+  pub steps : (most : ℕ) → limits.power ≡ Some most → parts.steps.items ≡ plan_steps soc limits plan
+  pub bottom : parts.bottom ≡ bottom_of (below (lanes_of soc limits plan)) plan.cycles limits.power
+  pub small : parts.bottom ≤ 2 ^ 34

@@ -1,0 +1,181 @@
+// Draws a plan as a picture: one SVG image, with the wires from top to bottom and the cycles from left to right.
+#![tactic(auto)]
+
+ghost use Rattle.std.specs.Prelude.{◌≡◌, ℕ, ◌+◌, ◌^◌, ◌≤◌, ◌++◌, List, Some, slice_get, IfOk, OnOk};
+ghost use Rattle.soc_model.specs.Chips.{SocValue, soc_value};
+ghost use Rattle.soc_model.specs.SoundChips.{IsSoundChip};
+ghost use Rattle.plan_model.specs.Plans.{LimitsValue, PlanValue};
+ghost use Rattle.plan_model.specs.Rules.{IsGood};
+ghost use Rattle.plan_model.specs.SoundLimits.{IsSoundLimits};
+ghost use Rattle.plan_model.specs.Views.{limits_value, plan_value};
+ghost use Rattle.live_tests.specs.declared.placed.PlacedTest.{PlacedTest as the_placed};
+ghost use Rattle.power_events.specs.Events.{HasSteps};
+ghost use Rattle.power_events.specs.Loads.{drawn_by, load_steps};
+ghost use Rattle.picture.specs.Laws.{AreParts};
+ghost use Rattle.picture.specs.PictureText.{bottom_of as the_bottom, inner_text, picture_text, wires_text};
+ghost use Rattle.picture.specs.Rectangles.{wired as the_wired};
+
+mod laws;
+mod marks;
+mod panels;
+mod rectangles;
+mod sections;
+
+pub use laws::good_plans_draw_right;
+use live_tests::{PlacedTest, PlacedTests};
+use marks::{push_buses, push_tests};
+use outside::{NoMemory, extend};
+use panels::{Drawn, Panel, below, lanes_panel, wires_panel};
+use plan_model::{Limits, Plan, good_without_limits};
+use power_events::power_steps;
+use rectangles::{bus_wires, by_start, lane_count, laned, wired};
+use sections::{push_frame, push_head, push_lanes, push_lines, push_power};
+use soc_model::Soc;
+use std::alloc::Global;
+
+/// What a picture is drawn from.
+#[derive(Drop)]
+struct Parts {
+    wires: Panel,
+    buses: Vec<(u64, u64)>,
+    wired: Vec<Drawn>,
+    lanes: Panel,
+    laned: Vec<Drawn>,
+    steps: Vec<(u64, u64)>,
+    bottom: u64,
+}
+
+/// Where all that is drawn ends, of which nothing but the power is below the lanes.
+fn bottom_of(end: u64, cycles: u64, power: Option<u64>) -> u64
+    requires { end ≤ 2 ^ 33 }
+    ensures is { result ≡ the_bottom end cycles power }
+    ensures small { result ≤ 2 ^ 34 }
+{
+    match power {
+        None => end,
+        Some(_) => { if cycles == 0 { end } else { end + 124 } }
+    }
+}
+
+/// The steps of what tests draw, which is at most a number.
+fn steps_below(
+    alloc: Global,
+    limits: &Limits,
+    tests: &[PlacedTest],
+    most: u64,
+) -> Result<Vec<(u64, u64)>, NoMemory>
+    requires steps { (i : ℕ) (t : the_placed) → slice_get tests.now i ≡ Some t → HasSteps (limits_value limits.now) t }
+    requires within { (c : ℕ) → drawn_by (limits_value limits.now) tests.now c ≤ most }
+    ensures { (last : ℕ) → ((i : ℕ) (t : the_placed) → slice_get tests.now i ≡ Some t → t.end ≤ last) → IfOk result (λ steps. steps.items ≡ load_steps (drawn_by (limits_value limits.now) tests.now) last) }
+{
+    power_steps(alloc, limits, tests)
+}
+
+/// The steps of what tests draw, where there is a limit on power.
+fn steps_under(
+    alloc: Global,
+    limits: &Limits,
+    tests: &[PlacedTest],
+) -> Result<Vec<(u64, u64)>, NoMemory>
+    requires steps { (i : ℕ) (t : the_placed) → slice_get tests.now i ≡ Some t → HasSteps (limits_value limits.now) t }
+    requires within { (most : ℕ) → limits.now.power ≡ Some most → (c : ℕ) → drawn_by (limits_value limits.now) tests.now c ≤ most }
+    ensures { (last most : ℕ) → ((i : ℕ) (t : the_placed) → slice_get tests.now i ≡ Some t → t.end ≤ last) → limits.now.power ≡ Some most → IfOk result (λ steps. steps.items ≡ load_steps (drawn_by (limits_value limits.now) tests.now) last) }
+{
+    match limits.power {
+        Some(most) => steps_below(alloc, limits, tests, most),
+        None => Ok(Vec::new(alloc)),
+    }
+}
+
+/// The parts of the picture of a good plan.
+fn parts_of(alloc: Global, soc: &Soc, limits: &Limits, plan: &Plan) -> Result<Parts, NoMemory>
+    requires sound { IsSoundChip (soc_value soc.now) }
+    requires sound_limits { IsSoundLimits (soc_value soc.now) (limits_value limits.now) }
+    requires good { IsGood (soc_value soc.now) (limits_value limits.now) (plan_value plan.now) }
+    ensures { IfOk result (AreParts (soc_value soc.now) (limits_value limits.now) (plan_value plan.now)) }
+{
+    good_without_limits();
+    let tests = PlacedTests::new(alloc, soc, plan)?;
+    let placed = tests.tests();
+    let buses = bus_wires(alloc, &plan.buses)?;
+    let wired = wired(alloc, &buses, placed)?;
+    let own = by_start(alloc, placed)?;
+    let lanes = laned(alloc, &own)?;
+    let steps = steps_under(alloc, limits, placed)?;
+    let panel = lanes_panel(plan.cycles, limits.wires, lane_count(&lanes));
+    let bottom = bottom_of(below(&panel), plan.cycles, limits.power);
+    Ok(Parts {
+        wires: wires_panel(plan.cycles, limits.wires),
+        buses,
+        wired,
+        lanes: panel,
+        laned: lanes.drawn,
+        steps,
+        bottom,
+    })
+}
+
+/// Appends the buses and the tests over their wires.
+#[tactic(auto, unfolding(crate::specs::PictureText::wires_text))]
+fn push_wires(
+    text: &mut Vec<u8>,
+    panel: &Panel,
+    buses: &[(u64, u64)],
+    drawn: &[Drawn],
+) -> Result<(), NoMemory>
+    ensures { (tests : List the_placed) → drawn.now ≡ the_wired buses.now tests → OnOk result (text.new.items ≡ text.old.items ++ wires_text panel.now buses.now tests) }
+{
+    push_buses(text, panel, buses)?;
+    push_tests(text, panel, drawn)
+}
+
+/// Appends all that is in the frame.
+fn push_inner(
+    text: &mut Vec<u8>,
+    parts: &Parts,
+    power: Option<u64>,
+    cycles: u64,
+    bound: u64,
+) -> Result<(), NoMemory>
+    requires { parts.now.lanes.top + parts.now.lanes.height ≤ 2 ^ 33 }
+    ensures { (soc : SocValue) (limits : LimitsValue) (plan : PlanValue) → AreParts soc limits plan parts.now → power ≡ limits.power → cycles ≡ plan.cycles → bound ≡ plan.bound.cycles → OnOk result (text.new.items ≡ text.old.items ++ inner_text soc limits plan) }
+{
+    push_wires(text, &parts.wires, &parts.buses, &parts.wired)?;
+    push_lanes(text, &parts.lanes, &parts.laned)?;
+    push_power(text, below(&parts.lanes) + 24, cycles, power, &parts.steps)?;
+    push_lines(text, cycles, bound, parts.bottom)
+}
+
+/// The picture of a good plan of a sound chip under sound limits, as SVG of 1,100 units from left to right. The wires stand below
+/// each other, with the frames of their buses; a rectangle for each test lies over the wires of its bus, from its start to its
+/// end, with its name in it where there is room, and told in full as its title. Below are the self tests, by their starts,
+/// each in the first lane that is free then; and, where power has a limit, the steps of what all tests draw, under the
+/// line of the limit. Lines with numbers mark the last cycle and the bound. A plan of 0 cycles is the frame alone.
+/// `NoMemory` where there is none.
+pub fn print_picture(
+    alloc: Global,
+    soc: &Soc,
+    limits: &Limits,
+    plan: &Plan,
+) -> Result<Vec<u8>, NoMemory>
+    requires sound { IsSoundChip (soc_value soc.now) }
+    requires sound_limits { IsSoundLimits (soc_value soc.now) (limits_value limits.now) }
+    requires good { IsGood (soc_value soc.now) (limits_value limits.now) (plan_value plan.now) }
+    ensures text { IfOk result (λ text. text.items ≡ picture_text (soc_value soc.now) (limits_value limits.now) (plan_value plan.now)) }
+{
+    let parts = parts_of(alloc, soc, limits, plan)?;
+    let mut text = Vec::new(alloc);
+    push_head(&mut text, parts.bottom + 12)?;
+    push_frame(&mut text, &parts.wires)?;
+    if plan.cycles != 0 {
+        push_inner(
+            &mut text,
+            &parts,
+            limits.power,
+            plan.cycles,
+            plan.bound.cycles,
+        )?;
+    }
+    extend(&mut text, b"</svg>\n")?;
+    Ok(text)
+}
