@@ -1,4 +1,4 @@
--- The tests before and after each test are listed pair by pair.
+-- The tests after each test are listed pair by pair.
 use Rattle.std.proofs.Common.{◌≡◌, ◌⊎◌, inl, inr, ℕ, ◌+◌, ◌<◌, List, [], ◌∷◌, ◌++◌, length, get_or, take, map, Bool, true, false, cond, nat_eq, sym, ◌∙◌, ap, arith, append-nil, refl}
 use Rattle.std.specs.Prelude.{slice_index_or, slice_set}
 use Rattle.std.proofs.lemmas.Grind.{common_steps}

@@ -19,7 +19,7 @@ mod wrapped;
 
 pub use index::PlanIndex;
 use indexmap::IndexMap;
-pub use neighbours::{Neighbours, all_after, all_before};
+pub use neighbours::{Neighbours, all_after};
 use outside::{NoMemory, push};
 pub use placed::{PlacedTest, PlacedTests, PlannedChip, first_wire};
 use soc_model::{Module, Soc, TestId, live};
