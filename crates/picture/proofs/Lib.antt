@@ -1,3 +1,4 @@
+pub mod AllDrawn
 pub mod Apart
 pub mod Joining
 pub mod LanesApart

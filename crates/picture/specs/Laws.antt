@@ -1,18 +1,23 @@
 -- What a picture is drawn from, and what holds of its rectangles and steps.
-use Rattle.std.specs.Prelude.{◌≡◌, ℕ, ◌≤◌, ◌^◌, Some, List, [], length, slice_get}
+use Rattle.std.specs.Prelude.{◌≡◌, ℕ, ◌≤◌, ◌^◌, Some, List, [], length, map, slice_get}
 use Rattle.std.specs.List.{filter}
 use Rattle.soc_model.specs.Chips.{SocValue}
 use Rattle.plan_model.specs.Plans.{LimitsValue, PlanValue}
+use Rattle.live_tests.specs.declared.placed.PlacedTest.{PlacedTest}
 use Rattle.live_tests.specs.Placed.{placed_tests}
 use Rattle.picture.specs.declared.Parts.{Parts}
 use Rattle.picture.specs.declared.panels.Drawn.{Drawn}
 use Rattle.picture.specs.Panels.{below, wires_panel}
 use Rattle.picture.specs.PictureText.{bottom_of, lanes_of, plan_steps, self_tests}
-use Rattle.picture.specs.Rectangles.{bus_wires, covers, laned, wired}
+use Rattle.picture.specs.Rectangles.{bus_wires, covers, drawn_test, is_wired, laned, wired}
 
 -- no two rectangles have a cycle of a row in common: of a wire, or of a lane
 abbrev pub AreApart : List Drawn → Type 0
 AreApart drawn = (cycle row : ℕ) → length (filter (covers cycle row) drawn) ≤ 1
+
+-- the rectangles are those of the tests over the wires, each once, in their order
+abbrev pub AreDrawn : List Drawn → List PlacedTest → Type 0
+AreDrawn drawn tests = map drawn_test drawn ≡ filter is_wired tests
 
 -- under a limit no step is above it
 abbrev pub StaysWithin : LimitsValue → List (ℕ × ℕ) → Type 0

@@ -1,5 +1,5 @@
 -- The rectangles of tests, in cycles and wires, or in cycles and lanes.
-use Rattle.std.specs.Prelude.{ℕ, ◌+◌, ◌≤◌, Bool, ◌&&◌, Option, None, Some, List, [], ◌∷◌, ◌++◌, length, position, set, slice_get, unwrap_or, nat_eq, nat_le, nat_lt, is_none, if◌then◌else◌}
+use Rattle.std.specs.Prelude.{ℕ, ◌+◌, ◌≤◌, Bool, ◌&&◌, Option, None, Some, List, [], ◌∷◌, ◌++◌, length, position, set, slice_get, unwrap_or, nat_eq, nat_le, nat_lt, is_none, is_some, if◌then◌else◌}
 use Rattle.std.specs.List.{filter, flat_map, range_with_len}
 use Rattle.plan_model.specs.Plans.{PlanValue, widths}
 use Rattle.live_tests.specs.declared.placed.PlacedTest.{PlacedTest}
@@ -34,9 +34,17 @@ over_bus buses t (Some bus) = over_wires t (slice_get buses bus)
 abbrev pub wired : List (ℕ × ℕ) → List PlacedTest → List Drawn
 wired buses tests = flat_map (λ t. over_bus buses t t.bus) tests
 
+-- the test that a rectangle is of
+abbrev pub drawn_test : Drawn → PlacedTest
+drawn_test d = d.test
+
 -- the rectangle has the cycle in the row
 abbrev pub covers : (cycle row : ℕ) → Drawn → Bool
 covers cycle row d = (nat_le d.rectangle.start cycle && nat_lt cycle d.rectangle.end) && (nat_le d.rectangle.first row && nat_lt row d.rectangle.last)
+
+-- a test over the wires
+abbrev pub is_wired : PlacedTest → Bool
+is_wired t = is_some t.bus
 
 -- ---- in lanes
 

@@ -4,13 +4,14 @@ ghost use Rattle.soc_model.specs.Chips.{SocValue};
 ghost use Rattle.plan_model.specs.Plans.{LimitsValue, PlanValue};
 ghost use Rattle.plan_model.specs.Rules.{IsGood};
 ghost use Rattle.live_tests.specs.Placed.{placed_tests};
-ghost use Rattle.picture.specs.Laws.{AreApart, StaysWithin};
+ghost use Rattle.picture.specs.Laws.{AreApart, AreDrawn, StaysWithin};
 ghost use Rattle.picture.specs.PictureText.{plan_steps, self_tests};
 ghost use Rattle.picture.specs.Rectangles.{bus_wires, laned, wired};
 
-/// In the picture of a good plan no two rectangles over the wires have a cycle of a wire in common, no two self tests a cycle of
+/// In the picture of a good plan each test over the wires has its rectangle, no two rectangles over the wires have a cycle of a wire in common, no two self tests a cycle of
 /// a lane, and no step of power is above the limit; all in cycles, wires, lanes and powers, before they are scaled to units.
 pub fn good_plans_draw_right()
+    ensures drawn { (soc : SocValue) (limits : LimitsValue) (plan : PlanValue) → IsGood soc limits plan → AreDrawn (wired (bus_wires plan) (placed_tests soc plan)) (placed_tests soc plan) }
     ensures apart { (soc : SocValue) (limits : LimitsValue) (plan : PlanValue) → IsGood soc limits plan → AreApart (wired (bus_wires plan) (placed_tests soc plan)) }
     ensures lanes { (soc : SocValue) (limits : LimitsValue) (plan : PlanValue) → IsGood soc limits plan → AreApart (laned [] (self_tests soc plan)) }
     ensures within { (soc : SocValue) (limits : LimitsValue) (plan : PlanValue) → IsGood soc limits plan → StaysWithin limits (plan_steps soc limits plan) }

@@ -7,7 +7,7 @@ use Rattle.soc_model.specs.Chips.{SocValue}
 use Rattle.plan_text.specs.Answers.{SaysPlan}
 use Rattle.plan_model.specs.Rules.{IsGood}
 use Rattle.live_tests.specs.Placed.{placed_tests}
-use Rattle.picture.specs.Laws.{AreApart, StaysWithin}
+use Rattle.picture.specs.Laws.{AreApart, AreDrawn, StaysWithin}
 use Rattle.picture.specs.PictureText.{picture_text, plan_steps, self_tests}
 use Rattle.picture.specs.Rectangles.{bus_wires, laned, wired}
 use Rattle.commands.specs.declared.FileKind.TheVariants.{Plan}
@@ -30,6 +30,7 @@ settled laws (Some names) = settled_all laws true names.soc names.limits names.p
 
 -- the laws of pictures
 pub record PictureLaws : Type 0 where
+  pub drawn : (soc : SocValue) (limits : LimitsValue) (plan : PlanValue) → IsGood soc limits plan → AreDrawn (wired (bus_wires plan) (placed_tests soc plan)) (placed_tests soc plan)
   pub apart : (soc : SocValue) (limits : LimitsValue) (plan : PlanValue) → IsGood soc limits plan → AreApart (wired (bus_wires plan) (placed_tests soc plan))
   pub lanes : (soc : SocValue) (limits : LimitsValue) (plan : PlanValue) → IsGood soc limits plan → AreApart (laned [] (self_tests soc plan))
   pub within : (soc : SocValue) (limits : LimitsValue) (plan : PlanValue) → IsGood soc limits plan → StaysWithin limits (plan_steps soc limits plan)
@@ -47,6 +48,7 @@ drawn laws pictures files names text old new answer put =
       plan_is = read_as_well Plan (SaysAccepted b.0 b.1) SaysPlan (get files names.plan) c.0 (λ bytes says. says.0) c.1;
       right = λ content. laws.right b.0 b.1 c.0 content c.1.says.1.0;
       bound = laws.bound b.0 b.1 (c.0).bound b.3.says.sound.some_wire c.1.says.1.1;
+      drawn = pictures.drawn b.0 b.1 c.0 c.1.says.1.0;
       apart = pictures.apart b.0 b.1 c.0 c.1.says.1.0;
       lanes = pictures.lanes b.0 b.1 c.0 c.1.says.1.0;
       within = pictures.within b.0 b.1 c.0 c.1.says.1.0;

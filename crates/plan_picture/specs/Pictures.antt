@@ -7,7 +7,7 @@ use Rattle.plan_model.specs.Runs.{Content}
 use Rattle.plan_model.specs.Right.{IsRight}
 use Rattle.plan_model.specs.Rules.{IsBound}
 use Rattle.live_tests.specs.Placed.{placed_tests}
-use Rattle.picture.specs.Laws.{AreApart, StaysWithin}
+use Rattle.picture.specs.Laws.{AreApart, AreDrawn, StaysWithin}
 use Rattle.picture.specs.PictureText.{picture_text, plan_steps, self_tests}
 use Rattle.picture.specs.Rectangles.{bus_wires, laned, wired}
 use Rattle.commands.specs.declared.Status.{Status}
@@ -38,7 +38,7 @@ abbrev pub procedure_of : FilesNamed → Procedure
 procedure_of files = with_all files.soc files.limits files.plan (λ chip bounds value. done_with (picture_text chip bounds value))
 
 -- What a plan is that is drawn: it runs right for every content, no good plan of its chip under its limits ends before its
--- bound, no two rectangles have a cycle of a wire in common, nor of a lane, and no step of power is above the limit; the picture
+-- bound, each test over the wires has its rectangle, no two rectangles have a cycle of a wire in common, nor of a lane, and no step of power is above the limit; the picture
 -- is written.
 pub record IsDrawn (files : Files) (names : FilesNamed) (old new : Option (List ℕ)) : Type 0 where
   pub chip : SocValue
@@ -49,6 +49,7 @@ pub record IsDrawn (files : Files) (names : FilesNamed) (old new : Option (List 
   pub plan_is : IsPlanIn files names.plan value
   pub right : (content : Content) → IsRight chip bounds value content
   pub bound : IsBound chip bounds value.bound.cycles
+  pub drawn : AreDrawn (wired (bus_wires value) (placed_tests chip value)) (placed_tests chip value)
   pub apart : AreApart (wired (bus_wires value) (placed_tests chip value))
   pub lanes : AreApart (laned [] (self_tests chip value))
   pub within : StaysWithin bounds (plan_steps chip bounds value)

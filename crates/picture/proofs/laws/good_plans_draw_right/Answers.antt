@@ -1,6 +1,10 @@
+use Rattle.picture.proofs.AllDrawn.{tests_drawn}
 use Rattle.picture.proofs.Apart.{rectangles_apart, steps_within}
 use Rattle.picture.proofs.LanesApart.{lanes_apart}
 use Rattle.picture.proofs.laws.good_plans_draw_right.Goals as goal
+
+pub returns-clause-drawn : goal.returns-clause-drawn
+returns-clause-drawn c = tests_drawn
 
 pub returns-clause-apart : goal.returns-clause-apart
 returns-clause-apart c = rectangles_apart
