@@ -1,13 +1,13 @@
 -- No two rectangles of a good plan have a cycle of a wire in common, and no step of power is above the limit.
-use Rattle.std.proofs.Common.{◌≡◌, ℕ, zero, suc, ◌+◌, ◌≤◌, ◌<◌, Bool, true, false, Option, None, Some, List, [], ◌∷◌, ◌++◌, length, map, take, refl, sym, ap, ◌∙◌, subst, arith, inl, inr, ◌⊎◌}
-use Rattle.std.specs.Prelude.{slice_get, slice_index, ◌&&◌, nat_le, nat_lt, if◌then◌else◌}
-use Rattle.std.specs.List.{filter, flat_map, range_with_len, sum, sum_by}
+use Rattle.std.proofs.Common.{◌≡◌, ℕ, zero, suc, ◌+◌, ◌≤◌, true, false, Option, None, Some, List, [], ◌∷◌, ◌++◌, length, map, take, refl, sym, ap, ◌∙◌, subst, arith, inl, inr, ◌⊎◌}
+use Rattle.std.specs.Prelude.{slice_get, slice_index, ◌&&◌, nat_le, nat_lt}
+use Rattle.std.specs.List.{filter, range_with_len, sum}
 use Rattle.std.proofs.lemmas.Bool.{cases_Bool}
 use Rattle.std.proofs.lemmas.List.{length-append}
 use Rattle.std.proofs.lemmas.List.Elements.{filter-append}
 use Rattle.std.proofs.lemmas.List.Sums.{length-filter, sum_by-cons}
 use Rattle.soc_model.specs.Chips.{SocValue}
-use Rattle.plan_model.specs.Plans.{PlanValue, LimitsValue, PlannedTest, planned, power_at, uses, users, widths, end_of, is_active}
+use Rattle.plan_model.specs.Plans.{PlanValue, LimitsValue, PlannedTest, planned, power_at, uses, widths, is_active}
 use Rattle.plan_model.specs.Right.{IsAt}
 use Rattle.plan_model.specs.Rules.{IsGood, Power}
 use Rattle.plan_model.proofs.Lists.{from_map}
@@ -17,7 +17,7 @@ use Rattle.power_events.specs.Loads.{changes}
 use Rattle.live_tests.specs.Placed.{bus_over, placed_of, placed_tests}
 use Rattle.picture.specs.Laws.{AreApart, StaysWithin}
 use Rattle.picture.specs.PictureText.{plan_steps}
-use Rattle.picture.specs.Rectangles.{bus_wires, covers, drawn_over, over_bus, over_wires, wired, wires_from}
+use Rattle.picture.specs.Rectangles.{bus_wires, covers, over_bus, over_wires, wired, wires_from}
 
 -- the wires of a bus
 wires_at : (first : ℕ) (ws : List ℕ) (b : ℕ) (r : ℕ × ℕ) → slice_get (wires_from first ws) b ≡ Some r → (r.0 ≡ first + sum (take b ws)) × (r.1 ≡ r.0 + slice_index ws b)

@@ -1,7 +1,6 @@
 -- What a good plan says of the tests that a picture is drawn from.
-use Rattle.std.proofs.Common.{◌≡◌, ℕ, zero, suc, ◌+◌, ◌-◌, ◌≤◌, ◌<◌, ◌^◌, Bool, true, false, Option, None, Some, List, [], ◌∷◌, ◌++◌, length, get_or, map, refl, sym, ap, ◌∙◌, subst, arith, inl, inr}
-use Rattle.std.specs.Prelude.{slice_get, if◌then◌else◌}
-use Rattle.std.specs.List.{filter, sum, sum_by}
+use Rattle.std.proofs.Common.{◌≡◌, ℕ, ◌+◌, ◌-◌, ◌≤◌, Option, None, Some, List, [], ◌∷◌, ◌++◌, map, refl, sym, ap, ◌∙◌, arith}
+use Rattle.std.specs.Prelude.{slice_get}
 use Rattle.std.proofs.lemmas.Option.{slice_get_within, get_or_from_slice_get}
 use Rattle.std.proofs.Math.Path.{fun_ext}
 use Rattle.soc_model.specs.Chips.{SocValue}
@@ -12,11 +11,11 @@ use Rattle.plan_model.specs.Rules.{IsGood, Cycles, Power}
 use Rattle.plan_model.specs.SoundLimits.{IsSoundLimits, IsSoundProfile, Grow}
 use Rattle.plan_model.specs.Views.{bus_value}
 use Rattle.plan_model.proofs.Greatest.{le-greatest_at}
-use Rattle.plan_model.proofs.Lists.{from_filter, from_map}
+use Rattle.plan_model.proofs.Lists.{from_map}
 use Rattle.plan_model.proofs.Sums.{sum_by-filter}
 use Rattle.live_tests.specs.declared.placed.PlacedTest.{PlacedTest}
 use Rattle.live_tests.specs.Placed.{placed_of, placed_tests}
-use Rattle.power_events.specs.Events.{HasSteps, profile_place, steps_from, steps_of}
+use Rattle.power_events.specs.Events.{HasSteps, profile_place, steps_from}
 use Rattle.power_events.specs.Loads.{drawn, drawn_by, load_steps}
 use Rattle.picture.specs.declared.Parts.{Parts}
 use Rattle.picture.specs.Laws.{AreParts}

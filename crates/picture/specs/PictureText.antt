@@ -1,5 +1,5 @@
 -- The text of a picture: one SVG image with the wires, the self tests, and what is drawn under a limit on power.
-use Rattle.std.specs.Prelude.{ℕ, ◌+◌, ◌-◌, ◌*◌, Bool, Option, None, Some, List, [], ◌∷◌, ◌++◌, length, nat_eq, nat_le, codes, decimal, if◌then◌else◌}
+use Rattle.std.specs.Prelude.{ℕ, ◌+◌, ◌-◌, Option, None, Some, List, [], ◌++◌, length, nat_eq, nat_le, codes, decimal, if◌then◌else◌}
 use Rattle.std.specs.List.{filter, flat_map}
 use Rattle.soc_model.specs.Chips.{SocValue}
 use Rattle.plan_model.specs.Plans.{PlanValue, LimitsValue, planned, power_at}

@@ -1,9 +1,8 @@
 -- The rectangles of tests, in cycles and wires, or in cycles and lanes.
-use Rattle.std.specs.Prelude.{ℕ, ◌+◌, ◌≤◌, Bool, ◌&&◌, Option, None, Some, List, [], ◌∷◌, ◌++◌, length, position, set, slice_get, unwrap_or, nat_eq, nat_le, nat_lt, is_none, is_some, if◌then◌else◌}
+use Rattle.std.specs.Prelude.{ℕ, ◌+◌, Bool, ◌&&◌, Option, None, Some, List, [], ◌∷◌, ◌++◌, length, position, set, slice_get, unwrap_or, nat_eq, nat_le, nat_lt, is_none, is_some, if◌then◌else◌}
 use Rattle.std.specs.List.{filter, flat_map, range_with_len}
 use Rattle.plan_model.specs.Plans.{PlanValue, widths}
 use Rattle.live_tests.specs.declared.placed.PlacedTest.{PlacedTest}
-use Rattle.picture.specs.declared.panels.Rectangle.{Rectangle}
 use Rattle.picture.specs.declared.panels.Drawn.{Drawn}
 
 -- a test over so many rows, from the first to before the last

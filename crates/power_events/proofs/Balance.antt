@@ -1,10 +1,8 @@
 -- What a test draws at a cycle, and what its events end by then, is what they begin by then.
-use Rattle.std.proofs.Common.{◌≡◌, ℕ, suc, ◌+◌, ◌-◌, ◌*◌, ◌≤◌, ◌<◌, ◌^◌, ltb, Some, List, [], ◌∷◌, ◌++◌, length, get_or, take, refl, ap, ◌∙◌, sym, arith, inl, inr, ◌⊎◌}
+use Rattle.std.proofs.Common.{◌≡◌, ℕ, suc, ◌+◌, ◌-◌, ◌≤◌, ◌<◌, ltb, Some, List, [], ◌∷◌, refl, ap, ◌∙◌, arith, inl, inr, ◌⊎◌}
 use Rattle.std.specs.Prelude.{slice_get, if◌then◌else◌}
 use Rattle.std.specs.List.{sum_by, position_or_len}
 use Rattle.std.proofs.lemmas.Bool.{cases_Bool, cases_lt, lt-ltb, le-ltb, le-leb, lt-leb}
-use Rattle.std.proofs.lemmas.List.{length-append, take_more, append-nil, append_assoc}
-use Rattle.std.proofs.lemmas.List.Elements.{All-cons, All-append, All-nil}
 use Rattle.std.proofs.lemmas.List.Sums.{sum_by-cons, sum_by-append}
 use Rattle.soc_model.specs.declared.TestId.{TestId}
 use Rattle.soc_model.specs.Chips.{same_test}
@@ -12,7 +10,7 @@ use Rattle.plan_model.specs.Plans.{ProfileValue, LimitsValue, step_power, of_fir
 use Rattle.plan_model.specs.SoundLimits.{Grow}
 use Rattle.live_tests.specs.declared.placed.PlacedTest.{PlacedTest}
 use Rattle.power_events.specs.declared.Event.{Event}
-use Rattle.power_events.specs.Events.{event_at, step_events, test_events, all_events, upto, begun_by, ended_by, profile_place, steps_from, steps_of, HasSteps}
+use Rattle.power_events.specs.Events.{event_at, step_events, test_events, all_events, upto, begun_by, ended_by, steps_from, steps_of, HasSteps}
 use Rattle.power_events.specs.Loads.{drawn, drawn_by}
 
 -- ---- one event more

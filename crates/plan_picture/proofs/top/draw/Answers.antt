@@ -2,7 +2,6 @@ use Rattle.std.proofs.Common.{map, true}
 use Rattle.std.specs.Prelude.{string_bytes}
 use Rattle.commands.specs.Procedures.{asked}
 use Rattle.commands.proofs.Written.{ends, one_line, by_words, says_bad_words}
-use Rattle.commands.proofs.Trusted.{TrustLaws}
 use Rattle.commands.proofs.Completeness.{complete, finishes}
 use Rattle.plan_picture.specs.Pictures.{files_of, procedure_of}
 use Rattle.plan_picture.proofs.Drawings.{headline, settled}
