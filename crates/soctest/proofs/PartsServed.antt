@@ -1,10 +1,8 @@
 -- The command over parts: its refusal, its answer, and that each pattern of the chip that was cut is loaded and read once.
-use Rattle.std.proofs.Common.{◌≡◌, ℕ, ◌+◌, ◌-◌, ◌≤◌, true, List, Option, None, Some, IfSome, IfOk, Result, Ok, Err, option_map, refl, sym, ap, ◌∙◌, subst, arith}
-use Rattle.std.specs.Prelude.{slice_get, IsTrue}
+use Rattle.std.proofs.Common.{◌≡◌, ℕ, ◌+◌, ◌-◌, ◌≤◌, true, List, Option, None, Some, IfSome, option_map, refl, sym, ap, ◌∙◌, subst, arith}
+use Rattle.std.specs.Prelude.{slice_get}
 use Rattle.std.specs.FinMap.{get}
-use Rattle.std.specs.Global.{Vec}
 use Rattle.std.proofs.lemmas.Option.{same_Some}
-use Rattle.outside.specs.declared.NoMemory.{NoMemory as MemoryFault}
 use Rattle.outside.specs.Held.{Files, Appended}
 use Rattle.soc_model.specs.declared.SocLimit.{SocLimit}
 use Rattle.soc_model.specs.declared.TestId.{TestId}
@@ -30,10 +28,7 @@ use Rattle.split_plan.proofs.PartLaws.{each_once, are_parts}
 use Rattle.soctest.specs.declared.Command.{Command}
 use Rattle.soctest.specs.declared.Command.TheVariants as command
 use Rattle.commands.specs.declared.FileKind.TheVariants.{Soc, Limits}
-use Rattle.commands.specs.declared.Status.{Status}
-use Rattle.commands.specs.declared.Status.TheVariants.{Done, Refused}
-use Rattle.commands.specs.declared.Verdict.{Verdict}
-use Rattle.commands.specs.declared.Verdict.TheVariants.{Answered, CannotRead, NoMemory as OutOfMemory}
+use Rattle.commands.specs.declared.Status.TheVariants.{Done}
 use Rattle.commands.specs.Answers.{Answers}
 use Rattle.soctest.specs.Commands.{CommandValue, SplitTests, command_value, IsInRange}
 use Rattle.commands.specs.Procedures.{Unless}
@@ -41,7 +36,6 @@ use Rattle.soctest.specs.Procedures.{done_with_split, procedure_of}
 use Rattle.commands.specs.Readings.{IsRead, SaysLimits}
 use Rattle.soctest.specs.SplitEnds.{HasPatternsOf, IsLoadedAndRead, IsServedOnce, IsTrustworthySplit}
 use Rattle.soctest.specs.SplitText.{passed_as, first_passed, split_refusal, split_text}
-use Rattle.commands.specs.Texts.{is_line}
 use Rattle.commands.proofs.Trusted.{TrustLaws, both_done, not_refused}
 
 -- ---- the first limit that is passed

@@ -1,7 +1,7 @@
 -- Each command has at most one answer.
-use Rattle.std.proofs.Common.{◌≡◌, ℕ, List, Option, None, Some, Bool, true, false}
+use Rattle.std.proofs.Common.{◌≡◌, ℕ, List, Option, None, Some, true, false}
 use Rattle.soc_model.specs.Chips.{SocValue}
-use Rattle.plan_model.specs.Plans.{LimitsValue, PlanValue}
+use Rattle.plan_model.specs.Plans.{PlanValue}
 use Rattle.soc_printer.specs.SocText.{soc_text}
 use Rattle.chart.specs.ChartText.{chart_text}
 use Rattle.bit_machine.specs.Chips.{made_content}
@@ -11,7 +11,7 @@ use Rattle.plan_text.specs.PlanLines.{plan_text}
 use Rattle.sample_maker.specs.Samples.{made_chip}
 use Rattle.split_plan.specs.Parts.{split_chip, split_limits, split_of}
 use Rattle.shift_program.specs.Programs.{ProgramValue}
-use Rattle.commands.specs.Procedures.{Procedure, Unless, asked, with_both, with_all, done_with}
+use Rattle.commands.specs.Procedures.{Procedure, Unless, asked, done_with}
 use Rattle.commands.specs.Settled.{IsSettled, FilesSayOneThing}
 use Rattle.commands.proofs.Settled.{done_once, left_open}
 use Rattle.commands.proofs.Completeness.{settled_chip, settled_both, settled_all}

@@ -1,5 +1,5 @@
 -- A file with a width tree: its verdicts, that the files give one answer of it, and that the bound that is printed is one.
-use Rattle.std.proofs.Common.{◌≡◌, ◌∙◌, ℕ, ◌≤◌, ◌⊎◌, inl, inr, List, Option, None, Some, IfSome, Result, Ok, Err, IfOk, Bool, true, length, refl, sym, subst, ap, arith}
+use Rattle.std.proofs.Common.{◌≡◌, ◌∙◌, ℕ, ◌≤◌, inl, inr, List, Option, Some, IfSome, Result, Ok, Err, IfOk, true, length, refl, sym, subst, ap}
 use Rattle.std.specs.Prelude.{IsTrue}
 use Rattle.std.specs.FinMap.{get}
 use Rattle.std.specs.Global.{Vec}
@@ -10,7 +10,6 @@ use Rattle.outside.specs.Grammars.{last_line}
 use Rattle.soc_model.specs.Chips.{SocValue, soc_value}
 use Rattle.plan_model.specs.Plans.{LimitsValue}
 use Rattle.plan_model.specs.Views.{limits_value}
-use Rattle.plan_model.specs.Rules.{IsBound}
 use Rattle.soc_reader.specs.ChipForm.{SaysChip}
 use Rattle.width_tree.specs.declared.Tree.{Tree as TreeModel}
 use Rattle.width_tree.specs.declared.TreeFault.{TreeFault}
@@ -24,7 +23,6 @@ use Rattle.width_tree.proofs.Exact.{trees_not_refused, trees_refused_once}
 use Rattle.width_tree.proofs.Faults.{one_fault, no_fault}
 use Rattle.width_tree.proofs.CaseBounds.{accepted_bounds}
 use Rattle.commands.specs.declared.FileKind.TheVariants.{Soc, Limits, Tree}
-use Rattle.commands.specs.declared.Status.{Status}
 use Rattle.commands.specs.declared.Status.TheVariants.{Done, Refused}
 use Rattle.commands.specs.declared.Verdict.{Verdict}
 use Rattle.commands.specs.declared.Verdict.TheVariants.{Answered, CannotRead, NoMemory as OutOfMemory}

@@ -1,5 +1,5 @@
 -- What the bound of a width tree is that is printed.
-use Rattle.std.specs.Prelude.{◌≡◌, ℕ, List, Option, Some}
+use Rattle.std.specs.Prelude.{ℕ, List, Option}
 use Rattle.std.specs.FinMap.{get}
 use Rattle.outside.specs.Held.{Files, Appended}
 use Rattle.soc_model.specs.Chips.{SocValue}
