@@ -1,0 +1,4 @@
+pub mod Answering
+pub mod OtherBounds
+pub mod Widths
+pub mod Raised

@@ -1,0 +1,45 @@
+use Rattle.std.proofs.Common.{◌≡◌, ◌<◌, ℕ, Option, None, Some, sym, ap, ◌∙◌, subst}
+use Rattle.std.specs.Prelude.{IfSome}
+use Rattle.soc_model.specs.Chips.{soc_value}
+use Rattle.plan_model.specs.declared.Bound.{Bound}
+use Rattle.plan_model.specs.declared.Plan.{Plan}
+use Rattle.plan_model.specs.Certificates.{IsAccepted}
+use Rattle.plan_model.specs.Rules.{IsGood}
+use Rattle.plan_model.specs.Views.{bound_value, limits_value, plan_value}
+use Rattle.plan_improver.specs.Improved.{IsRaised}
+use Rattle.plan_improver.proofs.OtherBounds.{good_bounded}
+use Rattle.plan_improver.proofs.Raised.{better, kept}
+use Rattle.plan_improver.proofs.improving.improved.Goals as goal
+
+-- what is known of a plan that is there
+of_some : (found : Option Plan) (plan : Plan) (P : Plan → Type 0) → found ≡ Some plan → IfSome found P → P plan
+of_some found plan P is all = rw is at all
+
+-- where nothing was tried, none is there
+some_tried : (found : Option Plan) (plan : Plan) (tries : ℕ) → found ≡ Some plan → (tries ≡ 0 → found ≡ None) → tries ≡ 0 → ⊥
+some_tried found plan tries is untried none = let wrong : Some plan ≡ None = sym is ∙ untried none in cc
+
+pub with_greater_bound-requires-clause-good : goal.with_greater_bound-requires-clause-good
+with_greater_bound-requires-clause-good g c =
+    of_some c.in_ok-found.found c.in-Some.plan (λ p. IsGood (soc_value c.args.soc.now) (limits_value c.args.limits.now) (plan_value p)) c.in-Some.is c.in_ok-found.ensures.good
+
+pub with_greater_bound-requires-in-None-clause-good : goal.with_greater_bound-requires-in-None-clause-good
+with_greater_bound-requires-in-None-clause-good g c = good_bounded (soc_value c.args.soc.now) (limits_value c.args.limits.now) (plan_value c.args.given) (bound_value c.replace-bound.new.dest) c.requires.given.0
+
+pub returns-in_ok-better-in-Some-clause-improved : goal.returns-in_ok-better-in-Some-clause-improved
+returns-in_ok-better-in-Some-clause-improved g c =
+    better (soc_value c.args.soc.now) (limits_value c.args.limits.now) c.args.tries (plan_value c.args.given) (plan_value c.in-Some.plan) (plan_value c.in_ok-better-in-Some.better)
+    (subst (λ (b : Bound). IsRaised (soc_value c.args.soc.now) (limits_value c.args.limits.now) (plan_value c.in-Some.plan) (bound_value b) (plan_value c.in_ok-better-in-Some.better)) c.replace-bound.ensures.value c.in_ok-better-in-Some.ensures)
+    (of_some c.in_ok-found.found c.in-Some.plan (λ p. p.cycles < c.args.given.cycles) c.in-Some.is c.in_ok-found.ensures.fewer)
+    (some_tried c.in_ok-found.found c.in-Some.plan c.args.tries c.in-Some.is c.in_ok-found.ensures.untried)
+
+pub returns-in_ok-kept-in-None-clause-improved : goal.returns-in_ok-kept-in-None-clause-improved
+returns-in_ok-kept-in-None-clause-improved g c =
+    kept (soc_value c.args.soc.now) (limits_value c.args.limits.now) c.args.tries (plan_value c.args.given) (plan_value c.in_ok-kept-in-None.kept) (bound_value c.replace-bound.new.dest)
+    (subst (λ (b : Bound). IsRaised (soc_value c.args.soc.now) (limits_value c.args.limits.now) (record (plan_value c.args.given) { bound = bound_value c.replace-bound.new.dest }) (bound_value b) (plan_value c.in_ok-kept-in-None.kept)) c.replace-bound.ensures.value c.in_ok-kept-in-None.ensures)
+
+pub returns-in_ok-better-in-Some-clause-right : goal.returns-in_ok-better-in-Some-clause-right
+returns-in_ok-better-in-Some-clause-right g c = λ content. c.good_plans_run_right.ensures (soc_value c.args.soc.now) (limits_value c.args.limits.now) (plan_value c.in_ok-better-in-Some.better) content c.in_ok-better-in-Some.ensures.good
+
+pub returns-in_ok-kept-in-None-clause-right : goal.returns-in_ok-kept-in-None-clause-right
+returns-in_ok-kept-in-None-clause-right g c = λ content. c.good_plans_run_right.ensures (soc_value c.args.soc.now) (limits_value c.args.limits.now) (plan_value c.in_ok-kept-in-None.kept) content c.in_ok-kept-in-None.ensures.good

@@ -1,0 +1,13 @@
+use Rattle.std.proofs.Common.{◌≤◌, ℕ}
+use Rattle.plan_improver.proofs.progress.run_told.Given as goal
+
+abbrev pub invariant-loop-left : goal.invariant-loop-left
+invariant-loop-left g l = record {
+  never_worse : l.search ≤ l.initial.search;
+  faults : g.T.Sink.faults l.initial.told ≤ g.T.Sink.faults l.told;
+  some : 1 ≤ l.part;
+  within : l.left ≤ l.tries;
+}
+
+abbrev pub decreases-loop-left : goal.decreases-loop-left
+decreases-loop-left g l = l.left

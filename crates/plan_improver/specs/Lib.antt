@@ -1,0 +1,4 @@
+pub mod Improved
+pub mod Requests
+pub mod Headlines
+pub mod Widths

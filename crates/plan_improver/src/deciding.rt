@@ -1,0 +1,94 @@
+// Decides how a call ends before anything is written.
+ghost use Rattle.std.specs.Prelude.{◌≡◌, ◌<◌, ◌≤◌, None, map, string_bytes, IfOk};
+ghost use Rattle.soc_model.specs.Chips.{soc_value};
+ghost use Rattle.soc_model.specs.SoundChips.{IsSoundChip};
+ghost use Rattle.plan_model.specs.Plans.{PlanValue};
+ghost use Rattle.plan_model.specs.SoundLimits.{IsSoundLimits};
+ghost use Rattle.plan_model.specs.Faults.{IsFaultless};
+ghost use Rattle.plan_model.specs.Views.{limits_value, plan_value};
+ghost use Rattle.plan_text.specs.PlanLines.{plan_text};
+ghost use Rattle.commands.specs.Procedures.{asked};
+ghost use Rattle.commands.specs.Decides.{Follows, Decides};
+ghost use Rattle.plan_improver.specs.Improved.{IsImproved};
+ghost use Rattle.plan_improver.specs.Requests.{request_value, request_of, procedure_of};
+
+use crate::Request;
+use crate::improving::improved;
+use crate::words::asked_for;
+use commands::{Accepted, Status, Verdict, answered_with, bad_words, load_all};
+use outside::{NoMemory, Shelf, Sink};
+use plan_model::{Limits, Plan};
+use plan_text::print_plan;
+use soc_model::Soc;
+use std::alloc::Global;
+
+/// The text of an improved plan.
+fn text_of<T: Sink>(
+    alloc: Global,
+    soc: &Soc,
+    limits: &Limits,
+    plan: Plan,
+    tries: u64,
+    seed: u64,
+    told: &mut T,
+) -> Result<Vec<u8>, NoMemory>
+    requires sound { IsSoundChip (soc_value soc.now) }
+    requires limits { IsSoundLimits (soc_value soc.now) (limits_value limits.now) }
+    requires given { IsFaultless (soc_value soc.now) (limits_value limits.now) (plan_value plan) }
+    ensures text { IfOk result (λ text. (value : PlanValue) × IsImproved (soc_value soc.now) (limits_value limits.now) tries (plan_value plan) value × (text.items ≡ plan_text value)) }
+    ensures faults_never_fall { T.faults told.old ≤ T.faults told.new }
+{
+    let better = improved(alloc, soc, limits, plan, tries, seed, told)?;
+    print_plan(alloc, &better)
+}
+
+/// Improves the plan of what is asked for.
+fn decide_request<H: Shelf, T: Sink>(
+    alloc: Global,
+    request: &Request<'_>,
+    shelf: &mut H,
+    told: &mut T,
+) -> Verdict
+    ensures held_stays { H.held shelf.new ≡ H.held shelf.old }
+    ensures faults_never_fall { H.faults shelf.old ≤ H.faults shelf.new }
+    ensures told_faults_never_fall { T.faults told.old ≤ T.faults told.new }
+    ensures follows { Follows (procedure_of (request_value request.now)) (H.held shelf.old) (H.faults shelf.old) (H.faults shelf.new) result }
+{
+    match load_all(alloc, request.soc, request.limits, request.plan, shelf) {
+        Ok(all) => {
+            let Accepted { soc, limits, plan } = all;
+            answered_with(
+                Status::Done,
+                text_of(
+                    alloc,
+                    &soc,
+                    &limits,
+                    plan,
+                    request.tries,
+                    request.seed,
+                    told,
+                ),
+            )
+        }
+        Err(verdict) => verdict,
+    }
+}
+
+/// Decides how the call of these words ends. Words that ask for nothing leave the shelf untouched.
+pub(crate) fn decide<H: Shelf, T: Sink>(
+    alloc: Global,
+    words: &[String],
+    shelf: &mut H,
+    told: &mut T,
+) -> Verdict
+    ensures held_stays { H.held shelf.new ≡ H.held shelf.old }
+    ensures faults_never_fall { H.faults shelf.old ≤ H.faults shelf.new }
+    ensures told_faults_never_fall { T.faults told.old ≤ T.faults told.new }
+    ensures decides { Decides (asked procedure_of (request_of (map string_bytes words.now))) (H.held shelf.old) (H.faults shelf.old) (H.faults shelf.new) result }
+    ensures untouched { request_of (map string_bytes words.now) ≡ None → shelf.new ≡ shelf.old }
+{
+    match asked_for(words) {
+        Some(request) => decide_request(alloc, &request, shelf, told),
+        None => bad_words(alloc),
+    }
+}

@@ -1,0 +1,168 @@
+// A better plan, with the greater of two bounds.
+ghost use Rattle.std.specs.Prelude.{◌≡◌, ℕ, ◌<◌, ◌≤◌, None, length, IfOk, IfSome};
+ghost use Rattle.soc_model.specs.Chips.{soc_value, live_tests};
+ghost use Rattle.resource_table.specs.Jobs.{job_value, IsSoundJob};
+ghost use Rattle.soc_model.specs.SoundChips.{IsSoundChip};
+ghost use Rattle.plan_model.specs.SoundLimits.{IsSoundLimits};
+ghost use Rattle.plan_model.specs.Rules.{IsGood, IsBound};
+ghost use Rattle.plan_model.specs.Certificates.{IsAccepted};
+ghost use Rattle.plan_model.specs.Faults.{IsFaultless};
+ghost use Rattle.plan_model.specs.Runs.{Content};
+ghost use Rattle.plan_model.specs.Right.{IsRight};
+ghost use Rattle.plan_model.specs.Views.{limits_value, plan_value, bound_value};
+ghost use Rattle.plan_improver.specs.declared.progress.TheConstants.{TOLD_FROM};
+ghost use Rattle.plan_improver.specs.Improved.{IsGreaterBound, IsRaised, IsImproved};
+
+use crate::candidate::{better_plan, no_bound};
+use crate::progress::{line_room, run_told};
+use arch_search::{Problem, Search};
+use bound_certificate::best_bound;
+use outside::{NoMemory, Sink};
+use plan_model::{Bound, Limits, Plan, good_plans_run_right};
+use planner::{JobParts, job_of};
+use resource_table::Job;
+use soc_model::Soc;
+use std::alloc::Global;
+use std::mem;
+use width_table::WidthTable;
+
+/// The greater of a given bound and of the best one at the cycles of a good plan; of equal ones the given one.
+fn greater_bound(
+    alloc: Global,
+    soc: &Soc,
+    limits: &Limits,
+    cycles: u64,
+    given: Bound,
+) -> Result<Bound, NoMemory>
+    requires sound { IsSoundChip (soc_value soc.now) }
+    requires limits { IsSoundLimits (soc_value soc.now) (limits_value limits.now) }
+    requires good { (n : ℕ) → IsBound (soc_value soc.now) (limits_value limits.now) n → n ≤ cycles }
+    requires accepted { IsAccepted (soc_value soc.now) (limits_value limits.now) (bound_value given) }
+    ensures greater { IfOk result (λ bound. IsGreaterBound (soc_value soc.now) (limits_value limits.now) cycles (bound_value given) (bound_value bound)) }
+    ensures accepted { IfOk result (λ bound. IsAccepted (soc_value soc.now) (limits_value limits.now) (bound_value bound)) }
+    ensures at_least { IfOk result (λ bound. given.cycles ≤ bound.cycles) }
+{
+    let best = best_bound(alloc, soc, limits, cycles)?;
+    if given.cycles < best.cycles {
+        return Ok(best);
+    }
+    Ok(given)
+}
+
+/// A good plan, with the greater of a given bound and of the best one at its cycles.
+fn with_greater_bound(
+    alloc: Global,
+    soc: &Soc,
+    limits: &Limits,
+    plan: Plan,
+    given: Bound,
+) -> Result<Plan, NoMemory>
+    requires sound { IsSoundChip (soc_value soc.now) }
+    requires limits { IsSoundLimits (soc_value soc.now) (limits_value limits.now) }
+    requires good { IsGood (soc_value soc.now) (limits_value limits.now) (plan_value plan) }
+    requires accepted { IsAccepted (soc_value soc.now) (limits_value limits.now) (bound_value given) }
+    ensures { IfOk result (λ new. IsRaised (soc_value soc.now) (limits_value limits.now) (plan_value plan) (bound_value given) (plan_value new)) }
+{
+    let Plan {
+        buses,
+        wrappers,
+        starts,
+        cycles,
+        bound: _,
+    } = plan;
+    let bound = greater_bound(alloc, soc, limits, cycles, given)?;
+    Ok(Plan {
+        buses,
+        wrappers,
+        starts,
+        cycles,
+        bound,
+    })
+}
+
+/// The job of a plan's tests.
+fn job_of_plan(alloc: Global, soc: &Soc, limits: &Limits, given: &Plan) -> Result<Job, NoMemory>
+    requires sound { IsSoundChip (soc_value soc.now) }
+    requires limits { IsSoundLimits (soc_value soc.now) (limits_value limits.now) }
+    requires given { IsGood (soc_value soc.now) (limits_value limits.now) (plan_value given.now) }
+    ensures sound { IfOk result (λ job. IsSoundJob (job_value job)) }
+    ensures tests { IfOk result (λ job. length (job_value job).tests ≡ length (live_tests (soc_value soc.now))) }
+{
+    let parts = JobParts {
+        soc,
+        limits,
+        buses: &given.buses,
+        wrappers: &given.wrappers,
+    };
+    let job = job_of(alloc, &parts)?;
+    Ok(job)
+}
+
+/// A good plan of fewer cycles than the given one, where so many tries find one.
+fn searched<T: Sink>(
+    alloc: Global,
+    soc: &Soc,
+    limits: &Limits,
+    given: &Plan,
+    tries: u64,
+    seed: u64,
+    told: &mut T,
+) -> Result<Option<Plan>, NoMemory>
+    requires sound { IsSoundChip (soc_value soc.now) }
+    requires limits { IsSoundLimits (soc_value soc.now) (limits_value limits.now) }
+    requires given { IsFaultless (soc_value soc.now) (limits_value limits.now) (plan_value given.now) }
+    ensures good { IfOk result (λ plan. IfSome plan (λ p. IsGood (soc_value soc.now) (limits_value limits.now) (plan_value p))) }
+    ensures fewer { IfOk result (λ plan. IfSome plan (λ p. p.cycles < given.now.cycles)) }
+    ensures faults_never_fall { T.faults told.old ≤ T.faults told.new }
+    ensures quiet { tries < TOLD_FROM → told.new ≡ told.old }
+    ensures untried { tries ≡ 0 → IfOk result (λ plan. plan ≡ None) }
+{
+    if tries == 0 {
+        return Ok(None);
+    }
+    let mut line = line_room(alloc)?;
+    let table = WidthTable::new(alloc, soc, limits.wires)?;
+    let job = job_of_plan(alloc, soc, limits, given)?;
+    let problem = Problem::new(alloc, soc, &table, &job)?;
+    let mut search = Search::new(alloc, soc, &problem, &job, given, seed)?;
+    run_told(&mut search, tries, &mut line, told);
+    search.finish();
+    let found = search.found();
+    better_plan(alloc, soc, limits, &table, &found, given.cycles)
+}
+
+/// A plan of no more cycles than the given one has, for the same chip and limits, after so many tries of a search that draws
+/// from a seed; the given plan where none is better. It is good, so that it runs right for every content, and its bound is
+/// the greater of the given one and of the best one at its cycles. From 100,000 tries on `told` is told each tenth of them,
+/// with the best cycles so far; a `told` that fails changes nothing else. `NoMemory` where there is none.
+pub fn improved<T: Sink>(
+    alloc: Global,
+    soc: &Soc,
+    limits: &Limits,
+    mut given: Plan,
+    tries: u64,
+    seed: u64,
+    told: &mut T,
+) -> Result<Plan, NoMemory>
+    requires sound { IsSoundChip (soc_value soc.now) }
+    requires limits { IsSoundLimits (soc_value soc.now) (limits_value limits.now) }
+    requires given { IsFaultless (soc_value soc.now) (limits_value limits.now) (plan_value given) }
+    ensures improved { IfOk result (λ plan. IsImproved (soc_value soc.now) (limits_value limits.now) tries (plan_value given) (plan_value plan)) }
+    ensures right { IfOk result (λ plan. (content : Content) → IsRight (soc_value soc.now) (limits_value limits.now) (plan_value plan) content) }
+    ensures faults_never_fall { T.faults told.old ≤ T.faults told.new }
+    ensures quiet { tries < TOLD_FROM → told.new ≡ told.old }
+{
+    good_plans_run_right();
+    let found = searched(alloc, soc, limits, &given, tries, seed, told)?;
+    let bound = mem::replace(&mut given.bound, no_bound());
+    match found {
+        Some(plan) => {
+            let better = with_greater_bound(alloc, soc, limits, plan, bound)?;
+            Ok(better)
+        }
+        None => {
+            let kept = with_greater_bound(alloc, soc, limits, given, bound)?;
+            Ok(kept)
+        }
+    }
+}
