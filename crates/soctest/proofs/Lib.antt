@@ -1,3 +1,4 @@
+pub mod Endings
 pub mod Headlines
 mod LiveCounts
 pub mod LogFiles

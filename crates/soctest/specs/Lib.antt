@@ -1,4 +1,5 @@
 pub mod Commands
+pub mod Endings
 pub mod Headlines
 pub mod LocateText
 pub mod LogReadings

@@ -10,16 +10,15 @@ ghost use Rattle.schedule_search.specs.Estimates.{CanAsk, IsAtLeastReady, IsAtMo
 ghost use Rattle.planner.specs.Plans.{IsPlanned};
 ghost use Rattle.plan_model.specs.declared.TheConstants.{WIRES_MOST};
 ghost use Rattle.soctest.specs.Commands.{Print, Widths, MakePlan, Check, Chart, Vectors, TreeBound, command_of, SplitTests, Shift, Locate};
-ghost use Rattle.plan_model.specs.Rules.{IsGoodAlone};
-ghost use Rattle.bit_machine.specs.Chips.{wires_of, made_content};
-ghost use Rattle.tester_vectors.specs.VectorText.{vector_text as text_of_vectors};
 ghost use Rattle.commands.specs.Procedures.{asked};
-ghost use Rattle.soctest.specs.Procedures.{procedure_of, run_refusal};
-ghost use Rattle.commands.specs.Decides.{Follows, Decides, GivesUnless};
+ghost use Rattle.soctest.specs.Endings.{Closes, IsRunnable};
+ghost use Rattle.soctest.specs.Procedures.{procedure_of};
+ghost use Rattle.commands.specs.Decides.{Follows};
 
 use crate::Command;
+use crate::ending::Ending;
 use crate::fails::locate_text;
-use crate::lines::{accepted_line, run_line};
+use crate::lines::accepted_line;
 use crate::logs::load_log;
 use crate::programs::answer_program;
 use crate::samples::decide_sample;
@@ -42,7 +41,6 @@ use schedule_search::Ahead;
 use soc_model::Soc;
 use soc_printer::print_soc;
 use std::alloc::Global;
-use tester_vectors::{VectorFault, vector_text};
 
 /// `print SOC`: the chip's text.
 fn decide_print<H: Shelf>(alloc: Global, soc: &str, shelf: &mut H) -> Verdict
@@ -148,21 +146,7 @@ fn decide_chart<H: Shelf>(
     }
 }
 
-/// The vectors of a plan, or the refusal of a run that is too long.
-fn answer_vectors(alloc: Global, soc: &Soc, plan: &Plan, seed: u64) -> Verdict
-    requires sound { IsSoundChip (soc_value soc.now) }
-    requires good { IsGoodAlone (soc_value soc.now) (plan_value plan.now) }
-    requires narrow { wires_of (plan_value plan.now) ≤ 256 }
-    ensures { GivesUnless (run_refusal (plan_value plan.now)) (text_of_vectors (soc_value soc.now) (plan_value plan.now) (made_content (soc_value soc.now) seed)) result }
-{
-    match vector_text(alloc, soc, plan, seed) {
-        Ok(text) => answered_with(Status::Done, Ok(text)),
-        Err(VectorFault::RunTooLong { cells }) => refused_with(run_line(alloc, cells)),
-        Err(VectorFault::NoMemory) => Verdict::NoMemory,
-    }
-}
-
-/// `vectors SOC LIMITS PLAN SEED`: what a tester drives and compares in a plan that is accepted.
+/// `vectors SOC LIMITS PLAN SEED`: what a tester drives and compares in a plan that is accepted. It is written as it is made.
 fn decide_vectors<H: Shelf>(
     alloc: Global,
     soc: &str,
@@ -170,17 +154,15 @@ fn decide_vectors<H: Shelf>(
     plan: &str,
     seed: u64,
     shelf: &mut H,
-) -> Verdict
+) -> Ending
     ensures held_stays { H.held shelf.new ≡ H.held shelf.old }
     ensures faults_never_fall { H.faults shelf.old ≤ H.faults shelf.new }
-    ensures follows { Follows (procedure_of (Vectors soc.now limits.now plan.now seed)) (H.held shelf.old) (H.faults shelf.old) (H.faults shelf.new) result }
+    ensures closes { Closes (procedure_of (Vectors soc.now limits.now plan.now seed)) (H.held shelf.old) (H.faults shelf.old) (H.faults shelf.new) result }
+    ensures runnable { IsRunnable result }
 {
     match load_all(alloc, soc, limits, plan, shelf) {
-        Ok(all) => {
-            good_without_limits();
-            answer_vectors(alloc, &all.soc, &all.plan, seed)
-        }
-        Err(verdict) => verdict,
+        Ok(all) => Ending::Run { all, seed },
+        Err(verdict) => Ending::Decided(verdict),
     }
 }
 
@@ -256,23 +238,28 @@ fn decide_shift<H: Shelf>(
 }
 
 /// Decides how the command of these words ends. Words of no command leave the shelf untouched.
-pub fn decide<H: Shelf>(alloc: Global, words: &[String], shelf: &mut H) -> Verdict
+pub fn decide<H: Shelf>(alloc: Global, words: &[String], shelf: &mut H) -> Ending
     ensures held_stays { H.held shelf.new ≡ H.held shelf.old }
     ensures faults_never_fall { H.faults shelf.old ≤ H.faults shelf.new }
-    ensures decides { Decides (asked procedure_of (command_of (map string_bytes words.now))) (H.held shelf.old) (H.faults shelf.old) (H.faults shelf.new) result }
+    ensures closes { Closes (asked procedure_of (command_of (map string_bytes words.now))) (H.held shelf.old) (H.faults shelf.old) (H.faults shelf.new) result }
+    ensures runnable { IsRunnable result }
     ensures untouched { command_of (map string_bytes words.now) ≡ None → shelf.new ≡ shelf.old }
     ensures patterns { (soc limits : List ℕ) (most : ℕ) → command_of (map string_bytes words.now) ≡ Some (SplitTests soc limits most) → 1 ≤ most }
 {
     match command(words) {
-        Some(Command::Print { soc }) => decide_print(alloc, soc, shelf),
-        Some(Command::Widths { soc, wires }) => decide_widths(alloc, soc, wires, shelf),
-        Some(Command::Plan { soc, limits }) => decide_plan(alloc, soc, limits, shelf),
-        Some(Command::Check { soc, limits, plan }) => {
-            decide_check(alloc, soc, limits, plan, shelf)
-        }
-        Some(Command::Chart { soc, limits, plan }) => {
-            decide_chart(alloc, soc, limits, plan, shelf)
-        }
+        Some(Command::Print { soc }) => Ending::Decided(decide_print(alloc, soc, shelf)),
+        Some(Command::Widths { soc, wires }) => Ending::Decided(decide_widths(
+            alloc, soc, wires, shelf,
+        )),
+        Some(Command::Plan { soc, limits }) => Ending::Decided(decide_plan(
+            alloc, soc, limits, shelf,
+        )),
+        Some(Command::Check { soc, limits, plan }) => Ending::Decided(decide_check(
+            alloc, soc, limits, plan, shelf,
+        )),
+        Some(Command::Chart { soc, limits, plan }) => Ending::Decided(decide_chart(
+            alloc, soc, limits, plan, shelf,
+        )),
         Some(
             Command::Vectors {
                 soc,
@@ -281,7 +268,7 @@ pub fn decide<H: Shelf>(alloc: Global, words: &[String], shelf: &mut H) -> Verdi
                 seed,
             },
         ) => decide_vectors(alloc, soc, limits, plan, seed, shelf),
-        Some(Command::Sample { n, seed }) => decide_sample(alloc, n, seed),
+        Some(Command::Sample { n, seed }) => Ending::Decided(decide_sample(alloc, n, seed)),
         Some(
             Command::Locate {
                 soc,
@@ -289,7 +276,7 @@ pub fn decide<H: Shelf>(alloc: Global, words: &[String], shelf: &mut H) -> Verdi
                 plan,
                 log,
             },
-        ) => decide_locate(alloc, soc, limits, plan, log, shelf),
+        ) => Ending::Decided(decide_locate(alloc, soc, limits, plan, log, shelf)),
         Some(
             Command::Shift {
                 soc,
@@ -297,11 +284,13 @@ pub fn decide<H: Shelf>(alloc: Global, words: &[String], shelf: &mut H) -> Verdi
                 plan,
                 program,
             },
-        ) => decide_shift(alloc, soc, limits, plan, program, shelf),
-        Some(Command::Tree { soc, limits, tree }) => {
-            decide_tree(alloc, soc, limits, tree, shelf)
-        }
-        Some(Command::Split { soc, limits, most }) => decide_split(alloc, soc, limits, most, shelf),
-        None => bad_words(alloc),
+        ) => Ending::Decided(decide_shift(alloc, soc, limits, plan, program, shelf)),
+        Some(Command::Tree { soc, limits, tree }) => Ending::Decided(decide_tree(
+            alloc, soc, limits, tree, shelf,
+        )),
+        Some(Command::Split { soc, limits, most }) => Ending::Decided(decide_split(
+            alloc, soc, limits, most, shelf,
+        )),
+        None => Ending::Decided(bad_words(alloc)),
     }
 }

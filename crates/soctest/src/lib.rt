@@ -3,6 +3,7 @@
 #![tactic(auto)]
 
 mod deciding;
+mod ending;
 mod fails;
 mod lines;
 mod logs;

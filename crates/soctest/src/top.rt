@@ -1,4 +1,4 @@
-// The top call: it decides first, and then writes once.
+// The top call: it decides first, and then writes.
 ghost use Rattle.std.specs.Prelude.{◌≡◌, ◌≤◌, None, map, string_bytes};
 ghost use Rattle.outside.specs.Held.{Rose};
 ghost use Rattle.commands.specs.Procedures.{asked};
@@ -8,7 +8,8 @@ ghost use Rattle.soctest.specs.Procedures.{procedure_of, fixes_text};
 ghost use Rattle.soctest.specs.Headlines.{Headline};
 
 use crate::deciding::decide;
-use commands::{Status, files_say_one_thing, write_verdict};
+use crate::ending::write_ending;
+use commands::{Status, files_say_one_thing};
 use outside::{Shelf, Sink};
 use plan_model::{certificates_are_bounds, good_plans_run_right};
 use shift_program::{
@@ -52,6 +53,6 @@ pub fn soctest<H: Shelf, K: Sink>(
     faultless_programs_are_right();
     program_faults_are_exact();
     program_texts_have_one_answer();
-    let verdict = decide(alloc, words, shelf);
-    write_verdict(verdict, out)
+    let ending = decide(alloc, words, shelf);
+    write_ending(alloc, ending, out)
 }

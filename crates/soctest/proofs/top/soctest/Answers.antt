@@ -1,7 +1,7 @@
 use Rattle.std.proofs.Common.{map}
 use Rattle.std.specs.Prelude.{string_bytes}
 use Rattle.commands.specs.Procedures.{asked}
-use Rattle.commands.proofs.Written.{ends, one_line, by_words, says_bad_words}
+use Rattle.soctest.proofs.Endings.{ends, one_line, by_words, says_bad_words}
 use Rattle.commands.proofs.Completeness.{complete, finishes}
 use Rattle.soctest.specs.Commands.{command_of}
 use Rattle.soctest.specs.Procedures.{procedure_of, fixes_text}
@@ -11,31 +11,31 @@ use Rattle.soctest.proofs.top.soctest.Goals as goal
 
 pub returns-clause-ends : goal.returns-clause-ends
 returns-clause-ends g c =
-    ends (asked procedure_of (command_of (map string_bytes c.args.words.now))) (g.H.Shelf.held c.args.shelf.now) (g.H.Shelf.faults c.args.shelf.now) (g.H.Shelf.faults c.decide-verdict.new.shelf) (g.K.Sink.faults c.args.out.now) (g.K.Sink.faults c.write_verdict.new.out) (g.K.Sink.written c.args.out.now) (g.K.Sink.written c.write_verdict.new.out) c.write_verdict.result c.decide-verdict.result c.decide-verdict.ensures.decides c.write_verdict.ensures.written
+    ends (asked procedure_of (command_of (map string_bytes c.args.words.now))) (g.H.Shelf.held c.args.shelf.now) (g.H.Shelf.faults c.args.shelf.now) (g.H.Shelf.faults c.decide-ending.new.shelf) (g.K.Sink.faults c.args.out.now) (g.K.Sink.faults c.write_ending.new.out) (g.K.Sink.written c.args.out.now) (g.K.Sink.written c.write_ending.new.out) c.write_ending.result c.decide-ending.result c.decide-ending.ensures.closes c.write_ending.ensures.written
 
 pub returns-clause-one_line : goal.returns-clause-one_line
 returns-clause-one_line g c =
-    one_line (asked procedure_of (command_of (map string_bytes c.args.words.now))) (g.H.Shelf.held c.args.shelf.now) (g.H.Shelf.faults c.args.shelf.now) (g.H.Shelf.faults c.decide-verdict.new.shelf) (g.K.Sink.faults c.args.out.now) (g.K.Sink.faults c.write_verdict.new.out) (g.K.Sink.written c.args.out.now) (g.K.Sink.written c.write_verdict.new.out) c.write_verdict.result c.decide-verdict.result c.decide-verdict.ensures.decides c.write_verdict.ensures.written
+    one_line (asked procedure_of (command_of (map string_bytes c.args.words.now))) (g.H.Shelf.held c.args.shelf.now) (g.H.Shelf.faults c.args.shelf.now) (g.H.Shelf.faults c.decide-ending.new.shelf) (g.K.Sink.faults c.args.out.now) (g.K.Sink.faults c.write_ending.new.out) (g.K.Sink.written c.args.out.now) (g.K.Sink.written c.write_ending.new.out) c.write_ending.result c.decide-ending.result c.decide-ending.ensures.closes c.write_ending.ensures.written
 
 pub returns-clause-by_words : goal.returns-clause-by_words
 returns-clause-by_words g c =
-    by_words (asked procedure_of (command_of (map string_bytes c.args.words.now))) (g.H.Shelf.held c.args.shelf.now) (g.H.Shelf.faults c.args.shelf.now) (g.H.Shelf.faults c.decide-verdict.new.shelf) (g.K.Sink.faults c.args.out.now) (g.K.Sink.faults c.write_verdict.new.out) (g.K.Sink.written c.args.out.now) (g.K.Sink.written c.write_verdict.new.out) c.write_verdict.result c.decide-verdict.result c.decide-verdict.ensures.decides c.write_verdict.ensures.written
+    by_words (asked procedure_of (command_of (map string_bytes c.args.words.now))) (g.H.Shelf.held c.args.shelf.now) (g.H.Shelf.faults c.args.shelf.now) (g.H.Shelf.faults c.decide-ending.new.shelf) (g.K.Sink.faults c.args.out.now) (g.K.Sink.faults c.write_ending.new.out) (g.K.Sink.written c.args.out.now) (g.K.Sink.written c.write_ending.new.out) c.write_ending.result c.decide-ending.result c.decide-ending.ensures.closes c.write_ending.ensures.written
 
 pub returns-clause-bad_words : goal.returns-clause-bad_words
 returns-clause-bad_words g c =
-    says_bad_words (asked procedure_of (command_of (map string_bytes c.args.words.now))) (g.H.Shelf.held c.args.shelf.now) (g.H.Shelf.faults c.args.shelf.now) (g.H.Shelf.faults c.decide-verdict.new.shelf) (g.K.Sink.faults c.args.out.now) (g.K.Sink.faults c.write_verdict.new.out) (g.K.Sink.written c.args.out.now) (g.K.Sink.written c.write_verdict.new.out) c.write_verdict.result c.decide-verdict.result c.decide-verdict.ensures.decides c.write_verdict.ensures.written
+    says_bad_words (asked procedure_of (command_of (map string_bytes c.args.words.now))) (g.H.Shelf.held c.args.shelf.now) (g.H.Shelf.faults c.args.shelf.now) (g.H.Shelf.faults c.decide-ending.new.shelf) (g.K.Sink.faults c.args.out.now) (g.K.Sink.faults c.write_ending.new.out) (g.K.Sink.written c.args.out.now) (g.K.Sink.written c.write_ending.new.out) c.write_ending.result c.decide-ending.result c.decide-ending.ensures.closes c.write_ending.ensures.written
 
 pub returns-clause-complete : goal.returns-clause-complete
 returns-clause-complete g c =
-    complete (fixes_text (command_of (map string_bytes c.args.words.now))) (asked procedure_of (command_of (map string_bytes c.args.words.now))) (settled_asked (record { files = c.files_say_one_thing.ensures; programs = record { texts = c.program_texts_have_one_answer.ensures; faultless = c.faultless_programs_are_right.ensures.faultless; one_fault = c.program_faults_are_exact.ensures.one } }) (command_of (map string_bytes c.args.words.now))) (g.H.Shelf.held c.args.shelf.now) (g.H.Shelf.faults c.args.shelf.now) (g.H.Shelf.faults c.decide-verdict.new.shelf) (g.K.Sink.faults c.args.out.now) (g.K.Sink.faults c.write_verdict.new.out) (g.K.Sink.written c.args.out.now) (g.K.Sink.written c.write_verdict.new.out) c.write_verdict.result
-    (ends (asked procedure_of (command_of (map string_bytes c.args.words.now))) (g.H.Shelf.held c.args.shelf.now) (g.H.Shelf.faults c.args.shelf.now) (g.H.Shelf.faults c.decide-verdict.new.shelf) (g.K.Sink.faults c.args.out.now) (g.K.Sink.faults c.write_verdict.new.out) (g.K.Sink.written c.args.out.now) (g.K.Sink.written c.write_verdict.new.out) c.write_verdict.result c.decide-verdict.result c.decide-verdict.ensures.decides c.write_verdict.ensures.written)
+    complete (fixes_text (command_of (map string_bytes c.args.words.now))) (asked procedure_of (command_of (map string_bytes c.args.words.now))) (settled_asked (record { files = c.files_say_one_thing.ensures; programs = record { texts = c.program_texts_have_one_answer.ensures; faultless = c.faultless_programs_are_right.ensures.faultless; one_fault = c.program_faults_are_exact.ensures.one } }) (command_of (map string_bytes c.args.words.now))) (g.H.Shelf.held c.args.shelf.now) (g.H.Shelf.faults c.args.shelf.now) (g.H.Shelf.faults c.decide-ending.new.shelf) (g.K.Sink.faults c.args.out.now) (g.K.Sink.faults c.write_ending.new.out) (g.K.Sink.written c.args.out.now) (g.K.Sink.written c.write_ending.new.out) c.write_ending.result
+    (ends (asked procedure_of (command_of (map string_bytes c.args.words.now))) (g.H.Shelf.held c.args.shelf.now) (g.H.Shelf.faults c.args.shelf.now) (g.H.Shelf.faults c.decide-ending.new.shelf) (g.K.Sink.faults c.args.out.now) (g.K.Sink.faults c.write_ending.new.out) (g.K.Sink.written c.args.out.now) (g.K.Sink.written c.write_ending.new.out) c.write_ending.result c.decide-ending.result c.decide-ending.ensures.closes c.write_ending.ensures.written)
 
 pub returns-clause-finishes : goal.returns-clause-finishes
 returns-clause-finishes g c =
-    finishes (fixes_text (command_of (map string_bytes c.args.words.now))) (asked procedure_of (command_of (map string_bytes c.args.words.now))) (settled_asked (record { files = c.files_say_one_thing.ensures; programs = record { texts = c.program_texts_have_one_answer.ensures; faultless = c.faultless_programs_are_right.ensures.faultless; one_fault = c.program_faults_are_exact.ensures.one } }) (command_of (map string_bytes c.args.words.now))) (g.H.Shelf.held c.args.shelf.now) (g.H.Shelf.faults c.args.shelf.now) (g.H.Shelf.faults c.decide-verdict.new.shelf) (g.K.Sink.faults c.args.out.now) (g.K.Sink.faults c.write_verdict.new.out) (g.K.Sink.written c.args.out.now) (g.K.Sink.written c.write_verdict.new.out) c.write_verdict.result
-    (ends (asked procedure_of (command_of (map string_bytes c.args.words.now))) (g.H.Shelf.held c.args.shelf.now) (g.H.Shelf.faults c.args.shelf.now) (g.H.Shelf.faults c.decide-verdict.new.shelf) (g.K.Sink.faults c.args.out.now) (g.K.Sink.faults c.write_verdict.new.out) (g.K.Sink.written c.args.out.now) (g.K.Sink.written c.write_verdict.new.out) c.write_verdict.result c.decide-verdict.result c.decide-verdict.ensures.decides c.write_verdict.ensures.written)
+    finishes (fixes_text (command_of (map string_bytes c.args.words.now))) (asked procedure_of (command_of (map string_bytes c.args.words.now))) (settled_asked (record { files = c.files_say_one_thing.ensures; programs = record { texts = c.program_texts_have_one_answer.ensures; faultless = c.faultless_programs_are_right.ensures.faultless; one_fault = c.program_faults_are_exact.ensures.one } }) (command_of (map string_bytes c.args.words.now))) (g.H.Shelf.held c.args.shelf.now) (g.H.Shelf.faults c.args.shelf.now) (g.H.Shelf.faults c.decide-ending.new.shelf) (g.K.Sink.faults c.args.out.now) (g.K.Sink.faults c.write_ending.new.out) (g.K.Sink.written c.args.out.now) (g.K.Sink.written c.write_ending.new.out) c.write_ending.result
+    (ends (asked procedure_of (command_of (map string_bytes c.args.words.now))) (g.H.Shelf.held c.args.shelf.now) (g.H.Shelf.faults c.args.shelf.now) (g.H.Shelf.faults c.decide-ending.new.shelf) (g.K.Sink.faults c.args.out.now) (g.K.Sink.faults c.write_ending.new.out) (g.K.Sink.written c.args.out.now) (g.K.Sink.written c.write_ending.new.out) c.write_ending.result c.decide-ending.result c.decide-ending.ensures.closes c.write_ending.ensures.written)
 
 pub returns-clause-headline : goal.returns-clause-headline
 returns-clause-headline g c =
-    headline (record { right = c.good_plans_run_right.ensures; bound = c.certificates_are_bounds.ensures.accepted }) (command_of (map string_bytes c.args.words.now)) c.decide-verdict.ensures.patterns (g.H.Shelf.held c.args.shelf.now) (g.H.Shelf.faults c.args.shelf.now) (g.H.Shelf.faults c.decide-verdict.new.shelf) (g.K.Sink.faults c.args.out.now) (g.K.Sink.faults c.write_verdict.new.out) (g.K.Sink.written c.args.out.now) (g.K.Sink.written c.write_verdict.new.out) c.write_verdict.result
-    (ends (asked procedure_of (command_of (map string_bytes c.args.words.now))) (g.H.Shelf.held c.args.shelf.now) (g.H.Shelf.faults c.args.shelf.now) (g.H.Shelf.faults c.decide-verdict.new.shelf) (g.K.Sink.faults c.args.out.now) (g.K.Sink.faults c.write_verdict.new.out) (g.K.Sink.written c.args.out.now) (g.K.Sink.written c.write_verdict.new.out) c.write_verdict.result c.decide-verdict.result c.decide-verdict.ensures.decides c.write_verdict.ensures.written)
+    headline (record { right = c.good_plans_run_right.ensures; bound = c.certificates_are_bounds.ensures.accepted }) (command_of (map string_bytes c.args.words.now)) c.decide-ending.ensures.patterns (g.H.Shelf.held c.args.shelf.now) (g.H.Shelf.faults c.args.shelf.now) (g.H.Shelf.faults c.decide-ending.new.shelf) (g.K.Sink.faults c.args.out.now) (g.K.Sink.faults c.write_ending.new.out) (g.K.Sink.written c.args.out.now) (g.K.Sink.written c.write_ending.new.out) c.write_ending.result
+    (ends (asked procedure_of (command_of (map string_bytes c.args.words.now))) (g.H.Shelf.held c.args.shelf.now) (g.H.Shelf.faults c.args.shelf.now) (g.H.Shelf.faults c.decide-ending.new.shelf) (g.K.Sink.faults c.args.out.now) (g.K.Sink.faults c.write_ending.new.out) (g.K.Sink.written c.args.out.now) (g.K.Sink.written c.write_ending.new.out) c.write_ending.result c.decide-ending.result c.decide-ending.ensures.closes c.write_ending.ensures.written)

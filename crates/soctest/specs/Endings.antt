@@ -1,0 +1,62 @@
+-- How a call ends that is either decided with its text or writes vectors as they are made.
+use Rattle.std.specs.Prelude.{◌≡◌, ℕ, ◌⊎◌, List, Option, None, Some, IfSome, IsTrue}
+use Rattle.outside.specs.Held.{Files}
+use Rattle.soc_model.specs.Chips.{SocValue, soc_value}
+use Rattle.soc_model.specs.SoundChips.{IsSoundChip}
+use Rattle.plan_model.specs.Faults.{IsFaultless}
+use Rattle.plan_model.specs.Plans.{PlanValue}
+use Rattle.plan_model.specs.SoundLimits.{IsSoundLimits}
+use Rattle.plan_model.specs.Views.{limits_value, plan_value}
+use Rattle.bit_machine.specs.Chips.{made_content}
+use Rattle.tester_vectors.specs.VectorText.{vector_text}
+use Rattle.commands.specs.declared.Status.{Status}
+use Rattle.commands.specs.declared.loading.Accepted.{Accepted}
+use Rattle.commands.specs.declared.Status.TheVariants.{Done, Refused, NoMemory}
+use Rattle.commands.specs.Answers.{Answers}
+use Rattle.commands.specs.Decides.{Decides}
+use Rattle.commands.specs.Ends.{IsWritten, Writes}
+use Rattle.commands.specs.Procedures.{Procedure, Read, Unless, Answer, NoCommand}
+use Rattle.commands.specs.Texts.{is_line}
+use Rattle.soctest.specs.Procedures.{run_refusal}
+use Rattle.soctest.specs.declared.ending.Ending.{Ending}
+use Rattle.soctest.specs.declared.ending.Ending.TheVariants as ending
+
+-- the words are those of a command
+abbrev pub IsCommand : Procedure → Type 0
+IsCommand NoCommand = ⊥
+IsCommand (Answer May) = Unit {0}
+IsCommand (Unless refusal next) = Unit {0}
+IsCommand (Read file Says Refuses name next) = Unit {0}
+
+-- where the shelf tells, the procedure may answer the line that refuses, or else the text
+abbrev pub MayUnless : Procedure → Option Files → Option (List ℕ) → List ℕ → Type 0
+MayUnless steps held None text = IfSome held (λ files. Answers steps files Done text)
+MayUnless steps held (Some line) text = IfSome held (λ files. Answers steps files Refused line)
+
+-- how a call is decided: by a verdict, or to write the vectors of a plan unless their run is too long
+abbrev pub Closes : Procedure → Option Files → ℕ → ℕ → Ending → Type 0
+Closes steps held before after (ending.Decided verdict) = Decides steps held before after verdict
+Closes steps held before after (ending.Run all seed) =
+    IsCommand steps × MayUnless steps held (run_refusal (plan_value all.plan)) (vector_text (soc_value all.soc) (plan_value all.plan) (made_content (soc_value all.soc) seed))
+
+-- a chip, limits and a plan that is accepted
+pub record IsTaken (all : Accepted) : Type 0 where
+  pub sound : IsSoundChip (soc_value all.soc)
+  pub limits : IsSoundLimits (soc_value all.soc) (limits_value all.limits)
+  pub accepted : IsFaultless (soc_value all.soc) (limits_value all.limits) (plan_value all.plan)
+
+-- vectors are of a plan that is accepted
+abbrev pub IsRunnable : Ending → Type 0
+IsRunnable (ending.Decided verdict) = Unit {0}
+IsRunnable (ending.Run all seed) = IsTaken all
+
+-- the line that refuses is written, or else the text, by the count of the output's faults; or nothing for want of memory
+abbrev pub WritesUnless : Option (List ℕ) → List ℕ → ℕ → ℕ → Option (List ℕ) → Status → Option (List ℕ) → Type 0
+WritesUnless None text before after old end new = ((end ≡ NoMemory) × (new ≡ old)) ⊎ IsWritten Done text before after old end new
+WritesUnless (Some line) text before after old end new = ((end ≡ NoMemory) × (new ≡ old)) ⊎ (IsTrue (is_line line) × IsWritten Refused line before after old end new)
+
+-- what is written of an ending
+abbrev pub WritesEnding : Ending → ℕ → ℕ → Option (List ℕ) → Status → Option (List ℕ) → Type 0
+WritesEnding (ending.Decided verdict) before after old end new = Writes verdict before after old end new
+WritesEnding (ending.Run all seed) before after old end new =
+    WritesUnless (run_refusal (plan_value all.plan)) (vector_text (soc_value all.soc) (plan_value all.plan) (made_content (soc_value all.soc) seed)) before after old end new

@@ -1,0 +1,62 @@
+// The end of a call: a verdict that is written at once, or vectors that are written as they are made.
+ghost use Rattle.std.specs.Prelude.{◌≤◌};
+ghost use Rattle.soc_model.specs.Chips.{soc_value};
+ghost use Rattle.soc_model.specs.SoundChips.{IsSoundChip};
+ghost use Rattle.plan_model.specs.Rules.{IsGoodAlone};
+ghost use Rattle.plan_model.specs.Views.{plan_value};
+ghost use Rattle.bit_machine.specs.Chips.{wires_of, made_content};
+ghost use Rattle.tester_vectors.specs.VectorText.{vector_text};
+ghost use Rattle.soctest.specs.Endings.{IsRunnable, WritesEnding, WritesUnless};
+ghost use Rattle.soctest.specs.Procedures.{run_refusal};
+
+use crate::lines::run_line;
+use commands::{Accepted, Status, Verdict, refused_with, write_verdict};
+use outside::Sink;
+use plan_model::{Plan, good_without_limits};
+use soc_model::Soc;
+use std::alloc::Global;
+use tester_vectors::{Outcome, write_vectors};
+
+/// How a call ends.
+#[derive(Drop)]
+pub enum Ending {
+    /// All is decided, with the text.
+    Decided(Verdict),
+    /// The vectors of an accepted plan, with the contents of a seed, are to be written.
+    Run { all: Accepted, seed: u64 },
+}
+
+/// Writes the vectors of a plan as they are made, or the refusal of a run that is too long. All memory is taken before the
+/// first byte.
+fn write_run<K: Sink>(alloc: Global, soc: &Soc, plan: &Plan, seed: u64, out: &mut K) -> Status
+    requires sound { IsSoundChip (soc_value soc.now) }
+    requires good { IsGoodAlone (soc_value soc.now) (plan_value plan.now) }
+    requires narrow { wires_of (plan_value plan.now) ≤ 256 }
+    ensures faults_never_fall { K.faults out.old ≤ K.faults out.new }
+    ensures written { WritesUnless (run_refusal (plan_value plan.now)) (vector_text (soc_value soc.now) (plan_value plan.now) (made_content (soc_value soc.now) seed)) (K.faults out.old) (K.faults out.new) (K.written out.old) result (K.written out.new) }
+{
+    match write_vectors(alloc, soc, plan, seed, out) {
+        Outcome::Written => Status::Done,
+        Outcome::RunTooLong { cells } => {
+            let verdict = refused_with(run_line(alloc, cells));
+            write_verdict(verdict, out)
+        }
+        Outcome::WriteFault => Status::WriteFault,
+        Outcome::NoMemory => Status::NoMemory,
+    }
+}
+
+/// Writes what a call ends with, and answers its status.
+pub fn write_ending<K: Sink>(alloc: Global, ending: Ending, out: &mut K) -> Status
+    requires { IsRunnable ending }
+    ensures faults_never_fall { K.faults out.old ≤ K.faults out.new }
+    ensures written { WritesEnding ending (K.faults out.old) (K.faults out.new) (K.written out.old) result (K.written out.new) }
+{
+    match ending {
+        Ending::Decided(verdict) => write_verdict(verdict, out),
+        Ending::Run { all, seed } => {
+            good_without_limits();
+            write_run(alloc, &all.soc, &all.plan, seed, out)
+        }
+    }
+}
