@@ -1,13 +1,12 @@
 -- A job whose tests go over other buses is sound where the tests are short.
-use Rattle.std.proofs.Common.{◌≡◌, ℕ, ◌+◌, ◌<◌, ◌≤◌, ◌^◌, Option, None, Some, List, [], ◌∷◌, ◌++◌, length, get_or, take, set, map, arith, refl, sym, ap, ◌∙◌, subst}
-use Rattle.std.specs.Prelude.{IfSome, slice_index}
+use Rattle.std.proofs.Common.{◌≡◌, ℕ, ◌+◌, ◌<◌, ◌≤◌, Option, List, [], ◌∷◌, length, take, set, arith, refl, sym, ap, ◌∙◌, subst}
 use Rattle.std.specs.List.{All, sum_by}
 use Rattle.std.proofs.lemmas.List.{take_all, take_more_set}
 use Rattle.std.proofs.lemmas.List.Elements.{All-nil, All-cons, All-head, All-tail, All-append}
 use Rattle.std.proofs.lemmas.List.Sums.{sum_by-cons, sum_by-append}
 use Rattle.plan_model.specs.declared.TheConstants.{START_MOST}
 use Rattle.resource_table.specs.Befores.{AreListed}
-use Rattle.resource_table.specs.Jobs.{TestValue, JobValue, test_at, no_test, test_over, tests_over, job_over, cycles_of, IsSoundTest, IsSoundJob}
+use Rattle.resource_table.specs.Jobs.{TestValue, JobValue, test_over, tests_over, job_over, IsSoundTest, IsSoundJob}
 use Rattle.resource_table.proofs.Restarts.{length-tests_over, test_over_at}
 use Rattle.arch_search.specs.Rooms.{AreShort, AreCyclesOf}
 

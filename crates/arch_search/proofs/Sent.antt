@@ -1,5 +1,5 @@
 -- What is known of a problem, once its tests are sent over other buses.
-use Rattle.std.proofs.Common.{◌≡◌, ℕ, ◌+◌, ◌<◌, ◌≤◌, Option, List, length, map, arith, sym, ◌∙◌, subst}
+use Rattle.std.proofs.Common.{◌≡◌, ℕ, ◌<◌, Option, List, length, map, sym, ◌∙◌, subst}
 use Rattle.std.specs.List.{All}
 use Rattle.resource_table.specs.declared.earlier.Before.{Before}
 use Rattle.resource_table.specs.Befores.{listed, AreListed}

@@ -1,4 +1,4 @@
-use Rattle.std.proofs.Common.{length, arith}
+use Rattle.std.proofs.Common.{length}
 use Rattle.arch_search.proofs.Listing.{live_more}
 use Rattle.arch_search.proofs.problem.push_tests.Goals as goal
 

@@ -1,5 +1,5 @@
-use Rattle.std.proofs.Common.{◌≡◌, ℕ, true, sym, ap, subst}
-use Rattle.resource_table.specs.Schedules.{TableValue, is_placed}
+use Rattle.std.proofs.Common.{◌≡◌, true}
+use Rattle.resource_table.specs.Schedules.{is_placed}
 use Rattle.arch_search.proofs.Listing.{before_inside, all_before_placed}
 use Rattle.arch_search.proofs.scheduling.is_next.Goals as goal
 

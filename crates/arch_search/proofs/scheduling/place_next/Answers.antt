@@ -1,6 +1,6 @@
-use Rattle.std.proofs.Common.{◌≡◌, ◌+◌, ◌≤◌, ◌^◌, ◌++◌, ◌∷◌, [], ℕ, false, sym, ap, ◌∙◌, subst, arith}
+use Rattle.std.proofs.Common.{◌≡◌, ◌+◌, ◌≤◌, ◌^◌, ℕ, false, sym, subst}
 use Rattle.resource_table.specs.Jobs.{cycles_of}
-use Rattle.resource_table.specs.Schedules.{TableValue, at_start, is_placed, IsListSchedule}
+use Rattle.resource_table.specs.Schedules.{TableValue, is_placed, IsListSchedule}
 use Rattle.arch_search.proofs.scheduling.place_next.Goals as goal
 
 pub place_at-requires : goal.place_at-requires

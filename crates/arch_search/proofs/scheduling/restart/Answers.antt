@@ -1,4 +1,4 @@
-use Rattle.std.proofs.Common.{◌≡◌, ◌∙◌, ℕ, Option, List, length, sym, ap, subst}
+use Rattle.std.proofs.Common.{◌∙◌, ℕ, List, length, sym, ap, subst}
 use Rattle.resource_table.specs.Jobs.{job_over}
 use Rattle.resource_table.specs.Schedules.{TableValue}
 use Rattle.arch_search.specs.Problems.{IsProblem}

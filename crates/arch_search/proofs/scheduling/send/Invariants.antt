@@ -1,4 +1,4 @@
-use Rattle.std.proofs.Common.{◌≡◌, ℕ, ◌+◌, ◌≤◌, length, take}
+use Rattle.std.proofs.Common.{◌≡◌, ℕ, ◌+◌, ◌≤◌, take}
 use Rattle.std.specs.List.{All, sum_by}
 use Rattle.plan_model.specs.declared.TheConstants.{START_MOST}
 use Rattle.arch_search.specs.Rooms.{HasRoomFor}

@@ -1,4 +1,4 @@
-use Rattle.std.proofs.Common.{◌≡◌, ℕ, ◌+◌, length, drop}
+use Rattle.std.proofs.Common.{◌≡◌, ◌+◌, length, drop}
 use Rattle.std.specs.List.{All}
 use Rattle.soc_model.specs.Chips.{soc_value, live_from, live_tests}
 use Rattle.arch_search.specs.Problems.{IsTimed}
