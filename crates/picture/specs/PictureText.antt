@@ -45,7 +45,7 @@ lanes_text p drawn = lanes_name p.rows p.top ++ flat_map (test_text p) drawn
 
 -- ---- what is drawn
 
--- how high a load stands, under a limit at 0
+-- where a load stands, up to 100 units below the line of the limit at `top`
 abbrev pub load_line : (top load most : ℕ) → ℕ
 load_line top load most = top + (100 - scaled load most 100)
 

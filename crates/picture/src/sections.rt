@@ -76,7 +76,7 @@ pub fn push_lanes(text: &mut Vec<u8>, panel: &Panel, drawn: &[Drawn]) -> Result<
     push_tests(text, panel, drawn)
 }
 
-/// How high a load stands, under a limit at `top`.
+/// Where a load stands, up to 100 units below the line of the limit at `top`.
 fn load_line(top: u64, load: u64, most: u64) -> u64
     requires { top ≤ 2 ^ 40 }
     ensures { result ≡ the_load_line top load most }
