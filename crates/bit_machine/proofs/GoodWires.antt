@@ -72,8 +72,7 @@ read_uses : (soc : SocValue) (limits : LimitsValue) (plan : PlanValue) (good : I
 read_uses soc limits plan good i k c w t x content at read =
     let right : IsRight soc limits plan content = every_good_plan_is_right soc limits plan content good in
     let a : AreApart (planned soc plan) = apart soc limits plan good in
-    let now : c - 0 ≡ c = omega arith in
-    let shift : operation_at t c ≡ Some Shift = subst (λ c. operation_at t c ≡ Some Shift) now (right.reads.all_shifts i t k x c w at read 0 (omega arith)) in
+    let shift : operation_at t c ≡ Some Shift = right.reads.all_shifts i t k x c w at read c (omega (arith, read.cycle)) (omega arith) in
     let b = begun_at t c Shift shift in
     let chain : read.chain < length t.chains = slice_get_within t.chains read.chain read.cells read.there in
     let fit : length t.chains ≤ t.width = a.fit i t at in

@@ -10,7 +10,7 @@ use Rattle.soc_model.specs.SoundChips.{IsSoundChip}
 use Rattle.soc_model.proofs.Limits.{work-le}
 use Rattle.plan_model.proofs.SoundChips.{module_size-le}
 use Rattle.plan_model.proofs.SumsOverCycles.{sum_below-sum_by, sum_below-le_by, indicator-le}
-use Rattle.plan_model.proofs.PowerAndAreaBounds.{least-le}
+use Rattle.plan_model.proofs.FirstAndLeast.{least-le}
 use Rattle.plan_model.proofs.Sums.{sum_by-le_at}
 use Rattle.bound_rules.specs.Sizes.{sizes_of}
 use Rattle.soc_model.specs.Modes.{is_tam}

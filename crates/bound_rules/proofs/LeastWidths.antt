@@ -1,4 +1,4 @@
--- Lower times never grow with the width; least widths and least areas.
+-- Lower times never grow with the width; least areas.
 use Rattle.std.proofs.Common.{◌≡◌, ℕ, zero, suc, ◌+◌, ◌*◌, ◌≤◌, ◌<◌, max, Bool, true, false, leb, ltb, List, [], ◌∷◌, refl, arith, inl, inr, ◌⊎◌}
 use Rattle.std.specs.Prelude.{min, if◌then◌else◌}
 use Rattle.std.proofs.lemmas.Bool.{cases_Bool, cases_lt, lt-ltb, le-ltb, le-leb, lt-leb, and_parts}
@@ -6,7 +6,8 @@ use Rattle.std.proofs.lemmas.List.Sums.{sum_by-cons}
 use Rattle.std.proofs.Math.Nat.{mul-le-mul_left, mul-le-mul_right}
 use Rattle.soc_model.specs.declared.Test.{Test}
 use Rattle.soc_model.specs.Chips.{is_live}
-use Rattle.plan_model.specs.Bounds.{quotient_up, first_below, least_from_one}
+use Rattle.plan_model.specs.Bounds.{quotient_up, least_from_one}
+use Rattle.plan_model.proofs.FirstAndLeast.{least-first}
 use Rattle.plan_model.proofs.LowerTimes.{quotient_up-le}
 use Rattle.plan_model.proofs.Sums.{sum_by-le_at}
 use Rattle.bound_rules.specs.declared.sizes.Sizes.{Sizes}
@@ -43,63 +44,6 @@ times-fall s ts v w some less = sum_by-le_at (λ t. if is_tam t then time_by s w
   each : (t : Test) → (is_tam t ≡ true) ⊎ (is_tam t ≡ false) → (if is_tam t then time_by s w t else 0) ≤ (if is_tam t then time_by s v t else 0)
   each t (inl yes') = rw yes' (time-falls s t v w some less (live_patterns t (tam_only t yes')))
   each t (inr no') = rw no' (omega arith)
-
--- ---- the first width that is below
-
-pub first_below_is : (f : ℕ → ℕ) (b n k : ℕ) → 1 ≤ k → k ≤ n + 1 → ((v : ℕ) → 1 ≤ v → v < k → b ≤ f v) → (k ≤ n → f k < b) → first_below f b n ≡ k
-first_below_is f b zero k some few before here = omega arith
-first_below_is f b (suc n) k some few before here = elim (cases_lt n k) [
-  | inr less ↦
-      let ih : first_below f b n ≡ k = first_below_is f b n k some (omega arith) before (λ h. here (omega arith)) in
-      let yes' : leb (first_below f b n) n ≡ true = rw ih (le-leb k n less) in
-      rw yes' ih
-  | inl past ↦
-      let ih : first_below f b n ≡ suc n = first_below_is f b n (suc n) (omega arith) (omega arith) (λ v a s. before v a (omega arith)) (λ h. absurd (omega arith)) in
-      let no' : leb (first_below f b n) n ≡ false = rw ih (lt-leb (suc n) n (omega arith)) in
-      rw no' (last past (cases_lt k (suc (suc n))))
-]
-  where
-    last : n < k → (k < suc (suc n)) ⊎ (suc (suc n) ≤ k) → (if ltb (f (suc n)) b then suc n else suc (suc n)) ≡ k
-    last past (inl less) =
-        let same : suc n ≡ k = omega arith in
-        let under : f (suc n) < b = rw same (here (omega arith)) in
-        rw (lt-ltb (f (suc n)) b under) same
-    last past (inr all) =
-        let same : suc (suc n) ≡ k = omega arith in
-        rw (le-ltb (f (suc n)) b (before (suc n) (omega arith) (omega arith))) same
-
-pub first_below-le_next : (f : ℕ → ℕ) (b n : ℕ) → first_below f b n ≤ n + 1
-first_below-le_next f b zero = omega arith
-first_below-le_next f b (suc n) = elim (cases_Bool (leb (first_below f b n) n)) [
-  | inl yes' ↦ rw yes' (omega (arith, first_below-le_next f b n))
-  | inr no' ↦ rw no' (last (ltb (f (suc n)) b))
-]
-  where
-    last : (t : Bool) → (if t then suc n else suc (suc n)) ≤ suc n + 1
-    last true = omega arith
-    last false = omega arith
-
-pub first_below-some : (f : ℕ → ℕ) (b n : ℕ) → 1 ≤ first_below f b n
-first_below-some f b zero = omega arith
-first_below-some f b (suc n) = elim (cases_Bool (leb (first_below f b n) n)) [
-  | inl yes' ↦ rw yes' (first_below-some f b n)
-  | inr no' ↦ rw no' (last (ltb (f (suc n)) b))
-]
-  where
-    last : (t : Bool) → 1 ≤ (if t then suc n else suc (suc n))
-    last true = omega arith
-    last false = omega arith
-
-pub first_below-same : (f g : ℕ → ℕ) (b n : ℕ) → ((v : ℕ) → f v ≡ g v) → first_below f b n ≡ first_below g b n
-first_below-same f g b zero same = refl
-first_below-same f g b (suc n) same = rw (first_below-same f g b n same, same (suc n)) refl
-
--- ---- the least of products
-
-pub least-same : (f g : ℕ → ℕ) (n : ℕ) → ((v : ℕ) → f v ≡ g v) → least_from_one f n ≡ least_from_one g n
-least-same f g zero same = refl
-least-same f g (suc zero) same = same 1
-least-same f g (suc (suc n)) same = rw (least-same f g (suc n) same, same (suc (suc n))) refl
 
 -- ---- more wires never divide a time by more than their number
 
@@ -155,13 +99,6 @@ times_on_one s (t ∷ ts) w some short =
     each : (is_tam t ≡ true) ⊎ (is_tam t ≡ false) → (if is_tam t then time_by s 1 t else 0) ≤ w * (if is_tam t then time_by s w t else 0)
     each (inl yes') = rw yes' (time_on_one s t w some (live_patterns t (tam_only t yes')) (and_parts (is_live t) t.tam yes').1 short)
     each (inr no') = rw no' (omega arith)
-
-least-first : (f : ℕ → ℕ) (n : ℕ) → 1 ≤ n → ((v : ℕ) → 1 ≤ v → f 1 ≤ f v) → least_from_one f n ≡ f 1
-least-first f zero some h = absurd (omega arith)
-least-first f (suc zero) some h = refl
-least-first f (suc (suc n)) some h =
-    let ih : least_from_one f (suc n) ≡ f 1 = least-first f (suc n) (omega arith) h in
-    omega (arith, h (suc (suc n)) (omega arith))
 
 -- the least area is that on one wire
 pub least_on_one : (s : Sizes) (ts : List Test) (n : ℕ) → 1 ≤ n → s.longest ≤ s.flops → least_from_one (λ w. w * tam_times_by s w ts) n ≡ tam_times_by s 1 ts

@@ -132,7 +132,7 @@ spotted tests stand i t k cell c w at r =
 pub spot_is : (soc : SocValue) (plan : PlanValue) (c w : ℕ) (spot : Spot) → IsGoodAlone soc plan → IsSpot soc plan c w spot → Some spot ≡ spot_at soc plan c w
 spot_is soc plan c w spot good is =
     let right : IsRight soc (bare_limits plan) plan no_bits = every_good_plan_is_right soc (bare_limits plan) plan no_bits good in
-    let r : Reading is.test spot.pattern spot.cell c w = reading (planned soc plan) (apart soc (bare_limits plan) plan good) is.place is.test spot.pattern spot.cell c w is.at is.read (λ s h. right.reads.all_shifts is.place is.test spot.pattern (cell_value spot.cell) c w is.at is.read s h) in
+    let r : Reading is.test spot.pattern spot.cell c w = reading (planned soc plan) (apart soc (bare_limits plan) plan good) is.place is.test spot.pattern spot.cell c w is.at is.read (λ s h. right.reads.all_shifts is.place is.test spot.pattern (cell_value spot.cell) c w is.at is.read (c - s) (omega (arith, is.read.cycle)) (omega arith)) in
     ap (λ (id : TestId). Some (spot_with id)) is.name ∙ sym (spotted (planned soc plan) (apart soc (bare_limits plan) plan good) is.place is.test spot.pattern spot.cell c w is.at r)
   where
     spot_with : TestId → Spot

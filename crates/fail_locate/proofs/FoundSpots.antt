@@ -104,8 +104,7 @@ reading : (soc : SocValue) (plan : PlanValue) → IsGoodAlone soc plan → (i k 
 reading soc plan good i k c w u x at read =
     let right : IsRight soc (bare_limits plan) plan no_bits = every_good_plan_is_right soc (bare_limits plan) plan no_bits good in
     let stand : AreApart (planned soc plan) = apart soc (bare_limits plan) plan good in
-    let now : c - 0 ≡ c = omega arith in
-    let shift : operation_at u c ≡ Some Shift = subst (λ c. operation_at u c ≡ Some Shift) now (right.reads.all_shifts i u k x c w at read 0 (omega arith)) in
+    let shift : operation_at u c ≡ Some Shift = right.reads.all_shifts i u k x c w at read c (omega (arith, read.cycle)) (omega arith) in
     let b = begun_at u c Shift shift in
     let s = begun_at u read.capture (Capture k) read.captures in
     let chain : read.chain < length u.chains = slice_get_within u.chains read.chain read.cells read.there in

@@ -9,7 +9,8 @@ use Rattle.soc_model.specs.Chips.{SocValue, LiveTest}
 use Rattle.plan_model.specs.Plans.{PlanValue, LimitsValue, PlannedTest, planned, widths, IsActive}
 use Rattle.plan_model.specs.Right.{IsAt}
 use Rattle.plan_model.specs.Rules.{IsGood, IsBound, Busy, Wires}
-use Rattle.plan_model.specs.Bounds.{lower, sum_where, is_of, lower_tam_time, first_below, need}
+use Rattle.plan_model.specs.Bounds.{lower, sum_where, is_of, lower_tam_time, need}
+use Rattle.plan_model.proofs.FirstAndLeast.{first_below-le}
 use Rattle.plan_model.proofs.CertificatesByPlace.{forced_bound, AreForced}
 use Rattle.plan_model.proofs.SumsOverCycles.{disjoint_bound}
 use Rattle.plan_model.proofs.PlannedTests.{Origin, origin}
@@ -18,22 +19,6 @@ use Rattle.plan_model.proofs.PowerAndAreaBounds.{widths_fit, some_width, planned
 use Rattle.plan_model.proofs.GoodPlansRunRight.{planned_place}
 use Rattle.plan_model.proofs.Lists.{any_at}
 use Rattle.plan_model.proofs.TestsInGoodPlans.{planned_tam, on_bus}
-
-first_below-le : (f : ℕ → ℕ) (b n v : ℕ) → 1 ≤ v → v ≤ n → f v < b → first_below f b n ≤ v
-first_below-le f b zero v one in' h = absurd (omega arith)
-first_below-le f b (suc n) v one in' h = go (cases_Bool (leb (first_below f b n) n)) (cases_lt v (suc n)) (λ l. first_below-le f b n v one l h)
-  where
-    go : (leb (first_below f b n) n ≡ true) ⊎ (leb (first_below f b n) n ≡ false) → (v < suc n) ⊎ (suc n ≤ v) → (v ≤ n → first_below f b n ≤ v) → first_below f b (suc n) ≤ v
-    go (inl yes') (inl less) ih = rw yes' (ih (omega arith))
-    go (inl yes') (inr all) ih = let few : first_below f b n ≤ n = leb-true (first_below f b n) n yes' in rw yes' (omega arith)
-    go (inr no') (inl less) ih =
-        let past : n < first_below f b n = leb-false (first_below f b n) n no' in
-        let few : first_below f b n ≤ v = ih (omega arith) in
-        absurd (omega arith)
-    go (inr no') (inr all) ih =
-        let same : v ≡ suc n = omega arith in
-        let h' = rw same at h in
-        rw (no', lt-ltb (f (suc n)) b h') (omega arith)
 
 two_widths : (ws : List ℕ) (b b' : ℕ) → b < b' → slice_index ws b + slice_index ws b' ≤ sum ws
 two_widths ws b b' less = elim (cases_lt b' (length ws)) [

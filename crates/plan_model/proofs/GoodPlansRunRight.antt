@@ -293,7 +293,10 @@ every_good_plan_is_right soc limits plan content good =
       stand = λ i t at tam. all_stand soc limits plan good i t at tam;
       loads = λ i t k at tam first last. loads_all content (planned soc plan) a i t at (is_tam_test soc plan i t at tam) k first last;
       reads = record {
-        all_shifts = λ i t k x c w at read s h. shifts_all content t (is_tam_test soc plan i t at (tam_read (planned soc plan) a i t at k x c w read)) k read.chain read.shifts c w (shown_of t k x c w read) s h;
+        all_shifts = λ i t k x c w at read d after until.
+            let back : c - (c - d) ≡ d = omega arith in
+            subst (λ (cycle : ℕ). operation_at t cycle ≡ Some Shift) back
+            (shifts_all content t (is_tam_test soc plan i t at (tam_read (planned soc plan) a i t at k x c w read)) k read.chain read.shifts c w (shown_of t k x c w read) (c - d) (omega (arith, read.cycle)));
         shows = λ i t k x c w at read.
             let is : IsTamTest t = is_tam_test soc plan i t at (tam_read (planned soc plan) a i t at k x c w read) in
             (read_cell t is k x c w read, shows_all content (planned soc plan) a i t at is k read.chain read.shifts c w (shown_of t k x c w read) ∙ ap (content.response t.id k) (cell_of t k x c w read));

@@ -1,6 +1,7 @@
 pub mod Lists
 pub mod Sums
 pub mod Greatest
+pub mod FirstAndLeast
 pub mod OperationCounts
 pub mod ChainShifts
 pub mod OperationBlocks

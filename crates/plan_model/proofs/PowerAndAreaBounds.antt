@@ -10,8 +10,9 @@ use Rattle.std.proofs.Math.Nat.{mul-le-mul, mul-le-mul_left, mul_comm}
 use Rattle.soc_model.specs.Chips.{ModuleValue, SocValue, LiveTest, live_tests, id_of}
 use Rattle.plan_model.specs.Plans.{BusValue, PlanValue, LimitsValue, PlannedTest, planned, planned_test, widths, bus_place, chains_of, is_active, end_of, power_of, power_of_id}
 use Rattle.plan_model.specs.Rules.{IsGood, IsBound, Widths, Wrappers, Wires, Power}
-use Rattle.plan_model.specs.Bounds.{sum_below, lower, is_of, least_energy, power_bound, lower_tam_time, least_from_one, module_area, area_bound}
+use Rattle.plan_model.specs.Bounds.{sum_below, lower, is_of, least_energy, power_bound, lower_tam_time, module_area, area_bound}
 use Rattle.plan_model.specs.Cells.{scan_lengths}
+use Rattle.plan_model.proofs.FirstAndLeast.{least-le}
 use Rattle.plan_model.proofs.Sums.{one_if, at_most_one, sum_by-le_at, sum_by-filter, sum_by-constant, sum_by-times}
 use Rattle.plan_model.proofs.SumsOverCycles.{while_active, sum_while_active, sum_below-sum_by, sum_below-le, sum_below-zero, active_is, sum_below-mono, sum_below-indices, indicator-le, le-indicator, sum_below-le_by, sum_below-const}
 use Rattle.plan_model.proofs.CellOrder.{length-dealt}
@@ -126,16 +127,6 @@ total_area soc limits plan good =
         rw yes' (omega (arith, time, same))
 
 -- ---- Area
-
-pub least-le : (f : ℕ → ℕ) (n v : ℕ) → 1 ≤ v → v ≤ n → least_from_one f n ≤ f v
-least-le f zero v a b = absurd (omega arith)
-least-le f (suc zero) v a b = let same : 1 ≡ v = omega arith in rw (← same) (omega arith)
-least-le f (suc (suc n)) v a b = elim (cases_lt v (suc (suc n))) [
-  | inl less ↦
-      let ih : least_from_one f (suc n) ≤ f v = least-le f (suc n) v a (omega arith) in
-      omega arith
-  | inr all ↦ let same : suc (suc n) ≡ v = omega arith in rw (← same) (omega arith)
-]
 
 -- the width of the bus of a module
 abbrev pub bus_width : PlanValue → ModuleValue → ℕ

@@ -1,11 +1,11 @@
 -- Lower bounds of the cycles of every good plan.
-use Rattle.std.specs.Prelude.{ℕ, zero, suc, ◌+◌, ◌-◌, ◌*◌, ◌/◌, ◌&&◌, Bool, Option, Some, None, max, min, length, nat_eq, nat_lt, nat_le, if◌then◌else◌}
-use Rattle.std.specs.List.{sum_by, sum}
+use Rattle.std.specs.Prelude.{ℕ, zero, suc, ◌+◌, ◌-◌, ◌*◌, ◌/◌, ◌&&◌, Bool, Option, Some, None, max, map, length, nat_eq, nat_lt, if◌then◌else◌}
+use Rattle.std.specs.List.{sum_by, sum, position_or_len, range_with_len}
 use Rattle.soc_model.specs.declared.Test.{Test}
 use Rattle.soc_model.specs.Chips.{ModuleValue, SocValue, LiveTest, live_tests, id_of}
 use Rattle.plan_model.specs.Cells.{scan_lengths}
 use Rattle.plan_model.specs.Operations.{ops_of}
-use Rattle.plan_model.specs.Plans.{LimitsValue, greatest, power_of_id}
+use Rattle.plan_model.specs.Plans.{LimitsValue, greatest, smallest, power_of_id}
 
 -- f 0 + .. + f (n - 1)
 unfoldable pub sum_below : (ℕ → ℕ) → ℕ → ℕ
@@ -55,9 +55,7 @@ lower_tam_time soc place w = sum_where (λ l. l.test.tam && is_of place l) (lowe
 
 -- the least of f 1 .. f n
 abbrev pub least_from_one : (ℕ → ℕ) → ℕ → ℕ
-least_from_one f zero = 0
-least_from_one f (suc zero) = f 1
-least_from_one f (suc (suc n)) = min (least_from_one f (suc n)) (f (suc (suc n)))
+least_from_one f n = smallest (map f (range_with_len 1 n))
 
 -- the least area of wires and cycles that the module takes
 abbrev pub module_area : SocValue → ℕ → ℕ → ℕ
@@ -77,10 +75,9 @@ power_bound soc limits None = 0
 power_bound soc limits (Some zero) = 0
 power_bound soc limits (Some (suc n)) = quotient_up (least_energy soc limits) (suc n)
 
--- the least width from 1 to n at which f is less than b, or n + 1
+-- the first of the widths from 1 to n at which f is less than b, or n + 1 where there is none
 abbrev pub first_below : (ℕ → ℕ) → ℕ → ℕ → ℕ
-first_below f b zero = 1
-first_below f b (suc n) = if nat_le (first_below f b n) n then first_below f b n else (if nat_lt (f (suc n)) b then suc n else suc (suc n))
+first_below f b n = 1 + position_or_len (λ v. nat_lt (f v) b) (range_with_len 1 n)
 
 -- the least width of a bus on which the module's tests take less than `b` cycles, or w + 1
 abbrev pub need : SocValue → ℕ → ℕ → ℕ → ℕ

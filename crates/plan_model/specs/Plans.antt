@@ -1,5 +1,5 @@
 -- A plan and its limits as plain lists and numbers, and the live tests of the chip as the plan places them.
-use Rattle.std.specs.Prelude.{ℕ, ◌+◌, ◌-◌, ◌<◌, ◌≤◌, Bool, ◌&&◌, Option, List, [], ◌∷◌, map, max, length, replicate, nat_eq, nat_lt, nat_le, take, slice_index, if◌then◌else◌}
+use Rattle.std.specs.Prelude.{ℕ, ◌+◌, ◌-◌, ◌<◌, ◌≤◌, Bool, ◌&&◌, Option, List, [], ◌∷◌, map, max, min, length, replicate, nat_eq, nat_lt, nat_le, take, slice_index, if◌then◌else◌}
 use Rattle.std.specs.List.{sum, sum_by, filter, list_any}
 use Rattle.soc_model.specs.declared.Test.{Test}
 use Rattle.soc_model.specs.declared.TestId.{TestId}
@@ -83,6 +83,12 @@ end_of t = t.start + length t.operations
 abbrev pub greatest : List ℕ → ℕ
 greatest [] = 0
 greatest (x ∷ xs) = max x (greatest xs)
+
+-- the smallest of some numbers, 0 where there is none
+abbrev pub smallest : List ℕ → ℕ
+smallest [] = 0
+smallest (x ∷ []) = x
+smallest (x ∷ y ∷ ys) = min x (smallest (y ∷ ys))
 
 -- the greatest in-length and the greatest out-length of chains
 abbrev pub si_of : List (List Cell) → ℕ

@@ -50,7 +50,7 @@ pub record IsReadAt (t : PlannedTest) (k : ℕ) (x : Cell) (c w : ℕ) : Type 0 
 -- the Shifts after each Capture show its response
 pub record Reads (content : Content) (tests : List PlannedTest) : Type 0 where
   -- from the capture on the test does nothing but Shifts until the bit is shown
-  pub all_shifts : (i : ℕ) (t : PlannedTest) (k : ℕ) (x : Cell) (c w : ℕ) → IsAt tests i t → (read : IsReadAt t k x c w) → (s : ℕ) → s ≤ read.shifts → operation_at t (c - s) ≡ Some Shift
+  pub all_shifts : (i : ℕ) (t : PlannedTest) (k : ℕ) (x : Cell) (c w : ℕ) → IsAt tests i t → (read : IsReadAt t k x c w) → (d : ℕ) → read.capture < d → d ≤ c → operation_at t d ≡ Some Shift
   pub shows : (i : ℕ) (t : PlannedTest) (k : ℕ) (x : Cell) (c w : ℕ) → IsAt tests i t → IsReadAt t k x c w →
       (is_read x ≡ true) × (shown tests (state_at content tests c) c w ≡ content.response t.id k x)
   -- each response bit of each pattern is read

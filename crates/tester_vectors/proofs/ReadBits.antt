@@ -184,6 +184,6 @@ pub marks_read : (soc : SocValue) (limits : LimitsValue) (plan : PlanValue) (con
 marks_read soc limits plan content good =
     let right : IsRight soc limits plan content = every_good_plan_is_right soc limits plan content good in
     record {
-      bits = λ i t k x c w at r. marked content (planned soc plan) (apart soc limits plan good) i t k x c w at (reading content (planned soc plan) (apart soc limits plan good) i t k x c w at r (λ s h. right.reads.all_shifts i t k x c w at r s h));
+      bits = λ i t k x c w at r. marked content (planned soc plan) (apart soc limits plan good) i t k x c w at (reading content (planned soc plan) (apart soc limits plan good) i t k x c w at r (λ s h. right.reads.all_shifts i t k x c w at r (c - s) (omega (arith, r.cycle)) (omega arith)));
       only = λ c w. only_reads content (planned soc plan) c w;
     }

@@ -4,6 +4,7 @@ use Rattle.std.specs.Prelude.{slice_get}
 use Rattle.std.proofs.lemmas.Bool.{cases_lt, cases_eq}
 use Rattle.std.proofs.lemmas.List.{length_push, length-replicate}
 use Rattle.plan_model.specs.Bounds.{least_from_one}
+use Rattle.plan_model.proofs.FirstAndLeast.{least-le, least-ge}
 use Rattle.width_table.specs.Times.{IsChosen}
 use Rattle.width_table.specs.Choices.{IsChoice, AreChoices}
 use Rattle.width_table.specs.declared.choosing.Choice.{Choice}
@@ -53,22 +54,6 @@ chosen_unique f w v u a b = elim (cases_lt v u) [
 ]
 
 -- ---- the least value
-
-least-le : (f : ℕ → ℕ) (w u : ℕ) → 1 ≤ u → u ≤ w → least_from_one f w ≤ f u
-least-le f zero u a b = absurd (omega arith)
-least-le f (suc zero) u a b = let e : u ≡ 1 = omega arith in let s : f u ≡ f 1 = ap f e in omega arith
-least-le f (suc (suc n)) u a b = elim (cases_eq u (suc (suc n))) [
-  | inl e ↦ let s : f u ≡ f (suc (suc n)) = ap f e in omega arith
-  | inr ne ↦ let ih : least_from_one f (suc n) ≤ f u = least-le f (suc n) u a (omega (arith, ne)) in omega arith
-]
-
-pub least-ge : (f : ℕ → ℕ) (b w : ℕ) → 1 ≤ w → ((u : ℕ) → 1 ≤ u → u ≤ w → b ≤ f u) → b ≤ least_from_one f w
-least-ge f b zero some h = absurd (omega arith)
-least-ge f b (suc zero) some h = h 1 (omega arith) (omega arith)
-least-ge f b (suc (suc n)) some h =
-    let last : b ≤ f (suc (suc n)) = h (suc (suc n)) (omega arith) (omega arith) in
-    let ih : b ≤ least_from_one f (suc n) = least-ge f b (suc n) (omega arith) (λ u x y. h u x (omega arith)) in
-    omega arith
 
 pub chosen_is_least : (f : ℕ → ℕ) (w v : ℕ) → IsChosen f w v → least_from_one f w ≡ f v
 chosen_is_least f w v h =

@@ -30,7 +30,8 @@ use Rattle.width_table.specs.Times.{mode_time, time}
 use Rattle.soc_model.specs.Modes.{is_of_mode}
 use Rattle.width_table.specs.Tables.{TableValue, IsTable, places_of, time_if, time_of}
 use Rattle.width_table.proofs.Work.{live_of_mode, tam_of_mode, one_test, over_wires, idle_time}
-use Rattle.width_table.proofs.LeastWidths.{least-ge, time_falls, module_there}
+use Rattle.plan_model.proofs.FirstAndLeast.{least-ge, least-zero}
+use Rattle.width_table.proofs.LeastWidths.{time_falls, module_there}
 
 -- ---- the time on one wire is within the work
 
@@ -105,15 +106,10 @@ none_of_mode scan (t ∷ ts) h =
     cc) in
     rw not_of (none_of_mode scan ts parts.1)
 
-nothing_least : (f : ℕ → ℕ) (w : ℕ) → ((u : ℕ) → f u ≡ 0) → least_from_one f w ≡ 0
-nothing_least f zero h = refl
-nothing_least f (suc zero) h = h 1
-nothing_least f (suc (suc n)) h = omega (arith, h (suc (suc n)), nothing_least f (suc n) h)
-
 no_time : (m : ModuleValue) (w : ℕ) → has_tam m ≡ false → time m w ≡ 0
 unfolding time
 no_time m w h =
-    let none : (scan : Bool) → least_from_one (mode_time m scan) w ≡ 0 = λ scan. nothing_least (mode_time m scan) w (λ u. idle_time m scan u (none_of_mode scan m.tests h)) in
+    let none : (scan : Bool) → least_from_one (mode_time m scan) w ≡ 0 = λ scan. least-zero (mode_time m scan) w (λ u. idle_time m scan u (none_of_mode scan m.tests h)) in
     omega (arith, none true, none false)
 
 mode_has_time : (m : ModuleValue) (scan : Bool) (k : ℕ) (t : Test) → slice_get m.tests k ≡ Some t → is_of_mode scan t ≡ true → (v : ℕ) → 1 ≤ mode_time m scan v

@@ -10,7 +10,7 @@ use Rattle.plan_model.specs.Cells.{IsProper}
 use Rattle.plan_model.specs.Plans.{greatest}
 use Rattle.plan_model.specs.Bounds.{quotient_up}
 use Rattle.plan_model.proofs.Sums.{one_if}
-use Rattle.plan_model.proofs.Lists.{from_append}
+use Rattle.plan_model.proofs.Lists.{from_append, contains_at}
 use Rattle.plan_model.proofs.LowerTimes.{quotient_up-le, sum_places}
 use Rattle.plan_model.proofs.Sums.{item-le-sum_by}
 use Rattle.plan_model.proofs.ProperByCounts.{times_range}
@@ -203,10 +203,11 @@ design_balanced m w some =
     let same : scan_lengths_of m (design m w) ≡ map (scan_length m.lengths) (scan_parts m.lengths w) = parts-filled m.lengths a m.ins b m.outs parts in
     let even = parts_even m.lengths w some in
     record {
-      parts = λ i j n c x y at at' in' longest shortest.
-          let e : scan_length m.lengths x.scans ≤ scan_length m.lengths y.scans + slice_index m.lengths c =
-          even.pairs i j n c x.scans y.scans (get-filled m.lengths a m.ins b m.outs parts i x at) (get-filled m.lengths a m.ins b m.outs parts j y at') in' in
-          omega (arith, e, longest);
+      parts = λ x y c longest shortest within.
+          let at = contains_at (design m w) x longest.there in
+          let at' = contains_at (design m w) y shortest.there in
+          let in' = contains_at x.scans c within in
+          even.pairs at.0 at'.0 in'.0 c x.scans y.scans (get-filled m.lengths a m.ins b m.outs parts at.0 x at.1) (get-filled m.lengths a m.ins b m.outs parts at'.0 y at'.1) in'.1;
       ins = rw (same, design_width m w) (design_in_length m w some);
       outs = rw (same, design_width m w) (design_out_length m w some);
     }

@@ -1,6 +1,7 @@
 use Rattle.std.proofs.Common.{◌≡◌, ◌+◌, ◌-◌, ◌/◌, arith, sym}
 use Rattle.bound_rules.specs.Sizes.{tam_times_by}
-use Rattle.bound_rules.proofs.LeastWidths.{times-fall, first_below_is}
+use Rattle.plan_model.proofs.FirstAndLeast.{first_below_is}
+use Rattle.bound_rules.proofs.LeastWidths.{times-fall}
 use Rattle.bound_rules.proofs.widths.least_width.Goals as goal
 
 pub loop-low-preserved : goal.loop-low-preserved

@@ -5,7 +5,7 @@ use Rattle.bound_rules.proofs.SoundWork.{module_work-le}
 use Rattle.plan_model.specs.Bounds.{lower_tam_time}
 use Rattle.bound_rules.specs.Sizes.{sizes_of, tam_times_by}
 use Rattle.bound_rules.proofs.Modules.{tam_times_are}
-use Rattle.bound_rules.proofs.LeastWidths.{least-same}
+use Rattle.plan_model.proofs.FirstAndLeast.{least-same}
 use Rattle.bound_rules.proofs.widths.module_area.Goals as goal
 
 pub of-requires : goal.of-requires

@@ -5,7 +5,7 @@ use Rattle.bound_rules.proofs.SoundWork.{module_work-le}
 use Rattle.plan_model.specs.Bounds.{lower_tam_time}
 use Rattle.bound_rules.specs.Sizes.{sizes_of, tam_times_by}
 use Rattle.bound_rules.proofs.Modules.{tam_times_are}
-use Rattle.bound_rules.proofs.LeastWidths.{first_below-same, first_below-le_next, first_below-some}
+use Rattle.plan_model.proofs.FirstAndLeast.{first_below-same, first_below-le_next, first_below-some}
 use Rattle.bound_rules.proofs.widths.need.Goals as goal
 
 pub of-requires : goal.of-requires
