@@ -1,8 +1,8 @@
 -- The live tests of a plan are placed module by module, and found by name.
-use Rattle.std.proofs.Common.{◌≡◌, inl, inr, ℕ, zero, suc, ◌+◌, ◌≤◌, ◌<◌, Bool, true, false, cond, Option, None, Some, List, [], ◌∷◌, ◌++◌, length, get_or, map, drop, position, option_map, refl, sym, ap, subst, ◌∙◌, append_assoc, append-nil, true≢false, arith}
+use Rattle.std.proofs.Common.{◌≡◌, inl, inr, ℕ, zero, suc, ◌+◌, ◌^◌, ◌≤◌, ◌<◌, Bool, true, false, cond, Option, None, Some, List, [], ◌∷◌, ◌++◌, length, get_or, map, drop, position, option_map, refl, sym, ap, subst, ◌∙◌, append_assoc, append-nil, true≢false, arith}
 use Rattle.std.specs.Prelude.{slice_get, find, nat_eq, nat_lt}
 use Rattle.std.specs.List.{filter, position_or_len}
-use Rattle.std.proofs.lemmas.Bool.{cases_Bool}
+use Rattle.std.proofs.lemmas.Bool.{cases_Bool, leb-true}
 use Rattle.std.proofs.lemmas.Bool.Decides.{nat_tests}
 use Rattle.std.proofs.lemmas.List.{length-map, map-append}
 use Rattle.std.proofs.lemmas.List.Folds.{find_at}
@@ -16,14 +16,18 @@ use Rattle.plan_model.specs.Operations.{ops_of}
 use Rattle.plan_model.proofs.Finding.{in_filter, none_passes}
 use Rattle.plan_model.proofs.Greatest.{le-greatest_at}
 use Rattle.plan_model.proofs.Lists.{in_append_left, in_append_right}
+use Rattle.plan_model.proofs.SoundChips.{tam_work-le}
 use Rattle.plan_model.proofs.PlannedTests.{Origin, Wrapped, wrapped_by, wraps_from}
 use Rattle.soc_model.specs.Lookups.{test_places}
 use Rattle.soc_model.specs.SoundChips.{IsSoundChip, IsSoundModule}
+use Rattle.soc_model.proofs.Limits.{modules-small}
+use Rattle.soc_model.proofs.Sums.{IsSmall}
 use Rattle.soc_model.proofs.Places.{IsKeyed-from_sound, place-from_module, test_places-at, position-from_slice_get}
 use Rattle.live_tests.specs.declared.placed.PlacedTest.{PlacedTest}
 use Rattle.live_tests.specs.Placed.{bus_over, is_called, placed_in, placed_of, placed_tests}
 use Rattle.live_tests.specs.declared.wrapped.ModeWrapper.{ModeWrapper}
-use Rattle.live_tests.specs.Wrapped.{IsModeWrapper}
+use Rattle.live_tests.specs.declared.wrapped.ModeWrappers.{ModeWrappers}
+use Rattle.live_tests.specs.Wrapped.{AreModeWrappers, IsModeWrapper, IsWrappedTest}
 
 -- ---- live tests of a chip
 
@@ -101,6 +105,26 @@ always_wrapped soc plan have p q m t at there live tam none =
     let w : Wrapped plan m t = wrapped_by soc plan have p n.0 m t at n.1 tam in
     let fails : wraps m.number t.scan w.w ≡ false = none_passes (wraps m.number t.scan) plan.wrappers none w.n w.w w.at in
     true≢false (sym (wraps_from w.w m.number t.scan w.module_is w.scan_is) ∙ fails)
+
+-- the patterns of a test of a sound chip
+pub patterns-le : (soc : SocValue) → IsSoundChip soc → (p q : ℕ) (m : ModuleValue) (t : Test) → slice_get soc.modules p ≡ Some m → slice_get m.tests q ≡ Some t → t.patterns ≤ 10 ^ 18
+patterns-le soc sound p q m t at there =
+    let within : p < length soc.modules = slice_get_within soc.modules p m at in
+    let here : get_or soc.modules p m ≡ m = get_or_from_slice_get soc.modules p m m at in
+    let small : IsSmall m = rw here at (modules-small soc sound.small p m within) in
+    let is : get_or m.tests q t ≡ t = get_or_from_slice_get m.tests q t t there in
+    let few : t.patterns < 10 ^ 12 = rw is at (small.tests q t (slice_get_within m.tests q t there)) in
+    omega arith
+
+-- a live test of a sound chip, where every wrapper that is used is there
+pub wrapped_test : (soc : SocValue) (plan : PlanValue) → IsSoundChip soc → Each (HasWrapper plan) (used_pairs soc) → (p q : ℕ) (m : ModuleValue) (t : Test) (w : ModeWrappers) → slice_get soc.modules p ≡ Some m → slice_get m.tests q ≡ Some t → is_live t ≡ true → AreModeWrappers plan m w → IsWrappedTest plan m t w
+wrapped_test soc plan sound have p q m t w at there live wrappers = record {
+  live = leb-true 1 t.patterns live;
+  few = patterns-le soc sound p q m t at there;
+  work = λ tam. tam_work-le soc sound p q m t at there live tam;
+  wrappers = wrappers;
+  wrapped = λ tam. always_wrapped soc plan have p q m t at there live tam;
+}
 
 -- the time of a test over the wires, by its wrapper
 pub time_is : (plan : PlanValue) (m : ModuleValue) (t : Test) (w : ModeWrapper) → t.tam ≡ true → IsModeWrapper plan m t.scan w → length (ops_of m.setup w.si w.so t.patterns) ≡ length (operations_of m t (chains_of plan m t))

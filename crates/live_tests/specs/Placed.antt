@@ -1,5 +1,5 @@
 -- The live tests of a chip as a plan places them.
-use Rattle.std.specs.Prelude.{ℕ, Bool, Option, None, Some, List, map, if◌then◌else◌}
+use Rattle.std.specs.Prelude.{ℕ, ◌+◌, Bool, Option, None, Some, List, map, if◌then◌else◌}
 use Rattle.std.specs.List.{filter}
 use Rattle.soc_model.specs.declared.Test.{Test}
 use Rattle.soc_model.specs.declared.TestId.{TestId}
@@ -10,6 +10,10 @@ use Rattle.live_tests.specs.declared.placed.PlacedTest.{PlacedTest}
 -- the bus of a test over the wires; a self test has none
 abbrev pub bus_over : (tam : Bool) (bus : ℕ) → Option ℕ
 bus_over tam bus = if tam then Some bus else None
+
+-- a test of that name of the module at a place, from a start on for so many cycles
+abbrev pub placed_at : TestId → (place : ℕ) → Test → (bus start cycles : ℕ) → PlacedTest
+placed_at id place t bus start cycles = record { id = id; place = place; bus = bus_over t.tam bus; start = start; end = start + cycles; power = t.power }
 
 -- what a placed test has of its planned one
 abbrev pub placed_of : PlannedTest → PlacedTest

@@ -1,5 +1,6 @@
 -- The wrappers of a module in a plan, with their longest paths.
-use Rattle.std.specs.Prelude.{◌≡◌, ◌+◌, ◌≤◌, Bool, true, false, Option, Some, None, [], position, slice_get}
+use Rattle.std.specs.Prelude.{◌≡◌, ◌+◌, ◌*◌, ◌^◌, ◌≤◌, Bool, true, false, Option, Some, None, [], position, slice_get}
+use Rattle.soc_model.specs.declared.Test.{Test}
 use Rattle.soc_model.specs.Chips.{ModuleValue}
 use Rattle.plan_model.specs.Cells.{IsProper, chain_cells}
 use Rattle.plan_model.specs.Listing.{module_size}
@@ -26,3 +27,11 @@ MayBeWrapper plan m scan None = position (wraps m.number scan) plan.wrappers ≡
 -- those of both modes
 abbrev pub AreModeWrappers : PlanValue → ModuleValue → ModeWrappers → Type 0
 AreModeWrappers plan m w = MayBeWrapper plan m true w.scan × MayBeWrapper plan m false w.terminals
+
+-- a live test whose cycles fit, of a module that has the wrapper for it among those of a plan
+pub record IsWrappedTest (plan : PlanValue) (m : ModuleValue) (t : Test) (w : ModeWrappers) : Type 0 where
+  pub live : 1 ≤ t.patterns
+  pub few : t.patterns ≤ 10 ^ 18
+  pub work : t.tam ≡ true → m.setup + t.patterns * module_size m ≤ 10 ^ 18
+  pub wrappers : AreModeWrappers plan m w
+  pub wrapped : t.tam ≡ true → position (wraps m.number t.scan) plan.wrappers ≡ None → ⊥

@@ -21,11 +21,11 @@ pub use index::PlanIndex;
 use indexmap::IndexMap;
 pub use neighbours::{Neighbours, all_after};
 use outside::{NoMemory, push};
-pub use placed::{PlacedTest, PlacedTests, PlannedChip, first_wire};
+pub use placed::{PlacedTest, PlacedTests, PlannedChip, first_wire, placed_test};
 use soc_model::{Module, Soc, TestId, live};
 use std::alloc::Global;
 use std::marker::Model;
-pub use wrapped::{ModeWrapper, ModeWrappers};
+pub use wrapped::{ModeWrapper, ModeWrappers, walked};
 
 /// The names of the live tests of a chip, in its order.
 #[derive(Drop)]

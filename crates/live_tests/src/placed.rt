@@ -1,17 +1,17 @@
 // The live tests of a chip as a plan places them.
-ghost use Rattle.std.specs.Prelude.{◌≡◌, ◌++◌, ◌^◌, ◌<◌, ◌≤◌, ℕ, Some, find, length, map, slice_get, sum, take, unwrap_or, IfOk, OnOk, IsTrue};
+ghost use Rattle.std.specs.Prelude.{◌≡◌, ◌+◌, ◌++◌, ◌^◌, ◌<◌, ◌≤◌, ℕ, Some, find, length, map, slice_get, sum, take, unwrap_or, IfOk, OnOk, IsTrue};
 ghost use Rattle.soc_model.specs.Chips.{is_live, module_value, soc_value};
 ghost use Rattle.soc_model.specs.SoundChips.{IsSoundChip};
 ghost use Rattle.plan_model.specs.declared.Bus.{Bus};
-ghost use Rattle.plan_model.specs.Plans.{chains_of, operations_of, planned_test};
+ghost use Rattle.plan_model.specs.Plans.{planned_test};
 ghost use Rattle.plan_model.specs.Rules.{IsGoodAlone};
 ghost use Rattle.plan_model.specs.Views.{plan_value};
 ghost use Rattle.live_tests.specs.Wrapped.{AreModeWrappers};
-ghost use Rattle.live_tests.specs.Placed.{bus_over as the_bus_over, is_called, placed_in, placed_of, placed_tests};
+ghost use Rattle.live_tests.specs.Placed.{bus_over as the_bus_over, is_called, placed_at, placed_in, placed_of, placed_tests};
 
 use crate::{LiveTests, ModeWrappers, PlanIndex};
 use outside::{NoMemory, push};
-use plan_model::{Bus, Plan, closed_time};
+use plan_model::{Bus, Plan};
 use soc_model::{Module, Soc, Test, TestId, live, module_at};
 use std::alloc::Global;
 use std::marker::Model;
@@ -101,6 +101,28 @@ fn bus_over(tam: bool, bus: usize) -> Option<usize>
     if tam { Some(bus) } else { None }
 }
 
+/// A test of that name of the module at a place of the chip, from a start on for so many cycles; the bus is that of its module.
+pub fn placed_test(
+    id: TestId,
+    place: usize,
+    test: &Test,
+    bus: usize,
+    start: u64,
+    cycles: u64,
+) -> PlacedTest
+    requires { start + cycles < 2 ^ 64 }
+    ensures { result ≡ placed_at id place test.now bus start cycles }
+{
+    PlacedTest {
+        id,
+        place,
+        bus: bus_over(test.tam, bus),
+        start,
+        end: start + cycles,
+        power: test.power,
+    }
+}
+
 /// The cycles of a plan. The call tells that they are a machine's number.
 fn plan_cycles(plan: &Plan) -> u64
     ensures { result ≡ (plan_value plan.now).cycles }
@@ -118,25 +140,6 @@ pub struct PlannedChip<'a> {
 }
 
 impl<'a> PlannedChip<'a> {
-    /// The cycles of a live test.
-    fn cycles_of(&self, module: &Module, wrappers: &ModeWrappers, test: &Test) -> u64
-        requires sound { IsSoundChip (soc_value self.now.soc.now) }
-        requires good { IsGoodAlone (soc_value self.now.soc.now) self.now.index.now }
-        requires module_there { (p : ℕ) × (slice_get (soc_value self.now.soc.now).modules p ≡ Some (module_value «module».now)) }
-        requires test_there { (k : ℕ) × (slice_get «module».now.tests.items k ≡ Some test.now) }
-        requires live { IsTrue (is_live test.now) }
-        requires wrappers { AreModeWrappers self.now.index.now (module_value «module».now) wrappers.now }
-        ensures { result ≡ length (operations_of (module_value «module».now) test.now (chains_of self.now.index.now (module_value «module».now) test.now)) }
-    {
-        if !test.tam {
-            return test.patterns;
-        }
-        match wrappers.in_mode(test.scan) {
-            Some(long) => closed_time(module.setup, long.si, long.so, test.patterns),
-            None => unreachable!(),
-        }
-    }
-
     /// A live test of the module at a place, which has these wrappers.
     pub fn test(
         &self,
@@ -159,17 +162,10 @@ impl<'a> PlannedChip<'a> {
         };
         let bus = self.index.bus(module.number);
         let start = self.index.start(id);
-        let length = self.cycles_of(module, wrappers, test);
+        let length = wrappers.cycles(module, test);
         // no test of a good plan ends later
         let _cycles = plan_cycles(self.index.plan());
-        PlacedTest {
-            id,
-            place,
-            bus: bus_over(test.tam, bus),
-            start,
-            end: start + length,
-            power: test.power,
-        }
+        placed_test(id, place, test, bus, start, length)
     }
 
     /// Adds the live tests of the module at a place.

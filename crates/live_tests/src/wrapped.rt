@@ -7,11 +7,11 @@ ghost use Rattle.plan_model.specs.Listing.{module_size};
 ghost use Rattle.plan_model.specs.Plans.{PlanValue, chains_of, operations_of, si_of, so_of, wraps};
 ghost use Rattle.plan_model.specs.Rules.{IsGoodAlone};
 ghost use Rattle.plan_model.specs.Views.{chain_value};
-ghost use Rattle.live_tests.specs.Wrapped.{AreModeWrappers, MayBeWrapper};
+ghost use Rattle.live_tests.specs.Wrapped.{AreModeWrappers, IsWrappedTest, MayBeWrapper};
 
 use crate::PlanIndex;
-use plan_model::{Wrapper, lengths};
-use soc_model::{Module, Soc};
+use plan_model::{Wrapper, closed_time, lengths};
+use soc_model::{Module, Soc, Test};
 
 /// A wrapper of a module, with the longest paths through its chains.
 #[derive(Clone, Copy, Drop)]
@@ -27,12 +27,14 @@ pub struct ModeWrapper {
 /// The wrappers of a module in both modes, where the plan has them.
 #[derive(Clone, Copy, Drop)]
 pub struct ModeWrappers {
-    scan: Option<ModeWrapper>,
-    terminals: Option<ModeWrapper>,
+    /// The one for tests through scan chains and terminals.
+    pub scan: Option<ModeWrapper>,
+    /// The one for tests through terminals alone.
+    pub terminals: Option<ModeWrapper>,
 }
 
 /// The wrapper at a place, walked once.
-fn walked(module: &Module, wrapper: &Wrapper, place: usize) -> ModeWrapper
+pub fn walked(module: &Module, wrapper: &Wrapper, place: usize) -> ModeWrapper
     requires proper { IsProper (module_value «module».now) wrapper.now.scan (map chain_value wrapper.now.chains.items) }
     requires small { module_size (module_value «module».now) ≤ 10 ^ 18 }
     ensures place { result.place ≡ place }
@@ -74,6 +76,21 @@ impl ModeWrappers {
         ModeWrappers {
             scan: wrapper_in(soc, index, place, module, true),
             terminals: wrapper_in(soc, index, place, module, false),
+        }
+    }
+
+    /// The cycles of a live test of the module that has these wrappers.
+    pub fn cycles(&self, module: &Module, test: &Test) -> u64
+        requires { (plan : PlanValue) × IsWrappedTest plan (module_value «module».now) test.now self.now }
+        ensures cycles { (plan : PlanValue) → AreModeWrappers plan (module_value «module».now) self.now → result ≡ length (operations_of (module_value «module».now) test.now (chains_of plan (module_value «module».now) test.now)) }
+        ensures small { result ≤ 10 ^ 18 }
+    {
+        if !test.tam {
+            return test.patterns;
+        }
+        match self.in_mode(test.scan) {
+            Some(long) => closed_time(module.setup, long.si, long.so, test.patterns),
+            None => unreachable!(),
         }
     }
 
