@@ -112,7 +112,7 @@ first_power (p ∷ ps) id own r = elim (cases_Bool (same_test p.test id)) [
 ]
 
 -- the power of a test, by its steps
-test_power : (limits : LimitsValue) (t : PlacedTest) (r : ℕ) → power_of_id limits t.id t.power r ≡ step_power r 0 (steps_of limits t)
+pub test_power : (limits : LimitsValue) (t : PlacedTest) (r : ℕ) → power_of_id limits t.id t.power r ≡ step_power r 0 (steps_of limits t)
 test_power limits t r = first_power limits.profiles t.id t.power r
 
 -- ---- all tests
