@@ -7,6 +7,7 @@ pub mod LeastStarts
 pub mod CycleCounts
 pub mod Outside
 pub mod Missing
+pub mod Passing
 pub mod Lateness
 pub mod Counting
 pub mod Walking

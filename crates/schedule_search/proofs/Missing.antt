@@ -130,7 +130,7 @@ missing-none path t (p ∷ pairs) all = elim (cases_Bool (nat_eq p.1 t)) [
 pub follows_from : (job : JobValue) (path : List ℕ) (t : ℕ) → is_in path t ≡ false → missing_of job path t ≡ 0 → may_follow job path t ≡ true
 follows_from job path t new none = and_from (not (is_in path t)) (list_all (is_in path) (tests_before t job.before)) (ap not new) (none-missing path t job.before none)
 
-follows_not : (job : JobValue) (path : List ℕ) (t : ℕ) → (missing_of job path t ≡ 0 → ⊥) → may_follow job path t ≡ false
+pub follows_not : (job : JobValue) (path : List ℕ) (t : ℕ) → (missing_of job path t ≡ 0 → ⊥) → may_follow job path t ≡ false
 follows_not job path t some = elim (cases_Bool (list_all (is_in path) (tests_before t job.before))) [
   | inl all ↦ absurd (some (missing-none path t job.before all))
   | inr not_all ↦ ap (λ b. not (is_in path t) && b) not_all ∙ none (not (is_in path t))

@@ -5,7 +5,7 @@ use Rattle.std.specs.List.{All, filter, remove}
 use Rattle.std.proofs.lemmas.Bool.{cases_Bool, eq-eqb, ne_eqb}
 use Rattle.std.proofs.lemmas.List.{take_at}
 use Rattle.std.proofs.lemmas.List.Edits.{length-remove}
-use Rattle.std.proofs.lemmas.List.Elements.{All-filter}
+use Rattle.std.proofs.lemmas.List.Elements.{All-cons, All-filter}
 use Rattle.std.proofs.lemmas.Option.{slice_get_within, get_or_from_slice_get}
 use Rattle.plan_model.proofs.Lists.{from_filter}
 use Rattle.resource_table.specs.declared.Placement.{Placement}
@@ -38,6 +38,12 @@ remove_past [] zero past = refl
 remove_past [] (suc k) past = refl
 remove_past (x ∷ xs) zero past = absurd (omega (arith, past))
 remove_past (x ∷ xs) (suc k) past = ap (λ l. x ∷ l) (remove_past xs k (omega (arith, past)))
+
+pub all_removed : (P : ℕ → Type 0) (xs : List ℕ) (k : ℕ) → All P xs → All P (remove xs k)
+all_removed P [] zero all = all
+all_removed P [] (suc k) all = all
+all_removed P (x ∷ xs) zero all = λ n d less. all (suc n) d (omega (arith, less))
+all_removed P (x ∷ xs) (suc k) all = All-cons P x (remove xs k) (all 0 x (omega arith)) (all_removed P xs k (λ n d less. all (suc n) d (omega (arith, less))))
 
 -- ---- lists in the order of trying
 

@@ -14,3 +14,4 @@ pub mod Noted
 pub mod Begun
 pub mod Kept
 pub mod Exchanges
+pub mod Taken

@@ -5,6 +5,7 @@ ghost use Rattle.resource_table.specs.Jobs.{JobValue, job_value};
 ghost use Rattle.schedule_search.specs.Walks.{is_in};
 ghost use Rattle.schedule_search.specs.Prefixes.{outside as outside_of, times_in, AreLess, AreInRange, HasPrefixRoom, IsAt, EndsNew};
 ghost use Rattle.schedule_search.specs.Firsts.{IsFirstFree, IsUnderWay};
+ghost use Rattle.schedule_search.specs.Taken.{IsTaken, HasPassed, IsNext};
 ghost use Rattle.schedule_search.specs.Progress.{AreTries};
 
 use crate::lists::{copy_to, room_for};
@@ -23,6 +24,39 @@ pub(crate) struct Prefix {
     pub(crate) rest: Vec<usize>,
     /// For each test of the job how many of its precedences come from tests outside.
     pub(crate) missing: Vec<usize>,
+}
+
+/// A test that is taken out of those that are left, and its place among them.
+#[derive(Clone, Copy, Drop)]
+pub(crate) struct Taken {
+    /// Its place.
+    pub(crate) place: usize,
+    /// The test.
+    pub(crate) test: usize,
+}
+
+/// Puts a test that was taken out of some tests back to its place, and takes out the next one behind it that waits for
+/// none, or else the last one, whose place is then said to be one greater than it is.
+fn pass_waiting(rest: &mut [usize], missing: &[usize], taken: Taken) -> Taken
+    requires within { taken.place ≤ length rest.old }
+    requires in_range { All (λ test. test < length missing.now) rest.old }
+    ensures passed { (tests : List ℕ) → rest.old ≡ remove tests taken.place → IsTaken tests taken → HasPassed tests missing.now rest.new taken result }
+    ensures long { length rest.new ≡ length rest.old }
+{
+    let mut test = taken.test;
+    for place in taken.place..rest.len() {
+        test = replace(&mut rest[place], test);
+        if missing[test] == 0 {
+            return Taken {
+                place: place + 1,
+                test,
+            };
+        }
+    }
+    Taken {
+        place: rest.len() + 1,
+        test,
+    }
 }
 
 /// Counts one less for each time that a place stands in a list.
@@ -128,18 +162,18 @@ impl Prefix {
         self.rest.remove(0)
     }
 
-    /// Puts a test that was taken out of those that are left back to its place, and takes out the one behind it. Where
-    /// there is none, it answers any number.
-    pub(crate) fn next(&mut self, place: usize, test: usize) -> usize
-        requires within { place ≤ length self.old.rest.items }
+    /// Puts a test that was taken out of those that are left back to its place, and takes out the next one behind it that
+    /// waits for none. Where there is none, all are back, and it answers the place behind the last.
+    pub(crate) fn next(&mut self, taken: Taken) -> Taken
+        requires within { taken.place ≤ length self.old.rest.items }
         requires room { length self.old.rest.items < vec_capacity self.old.rest }
-        ensures test { (tests : List ℕ) → self.old.rest.items ≡ remove tests place → place + 1 < length tests → result ≡ slice_index_or tests (place + 1) 0 }
-        ensures at { (job : JobValue) (path tests : List ℕ) → IsAt job path (remove tests place) self.old → place < length tests → test ≡ slice_index_or tests place 0 → IsAt job path (remove tests (place + 1)) self.new }
+        requires in_range { All (λ test. test < length self.old.missing.items) self.old.rest.items }
+        ensures { (job : JobValue) (path tests : List ℕ) → IsAt job path (remove tests taken.place) self.old → IsTaken tests taken → IsNext job path tests taken result self.new }
     {
-        if place == self.rest.len() {
-            self.rest.push_reserved(test);
-            return test;
+        let next = pass_waiting(&mut self.rest, &self.missing, taken);
+        if next.place > self.rest.len() {
+            self.rest.push_reserved(next.test);
         }
-        replace(&mut self.rest[place], test)
+        next
     }
 }

@@ -12,7 +12,7 @@ ghost use Rattle.schedule_search.specs.Late.{IsLateAt, AreInTime, AreUnplaced};
 use crate::ahead::Estimate;
 use crate::lists::copy_to;
 use crate::order::cycles_at;
-use crate::prefix::Prefix;
+use crate::prefix::{Prefix, Taken};
 use crate::tries::Tries;
 use resource_table::{Job, TableOf, list_schedules_are_short};
 
@@ -247,11 +247,14 @@ pub(crate) fn explore<J, E: Estimate<J>>(
     }
     let count = prefix.rest.len();
     let mut test = prefix.take_first();
-    for place in 0..count {
+    let mut place = 0;
+    while place < count {
         follow(job, tries, ahead, table, prefix, progress, end, test);
         if progress.refused {
             return;
         }
-        test = prefix.next(place, test);
+        let next = prefix.next(Taken { place, test });
+        place = next.place;
+        test = next.test;
     }
 }

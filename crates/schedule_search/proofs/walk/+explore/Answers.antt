@@ -16,6 +16,8 @@ use Rattle.schedule_search.proofs.Outside.{outside_at, outside_less, outside_ord
 use Rattle.schedule_search.proofs.Missing.{waits_not, waits_then}
 use Rattle.schedule_search.proofs.Bests.{none_before_more}
 use Rattle.schedule_search.proofs.Explorings.{best_refused, best_entered, best_offered, path_topological, explored_refused, explored_whole, explored_left, explored_entered, turn, branch_passed, branch_followed, branch_best, walk_stopped, walk_ended, may_place, one_placed, open_below, none_before_rest, taken_back, first_at, at_next, at_back, at_own, at_all, none_left, some_left}
+use Rattle.schedule_search.specs.Taken.{IsNext}
+use Rattle.schedule_search.proofs.Passing.{rest_in_range, explored_passed}
 use Rattle.schedule_search.proofs.walk.+explore.Goals as goal
 
 -- ---- explore
@@ -77,6 +79,7 @@ explore-loop-place-init g t c =
     record {
       table = c.is_late.ensures.same;
       at = subst (λ (l : List ℕ). IsAt job path (remove l 0) c.take_first-test.new.self) c.requires.at.rest_are (c.take_first-test.ensures.at job path own);
+      few = omega arith;
       test = λ within. c.take_first-test.ensures.test ∙ ap (λ (l : List ℕ). get_or l 0 0) c.requires.at.rest_are;
       best_room = refl;
       going = ap (λ (x : Progress). x.refused) entered.1 ∙ c.requires.going;
@@ -133,8 +136,8 @@ explore-returns-then-progress-clause-explored g t c =
     let done = turn job c.args.tries.now.budget more path rest place test (stand_of c.args.progress.now) (stand_of c.loop-place.progress) (stand_of c.follow.new.progress) within' (inv.test within') inv.going inv.explored child in
     walk_stopped job c.args.tries.now.budget (length job.tests - length path) path (place + 1) (stand_of c.args.progress.now) (stand_of c.follow.new.progress) (omega (arith, within', c.requires.left)) c.if-progress.true done
 
-pub explore-next-test-requires-clause-within : goal.explore-next-test-requires-clause-within
-explore-next-test-requires-clause-within g t c =
+pub explore-next-next-requires : goal.explore-next-next-requires
+explore-next-next-requires g t c =
     let job = job_value c.args.job.now in
     let path : List ℕ = c.args.prefix.now.tests.items in
     let rest : List ℕ = outside job path in
@@ -143,19 +146,11 @@ explore-next-test-requires-clause-within g t c =
     let within' : place < length rest = omega (arith, c.loop-place-test.true, c.len-count.ensures, c.args.prefix.now.rest.ok.0, ap length c.requires.at.rest_are) in
     let here : slice_get rest place ≡ Some c.loop-place.test = first_at rest place c.loop-place.test within' (inv.test within') in
     let at = at_back job path c.loop-place.prefix.tests.items place c.loop-place.test c.follow.new.prefix (c.follow.ensures.at c.if-progress.false) here inv.at.tests_are in
-    omega (arith, ap length at.rest_are, length-remove rest place within', within')
-
-pub explore-next-test-requires-clause-room : goal.explore-next-test-requires-clause-room
-explore-next-test-requires-clause-room g t c =
-    let job = job_value c.args.job.now in
-    let path : List ℕ = c.args.prefix.now.tests.items in
-    let rest : List ℕ = outside job path in
-    let inv = c.loop-place.invariant in
-    let place : ℕ = c.loop-place.place in
-    let within' : place < length rest = omega (arith, c.loop-place-test.true, c.len-count.ensures, c.args.prefix.now.rest.ok.0, ap length c.requires.at.rest_are) in
-    let here : slice_get rest place ≡ Some c.loop-place.test = first_at rest place c.loop-place.test within' (inv.test within') in
-    let at = at_back job path c.loop-place.prefix.tests.items place c.loop-place.test c.follow.new.prefix (c.follow.ensures.at c.if-progress.false) here inv.at.tests_are in
-    omega (arith, ap length at.rest_are, length-remove rest place within', at.has_room.rest_room, c.requires.left)
+    record {
+      within = omega (arith, ap length at.rest_are, length-remove rest place within', within');
+      room = omega (arith, ap length at.rest_are, length-remove rest place within', at.has_room.rest_room, c.requires.left);
+      in_range = rest_in_range job path place c.follow.new.prefix at;
+    }
 
 pub explore-loop-place-preserved : goal.explore-loop-place-preserved
 explore-loop-place-preserved g t c =
@@ -168,19 +163,36 @@ explore-loop-place-preserved g t c =
     let more : ℕ = length job.tests - length path - 1 in
     let within' : place < length rest = omega (arith, c.loop-place-test.true, c.len-count.ensures, c.args.prefix.now.rest.ok.0, ap length c.requires.at.rest_are) in
     let here : slice_get rest place ≡ Some test = first_at rest place test within' (inv.test within') in
-    let at = at_back job path c.loop-place.prefix.tests.items place test c.follow.new.prefix (c.follow.ensures.at c.if-progress.false) here inv.at.tests_are in
+    let at = at_back job path c.loop-place.prefix.tests.items place c.loop-place.test c.follow.new.prefix (c.follow.ensures.at c.if-progress.false) here inv.at.tests_are in
     let child : Explored job c.args.tries.now.budget (branch job more path test) (stand_of c.loop-place.progress) (stand_of c.follow.new.progress) = subst (λ (l : List ℕ). Explored job c.args.tries.now.budget (branch job (length job.tests - length l - 1) l test) (stand_of c.loop-place.progress) (stand_of c.follow.new.progress)) inv.at.tests_are c.follow.ensures.explored in
+    let next : IsNext job path rest (record { place = place; test = test }) c.next-next.result c.next-next.new.self = c.next-next.ensures job path rest at (within', inv.test within') in
+    let one = turn job c.args.tries.now.budget more path rest place test (stand_of c.args.progress.now) (stand_of c.loop-place.progress) (stand_of c.follow.new.progress) within' (inv.test within') inv.going inv.explored child in
+    let others = none_before_rest job more path rest place test (stand_of c.loop-place.progress) (stand_of c.follow.new.progress) (outside_order job path) (inv.test within') inv.none_before (branch_best job more path test (stand_of c.loop-place.progress) (stand_of c.follow.new.progress) child.best) in
     record {
       table = c.follow.ensures.table ∙ inv.table;
-      at = c.next-test.ensures.at job path rest at within' (inv.test within');
-      test = λ later. c.next-test.ensures.test rest at.rest_are later;
+      at = next.at;
+      few = next.within;
+      test = next.is;
       best_room = c.follow.ensures.best_room ∙ inv.best_room;
       going = c.if-progress.false;
       within = c.follow.ensures.within;
       best = c.follow.ensures.best;
-      none_before = none_before_rest job more path rest place test (stand_of c.loop-place.progress) (stand_of c.follow.new.progress) (outside_order job path) (inv.test within') inv.none_before (branch_best job more path test (stand_of c.loop-place.progress) (stand_of c.follow.new.progress) child.best);
-      explored = turn job c.args.tries.now.budget more path rest place test (stand_of c.args.progress.now) (stand_of c.loop-place.progress) (stand_of c.follow.new.progress) within' (inv.test within') inv.going inv.explored child;
+      none_before = λ later from inside. others later (omega (arith, from, next.later)) inside;
+      explored = explored_passed job c.args.tries.now.budget more path c.next-next.new.self.missing.items place c.next-next.result.place (stand_of c.args.progress.now) (stand_of c.follow.new.progress) next.at.missing_are next.later next.within next.waiting one;
     }
+
+pub explore-loop-place-smaller : goal.explore-loop-place-smaller
+explore-loop-place-smaller g t c =
+    let job = job_value c.args.job.now in
+    let path : List ℕ = c.args.prefix.now.tests.items in
+    let rest : List ℕ = outside job path in
+    let inv = c.loop-place.invariant in
+    let place : ℕ = c.loop-place.place in
+    let within' : place < length rest = omega (arith, c.loop-place-test.true, c.len-count.ensures, c.args.prefix.now.rest.ok.0, ap length c.requires.at.rest_are) in
+    let here : slice_get rest place ≡ Some c.loop-place.test = first_at rest place c.loop-place.test within' (inv.test within') in
+    let at = at_back job path c.loop-place.prefix.tests.items place c.loop-place.test c.follow.new.prefix (c.follow.ensures.at c.if-progress.false) here inv.at.tests_are in
+    let next : IsNext job path rest (record { place = place; test = c.loop-place.test }) c.next-next.result c.next-next.new.self = c.next-next.ensures job path rest at (within', inv.test within') in
+    omega (arith, next.later, within')
 
 pub explore-returns-clause-at : goal.explore-returns-clause-at
 explore-returns-clause-at g t c = λ going.
@@ -193,7 +205,7 @@ explore-returns-clause-explored g t c =
     let job = job_value c.args.job.now in
     let path : List ℕ = c.args.prefix.now.tests.items in
     let some : 0 < length c.args.prefix.now.rest.items = subst (λ (n : ℕ). 0 < n) c.args.prefix.now.rest.ok.0 (some_left c.args.prefix.now.rest.len c.is_empty.result c.is_empty.ensures c.if-is_empty.false) in
-    let all : c.loop-place.place ≡ length (outside job path) = omega (arith, c.loop-place-test.false, c.loop-place.auto.place-end, c.len-count.ensures, c.args.prefix.now.rest.ok.0, ap length c.requires.at.rest_are) in
+    let all : c.loop-place.place ≡ length (outside job path) = omega (arith, c.loop-place-test.false, c.loop-place.invariant.few, c.len-count.ensures, c.args.prefix.now.rest.ok.0, ap length c.requires.at.rest_are) in
     walk_ended job c.args.tries.now.budget (length job.tests - length path) path c.loop-place.place (stand_of c.args.progress.now) (stand_of c.loop-place.progress) (omega (arith, some, ap length c.requires.at.rest_are, c.requires.left)) all c.loop-place.invariant.explored
 
 -- ---- follow

@@ -19,6 +19,7 @@ abbrev pub invariant-explore-loop-place : goal.invariant-explore-loop-place
 invariant-explore-loop-place g l = record {
   table : l.table ≡ l.fn.table;
   at : IsAt (job_value l.job) l.fn.prefix.tests.items (remove (outside (job_value l.job) l.fn.prefix.tests.items) l.place) l.prefix;
+  few : l.place ≤ length (outside (job_value l.job) l.fn.prefix.tests.items);
   test : l.place < length (outside (job_value l.job) l.fn.prefix.tests.items) → l.test ≡ get_or (outside (job_value l.job) l.fn.prefix.tests.items) l.place 0;
   best_room : vec_capacity l.progress.best ≡ vec_capacity l.initial.progress.best;
   going : l.progress.refused ≡ false;
@@ -27,3 +28,6 @@ invariant-explore-loop-place g l = record {
   none_before : (later : ℕ) → l.place ≤ later → later < length (outside (job_value l.job) l.fn.prefix.tests.items) → NoneBefore (job_value l.job) (l.fn.prefix.tests.items ++ get_or (outside (job_value l.job) l.fn.prefix.tests.items) later 0 ∷ []) l.progress.best.items;
   explored : Explored (job_value l.job) l.tries.budget (tried (job_value l.job) (length (job_value l.job).tests - length l.fn.prefix.tests.items - 1) l.fn.prefix.tests.items (outside (job_value l.job) l.fn.prefix.tests.items) l.place) (stand_of l.fn.progress) (stand_of l.progress);
 }
+
+abbrev pub decreases-explore-loop-place : goal.decreases-explore-loop-place
+decreases-explore-loop-place g l = length (outside (job_value l.job) l.fn.prefix.tests.items) - l.place
