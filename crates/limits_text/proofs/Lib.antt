@@ -25,3 +25,4 @@ pub mod RoundCycles
 pub mod RanksOrCycles
 pub mod EachText
 pub mod ProfilePlaces
+pub mod Noting

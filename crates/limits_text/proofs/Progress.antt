@@ -1,5 +1,5 @@
 -- How far a text was read.
-use Rattle.std.proofs.Common.{◌≡◌, ◌≤◌, List, [], ◌∷◌, ◌++◌, length, Some, ◌∙◌, ap, subst}
+use Rattle.std.proofs.Common.{◌≡◌, ◌≤◌, List, [], ◌∷◌, ◌++◌, length, Some, None, ◌∙◌, ap, subst}
 use Rattle.std.specs.Prelude.{Result, Ok, Err, IfOk}
 use Rattle.outside.specs.declared.reading.Stop.{Stop}
 use Rattle.outside.specs.declared.reading.Stop.TheVariants.{Refused, NoMemory}
@@ -17,19 +17,17 @@ use Rattle.limits_text.specs.Reads.{state_of, HasRead, AreItems}
 use Rattle.outside.proofs.Runs.{run-one_more}
 use Rattle.limits_text.proofs.Viable.{read_text, stops_here, ends_here}
 
-pub goes_on : (front : List Word) (w : Word) (text next : LimitsText) (before : ReadSoFar) (part : Part) → before ≡ text.read.value → part ≡ before.part → HasRead text front →
-    Steps (step_at before.items.second (done_of before.items) (part_of part) w) (Ok next.read.value.part) next.read.value.items → HasRead next (front ++ w ∷ [])
-goes_on front w text next before part is own has steps =
-    let same = subst (λ (p : Part). Steps (step_at before.items.second (done_of before.items) (part_of p) w) (Ok next.read.value.part) next.read.value.items) own steps in
-    let here = subst (λ (b : ReadSoFar). Steps (step_at b.items.second (done_of b.items) (part_of b.part) w) (Ok next.read.value.part) next.read.value.items) is same in
+pub goes_on : (front : List Word) (w : Word) (text next : LimitsText) (before : ReadSoFar) → before ≡ text.read.value → HasRead text front →
+    Steps (step_at before.items.second (done_of before.items) (part_of before.part) w) (Ok tt) next.read.value.part next.read.value.items → HasRead next (front ++ w ∷ [])
+goes_on front w text next before is has steps =
+    let here = subst (λ (b : ReadSoFar). Steps (step_at b.items.second (done_of b.items) (part_of b.part) w) (Ok tt) next.read.value.part next.read.value.items) is steps in
     record { read = run-one_more step (Some start) front w (state_of text) has.read ∙ here.0; in_step = here.1 }
 
-pub stops : (front : List Word) (w : Word) (text : LimitsText) (before : ReadSoFar) (part : Part) (new : Items) (stop : Stop) → before ≡ text.read.value → part ≡ before.part → length front ≤ NUMBER_WORD_MOST → HasRead text front →
-    Steps (step_at before.items.second (done_of before.items) (part_of part) w) (Err stop) new → Goes InGrammar HasRead front w (Err stop)
-stops front w text before part new Refused is own few has steps =
-    let same = subst (λ (p : Part). Steps (step_at before.items.second (done_of before.items) (part_of p) w) (Err Refused) new) own steps in
-    stops_here front w (state_of text) few has.read (subst (λ (b : ReadSoFar). Steps (step_at b.items.second (done_of b.items) (part_of b.part) w) (Err Refused) new) is same)
-stops front w text before part new NoMemory is own few has steps = tt
+pub stops : (front : List Word) (w : Word) (text : LimitsText) (before : ReadSoFar) (part : Part) (new : Items) (stop : Stop) → before ≡ text.read.value → length front ≤ NUMBER_WORD_MOST → HasRead text front →
+    Steps (step_at before.items.second (done_of before.items) (part_of before.part) w) (Err stop) part new → Goes InGrammar HasRead front w (Err stop)
+stops front w text before part new Refused is few has steps =
+    stops_here front w (state_of text) few has.read (subst (λ (b : ReadSoFar). step_at b.items.second (done_of b.items) (part_of b.part) w ≡ None) is steps)
+stops front w text before part new NoMemory is few has steps = tt
 
 -- what an answer says of the end
 pub ends : (words : List Word) (text : LimitsText) (before : ReadSoFar) (answer : Result Items Stop) → before ≡ text.read.value → length words ≤ NUMBER_WORD_MOST → HasRead text words →

@@ -5,6 +5,7 @@ pub mod Views
 pub mod Reads
 pub mod Meaning
 pub mod Passing
+pub mod Places
 pub mod Cycles
 pub mod Orders
 pub mod Texts

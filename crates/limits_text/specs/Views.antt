@@ -37,10 +37,10 @@ part_of (part.StepsFor line id steps) = steps_for line id steps.items
 part_of (part.PowerFor line id steps from) = power_for line id steps.items from
 
 -- The next state is this part and these items; or there is none.
-abbrev pub Steps : Option State → Result ReadPart Stop → Items → Type 0
-Steps next (Ok p) items = (next ≡ Some (record { form = items.second; done = done_of items; part = part_of p })) × InStep items
-Steps next (Err stop.Refused) items = next ≡ None
-Steps next (Err stop.NoMemory) items = Unit {0}
+abbrev pub Steps : Option State → Result (Unit {0}) Stop → ReadPart → Items → Type 0
+Steps next (Ok done) p items = (next ≡ Some (record { form = items.second; done = done_of items; part = part_of p })) × InStep items
+Steps next (Err stop.Refused) p items = next ≡ None
+Steps next (Err stop.NoMemory) p items = Unit {0}
 
 -- The items where the text ends here are these; or it ends too early.
 abbrev pub Closes : Option (List Item) → Result Items Stop → Type 0

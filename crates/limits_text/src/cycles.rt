@@ -1,15 +1,18 @@
 // The first cycle of the precedences of live tests.
-ghost use Rattle.std.specs.Prelude.{◌≡◌, ◌<◌, length, IfOk, MatchOption};
+ghost use Rattle.std.specs.Prelude.{◌≡◌, ◌<◌, length, map, IfOk, MatchOption};
 ghost use Rattle.std.specs.List.{All};
 ghost use Rattle.soc_model.specs.Chips.{soc_value};
-ghost use Rattle.plan_model.specs.Views.{limits_value};
+ghost use Rattle.plan_model.specs.Plans.{LimitsValue};
 ghost use Rattle.plan_model.specs.SoundLimits.{IsAcyclic};
-ghost use Rattle.limits_text.specs.Cycles.{AreAt, IsCycleOf};
+ghost use Rattle.limits_text.specs.Places.{HasFirstCycle};
+ghost use Rattle.limits_text.specs.Views.{item_of};
+ghost use Rattle.limits_text.specs.Cycles.{AreAt, IsCycleOf, precedences as precedences_of};
 
+use crate::LimFault;
 use crate::graph::first_cycle;
-use live_tests::LiveTests;
+use crate::items::Item;
+use crate::places::{ChipTests, precedences, some_names_test};
 use outside::{NoMemory, push};
-use plan_model::Limits;
 use soc_model::{Soc, TestId};
 use std::alloc::Global;
 
@@ -25,17 +28,50 @@ fn tests_at(alloc: Global, ids: &[TestId], places: &[usize]) -> Result<Vec<TestI
     Ok(tests)
 }
 
-/// The first cycle of the precedences of live tests. None comes exactly where they have no cycle.
-pub fn cycle_of(alloc: Global, soc: &Soc, limits: &Limits) -> Result<Option<Vec<TestId>>, NoMemory>
-    ensures { IfOk result (λ found. MatchOption found
-        (IsAcyclic (soc_value soc.now) (limits_value limits.now))
-        (λ cycle. IsCycleOf (soc_value soc.now) (limits_value limits.now) cycle.items)) }
+/// The first cycle of the precedences of live tests, which are given by the places of these. None comes exactly where
+/// they have no cycle.
+fn cycle_of(
+    alloc: Global,
+    tests: &ChipTests<'_>,
+    pairs: &[(usize, usize)],
+) -> Result<Option<Vec<TestId>>, NoMemory>
+    requires { (limits : LimitsValue) × (pairs.now ≡ precedences_of tests.now limits) }
+    ensures { (limits : LimitsValue) → pairs.now ≡ precedences_of tests.now limits → IfOk result (λ found. MatchOption found
+        (IsAcyclic tests.now limits)
+        (λ cycle. IsCycleOf tests.now limits cycle.items)) }
 {
-    let tests = LiveTests::new(alloc, soc)?;
     let names = tests.names();
-    let pairs = tests.precedences(alloc, &limits.before)?;
-    match first_cycle(alloc, names.len(), &pairs)? {
+    match first_cycle(alloc, names.len(), pairs)? {
         Some(cycle) => Ok(Some(tests_at(alloc, names, &cycle)?)),
         None => Ok(None),
     }
+}
+
+/// The first cycle of the precedences that items say for a chip. None comes exactly where they have none. `UnknownTest`
+/// with the line of the first item that names a test which isn't in the chip.
+pub fn first_cycle_of(
+    alloc: Global,
+    soc: &Soc,
+    list: &[Item],
+) -> Result<Option<Vec<TestId>>, LimFault>
+    ensures { HasFirstCycle (soc_value soc.now) (map item_of list.now) result }
+{
+    // most limits name no test, and then no test of the chip is noted
+    if some_names_test(list) {
+        return cycle_named(alloc, soc, list);
+    }
+    Ok(None)
+}
+
+/// The same, once all tests of the chip are noted.
+fn cycle_named(alloc: Global, soc: &Soc, list: &[Item]) -> Result<Option<Vec<TestId>>, LimFault>
+    ensures { HasFirstCycle (soc_value soc.now) (map item_of list.now) result }
+{
+    let tests = ChipTests::new(alloc, soc)?;
+    let pairs = match precedences(alloc, &tests, list) {
+        Ok(pairs) => pairs,
+        Err(fault) => return Err(fault),
+    };
+    let found = cycle_of(alloc, &tests, &pairs)?;
+    Ok(found)
 }

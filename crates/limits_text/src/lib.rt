@@ -8,6 +8,7 @@ mod graph;
 mod items;
 mod laws;
 mod lexicon;
+mod places;
 mod print;
 mod read;
 mod reader;

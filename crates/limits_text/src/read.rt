@@ -4,8 +4,8 @@ ghost use Rattle.limits_text.specs.Answers.{LimitsRead};
 
 use crate::LimFault;
 use crate::build::limits_of;
-use crate::cycles::cycle_of;
-use crate::refusals::{first_unknown, test_power};
+use crate::cycles::first_cycle_of;
+use crate::refusals::test_power;
 use crate::whole::read_items;
 use plan_model::Limits;
 use soc_model::Soc;
@@ -20,11 +20,12 @@ pub fn read_limits(alloc: Global, bytes: &[u8], soc: &Soc) -> Result<Limits, Lim
     ensures { LimitsRead bytes.now (soc_value soc.now) result }
 {
     let items = read_items(alloc, bytes)?;
-    if let Some(line) = first_unknown(soc, &items.list) {
-        return Err(LimFault::UnknownTest { line });
-    }
+    let cycle = match first_cycle_of(alloc, soc, &items.list) {
+        Ok(found) => found,
+        Err(fault) => return Err(fault),
+    };
     let limits = limits_of(alloc, items.list)?;
-    if let Some(tests) = cycle_of(alloc, soc, &limits)? {
+    if let Some(tests) = cycle {
         return Err(LimFault::Cycle { tests });
     }
     if let Some((test, power)) = test_power(alloc, soc, &limits)? {

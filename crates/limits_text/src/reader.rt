@@ -1,5 +1,5 @@
 // Reads a text word by word.
-ghost use Rattle.std.specs.Prelude.{◌≡◌, ◌∷◌, ◌++◌, [], IfOk};
+ghost use Rattle.std.specs.Prelude.{◌≡◌, ◌∷◌, ◌++◌, [], IfOk, Ok};
 ghost use Rattle.soc_model.specs.declared.TestId.{TestId};
 ghost use Rattle.limits_text.specs.Items.{number as number_in, is_title as says_title, amount_item, profile_item};
 ghost use Rattle.limits_text.specs.Steps.{at, between, begin as begins, after_title as goes_after_title, after_version as goes_after_version, after_amount as goes_after_amount, named as goes_after_name, after_test as goes_after_test, may_follow as may_come_next, end_profile as goes_on, after_step as goes_after_step, after_power as goes_after_power, step_at, ended_at, whole_of};
@@ -12,19 +12,29 @@ use outside::{Stop, Word};
 use plan_model::STEPS_MOST;
 use soc_model::{POWER_MOST, TestId};
 use std::alloc::Global;
+use std::mem::replace;
 
-fn pushed(items: &mut Items, item: Item) -> Result<Part, Stop>
+fn pushed(items: &mut Items, part: &mut Part, item: Item) -> Result<(), Stop>
     requires { InStep items.old }
-    ensures { Steps (at items.old.second (item_of item ∷ done_of items.old) between) result items.new }
+    ensures { Steps (at items.old.second (item_of item ∷ done_of items.old) between) result part.new items.new }
 {
     push(items, item)?;
-    Ok(Part::Between)
+    set_part(part, Part::Between)
+}
+
+/// What comes next is this.
+fn set_part(part: &mut Part, next: Part) -> Result<(), Stop>
+    ensures ok { result ≡ Ok tt }
+    ensures set { part.new ≡ next }
+{
+    *part = next;
+    Ok(())
 }
 
 /// The first word of an item.
-fn begin(items: &Items, word: Word<'_>) -> Result<Part, Stop>
+fn begin(items: &Items, part: &mut Part, word: Word<'_>) -> Result<(), Stop>
     requires { InStep items.now }
-    ensures { Steps (begins items.now.second (done_of items.now) (word.entry.bytes.now, word.entry.line)) result items.now }
+    ensures { Steps (begins items.now.second (done_of items.now) (word.entry.bytes.now, word.entry.line)) result part.new items.now }
 {
     let line = word.line;
     match key_of(word.bytes) {
@@ -32,48 +42,48 @@ fn begin(items: &Items, word: Word<'_>) -> Result<Part, Stop>
             if has_amount(items, amount) {
                 return Err(Stop::Refused);
             }
-            Ok(Part::Wants(amount))
+            set_part(part, Part::Wants(amount))
         }
-        Some(Key::Before) => Ok(Part::ModuleFor(Naming::First { line })),
+        Some(Key::Before) => set_part(part, Part::ModuleFor(Naming::First { line })),
         Some(Key::Profile) => {
             if !items.second {
                 return Err(Stop::Refused);
             }
-            Ok(Part::ModuleFor(Naming::Profiled { line }))
+            set_part(part, Part::ModuleFor(Naming::Profiled { line }))
         }
         None => Err(Stop::Refused),
     }
 }
 
 /// The word `Limits`.
-fn step_title(items: &Items, word: &[u8]) -> Result<Part, Stop>
+fn step_title(items: &Items, part: &mut Part, word: &[u8]) -> Result<(), Stop>
     requires { InStep items.now }
-    ensures { Steps (goes_after_title items.now.second (done_of items.now) (says_title word.now)) result items.now }
+    ensures { Steps (goes_after_title items.now.second (done_of items.now) (says_title word.now)) result part.new items.now }
 {
     if !is_title(word) {
         return Err(Stop::Refused);
     }
-    Ok(Part::Version)
+    set_part(part, Part::Version)
 }
 
 /// The number of the form.
-fn step_version(items: &mut Items, word: &[u8]) -> Result<Part, Stop>
+fn step_version(items: &mut Items, part: &mut Part, word: &[u8]) -> Result<(), Stop>
     requires { InStep items.old }
-    ensures { Steps (goes_after_version (done_of items.old) (number_in word.now)) result items.new }
+    ensures { Steps (goes_after_version (done_of items.old) (number_in word.now)) result part.new items.new }
 {
     match number_of(word) {
         Some(form) if 1 <= form && form <= 2 => {
             items.second = form == 2;
-            Ok(Part::Between)
+            set_part(part, Part::Between)
         }
         _ => Err(Stop::Refused),
     }
 }
 
 /// The number of an amount.
-fn step_amount(items: &mut Items, amount: Amount, word: &[u8]) -> Result<Part, Stop>
+fn step_amount(items: &mut Items, part: &mut Part, amount: Amount, word: &[u8]) -> Result<(), Stop>
     requires { InStep items.old }
-    ensures { Steps (goes_after_amount items.old.second (done_of items.old) amount (number_in word.now)) result items.new }
+    ensures { Steps (goes_after_amount items.old.second (done_of items.old) amount (number_in word.now)) result part.new items.new }
 {
     let Some(value) = number_of(word) else {
         return Err(Stop::Refused);
@@ -81,18 +91,27 @@ fn step_amount(items: &mut Items, amount: Amount, word: &[u8]) -> Result<Part, S
     if !is_in_range(amount, value) {
         return Err(Stop::Refused);
     }
-    pushed(items, Item::Number { amount, value })
+    pushed(items, part, Item::Number { amount, value })
 }
 
 /// After both numbers of a test.
-fn name_test(alloc: Global, items: &mut Items, naming: Naming, test: TestId) -> Result<Part, Stop>
+fn name_test(
+    alloc: Global,
+    items: &mut Items,
+    part: &mut Part,
+    naming: Naming,
+    test: TestId,
+) -> Result<(), Stop>
     requires { InStep items.old }
-    ensures { Steps (goes_after_name items.old.second (done_of items.old) naming test) result items.new }
+    ensures { Steps (goes_after_name items.old.second (done_of items.old) naming test) result part.new items.new }
 {
     match naming {
-        Naming::First { line } => Ok(Part::ModuleFor(Naming::Second { line, first: test })),
+        Naming::First { line } => {
+            set_part(part, Part::ModuleFor(Naming::Second { line, first: test }))
+        }
         Naming::Second { line, first } => pushed(
             items,
+            part,
             Item::Precedence {
                 line,
                 first,
@@ -103,11 +122,14 @@ fn name_test(alloc: Global, items: &mut Items, naming: Naming, test: TestId) -> 
             if has_profile(items, test) {
                 return Err(Stop::Refused);
             }
-            Ok(Part::StepsFor {
-                line,
-                test,
-                steps: Vec::new(alloc),
-            })
+            set_part(
+                part,
+                Part::StepsFor {
+                    line,
+                    test,
+                    steps: Vec::new(alloc),
+                },
+            )
         }
     }
 }
@@ -116,15 +138,16 @@ fn name_test(alloc: Global, items: &mut Items, naming: Naming, test: TestId) -> 
 fn step_test(
     alloc: Global,
     items: &mut Items,
+    part: &mut Part,
     naming: Naming,
     module: u64,
     word: &[u8],
-) -> Result<Part, Stop>
+) -> Result<(), Stop>
     requires { InStep items.old }
-    ensures { Steps (goes_after_test items.old.second (done_of items.old) naming «module» (number_in word.now)) result items.new }
+    ensures { Steps (goes_after_test items.old.second (done_of items.old) naming «module» (number_in word.now)) result part.new items.new }
 {
     match number_of(word) {
-        Some(test) => name_test(alloc, items, naming, TestId { module, test }),
+        Some(test) => name_test(alloc, items, part, naming, TestId { module, test }),
         None => Err(Stop::Refused),
     }
 }
@@ -142,57 +165,63 @@ fn may_follow(steps: &[(u64, u64)], from: u64) -> bool
 /// After a word that is no number: the profile ends before it, and an item begins.
 fn end_profile(
     items: &mut Items,
+    part: &mut Part,
     line: u64,
     test: TestId,
     steps: Vec<(u64, u64)>,
     word: Word<'_>,
-) -> Result<Part, Stop>
+) -> Result<(), Stop>
     requires { InStep items.old }
-    ensures { Steps (goes_on items.old.second (done_of items.old) line test steps.items (word.entry.bytes.now, word.entry.line)) result items.new }
+    ensures { Steps (goes_on items.old.second (done_of items.old) line test steps.items (word.entry.bytes.now, word.entry.line)) result part.new items.new }
 {
     if steps.is_empty() {
         return Err(Stop::Refused);
     }
     push(items, Item::Steps { line, test, steps })?;
-    begin(items, word)
+    begin(items, part, word)
 }
 
 /// The first number of a step, or the first word after the profile.
 fn step_steps(
     items: &mut Items,
+    part: &mut Part,
     line: u64,
     test: TestId,
     steps: Vec<(u64, u64)>,
     word: Word<'_>,
-) -> Result<Part, Stop>
+) -> Result<(), Stop>
     requires { InStep items.old }
-    ensures { Steps (goes_after_step items.old.second (done_of items.old) line test steps.items (word.entry.bytes.now, word.entry.line) (number_in word.entry.bytes.now)) result items.new }
+    ensures { Steps (goes_after_step items.old.second (done_of items.old) line test steps.items (word.entry.bytes.now, word.entry.line) (number_in word.entry.bytes.now)) result part.new items.new }
 {
     let Some(from) = number_of(word.bytes) else {
-        return end_profile(items, line, test, steps, word);
+        return end_profile(items, part, line, test, steps, word);
     };
     if !may_follow(steps.as_slice(), from) {
         return Err(Stop::Refused);
     }
-    Ok(Part::PowerFor {
-        line,
-        test,
-        steps,
-        from,
-    })
+    set_part(
+        part,
+        Part::PowerFor {
+            line,
+            test,
+            steps,
+            from,
+        },
+    )
 }
 
 /// The second number of a step.
 fn step_power(
     items: &Items,
+    part: &mut Part,
     line: u64,
     test: TestId,
     mut steps: Vec<(u64, u64)>,
     from: u64,
     word: &[u8],
-) -> Result<Part, Stop>
+) -> Result<(), Stop>
     requires { InStep items.now }
-    ensures { Steps (goes_after_power items.now.second (done_of items.now) line test steps.items from (number_in word.now)) result items.now }
+    ensures { Steps (goes_after_power items.now.second (done_of items.now) line test steps.items from (number_in word.now)) result part.new items.now }
 {
     let Some(power) = number_of(word) else {
         return Err(Stop::Refused);
@@ -201,31 +230,33 @@ fn step_power(
         return Err(Stop::Refused);
     }
     steps.push((from, power))?;
-    Ok(Part::StepsFor { line, test, steps })
+    set_part(part, Part::StepsFor { line, test, steps })
 }
 
 /// The next word.
-pub fn step(alloc: Global, items: &mut Items, part: Part, word: Word<'_>) -> Result<Part, Stop>
+pub fn step(alloc: Global, items: &mut Items, part: &mut Part, word: Word<'_>) -> Result<(), Stop>
     requires { InStep items.old }
-    ensures { Steps (step_at items.old.second (done_of items.old) (part_of part) (word.entry.bytes.now, word.entry.line)) result items.new }
+    ensures { Steps (step_at items.old.second (done_of items.old) (part_of part.old) (word.entry.bytes.now, word.entry.line)) result part.new items.new }
 {
-    match part {
-        Part::Title => step_title(items, word.bytes),
-        Part::Version => step_version(items, word.bytes),
-        Part::Between => begin(items, word),
-        Part::Wants(amount) => step_amount(items, amount, word.bytes),
+    match replace(part, Part::Between) {
+        Part::Title => step_title(items, part, word.bytes),
+        Part::Version => step_version(items, part, word.bytes),
+        Part::Between => begin(items, part, word),
+        Part::Wants(amount) => step_amount(items, part, amount, word.bytes),
         Part::ModuleFor(naming) => match number_of(word.bytes) {
-            Some(number) => Ok(Part::TestFor { naming, number }),
+            Some(number) => set_part(part, Part::TestFor { naming, number }),
             None => Err(Stop::Refused),
         },
-        Part::TestFor { naming, number } => step_test(alloc, items, naming, number, word.bytes),
-        Part::StepsFor { line, test, steps } => step_steps(items, line, test, steps, word),
+        Part::TestFor { naming, number } => step_test(
+            alloc, items, part, naming, number, word.bytes,
+        ),
+        Part::StepsFor { line, test, steps } => step_steps(items, part, line, test, steps, word),
         Part::PowerFor {
             line,
             test,
             steps,
             from,
-        } => step_power(items, line, test, steps, from, word.bytes),
+        } => step_power(items, part, line, test, steps, from, word.bytes),
     }
 }
 

@@ -1,62 +1,16 @@
-// What a chip refuses of limits: tests that it hasn't, and powers that pass the limit.
+// What a chip refuses of limits: powers that pass the limit.
 ghost use Rattle.std.specs.Prelude.{◌≡◌, ℕ, ◌∷◌, [], map, find, position, nat_lt, IfOk, MatchOption};
 ghost use Rattle.soc_model.specs.Chips.{soc_value, module_value, live_of, live_tests, same_test};
 ghost use Rattle.plan_model.specs.declared.Profile.{Profile};
 ghost use Rattle.plan_model.specs.Views.{limits_value, profile_value};
-ghost use Rattle.limits_text.specs.Meaning.{is_known as is_in_chip, unknown_line as unknown_line_of, first_line, powers_named, NonePasses, IsFirstPassing};
+ghost use Rattle.limits_text.specs.Meaning.{powers_named, NonePasses, IsFirstPassing};
 ghost use Rattle.limits_text.specs.Passing.{live_at, passing, first_passing, AreProfilePlaces};
-ghost use Rattle.limits_text.specs.Views.{item_of};
 
-use crate::items::Item;
 use indexmap::IndexMap;
 use outside::NoMemory;
 use plan_model::{Limits, Profile};
-use soc_model::{Module, Soc, Test, TestId, find_test, live};
+use soc_model::{Module, Soc, Test, TestId, live};
 use std::alloc::Global;
-
-/// Whether the chip has a test.
-fn is_known(soc: &Soc, test: TestId) -> bool
-    ensures { result ≡ is_in_chip (soc_value soc.now) test }
-{
-    find_test(soc, test).is_some()
-}
-
-/// The line of an item that names a test which isn't in the chip.
-fn unknown_line(soc: &Soc, item: &Item) -> Option<u64>
-    ensures { result ≡ unknown_line_of (soc_value soc.now) (item_of item.now) }
-{
-    match item {
-        Item::Number { .. } => None,
-        Item::Precedence {
-            line,
-            first,
-            second,
-        } => {
-            if is_known(soc, *first) && is_known(soc, *second) {
-                return None;
-            }
-            Some(*line)
-        }
-        Item::Steps { line, test, .. } => {
-            if is_known(soc, *test) {
-                return None;
-            }
-            Some(*line)
-        }
-    }
-}
-
-/// The line of the first item that names a test which isn't in the chip.
-pub fn first_unknown(soc: &Soc, list: &[Item]) -> Option<u64>
-    ensures { result ≡ first_line (soc_value soc.now) (map item_of list.now) }
-{
-    for item in list {
-        if let Some(line) = unknown_line(soc, item) {
-            return Some(line);
-        }
-    }
-    None
-}
 
 /// The place of the profile of each test that has one, by the test's name; of more than one the first.
 fn profile_places(alloc: Global, profiles: &[Profile]) -> Result<IndexMap<TestId, usize>, NoMemory>

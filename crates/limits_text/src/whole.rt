@@ -10,7 +10,6 @@ use crate::reader::{close, step};
 use outside::{Reader, Stop, Unread, Word, read_text};
 use soc_model::NUMBER_WORD_MOST;
 use std::alloc::Global;
-use std::mem::replace;
 
 /// What was read of a text of limits so far. It stands in a box, so that no more than a pointer moves from word to word.
 #[derive(Drop)]
@@ -38,12 +37,8 @@ impl<'a> Reader<'a> for LimitsText {
     fn step(self, word: Word<'a>) -> Result<LimitsText, Stop> {
         let LimitsText { alloc, mut read } = self;
         let so_far = &mut *read;
-        let part = replace(&mut so_far.part, Part::Between);
-        match step(alloc, &mut so_far.items, part, word) {
-            Ok(next) => {
-                so_far.part = next;
-                Ok(LimitsText { alloc, read })
-            }
+        match step(alloc, &mut so_far.items, &mut so_far.part, word) {
+            Ok(()) => Ok(LimitsText { alloc, read }),
             Err(stop) => Err(stop),
         }
     }

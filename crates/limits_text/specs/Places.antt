@@ -1,0 +1,80 @@
+-- The tests of a chip and their places among its live tests.
+use Rattle.std.specs.Prelude.{◌≡◌, ◌++◌, ℕ, Option, None, Some, List, [], Bool, true, false, map, reverse, option_map, position, Result, Ok, Err, MatchOption}
+use Rattle.std.specs.Global.{Vec}
+use Rattle.std.specs.List.{flat_map}
+use Rattle.soc_model.specs.declared.Module.{Module}
+use Rattle.soc_model.specs.declared.Soc.{Soc}
+use Rattle.soc_model.specs.declared.Test.{Test}
+use Rattle.soc_model.specs.declared.TestId.{TestId}
+use Rattle.soc_model.specs.Chips.{SocValue, same_test}
+use Rattle.soc_model.specs.Lookups.{test_places}
+use Rattle.plan_model.specs.Rules.{live_ids}
+use Rattle.live_tests.specs.Names.{places_of}
+use Rattle.limits_text.specs.declared.LimFault.{LimFault}
+use Rattle.limits_text.specs.declared.LimFault.TheVariants as fault
+use Rattle.limits_text.specs.declared.places.Row.{Row}
+use Rattle.limits_text.specs.Items.{Item, amount_item, before_item, profile_item}
+use Rattle.plan_model.specs.Plans.{LimitsValue}
+use Rattle.plan_model.specs.SoundLimits.{IsAcyclic}
+use Rattle.limits_text.specs.Cycles.{IsCycleOf}
+use Rattle.limits_text.specs.Meaning.{unknown_line, first_line, limits_of}
+
+-- where the name of a test of the module of a number stands among these
+abbrev pub place_of : List TestId → ℕ → Test → Option ℕ
+place_of ids number t = position (same_test (record { «module» = number; test = t.number })) ids
+
+-- the same for each test of a module
+abbrev pub row_of : List TestId → ℕ × Module → List (Option ℕ)
+row_of ids e = map (place_of ids e.0) (e.1).tests.items
+
+abbrev pub places_in : Row → List (Option ℕ)
+places_in row = row.places.items
+
+-- the rows are those of the chip's modules
+abbrev pub AreRows : List TestId → Soc → List Row → Type 0
+AreRows ids soc rows = map places_in rows ≡ map (row_of ids) soc.modules.entries
+
+-- where a name of the chip's tests stands among those of the live tests; nothing where it is none of the chip's
+abbrev pub named : SocValue → TestId → Option (Option ℕ)
+named soc id = option_map (λ (p : ℕ × ℕ). position (same_test id) (live_ids soc)) (test_places soc id)
+
+-- ---- the tests that items name
+
+-- the places of an item that is a precedence of live tests
+abbrev pub pair_of : SocValue → Item → List (ℕ × ℕ)
+pair_of soc (amount_item a n) = []
+pair_of soc (before_item line a b) = places_of (live_ids soc) (a, b)
+pair_of soc (profile_item line id steps) = []
+
+-- An item names tests of the chip alone, and its places are added; or it names another on this line; or memory ran out.
+abbrev pub Notes : SocValue → Item → List (ℕ × ℕ) → List (ℕ × ℕ) → Result (Unit {0}) LimFault → Type 0
+Notes soc item old new (Ok done) = (unknown_line soc item ≡ None) × (new ≡ old ++ pair_of soc item)
+Notes soc item old new (Err (fault.Text line)) = ⊥
+Notes soc item old new (Err (fault.UnknownTest line)) = unknown_line soc item ≡ Some line
+Notes soc item old new (Err (fault.Cycle tests)) = ⊥
+Notes soc item old new (Err (fault.TestPower test power)) = ⊥
+Notes soc item old new (Err fault.NoMemory) = Unit {0}
+
+-- Of these items this is the line of the first that names a test which isn't in the chip; or memory ran out.
+abbrev pub StopsAt : SocValue → List Item → LimFault → Type 0
+StopsAt soc items (fault.Text line) = ⊥
+StopsAt soc items (fault.UnknownTest line) = first_line soc items ≡ Some line
+StopsAt soc items (fault.Cycle tests) = ⊥
+StopsAt soc items (fault.TestPower test power) = ⊥
+StopsAt soc items fault.NoMemory = Unit {0}
+
+-- The items name tests of the chip alone, and these are the places of those that are precedences.
+abbrev pub AreNoted : SocValue → List Item → Result (Vec (ℕ × ℕ)) LimFault → Type 0
+AreNoted soc items (Ok pairs) = (first_line soc items ≡ None) × (pairs.items ≡ flat_map (pair_of soc) items)
+AreNoted soc items (Err f) = StopsAt soc items f
+
+abbrev pub names_test : Item → Bool
+names_test (amount_item a n) = false
+names_test (before_item line a b) = true
+names_test (profile_item line id steps) = true
+
+-- The items name tests of the chip alone, and the limits that they say have this first cycle, or none.
+abbrev pub HasFirstCycle : SocValue → List Item → Result (Option (Vec TestId)) LimFault → Type 0
+HasFirstCycle soc items (Ok found) = (first_line soc items ≡ None)
+    × ((limits : LimitsValue) → limits ≡ limits_of (reverse items) → MatchOption found (IsAcyclic soc limits) (λ cycle. IsCycleOf soc limits cycle.items))
+HasFirstCycle soc items (Err f) = StopsAt soc items f
