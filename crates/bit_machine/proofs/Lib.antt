@@ -25,3 +25,6 @@ pub mod PlacedTests
 pub mod NewChips
 pub mod Stimuli
 pub mod HeldStimuli
+pub mod Columns
+pub mod ShiftStretches
+pub mod LinesOfTests

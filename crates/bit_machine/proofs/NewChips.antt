@@ -1,5 +1,5 @@
 -- A chip before its first cycle.
-use Rattle.std.proofs.Common.{◌≡◌, ℕ, zero, suc, ◌-◌, ◌^◌, ◌≤◌, ◌<◌, Some, List, [], ◌∷◌, length, get_or, map, refl, ap, sym, subst, ◌∙◌, arith}
+use Rattle.std.proofs.Common.{◌≡◌, ℕ, zero, suc, ◌+◌, ◌-◌, ◌^◌, ◌≤◌, ◌<◌, Some, List, [], ◌∷◌, length, get_or, map, refl, ap, sym, subst, ◌∙◌, arith}
 use Rattle.std.specs.Prelude.{slice_get}
 use Rattle.std.specs.List.{sum_by, sum}
 use Rattle.std.proofs.lemmas.List.{length-map, get_or-map}
@@ -18,6 +18,7 @@ use Rattle.plan_model.specs.declared.Bus.{Bus}
 use Rattle.bit_machine.specs.Chips.{made_content, wires_of, at_first}
 use Rattle.bit_machine.specs.Lanes.{lane_bits, AreNewLanes}
 use Rattle.bit_machine.specs.Machines.{lanes_state, AreLanes, AreOnWires, AreSomeLanes, IsMachine}
+use Rattle.bit_machine.specs.Vectors.{VectorsValue, AreVectors, IsLineOf, vectors_content, vectors_tests}
 use Rattle.bit_machine.specs.WholeChips.{to_come, IsChip}
 use Rattle.bit_machine.specs.declared.lane.Lane.{Lane}
 use Rattle.bit_machine.specs.declared.machine.Machine.{Machine}
@@ -69,6 +70,31 @@ new_chip soc plan seed n lanes m sound good wide are start users machine = recor
   few = omega arith;
   room = let first = room_at_first soc (bare_limits plan) plan sound good in rw start (omega (arith, first));
 }
+
+-- what is kept of the vectors of a plan
+pub new_vectors : (soc : SocValue) (plan : PlanValue) (seed n : ℕ) (lanes : List Lane) → IsGoodAlone soc plan → n ≡ wires_of plan → AreNewLanes (made_content soc seed) (planned soc plan) lanes → AreVectors soc plan seed n lanes
+new_vectors soc plan seed n lanes good wide are = record {
+  are = new_lanes (made_content soc seed) (planned soc plan) lanes are;
+  on = subst (AreOnWires (planned soc plan)) (sym wide) (good_wires soc (bare_limits plan) plan good (made_content soc seed));
+  all = wide;
+}
+
+-- the vectors by their value
+abbrev pub vectors_view : SocValue → PlanValue → ℕ → VectorsValue
+vectors_view s p seed = record { soc = s; plan = p; seed = seed }
+
+pub vectors_some : (s : SocValue) (p : PlanValue) (seed n : ℕ) (lanes : List Lane) → AreVectors s p seed n lanes → AreSomeLanes lanes n
+vectors_some s p seed n lanes is = record { content = made_content s seed; tests = planned s p; are = is.are; on = is.on }
+
+-- so many wires as the value has
+pub vectors_wide : (v : VectorsValue) (s : SocValue) (p : PlanValue) (seed n : ℕ) (lanes : List Lane) → vectors_view s p seed ≡ v → AreVectors s p seed n lanes → n ≡ wires_of v.plan
+vectors_wide v s p seed n lanes same is = is.all ∙ ap (λ (v : VectorsValue). wires_of v.plan) same
+
+pub vectors_lines : (v : VectorsValue) (s : SocValue) (p : PlanValue) (seed n : ℕ) (lanes : List Lane) (from count : ℕ) (text : List ℕ) → vectors_view s p seed ≡ v → AreVectors s p seed n lanes →
+    ((content : Content) (tests : List PlannedTest) → AreLanes content tests lanes → AreOnWires tests n → (r : ℕ) → r < count → IsLineOf content tests n (from + r) r text) → (r : ℕ) → r < count → IsLineOf (vectors_content v) (vectors_tests v) (wires_of v.plan) (from + r) r text
+vectors_lines v s p seed n lanes from count text same is lines r h =
+    subst (λ (v : VectorsValue). IsLineOf (vectors_content v) (vectors_tests v) (wires_of v.plan) (from + r) r text) same
+    (subst (λ n. IsLineOf (made_content s seed) (planned s p) n (from + r) r text) is.all (lines (made_content s seed) (planned s p) is.are is.on r h))
 
 some_lane : (ls : List Lane) (i : ℕ) → i < length ls → (l : Lane) × (slice_get ls i ≡ Some l)
 some_lane [] i h = absurd (omega arith)

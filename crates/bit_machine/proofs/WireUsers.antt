@@ -16,7 +16,8 @@ use Rattle.plan_model.proofs.LoadsAndReads.{begun_at, at_start_plus, chain_is}
 use Rattle.plan_model.proofs.TestsInGoodPlans.{Uses, uses_is}
 use Rattle.bit_machine.specs.Chips.{IsCompared}
 use Rattle.bit_machine.specs.Paths.{is_answered}
-use Rattle.plan_model.specs.Moments.{phase_ops, moment_behind}
+use Rattle.plan_model.specs.Moments.{phase_ops, moment_behind, IsMoment}
+use Rattle.plan_model.specs.declared.moments.Moment.{Moment}
 use Rattle.bit_machine.specs.Lanes.{lane_bits, IsBusy, IsWired, IsLane, IsNow}
 use Rattle.bit_machine.specs.Machines.{lanes_state, IsMachine, IsSomeMachine, IsUser, HasWire, HasNoUser}
 use Rattle.bit_machine.proofs.Assigning.{from_uses}
@@ -132,39 +133,29 @@ answer_read content tests m is w i l u b answers r =
         a ∙ rw (chain, behind) (lt-ltb read.shifts (out_length (chain_at t read.chain)) within)
 
 -- and what is found there is read
-from_answered : (cells : List Cell) (a : Option (ℕ × ℕ)) → is_answered cells a ≡ true → (s : ℕ) × (k : ℕ) × (a ≡ Some (s, k)) × (s < out_length cells)
+pub from_answered : (cells : List Cell) (a : Option (ℕ × ℕ)) → is_answered cells a ≡ true → (s : ℕ) × (k : ℕ) × (a ≡ Some (s, k)) × (s < out_length cells)
 from_answered cells None e = absurd cc
 from_answered cells (Some a) e = (a.0, a.1, refl, ltb-true a.0 (out_length cells) e)
 
-pub answer_compared : (content : Content) (tests : List PlannedTest) (m : Machine) (w i : ℕ) (l : Lane) (u : IsUser content tests m w i l) (b : Bool) → l.first_wire ≤ w →
-    ((content : Content) (t : PlannedTest) → t.tam ≡ true → IsLane content t l → b ≡ is_answered (chain_at t (w - l.first_wire)) (moment_behind l.moment)) → b ≡ true → IsCompared tests m.cycle w
-answer_compared content tests m w i l u b low answers some =
-    let f = from_answered (chain_at u.t (w - l.first_wire)) (moment_behind l.moment) (sym (answers content u.t u.tam u.lane) ∙ some) in
-    let q = u.now.is.behind f.0 f.1 f.2 in
-    let wired : IsWired content u.t l = u.lane.wired u.tam in
-    let start : l.start ≡ u.t.start = u.lane.start in
-    let first : l.first_wire ≡ u.t.first_wire = u.first in
-    let number : m.cycle - l.start ≡ q.0 + 1 + f.0 = q.2 in
-    let begun : u.t.start ≤ m.cycle = u.begun in
-    let few : f.0 < out_length (chain_at u.t (w - l.first_wire)) = f.3 in
+pub at_end : (cells : List Cell) (s : ℕ) → s < out_length cells → slice_get (reverse cells) s ≡ Some (from_end cells s)
+at_end cells s h =
+    let few : out_length cells ≤ length cells = count_by-le-length is_read cells in
+    slice_get-get_or (reverse cells) s (In 0) (rw (length-reverse cells) (omega arith)) ∙ ap Some (get_or-reverse cells s (In 0) (omega arith))
+
+pub read_there : (content : Content) (t : PlannedTest) (l : Lane) (c n w j s k : ℕ) (m : Moment) → IsWired content t l → t.start ≤ c → c - t.start ≡ n → w ≡ t.first_wire + j → IsMoment l.phases n m → moment_behind m ≡ Some (s, k) → s < out_length (chain_at t j) → IsReadAt t k (from_end (chain_at t j) s) c w
+read_there content t l c n w j s k m wired begun at wire now behind few =
+    let q = now.behind s k behind in
     record {
-      place = i;
-      test = u.t;
-      pattern = f.1;
-      cell = from_end (chain_at u.t (w - l.first_wire)) f.0;
-      at = u.at;
-      read = record {
-        chain = w - l.first_wire;
-        cells = chain_at u.t (w - l.first_wire);
-        there = chain_there u.t (w - l.first_wire) f.0 few;
-        shifts = f.0;
-        within = few;
-        cell = at_end (chain_at u.t (w - l.first_wire)) f.0 few;
-        capture = u.t.start + q.0;
-        captures = at_start_plus u.t q.0 (Capture f.1) (subst (λ (ops : List Operation). slice_get ops q.0 ≡ Some (Capture f.1)) (sym wired.operations) q.1);
-        cycle = omega arith;
-        wire = omega arith;
-      };
+      chain = j;
+      cells = chain_at t j;
+      there = chain_there t j s few;
+      shifts = s;
+      within = few;
+      cell = at_end (chain_at t j) s few;
+      capture = t.start + q.0;
+      captures = at_start_plus t q.0 (Capture k) (subst (λ (ops : List Operation). slice_get ops q.0 ≡ Some (Capture k)) (sym wired.operations) q.1);
+      cycle = omega (arith, q.2, at, begun);
+      wire = wire;
     }
   where
     chain_there : (t : PlannedTest) (j s : ℕ) → s < out_length (chain_at t j) → slice_get t.chains j ≡ Some (chain_at t j)
@@ -176,7 +167,19 @@ answer_compared content tests m w i l u b low answers some =
           let h' = rw empty at h in
           absurd (omega arith)
 
-    at_end : (cells : List Cell) (s : ℕ) → s < out_length cells → slice_get (reverse cells) s ≡ Some (from_end cells s)
-    at_end cells s h =
-        let few : out_length cells ≤ length cells = count_by-le-length is_read cells in
-        slice_get-get_or (reverse cells) s (In 0) (rw (length-reverse cells) (omega arith)) ∙ ap Some (get_or-reverse cells s (In 0) (omega arith))
+pub answer_compared : (content : Content) (tests : List PlannedTest) (m : Machine) (w i : ℕ) (l : Lane) (u : IsUser content tests m w i l) (b : Bool) → l.first_wire ≤ w →
+    ((content : Content) (t : PlannedTest) → t.tam ≡ true → IsLane content t l → b ≡ is_answered (chain_at t (w - l.first_wire)) (moment_behind l.moment)) → b ≡ true → IsCompared tests m.cycle w
+answer_compared content tests m w i l u b low answers some =
+    let f = from_answered (chain_at u.t (w - l.first_wire)) (moment_behind l.moment) (sym (answers content u.t u.tam u.lane) ∙ some) in
+    let wired : IsWired content u.t l = u.lane.wired u.tam in
+    let start : l.start ≡ u.t.start = u.lane.start in
+    let first : l.first_wire ≡ u.t.first_wire = u.first in
+    let begun : u.t.start ≤ m.cycle = u.begun in
+    record {
+      place = i;
+      test = u.t;
+      pattern = f.1;
+      cell = from_end (chain_at u.t (w - l.first_wire)) f.0;
+      at = u.at;
+      read = read_there content u.t l m.cycle (m.cycle - l.start) w (w - l.first_wire) f.0 f.1 l.moment wired begun (ap (λ n. m.cycle - n) (sym start)) (omega (arith, first, low)) u.now.is f.2 f.3;
+    }

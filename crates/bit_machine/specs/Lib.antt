@@ -10,3 +10,4 @@ pub mod Machines
 pub mod WholeChips
 pub mod Building
 pub mod Placed
+pub mod Vectors

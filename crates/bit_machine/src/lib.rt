@@ -1,6 +1,7 @@
 // Wrapped modules, bit by bit (the wrapped cores of Iyengar, Chakrabarty and Marinissen 2002). One module in its wrapper
 // is a [`Session`]: shift and capture do to its chains what one cycle of a test does. A whole chip under a good plan is a
 // [`Chip`]: each cycle drives its wires, does the operations of all tests that are active, and shows what is read.
+// What a tester drives and compares under such a plan, cycle by cycle, are its [`Vectors`].
 //
 // A cycle is one call; lengths are in cells, and each cell and each wire has one bit.
 #![tactic(auto)]
@@ -11,6 +12,7 @@ mod chip;
 mod lane;
 mod laws;
 mod layout;
+mod lines;
 mod machine;
 mod made;
 mod numbers;
@@ -18,9 +20,12 @@ mod path;
 mod placing;
 mod ring;
 mod session;
+mod stretches;
+mod vectors;
 
 pub use chip::{Chip, Report};
 pub use laws::{
     held_stimuli_stand, responses_are_numbered, responses_have_lengths, stimuli_are_numbered,
 };
 pub use session::Session;
+pub use vectors::Vectors;

@@ -1,7 +1,7 @@
 // The numbers of the bits that the cells of a chain load or answer, as stretches of numbers one after another.
 ghost use Rattle.std.specs.Prelude.{◌≡◌, ℕ, ◌+◌, ◌^◌, ◌<◌, ◌≤◌, ◌∷◌, List, false, drop, length, slice_index};
 ghost use Rattle.std.specs.List.{All};
-ghost use Rattle.bit_machine.specs.Numbers.{all_numbers, line_bit, IsWalk, HasNext, IsFull, IsLineWord};
+ghost use Rattle.bit_machine.specs.Numbers.{all_numbers, bit_at_place, line_bit, IsWalk, HasNext, IsFull, IsLineWord};
 ghost use Rattle.bit_machine.specs.Packed.{is_set};
 
 use crate::bits::{WORD_BITS, with_bit};
@@ -160,10 +160,19 @@ impl Numbers {
         requires step { line.now.step < 997 }
         ensures { IsLineWord line.now self.now first result }
     {
-        if first >= self.count {
+        self.bits(line, first, WORD_BITS)
+    }
+
+    /// The made bits of so many numbers from a place on, at most 64: 0 past the last number.
+    pub fn bits(&self, line: &Line, first: usize, count: usize) -> u64
+        requires first { line.now.first < 997 }
+        requires step { line.now.step < 997 }
+        requires few { count ≤ 64 }
+        ensures { (i : ℕ) → i < count → is_set result i ≡ bit_at_place line.now self.now (first + i) }
+    {
+        if count == 0 || first >= self.count {
             return 0;
         }
-        let count = (self.count - first).min(WORD_BITS);
-        word_of(&self.runs, line, first, count)
+        word_of(&self.runs, line, first, (self.count - first).min(count))
     }
 }

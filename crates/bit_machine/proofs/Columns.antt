@@ -1,0 +1,154 @@
+-- Bytes in the columns of lines.
+use Rattle.std.proofs.Common.{◌≡◌, ◌≢◌, ℕ, zero, suc, ◌+◌, ◌-◌, ◌*◌, ◌%◌, ◌≤◌, ◌<◌, ◌⊎◌, Bool, Some, List, length, set, refl, ap, sym, subst, ◌∙◌, arith, inl, inr}
+use Rattle.std.specs.Prelude.{slice_get}
+use Rattle.std.proofs.Math.Nat.{mul-le-mul_right}
+use Rattle.std.proofs.lemmas.List.{length-set}
+use Rattle.std.proofs.lemmas.Nat.{mod-mul-add}
+use Rattle.std.proofs.lemmas.Bool.{cases_eq}
+use Rattle.bit_machine.specs.Numbers.{bit_at_place}
+use Rattle.bit_machine.specs.Packed.{is_set}
+use Rattle.bit_machine.specs.declared.made.Line.{Line}
+use Rattle.bit_machine.specs.Vectors.{digit, byte_at, ArePutAcross, ArePutDown, AreOtherRowsKept, IsBlank, IsElsewhere}
+use Rattle.bit_machine.proofs.Assigning.{set_here, set_elsewhere}
+
+-- ---- places
+
+-- a row and a column are those of one place alone
+pub same_place : (w r c r' c' : ℕ) → c < w → c' < w → r * w + c ≡ r' * w + c' → (r ≡ r') × (c ≡ c')
+same_place w r c r' c' h h' same =
+    let rests : c ≡ c' = sym (mod-mul-add r w c h) ∙ ap (λ v. v % w) same ∙ mod-mul-add r' w c' h' in
+    (cancel w r r' (omega arith) (omega (arith, rests, same)), rests)
+  where
+    cancel : (w d e : ℕ) → 0 < w → d * w ≡ e * w → d ≡ e
+    cancel w zero zero h same = refl
+    cancel w zero (suc e) h same = absurd (omega arith)
+    cancel w (suc d) zero h same = absurd (omega arith)
+    cancel w (suc d) (suc e) h same = ap suc (cancel w d e h (omega arith))
+
+pub place_within : (w r c size : ℕ) → c < w → (r + 1) * w ≤ size → r * w + c < size
+place_within w r c size h fits = let e : (r + 1) * w ≡ r * w + w = omega arith in omega (arith, h, fits, e)
+
+pub rows_fit : (w m n size : ℕ) → m ≤ n → n * w ≤ size → m * w ≤ size
+rows_fit w m n size few fits = let less : m * w ≤ n * w = mul-le-mul_right w few in omega (arith, less, fits)
+
+-- a byte that is set
+set_byte : (text : List ℕ) (w r c b p : ℕ) → c < w → (r + 1) * w ≤ length text → p ≡ r * w + c → slice_get (set text p b) (r * w + c) ≡ Some b
+set_byte text w r c b p h fits at = rw at (set_here text (r * w + c) b (place_within w r c (length text) h fits))
+
+other_byte : (text : List ℕ) (w r c b p r' c' : ℕ) → c < w → c' < w → p ≡ r * w + c → (c' ≢ c) ⊎ (r' ≢ r) → slice_get (set text p b) (r' * w + c') ≡ slice_get text (r' * w + c')
+other_byte text w r c b p r' c' h h' at apart = set_elsewhere text p (r' * w + c') b (λ e. differ apart (same_place w r' c' r c h' h (e ∙ at))) where
+  differ : (c' ≢ c) ⊎ (r' ≢ r) → (r' ≡ r) × (c' ≡ c) → ⊥
+  differ (inl column) same = column same.1
+  differ (inr row) same = row same.0
+
+-- ---- below one another
+
+pub one_put : (text : List ℕ) (wires row below column b p : ℕ) → column < 2 * wires + 2 → (row + (below + 1)) * (2 * wires + 2) ≤ length text → p ≡ (row + below) * (2 * wires + 2) + column →
+    ArePutDown wires (row + below) 1 column (λ i. b) text (set text p b)
+one_put text wires row below column b p h fits at =
+    let fits' : (row + below + 1) * (2 * wires + 2) ≤ length text = subst (λ n. n * (2 * wires + 2) ≤ length text) (omega arith) fits in
+    record {
+      long = length-set text p b;
+      put = λ i less. let same : row + below + i ≡ row + below = omega (arith, less) in rw same (set_byte text (2 * wires + 2) (row + below) column b p h fits' at);
+      others = λ r c h' elsewhere. other_byte text (2 * wires + 2) (row + below) column b p r c h h' at (apart r c elsewhere);
+    }
+  where
+    apart : (r c : ℕ) → IsElsewhere (row + below) 1 column r c → (c ≢ column) ⊎ (r ≢ row + below)
+    apart r c (inl other) = inl other
+    apart r c (inr (inl above)) = inr (λ e. omega (arith, above, e))
+    apart r c (inr (inr under)) = inr (λ e. omega (arith, under, e))
+
+pub none_down : (wires row column : ℕ) (f : ℕ → ℕ) (text : List ℕ) → ArePutDown wires row 0 column f text text
+none_down wires row column f text = record { long = refl; put = λ i h. absurd (omega arith); others = λ r c h e. refl }
+
+pub down_more : (wires row n column b : ℕ) (f : ℕ → ℕ) (old now new : List ℕ) → column < 2 * wires + 2 → b ≡ f n → ArePutDown wires row n column f old now → ArePutDown wires (row + n) 1 column (λ i. b) now new → ArePutDown wires row (n + 1) column f old new
+down_more wires row n column b f old now new h is before one = record {
+  long = one.long ∙ before.long;
+  put = λ i less. here i less (cases_eq i n);
+  others = λ r c h' elsewhere. one.others r c h' (after r c elsewhere) ∙ before.others r c h' (sooner r c elsewhere);
+}
+  where
+    here : (i : ℕ) → i < n + 1 → (i ≡ n) ⊎ (i ≢ n) → byte_at new wires (row + i) column ≡ Some (f i)
+    here i less (inl same) =
+        let now' : byte_at new wires (row + n + 0) column ≡ Some b = one.put 0 (omega arith) in
+        let place : row + n + 0 ≡ row + n = omega arith in
+        rw same (rw place at now' ∙ ap Some is)
+    here i less (inr other) = one.others (row + i) column h (inr (inl (omega (arith, less, other)))) ∙ before.put i (omega (arith, less, other))
+
+    after : (r c : ℕ) → IsElsewhere row (n + 1) column r c → IsElsewhere (row + n) 1 column r c
+    after r c (inl other) = inl other
+    after r c (inr (inl above)) = inr (inl (omega (arith, above)))
+    after r c (inr (inr under)) = inr (inr (omega (arith, under)))
+
+    sooner : (r c : ℕ) → IsElsewhere row (n + 1) column r c → IsElsewhere row n column r c
+    sooner r c (inl other) = inl other
+    sooner r c (inr (inl above)) = inr (inl above)
+    sooner r c (inr (inr under)) = inr (inr (omega (arith, under)))
+
+-- a bit of a word in reverse
+pub reversed_bit : (line : Line) (numbers : List ℕ) (word last count below b : ℕ) (bit : Bool) → below < count → count ≤ last + 1 → bit ≡ is_set word (count - 1 - below) → b ≡ digit bit →
+    ((i : ℕ) → i < count → is_set word i ≡ bit_at_place line numbers (last - (count - 1) + i)) → b ≡ digit (bit_at_place line numbers (last - below))
+reversed_bit line numbers word last count below b bit h back is made bits =
+    let place : last - (count - 1) + (count - 1 - below) ≡ last - below = omega arith in
+    made ∙ ap digit (is ∙ bits (count - 1 - below) (omega arith) ∙ ap (bit_at_place line numbers) place)
+
+-- ---- beside one another
+
+pub none_across : (wires row column byte : ℕ) (text : List ℕ) → ArePutAcross wires row column 0 byte text text
+none_across wires row column byte text = record { long = refl; put = λ c a b. absurd (omega arith); others = λ r c h e. refl }
+
+pub across_more : (wires row column n byte p : ℕ) (old now : List ℕ) → column + n < 2 * wires + 2 → (row + 1) * (2 * wires + 2) ≤ length now → p ≡ row * (2 * wires + 2) + column + n → ArePutAcross wires row column n byte old now →
+    ArePutAcross wires row column (n + 1) byte old (set now p byte)
+across_more wires row column n byte p old now h fits at before = record {
+  long = length-set now p byte ∙ before.long;
+  put = λ c a b. here c a b (cases_eq c (column + n));
+  others = λ r c h' e. other_byte now (2 * wires + 2) row (column + n) byte p r c h h' at' (apart r c e) ∙ before.others r c h' (sooner r c e);
+}
+  where
+    at' : p ≡ row * (2 * wires + 2) + (column + n)
+    at' = at ∙ omega arith
+
+    here : (c : ℕ) → column ≤ c → c < column + (n + 1) → (c ≡ column + n) ⊎ (c ≢ column + n) → byte_at (set now p byte) wires row c ≡ Some byte
+    here c a b (inl same) = rw same (set_byte now (2 * wires + 2) row (column + n) byte p h fits at')
+    here c a b (inr other) =
+        let less : c < column + n = omega (arith, b, other) in
+        other_byte now (2 * wires + 2) row (column + n) byte p row c h (omega (arith, less, h)) at' (inl other) ∙ before.put c a less
+
+    apart : (r c : ℕ) → (r ≢ row) ⊎ ((c < column) ⊎ (column + (n + 1) ≤ c)) → (c ≢ column + n) ⊎ (r ≢ row)
+    apart r c (inl other) = inr other
+    apart r c (inr (inl less)) = inl (λ e. omega (arith, less, e))
+    apart r c (inr (inr past)) = inl (λ e. omega (arith, past, e))
+
+    sooner : (r c : ℕ) → (r ≢ row) ⊎ ((c < column) ⊎ (column + (n + 1) ≤ c)) → (r ≢ row) ⊎ ((c < column) ⊎ (column + n ≤ c))
+    sooner r c (inl other) = inl other
+    sooner r c (inr (inl less)) = inr (inl less)
+    sooner r c (inr (inr past)) = inr (inr (omega (arith, past)))
+
+-- ---- blank lines
+
+-- digits, a space, marks and a line feed
+pub blank_line : (wires row : ℕ) (t0 t1 t2 t3 t4 : List ℕ) → ArePutAcross wires row 0 wires 48 t0 t1 → ArePutAcross wires row wires 1 32 t1 t2 → ArePutAcross wires row (wires + 1) wires 45 t2 t3 → ArePutAcross wires row (wires + 1 + wires) 1 10 t3 t4 →
+    (length t4 ≡ length t0) × (IsBlank wires row t4 × AreOtherRowsKept wires row t0 t4)
+blank_line wires row t0 t1 t2 t3 t4 a b d e = (e.long ∙ d.long ∙ b.long ∙ a.long, (blank, λ r c h other. e.others r c h (inl other) ∙ d.others r c h (inl other) ∙ b.others r c h (inl other) ∙ a.others r c h (inl other))) where
+  blank : IsBlank wires row t4
+  blank = record {
+    driven = λ w h. e.others row w (omega arith) (inr (inl (omega arith))) ∙ d.others row w (omega arith) (inr (inl (omega arith))) ∙ b.others row w (omega arith) (inr (inl (omega arith))) ∙ a.put w (omega arith) (omega arith);
+    space = e.others row wires (omega arith) (inr (inl (omega arith))) ∙ d.others row wires (omega arith) (inr (inl (omega arith))) ∙ b.put wires (omega arith) (omega arith);
+    marks = λ w h. e.others row (wires + 1 + w) (omega arith) (inr (inl (omega arith))) ∙ d.put (wires + 1 + w) (omega arith) (omega arith);
+    feed = e.put (wires + 1 + wires) (omega arith) (omega arith);
+  }
+
+-- a line that stays blank
+pub blank_kept : (wires row r : ℕ) (old new : List ℕ) → AreOtherRowsKept wires row old new → r ≢ row → IsBlank wires r old → IsBlank wires r new
+blank_kept wires row r old new kept other is = record {
+  driven = λ w h. kept r w (omega arith) other ∙ is.driven w h;
+  space = kept r wires (omega arith) other ∙ is.space;
+  marks = λ w h. kept r (wires + 1 + w) (omega arith) other ∙ is.marks w h;
+  feed = kept r (wires + 1 + wires) (omega arith) other ∙ is.feed;
+}
+
+pub blanks_more : (wires n : ℕ) (old new : List ℕ) → ((r : ℕ) → r < n → IsBlank wires r old) → IsBlank wires n new → AreOtherRowsKept wires n old new → (r : ℕ) → r < n + 1 → IsBlank wires r new
+blanks_more wires n old new before here kept r h = go (cases_eq r n) where
+  go : (r ≡ n) ⊎ (r ≢ n) → IsBlank wires r new
+  go (inl same) = rw same here
+  go (inr other) = blank_kept wires n r old new kept other (before r (omega (arith, h, other)))

@@ -1,0 +1,5 @@
+use Rattle.bit_machine.specs.Vectors.{AreChainsPut}
+use Rattle.bit_machine.proofs.stretches.put_chains.Given as goal
+
+abbrev pub invariant-loop-chain : goal.invariant-loop-chain
+invariant-loop-chain l = AreChainsPut l.lane.base l.lane.paths.items l.chain l.wires l.row l.stretch.count l.lane.first_wire l.stretch.ahead l.stretch.behind l.initial.text l.text
