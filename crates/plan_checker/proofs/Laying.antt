@@ -1,5 +1,5 @@
 -- The jobs of a plan whose buses have passed: where their ends are noted, and that parents come first.
-use Rattle.std.proofs.Common.{◌≡◌, ℕ, zero, suc, ◌+◌, ◌≤◌, ◌<◌, List, [], ◌∷◌, length, get_or, take, ap, arith, inl, inr}
+use Rattle.std.proofs.Common.{◌≡◌, ℕ, zero, suc, ◌+◌, ◌≤◌, ◌<◌, Bool, true, false, Some, List, [], ◌∷◌, length, get_or, take, ap, arith, inl, inr}
 use Rattle.std.specs.Prelude.{slice_index}
 use Rattle.std.specs.List.{sum_by}
 use Rattle.std.proofs.lemmas.Bool.{cases_Bool}
@@ -13,10 +13,10 @@ use Rattle.plan_model.specs.Rules.{Each, FitsWires, Widths}
 use Rattle.plan_model.specs.SoundLimits.{IsSoundLimits}
 use Rattle.plan_model.proofs.PlannedTests.{Origin, origin}
 use Rattle.plan_model.proofs.GoodPlansRunRight.{planned_in_order}
-use Rattle.plan_checker.specs.declared.jobs.Job.{Job}
+use Rattle.live_tests.specs.declared.placed.PlacedTest.{PlacedTest}
 use Rattle.plan_checker.specs.declared.meetings.Begin.{Begin}
 use Rattle.plan_checker.specs.Clashes.{HasParentAt, AreParents, ParentsFirst}
-use Rattle.plan_checker.specs.Jobs.{job_of, jobs_of}
+use Rattle.live_tests.specs.Placed.{bus_over, placed_of, placed_tests}
 use Rattle.plan_checker.specs.Layout.{IsLayout}
 use Rattle.plan_checker.specs.Meetings.{AreBegins, AreSlots}
 use Rattle.plan_checker.specs.Stages.{KeptTo}
@@ -59,11 +59,15 @@ bus_of soc plan i t at =
     let e : (planned_test plan o.l.place o.l.core o.l.test).bus ≡ t.bus = ap (λ (t : PlannedTest). t.bus) o.is in
     omega (arith, e, bus-le o.l.core.number 0 plan.buses)
 
+bus_of_some : (tam : Bool) (bus s : ℕ) → bus_over tam bus ≡ Some s → bus ≡ s
+bus_of_some true bus s is = cc
+bus_of_some false bus s is = absurd cc
+
 -- ---- the layout
 
-slots_are : (soc : SocValue) (limits : LimitsValue) (plan : PlanValue) (parents : List ℕ) (n : ℕ) → IsSoundLimits soc limits → KeptTo soc limits plan 7 → AreParents soc parents → length parents ≡ length soc.modules → n ≡ length parents + WIRES_MOST + 1 → AreSlots parents (jobs_of soc plan) n
+slots_are : (soc : SocValue) (limits : LimitsValue) (plan : PlanValue) (parents : List ℕ) (n : ℕ) → IsSoundLimits soc limits → KeptTo soc limits plan 7 → AreParents soc parents → length parents ≡ length soc.modules → n ≡ length parents + WIRES_MOST + 1 → AreSlots parents (placed_tests soc plan) n
 slots_are soc limits plan parents n sound kept are long room i j at =
-    let t = at_map job_of (planned soc plan) i j at in
+    let t = at_map placed_of (planned soc plan) i j at in
     let within : (t.0).place < length soc.modules = place_within soc plan i t.0 t.1 in
     let p : HasParentAt soc parents (t.0).place = are (t.0).place within in
     let parent : slice_index parents (t.0).place ≡ p.q = get_or_from_slice_get parents (t.0).place p.q 0 p.at in
@@ -71,15 +75,15 @@ slots_are soc limits plan parents n sound kept are long room i j at =
     let bus : (t.0).bus ≤ length plan.buses = bus_of soc plan i t.0 t.1 in
     rw (← t.2) (record {
       place = omega arith;
-      bus_in = omega (arith, sound.few_wires);
+      bus_in = λ s is. let same : (t.0).bus ≡ s = bus_of_some (t.0).tam (t.0).bus s is in omega (arith, same, bus, buses, room, sound.few_wires);
       place_in = omega arith;
       parent_in = omega (arith, p.within);
     })
 
-parents_first : (soc : SocValue) (plan : PlanValue) (parents : List ℕ) → AreParents soc parents → ParentsFirst parents (jobs_of soc plan)
+parents_first : (soc : SocValue) (plan : PlanValue) (parents : List ℕ) → AreParents soc parents → ParentsFirst parents (placed_tests soc plan)
 parents_first soc plan parents are i j a b at at' same =
-    let t = at_map job_of (planned soc plan) i a at in
-    let u = at_map job_of (planned soc plan) j b at' in
+    let t = at_map placed_of (planned soc plan) i a at in
+    let u = at_map placed_of (planned soc plan) j b at' in
     let p : HasParentAt soc parents (u.0).place = are (u.0).place (place_within soc plan j u.0 u.1) in
     let parent : slice_index parents (u.0).place ≡ p.q = get_or_from_slice_get parents (u.0).place p.q 0 p.at in
     let same' : (t.0).place ≡ slice_index parents (u.0).place = rw (← t.2, ← u.2) at same in
@@ -87,7 +91,7 @@ parents_first soc plan parents are i j a b at at' same =
     let is : IsParent soc.modules p.q (u.0).place = p.is (omega arith) in
     planned_in_order soc plan i j t.0 u.0 t.1 u.1 (omega (arith, is.earlier))
 
-pub layout : (soc : SocValue) (limits : LimitsValue) (plan : PlanValue) (parents : List ℕ) (jobs : List Job) (begins : List Begin) (n : ℕ) → IsSoundLimits soc limits → KeptTo soc limits plan 7 → jobs ≡ jobs_of soc plan → AreParents soc parents → length parents ≡ length soc.modules → AreBegins jobs begins → n ≡ length parents + WIRES_MOST + 1 → IsLayout parents jobs begins n
+pub layout : (soc : SocValue) (limits : LimitsValue) (plan : PlanValue) (parents : List ℕ) (jobs : List PlacedTest) (begins : List Begin) (n : ℕ) → IsSoundLimits soc limits → KeptTo soc limits plan 7 → jobs ≡ placed_tests soc plan → AreParents soc parents → length parents ≡ length soc.modules → AreBegins jobs begins → n ≡ length parents + WIRES_MOST + 1 → IsLayout parents jobs begins n
 layout soc limits plan parents jobs begins n sound kept same are long begun room = record {
   slots = rw same (slots_are soc limits plan parents n sound kept are long room);
   begins_are = begun;

@@ -15,10 +15,9 @@ pub mod Laying
 pub mod Passing
 pub mod Sides
 pub mod Sorting
-pub mod SoundTests
 pub mod NamesApart
 pub mod Profiles
-pub mod Balance
+pub mod FewEvents
 pub mod Summing
 pub mod Loads
 pub mod RoomSizes

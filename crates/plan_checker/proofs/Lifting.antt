@@ -1,7 +1,7 @@
 -- From pairs of jobs to pairs of the tests that a plan places.
-use Rattle.std.proofs.Common.{◌≡◌, ℕ, ◌≤◌, ◌<◌, Bool, true, eqb, Some, None, List, length, map, refl, ap, ◌∙◌, sym, arith, inl, inr, ◌⊎◌, eq-eqb}
-use Rattle.std.specs.Prelude.{slice_get, slice_index, ◌&&◌}
-use Rattle.std.proofs.lemmas.Bool.{cases_lt, cases_order, and_parts, eqb-true}
+use Rattle.std.proofs.Common.{◌≡◌, ℕ, ◌≤◌, ◌<◌, Bool, true, false, true≢false, Some, None, List, length, map, refl, ap, ◌∙◌, sym, arith, inl, inr, ◌⊎◌, eq-eqb}
+use Rattle.std.specs.Prelude.{slice_get, slice_index}
+use Rattle.std.proofs.lemmas.Bool.{cases_lt, cases_order, eqb-true}
 use Rattle.std.proofs.lemmas.Option.{slice_get_within, get_or_from_slice_get}
 use Rattle.soc_model.specs.Chips.{SocValue}
 use Rattle.plan_model.specs.Plans.{PlanValue, LimitsValue, PlannedTest, planned}
@@ -12,40 +12,40 @@ use Rattle.plan_checker.specs.FaultValues.{fault_value}
 use Rattle.plan_model.specs.Rules.{Clash as PlannedClash}
 use Rattle.plan_model.proofs.PlannedTests.{Origin, origin}
 use Rattle.plan_model.proofs.GoodPlansRunRight.{planned_place}
-use Rattle.plan_checker.specs.declared.jobs.Job.{Job}
+use Rattle.live_tests.specs.declared.placed.PlacedTest.{PlacedTest}
 use Rattle.plan_checker.specs.declared.clashes.Found.{Found}
 use Rattle.plan_checker.specs.declared.clashes.Apart.{Apart}
 use Rattle.plan_checker.specs.declared.clashes.Apart.TheVariants as apart
-use Rattle.plan_checker.specs.Jobs.{job_of, jobs_of}
-use Rattle.plan_checker.specs.Clashes.{keeps_apart, Clash, IsBefore, IsLeast, IsBest, HasParentAt, AreParents, clash_fault, rule_for}
+use Rattle.live_tests.specs.Placed.{bus_over, placed_of, placed_tests}
+use Rattle.plan_checker.specs.Clashes.{keeps_apart, same_slot, Clash, IsBefore, IsLeast, IsBest, HasParentAt, AreParents, clash_fault, rule_for}
 use Rattle.plan_checker.proofs.Rooms.{map_at, at_map}
 
 -- what the code asks of two jobs is what the rule asks of the two tests
-pub record Agrees (r : Job → Job → Bool) (R : PlannedTest → PlannedTest → Type 0) (tests : List PlannedTest) : Type 0 where
-  pub to : (i j : ℕ) (t u : PlannedTest) → IsAt tests i t → IsAt tests j u → R t u → r (job_of t) (job_of u) ≡ true
-  pub from : (i j : ℕ) (t u : PlannedTest) → IsAt tests i t → IsAt tests j u → r (job_of t) (job_of u) ≡ true → R t u
+pub record Agrees (r : PlacedTest → PlacedTest → Bool) (R : PlannedTest → PlannedTest → Type 0) (tests : List PlannedTest) : Type 0 where
+  pub to : (i j : ℕ) (t u : PlannedTest) → IsAt tests i t → IsAt tests j u → R t u → r (placed_of t) (placed_of u) ≡ true
+  pub from : (i j : ℕ) (t u : PlannedTest) → IsAt tests i t → IsAt tests j u → r (placed_of t) (placed_of u) ≡ true → R t u
 
-clash_down : (r : Job → Job → Bool) (R : PlannedTest → PlannedTest → Type 0) (tests : List PlannedTest) → Agrees r R tests → (i j c : ℕ) (t u : PlannedTest) → PlannedClash R tests i j c t u → Clash r (map job_of tests) i j c
+clash_down : (r : PlacedTest → PlacedTest → Bool) (R : PlannedTest → PlannedTest → Type 0) (tests : List PlannedTest) → Agrees r R tests → (i j c : ℕ) (t u : PlannedTest) → PlannedClash R tests i j c t u → Clash r (map placed_of tests) i j c
 clash_down r R tests agrees i j c t u k = record {
-  a = job_of t;
-  b = job_of u;
-  at = map_at job_of tests i t k.first;
-  at' = map_at job_of tests j u k.second;
+  a = placed_of t;
+  b = placed_of u;
+  at = map_at placed_of tests i t k.first;
+  at' = map_at placed_of tests j u k.second;
   order = k.order;
   both = record { related = agrees.to i j t u k.first k.second k.related; begun = k.meet.0.0; begun' = k.meet.1.0; active = k.meet.0.1; active' = k.meet.1.1 };
 }
 
-pub record Up (R : PlannedTest → PlannedTest → Type 0) (tests : List PlannedTest) (i j c : ℕ) (a b : Job) : Type 0 where
+pub record Up (R : PlannedTest → PlannedTest → Type 0) (tests : List PlannedTest) (i j c : ℕ) (a b : PlacedTest) : Type 0 where
   pub t : PlannedTest
   pub u : PlannedTest
-  pub a_is : job_of t ≡ a
-  pub b_is : job_of u ≡ b
+  pub a_is : placed_of t ≡ a
+  pub b_is : placed_of u ≡ b
   pub clash : PlannedClash R tests i j c t u
 
-clash_up : (r : Job → Job → Bool) (R : PlannedTest → PlannedTest → Type 0) (tests : List PlannedTest) → Agrees r R tests → (i j c : ℕ) (k : Clash r (map job_of tests) i j c) → Up R tests i j c k.a k.b
+clash_up : (r : PlacedTest → PlacedTest → Bool) (R : PlannedTest → PlannedTest → Type 0) (tests : List PlannedTest) → Agrees r R tests → (i j c : ℕ) (k : Clash r (map placed_of tests) i j c) → Up R tests i j c k.a k.b
 clash_up r R tests agrees i j c k =
-    let t = at_map job_of tests i k.a k.at in
-    let u = at_map job_of tests j k.b k.at' in
+    let t = at_map placed_of tests i k.a k.at in
+    let u = at_map placed_of tests j k.b k.at' in
     let both = rw (← t.2, ← u.2) at k.both in
     record {
       t = t.0;
@@ -55,13 +55,13 @@ clash_up r R tests agrees i j c k =
       clash = record { first = t.1; second = u.1; order = k.order; related = agrees.from i j t.0 u.0 t.1 u.1 both.related; meet = ((both.begun, both.active), (both.begun', both.active')) };
     }
 
-within_jobs : (r : Job → Job → Bool) (jobs : List Job) (i j c : ℕ) → Clash r jobs i j c → IsBefore i j (length jobs) 0
+within_jobs : (r : PlacedTest → PlacedTest → Bool) (jobs : List PlacedTest) (i j c : ℕ) → Clash r jobs i j c → IsBefore i j (length jobs) 0
 within_jobs r jobs i j c k = inl (slice_get_within jobs i k.a k.at)
 
-pub none_clash : (r : Job → Job → Bool) (R : PlannedTest → PlannedTest → Type 0) (tests : List PlannedTest) → Agrees r R tests → IsBest r (map job_of tests) (length (map job_of tests)) 0 None → NoClash R tests
+pub none_clash : (r : PlacedTest → PlacedTest → Bool) (R : PlannedTest → PlannedTest → Type 0) (tests : List PlannedTest) → Agrees r R tests → IsBest r (map placed_of tests) (length (map placed_of tests)) 0 None → NoClash R tests
 none_clash r R tests agrees best i j c t u k =
-    let d : Clash r (map job_of tests) i j c = clash_down r R tests agrees i j c t u k in
-    best i j c (within_jobs r (map job_of tests) i j c d) d
+    let d : Clash r (map placed_of tests) i j c = clash_down r R tests agrees i j c t u k in
+    best i j c (within_jobs r (map placed_of tests) i j c d) d
 
 -- not before a pair, so at it or behind it
 not_before : (i j x y : ℕ) → (IsBefore x y i j → ⊥) → (i < x) ⊎ ((i ≡ x) × (j ≤ y))
@@ -70,8 +70,8 @@ not_before i j x y no' = elim (cases_order i x) [
   | inr other ↦ elim other [ inl less ↦ inl less | inr more ↦ absurd (no' (inl more)) ]
 ]
 
-pub least_clash : (r : Job → Job → Bool) (R : PlannedTest → PlannedTest → Type 0) (tests : List PlannedTest) → Agrees r R tests → (f : Found) → IsLeast r (map job_of tests) (length (map job_of tests)) 0 f →
-    (x y : Job) → slice_get (map job_of tests) f.first ≡ Some x → slice_get (map job_of tests) f.second ≡ Some y → IsFirstClash R tests x.id y.id f.cycle
+pub least_clash : (r : PlacedTest → PlacedTest → Bool) (R : PlannedTest → PlannedTest → Type 0) (tests : List PlannedTest) → Agrees r R tests → (f : Found) → IsLeast r (map placed_of tests) (length (map placed_of tests)) 0 f →
+    (x y : PlacedTest) → slice_get (map placed_of tests) f.first ≡ Some x → slice_get (map placed_of tests) f.second ≡ Some y → IsFirstClash R tests x.id y.id f.cycle
 least_clash r R tests agrees f best x y at at' =
     let up : Up R tests f.first f.second f.cycle best.clash.a best.clash.b = clash_up r R tests agrees f.first f.second f.cycle best.clash in
     let here : Some best.clash.a ≡ Some x = sym best.clash.at ∙ at in
@@ -82,15 +82,15 @@ least_clash r R tests agrees f best x y at at' =
       t = up.t;
       u = up.u;
       clash = up.clash;
-      a_is = ap (λ (j : Job). j.id) (sym (up.a_is ∙ some_is here));
-      b_is = ap (λ (j : Job). j.id) (sym (up.b_is ∙ some_is there));
+      a_is = ap (λ (j : PlacedTest). j.id) (sym (up.a_is ∙ some_is here));
+      b_is = ap (λ (j : PlacedTest). j.id) (sym (up.b_is ∙ some_is there));
       least_cycle = λ i j c t u k.
-          let d : Clash r (map job_of tests) i j c = clash_down r R tests agrees i j c t u k in
-          best.least i j c (within_jobs r (map job_of tests) i j c d) d;
+          let d : Clash r (map placed_of tests) i j c = clash_down r R tests agrees i j c t u k in
+          best.least i j c (within_jobs r (map placed_of tests) i j c d) d;
       least_pair = λ i j t u k. not_before f.first f.second i j (λ before. best.first i j before (clash_down r R tests agrees i j f.cycle t u k));
     }
   where
-    some_is : {x y : Job} → Some x ≡ Some y → x ≡ y
+    some_is : {x y : PlacedTest} → Some x ≡ Some y → x ≡ y
     some_is e = cc
 
 -- ---- the three rules
@@ -98,11 +98,13 @@ least_clash r R tests agrees f best x y at at' =
 pub one_bus : (parents : List ℕ) (tests : List PlannedTest) → Agrees (keeps_apart parents apart.OneBus) ShareBus tests
 one_bus parents tests = record {
   to = λ i j t u at at' s. rw (s.0, s.1) (eq-eqb t.bus u.bus s.2);
-  from = λ i j t u at at' h.
-      let p = and_parts t.tam (u.tam && eqb t.bus u.bus) h in
-      let q = and_parts u.tam (eqb t.bus u.bus) p.1 in
-      (p.0, q.0, eqb-true t.bus u.bus q.1);
+  from = λ i j t u at at' h. shared t.tam u.tam t.bus u.bus h;
 }
+  where
+    shared : (tam tam' : Bool) (bus bus' : ℕ) → same_slot (bus_over tam bus) (bus_over tam' bus') ≡ true → (tam ≡ true) × (tam' ≡ true) × (bus ≡ bus')
+    shared true true bus bus' h = (refl, refl, eqb-true bus bus' h)
+    shared true false bus bus' h = absurd (true≢false (sym h))
+    shared false tam' bus bus' h = absurd (true≢false (sym h))
 
 pub one_module : (parents : List ℕ) (tests : List PlannedTest) → Agrees (keeps_apart parents apart.OneModule) ShareModule tests
 one_module parents tests = record {
@@ -131,13 +133,13 @@ parent_and_child soc plan parents are = record {
 
 -- ---- the stage of each rule
 
-pub stage_some : (a : Apart) (soc : SocValue) (limits : LimitsValue) (plan : PlanValue) (parents : List ℕ) → AreParents soc parents → (f : Found) → IsLeast (keeps_apart parents a) (jobs_of soc plan) (length (jobs_of soc plan)) 0 f →
-    (x y : Job) → slice_get (jobs_of soc plan) f.first ≡ Some x → slice_get (jobs_of soc plan) f.second ≡ Some y → Shows soc limits plan (fault_value (clash_fault a x.id y.id f.cycle)) × (fault_rank (fault_value (clash_fault a x.id y.id f.cycle)) ≡ rank_of (rule_for a))
+pub stage_some : (a : Apart) (soc : SocValue) (limits : LimitsValue) (plan : PlanValue) (parents : List ℕ) → AreParents soc parents → (f : Found) → IsLeast (keeps_apart parents a) (placed_tests soc plan) (length (placed_tests soc plan)) 0 f →
+    (x y : PlacedTest) → slice_get (placed_tests soc plan) f.first ≡ Some x → slice_get (placed_tests soc plan) f.second ≡ Some y → Shows soc limits plan (fault_value (clash_fault a x.id y.id f.cycle)) × (fault_rank (fault_value (clash_fault a x.id y.id f.cycle)) ≡ rank_of (rule_for a))
 stage_some apart.OneBus soc limits plan parents are f best x y at at' = (least_clash (keeps_apart parents apart.OneBus) ShareBus (planned soc plan) (one_bus parents (planned soc plan)) f best x y at at', refl)
 stage_some apart.OneModule soc limits plan parents are f best x y at at' = (least_clash (keeps_apart parents apart.OneModule) ShareModule (planned soc plan) (one_module parents (planned soc plan)) f best x y at at', refl)
 stage_some apart.ParentAndChild soc limits plan parents are f best x y at at' = (least_clash (keeps_apart parents apart.ParentAndChild) (AreParentAndChild soc) (planned soc plan) (parent_and_child soc plan parents are) f best x y at at', refl)
 
-pub stage_none : (a : Apart) (soc : SocValue) (limits : LimitsValue) (plan : PlanValue) (parents : List ℕ) → AreParents soc parents → IsBest (keeps_apart parents a) (jobs_of soc plan) (length (jobs_of soc plan)) 0 None → Keeps soc limits plan (rule_for a)
+pub stage_none : (a : Apart) (soc : SocValue) (limits : LimitsValue) (plan : PlanValue) (parents : List ℕ) → AreParents soc parents → IsBest (keeps_apart parents a) (placed_tests soc plan) (length (placed_tests soc plan)) 0 None → Keeps soc limits plan (rule_for a)
 stage_none apart.OneBus soc limits plan parents are best = none_clash (keeps_apart parents apart.OneBus) ShareBus (planned soc plan) (one_bus parents (planned soc plan)) best
 stage_none apart.OneModule soc limits plan parents are best = none_clash (keeps_apart parents apart.OneModule) ShareModule (planned soc plan) (one_module parents (planned soc plan)) best
 stage_none apart.ParentAndChild soc limits plan parents are best = none_clash (keeps_apart parents apart.ParentAndChild) (AreParentAndChild soc) (planned soc plan) (parent_and_child soc plan parents are) best

@@ -1,5 +1,5 @@
 -- The jobs of a plan of a sound chip: their names, and that their powers leave room for sums.
-use Rattle.std.proofs.Common.{◌≡◌, ℕ, zero, suc, ◌+◌, ◌≤◌, ◌^◌, Option, None, Some, List, [], ◌∷◌, length, map, refl, ap, ◌∙◌, sym, arith, inl, inr}
+use Rattle.std.proofs.Common.{◌≡◌, ℕ, zero, suc, ◌+◌, ◌≤◌, ◌^◌, Option, None, Some, List, [], ◌∷◌, length, refl, ap, ◌∙◌, sym, arith, inl, inr}
 use Rattle.std.specs.Prelude.{slice_get}
 use Rattle.std.specs.List.{flat_map, filter, sum_by}
 use Rattle.std.proofs.lemmas.List.Sums.{sum_by-cons}
@@ -8,39 +8,30 @@ use Rattle.std.proofs.lemmas.Option.{slice_get_within, get_or_from_slice_get}
 use Rattle.std.proofs.lemmas.Bool.{cases_Bool}
 use Rattle.soc_model.specs.declared.Test.{Test}
 use Rattle.soc_model.specs.declared.TestId.{TestId}
-use Rattle.soc_model.specs.Chips.{ModuleValue, SocValue, LiveTest, is_live, live_of, live_from, live_tests, id_of, same_test}
+use Rattle.soc_model.specs.Chips.{ModuleValue, SocValue, LiveTest, is_live, live_of, live_from, live_tests, id_of}
 use Rattle.soc_model.specs.SoundChips.{IsSoundChip}
 use Rattle.soc_model.proofs.Limits.{tests-le}
-use Rattle.plan_model.specs.Plans.{ProfileValue, LimitsValue, PlanValue, PlannedTest, planned, planned_test, of_first, step_power, power_of_id}
-use Rattle.plan_model.specs.Rules.{live_ids}
+use Rattle.plan_model.specs.Plans.{ProfileValue, LimitsValue, PlanValue, PlannedTest, planned, planned_test, step_power, power_of_id}
 use Rattle.plan_model.specs.declared.TheConstants.{STEPS_MOST}
 use Rattle.plan_model.specs.SoundLimits.{IsSoundLimits, IsSoundProfile, Grow}
 use Rattle.plan_model.proofs.PlannedTests.{Origin, origin}
-use Rattle.plan_checker.specs.declared.jobs.Job.{Job}
-use Rattle.plan_checker.specs.Jobs.{job_of, jobs_of, StartEarly}
-use Rattle.plan_checker.specs.Named.{names_of, AllApart}
-use Rattle.plan_checker.specs.Power.{AreProfiles, IsLoad}
-use Rattle.plan_checker.specs.Steps.{profile_place, steps_from, steps_of, HasSteps}
+use Rattle.live_tests.specs.declared.placed.PlacedTest.{PlacedTest}
+use Rattle.live_tests.specs.Placed.{placed_of, placed_tests}
+use Rattle.live_tests.specs.Names.{AllDiffer}
+use Rattle.plan_checker.specs.Named.{names_of}
+use Rattle.plan_checker.specs.Power.{AreProfiles, IsLoad, HasSmallSteps}
+use Rattle.power_events.specs.Events.{profile_place, steps_from, steps_of}
 use Rattle.plan_checker.proofs.Finding.{some_same}
-use Rattle.plan_checker.proofs.Profiles.{job_power}
+use Rattle.power_events.proofs.Balance.{test_power}
 use Rattle.plan_checker.proofs.Filling.{jobs_length}
-use Rattle.plan_checker.proofs.Listing.{start_early}
-use Rattle.plan_checker.proofs.NamesApart.{live_ids_apart}
+use Rattle.live_tests.proofs.LiveIds.{ids_differ}
+use Rattle.live_tests.proofs.Placing.{names_placed}
 use Rattle.plan_checker.proofs.Rooms.{at_map, length_values}
 
 -- ---- names
 
-names_live : (plan : PlanValue) (ls : List LiveTest) → names_of (map job_of (map (λ (l : LiveTest). planned_test plan l.place l.core l.test) ls)) ≡ map id_of ls
-unfolding planned_test
-names_live plan [] = refl
-names_live plan (l ∷ ls) = ap (λ v. id_of l ∷ v) (names_live plan ls)
-
-names_are : (soc : SocValue) (plan : PlanValue) → names_of (jobs_of soc plan) ≡ live_ids soc
-unfolding planned
-names_are soc plan = names_live plan (live_tests soc)
-
-pub jobs_apart : (soc : SocValue) (plan : PlanValue) (jobs : List Job) → IsSoundChip soc → jobs ≡ jobs_of soc plan → AllApart (names_of jobs)
-jobs_apart soc plan jobs sound same = rw (same, names_are soc plan) (live_ids_apart soc sound)
+pub jobs_apart : (soc : SocValue) (plan : PlanValue) (jobs : List PlacedTest) → IsSoundChip soc → jobs ≡ placed_tests soc plan → AllDiffer (names_of jobs)
+jobs_apart soc plan jobs sound same = rw (same, names_placed soc plan) (ids_differ soc sound)
 
 -- ---- how many
 
@@ -79,25 +70,23 @@ live_tests_are base (m ∷ ms) =
 -- ---- what they draw
 
 -- the live test that a job is of
-record JobOrigin (soc : SocValue) (plan : PlanValue) (i : ℕ) (j : Job) : Type 0 where
+record JobOrigin (soc : SocValue) (plan : PlanValue) (i : ℕ) (j : PlacedTest) : Type 0 where
   l : LiveTest
   at : slice_get (live_tests soc) i ≡ Some l
   id_is : j.id ≡ id_of l
   power_is : j.power ≡ l.test.power
-  start_is : j.start ≡ of_first (λ (s : TestId × ℕ). same_test s.0 (id_of l)) (λ s. s.1) 0 plan.starts
   ends_later : j.start ≤ j.end
 
-job_origin : (soc : SocValue) (plan : PlanValue) (i : ℕ) (j : Job) → slice_get (jobs_of soc plan) i ≡ Some j → JobOrigin soc plan i j
+job_origin : (soc : SocValue) (plan : PlanValue) (i : ℕ) (j : PlacedTest) → slice_get (placed_tests soc plan) i ≡ Some j → JobOrigin soc plan i j
 unfolding planned_test
 job_origin soc plan i j at =
-    let t = at_map job_of (planned soc plan) i j at in
+    let t = at_map placed_of (planned soc plan) i j at in
     let o : Origin soc plan i t.0 = origin soc plan i t.0 t.1 in
     record {
       l = o.l;
       at = o.at;
-      id_is = sym (ap (λ (j : Job). j.id) t.2) ∙ sym (ap (λ (t : PlannedTest). t.id) o.is);
-      power_is = sym (ap (λ (j : Job). j.power) t.2) ∙ sym (ap (λ (t : PlannedTest). t.power) o.is);
-      start_is = sym (ap (λ (j : Job). j.start) t.2) ∙ sym (ap (λ (t : PlannedTest). t.start) o.is);
+      id_is = sym (ap (λ (j : PlacedTest). j.id) t.2) ∙ sym (ap (λ (t : PlannedTest). t.id) o.is);
+      power_is = sym (ap (λ (j : PlacedTest). j.power) t.2) ∙ sym (ap (λ (t : PlannedTest). t.power) o.is);
       ends_later = rw (← t.2) (omega arith);
     }
 
@@ -105,7 +94,7 @@ job_origin soc plan i j at =
 record Steps (steps : List (ℕ × ℕ)) : Type 0 where
   few : length steps ≤ STEPS_MOST
   grow : Grow 0 steps
-  small : (n : ℕ) (s : ℕ × ℕ) → slice_get steps n ≡ Some s → (s.0 ≤ 10 ^ 12) × (s.1 ≤ 10 ^ 9)
+  small : (n : ℕ) (s : ℕ × ℕ) → slice_get steps n ≡ Some s → s.1 ≤ 10 ^ 9
 
 sound_steps : (soc : SocValue) (limits : LimitsValue) (k own : ℕ) (o : Option ProfileValue) → IsSoundLimits soc limits → slice_get limits.profiles k ≡ o → (o ≡ None → own ≤ 10 ^ 9) → Steps (steps_from o own)
 sound_steps soc limits k own None sound at weak = record {
@@ -114,10 +103,10 @@ sound_steps soc limits k own None sound at weak = record {
   small = λ n s there. own_step n s there;
 }
   where
-    own_step : (n : ℕ) (s : ℕ × ℕ) → slice_get ((0, own) ∷ []) n ≡ Some s → (s.0 ≤ 10 ^ 12) × (s.1 ≤ 10 ^ 9)
+    own_step : (n : ℕ) (s : ℕ × ℕ) → slice_get ((0, own) ∷ []) n ≡ Some s → s.1 ≤ 10 ^ 9
     own_step zero s there =
         let same : (0, own) ≡ s = some_same there in
-        rw (← same) (omega arith, weak refl)
+        rw (← same) (weak refl)
     own_step (suc n) s there = absurd cc
 sound_steps soc limits k own (Some p) sound at weak =
     let profile : IsSoundProfile soc p = rw (get_or_from_slice_get limits.profiles k p p at) at (sound.profiles k p (slice_get_within limits.profiles k p at)) in
@@ -126,37 +115,35 @@ sound_steps soc limits k own (Some p) sound at weak =
       grow = profile.grows;
       small = λ n s there.
           let small = rw (get_or_from_slice_get p.steps n s s there) at (profile.small n s (slice_get_within p.steps n s there)) in
-          (omega (arith, small.0), omega (arith, small.1));
+          omega (arith, small.1);
     }
 
 as_weak : (limits : LimitsValue) (id id' : TestId) (own own' r most : ℕ) → id ≡ id' → own ≡ own' → power_of_id limits id' own' r ≤ most → power_of_id limits id own r ≤ most
 as_weak limits id id' own own' r most a b h = rw (a, b) h
 
-own_weak : (limits : LimitsValue) (j : Job) (most : ℕ) → power_of_id limits j.id j.power 0 ≤ most → slice_get limits.profiles (profile_place limits j.id) ≡ None → j.power ≤ most
+own_weak : (limits : LimitsValue) (j : PlacedTest) (most : ℕ) → power_of_id limits j.id j.power 0 ≤ most → slice_get limits.profiles (profile_place limits j.id) ≡ None → j.power ≤ most
 own_weak limits j most weak none =
     let steps : steps_of limits j ≡ (0, j.power) ∷ [] = ap (λ o. steps_from o j.power) none in
-    let same : power_of_id limits j.id j.power 0 ≡ j.power = job_power limits j 0 ∙ ap (step_power 0 0) steps in
+    let same : power_of_id limits j.id j.power 0 ≡ j.power = test_power limits j 0 ∙ ap (step_power 0 0) steps in
     omega (arith, same)
 
-job_steps : (soc : SocValue) (limits : LimitsValue) (plan : PlanValue) (most i : ℕ) (j : Job) → IsSoundLimits soc limits → StartEarly plan.starts → limits.power ≡ Some most → slice_get (jobs_of soc plan) i ≡ Some j → HasSteps limits j
-job_steps soc limits plan most i j sound early limit at =
+job_steps : (soc : SocValue) (limits : LimitsValue) (plan : PlanValue) (most i : ℕ) (j : PlacedTest) → IsSoundLimits soc limits → limits.power ≡ Some most → slice_get (placed_tests soc plan) i ≡ Some j → HasSmallSteps limits j
+job_steps soc limits plan most i j sound limit at =
     let o : JobOrigin soc plan i j = job_origin soc plan i j at in
     let within = rw limit at (sound.within i o.l o.at 0) in
     let few = rw limit at sound.power in
     let weak : power_of_id limits j.id j.power 0 ≤ most = as_weak limits j.id (id_of o.l) j.power o.l.test.power 0 most o.id_is o.power_is within in
     let s : Steps (steps_of limits j) = sound_steps soc limits (profile_place limits j.id) j.power (slice_get limits.profiles (profile_place limits j.id)) sound refl (λ none. let own : j.power ≤ most = own_weak limits j most weak none in omega (arith, own, few)) in
     record {
-      early = omega (arith, o.start_is, start_early (id_of o.l) plan.starts early);
-      ends_later = o.ends_later;
+      steps = record { ends_later = o.ends_later; grow = s.grow };
       few = s.few;
-      grow = s.grow;
       small = s.small;
     }
 
-pub load_is : (soc : SocValue) (limits : LimitsValue) (plan : PlanValue) (jobs : List Job) (profiles : List ℕ) (most : ℕ) → IsSoundChip soc → IsSoundLimits soc limits → StartEarly plan.starts → jobs ≡ jobs_of soc plan → AreProfiles limits jobs profiles → limits.power ≡ Some most → IsLoad limits jobs profiles most
-load_is soc limits plan jobs profiles most sound sound_limits early same places limit = record {
+pub load_is : (soc : SocValue) (limits : LimitsValue) (plan : PlanValue) (jobs : List PlacedTest) (profiles : List ℕ) (most : ℕ) → IsSoundChip soc → IsSoundLimits soc limits → jobs ≡ placed_tests soc plan → AreProfiles limits jobs profiles → limits.power ≡ Some most → IsLoad limits jobs profiles most
+load_is soc limits plan jobs profiles most sound sound_limits same places limit = record {
   places = places;
   few = omega (arith, ap length same, jobs_length soc plan, live_tests-le soc sound);
-  steps = λ i j at. job_steps soc limits plan most i j sound_limits early limit (rw same at at);
+  steps = λ i j at. job_steps soc limits plan most i j sound_limits limit (rw same at at);
   limit = rw limit at sound_limits.power;
 }

@@ -13,7 +13,7 @@ use Rattle.soc_model.specs.Chips.{numbers}
 use Rattle.plan_model.proofs.Lists.{contains_at, in_flat_map, from_append, any_from}
 use Rattle.plan_model.proofs.PlannedTests.{pair_used}
 use Rattle.plan_model.proofs.Lists.{from_flat_map}
-use Rattle.plan_checker.specs.Pairs.{is_pair}
+use Rattle.live_tests.specs.Index.{is_pair}
 use Rattle.plan_checker.proofs.Finding.{contains_from, some_same, number_at}
 use Rattle.plan_checker.proofs.Rooms.{any_item}
 use Rattle.plan_checker.proofs.Listing.{is_pair_of, is_pair_itself}

@@ -2,45 +2,32 @@
 use Rattle.std.proofs.Common.{◌≡◌, ℕ, zero, suc, ◌+◌, ◌-◌, ◌≤◌, ◌<◌, true, false, Some, None, List, [], ◌∷◌, length, get_or, map, drop, set, refl, ap, ◌∙◌, sym, subst, arith, inl, inr, ◌⊎◌, true≢false}
 use Rattle.std.specs.Prelude.{slice_get}
 use Rattle.std.specs.List.{position_or_len}
-use Rattle.std.proofs.lemmas.Bool.{cases_Bool, le-leb}
+use Rattle.std.proofs.lemmas.Bool.{cases_Bool}
 use Rattle.std.proofs.lemmas.Option.{slice_get_within, slice_get-get_or}
 use Rattle.soc_model.specs.declared.TestId.{TestId}
 use Rattle.soc_model.specs.Chips.{same_test}
 use Rattle.soc_model.proofs.Sums.{sum_by-map}
 use Rattle.plan_model.specs.declared.Profile.{Profile}
 use Rattle.plan_model.specs.Views.{profile_value}
-use Rattle.plan_model.specs.Plans.{ProfileValue, LimitsValue, PlannedTest, step_power, of_first, power_of, power_of_id, power_at, is_active}
+use Rattle.plan_model.specs.Plans.{ProfileValue, LimitsValue, PlannedTest, power_of, power_at, is_active}
 use Rattle.plan_model.specs.Faults.{IsFirstExcess}
 use Rattle.plan_model.proofs.Sums.{sum_by-filter}
-use Rattle.plan_checker.specs.declared.jobs.Job.{Job}
-use Rattle.plan_checker.specs.Jobs.{job_of}
-use Rattle.plan_checker.specs.Named.{names_of, AllApart}
+use Rattle.live_tests.specs.declared.placed.PlacedTest.{PlacedTest}
+use Rattle.live_tests.specs.Placed.{placed_of}
+use Rattle.live_tests.specs.Names.{AllDiffer}
+use Rattle.plan_checker.specs.Named.{names_of}
 use Rattle.plan_checker.specs.declared.events.Excess.{Excess}
 use Rattle.plan_checker.specs.Events.{IsFirstOver}
-use Rattle.plan_checker.specs.Power.{AreProfiles, drawn, drawn_by}
-use Rattle.plan_checker.specs.Steps.{profile_place, steps_from, steps_of}
+use Rattle.plan_checker.specs.Power.{AreProfiles}
+use Rattle.power_events.specs.Loads.{drawn, drawn_by}
+use Rattle.power_events.specs.Events.{profile_place, steps_from, steps_of}
 use Rattle.plan_checker.proofs.Rooms.{map_at, same_test_is, same_test_itself, set_here, set_else}
-
--- ---- the first profile of a test
-
-first_power : (ps : List ProfileValue) (id : TestId) (own r : ℕ) → of_first (λ (p : ProfileValue). same_test p.test id) (λ p. step_power r 0 p.steps) own ps ≡ step_power r 0 (steps_from (slice_get ps (position_or_len (λ (p : ProfileValue). same_test p.test id) ps)) own)
-first_power [] id own r = rw (le-leb 0 r (omega arith)) refl
-first_power (p ∷ ps) id own r = elim (cases_Bool (same_test p.test id)) [
-  | inl yes' ↦ rw yes' refl
-  | inr no' ↦
-      let e : 1 + position_or_len (λ (p : ProfileValue). same_test p.test id) ps ≡ suc (position_or_len (λ (p : ProfileValue). same_test p.test id) ps) = omega arith in
-      rw (no', e) (first_power ps id own r)
-]
-
--- the power of a job, by its steps
-pub job_power : (limits : LimitsValue) (j : Job) (r : ℕ) → power_of_id limits j.id j.power r ≡ step_power r 0 (steps_of limits j)
-job_power limits j r = first_power limits.profiles j.id j.power r
 
 -- ---- the places of profiles, written from the last profile to the first
 
 -- the profiles from `at` on are written
-abbrev pub AreProfilesFrom : LimitsValue → List Job → ℕ → List ℕ → Type 0
-AreProfilesFrom limits jobs at places = (i : ℕ) (j : Job) → slice_get jobs i ≡ Some j → slice_get places i ≡ Some (at + position_or_len (λ (p : ProfileValue). same_test p.test j.id) (drop at limits.profiles))
+abbrev pub AreProfilesFrom : LimitsValue → List PlacedTest → ℕ → List ℕ → Type 0
+AreProfilesFrom limits jobs at places = (i : ℕ) (j : PlacedTest) → slice_get jobs i ≡ Some j → slice_get places i ≡ Some (at + position_or_len (λ (p : ProfileValue). same_test p.test j.id) (drop at limits.profiles))
 
 drop_item : {X : Type 0} (xs : List X) (i : ℕ) (x : X) → slice_get xs i ≡ Some x → drop i xs ≡ x ∷ drop (suc i) xs
 drop_item [] i x e = absurd cc
@@ -48,12 +35,12 @@ drop_item (y ∷ xs) zero x e = let same : y ≡ x = cc in rw same refl
 drop_item (y ∷ xs) (suc i) x e = drop_item xs i x e
 
 -- one more profile, of a test that no job has
-pub profile_of_none : (limits : LimitsValue) (jobs : List Job) (n at : ℕ) (p : ProfileValue) (places : List ℕ) → n ≡ suc at → slice_get limits.profiles at ≡ Some p → ((i : ℕ) → slice_get (names_of jobs) i ≡ Some p.test → ⊥) → AreProfilesFrom limits jobs n places → AreProfilesFrom limits jobs at places
+pub profile_of_none : (limits : LimitsValue) (jobs : List PlacedTest) (n at : ℕ) (p : ProfileValue) (places : List ℕ) → n ≡ suc at → slice_get limits.profiles at ≡ Some p → ((i : ℕ) → slice_get (names_of jobs) i ≡ Some p.test → ⊥) → AreProfilesFrom limits jobs n places → AreProfilesFrom limits jobs at places
 profile_of_none limits jobs n at p places next there none are i j job_at =
     other (drop_item limits.profiles at p there) (cases_Bool (same_test p.test j.id))
   where
     other : drop at limits.profiles ≡ p ∷ drop (suc at) limits.profiles → (same_test p.test j.id ≡ true) ⊎ (same_test p.test j.id ≡ false) → slice_get places i ≡ Some (at + position_or_len (λ (p : ProfileValue). same_test p.test j.id) (drop at limits.profiles))
-    other items (inl yes') = absurd (none i (map_at (λ (j : Job). j.id) jobs i j job_at ∙ ap Some (sym (same_test_is p.test j.id yes'))))
+    other items (inl yes') = absurd (none i (map_at (λ (j : PlacedTest). j.id) jobs i j job_at ∙ ap Some (sym (same_test_is p.test j.id yes'))))
     other items (inr no') =
         let here = rw next at (are i j job_at) in
         let rest = position_or_len (λ (p : ProfileValue). same_test p.test j.id) (drop (suc at) limits.profiles) in
@@ -61,13 +48,13 @@ profile_of_none limits jobs n at p places next there none are i j job_at =
         rw (items, no') (here ∙ ap Some (sym n))
 
 -- one more profile, of the job at a place
-pub profile_of_job : (limits : LimitsValue) (jobs : List Job) (n at : ℕ) (p : ProfileValue) (places : List ℕ) (q : ℕ) → n ≡ suc at → AllApart (names_of jobs) → length places ≡ length jobs → slice_get limits.profiles at ≡ Some p → slice_get (names_of jobs) q ≡ Some p.test → AreProfilesFrom limits jobs n places → AreProfilesFrom limits jobs at (set places q at)
+pub profile_of_job : (limits : LimitsValue) (jobs : List PlacedTest) (n at : ℕ) (p : ProfileValue) (places : List ℕ) (q : ℕ) → n ≡ suc at → AllDiffer (names_of jobs) → length places ≡ length jobs → slice_get limits.profiles at ≡ Some p → slice_get (names_of jobs) q ≡ Some p.test → AreProfilesFrom limits jobs n places → AreProfilesFrom limits jobs at (set places q at)
 profile_of_job limits jobs n at p places q next apart long there named are i j job_at =
     go (drop_item limits.profiles at p there) (cases_Bool (same_test p.test j.id))
   where
     go : drop at limits.profiles ≡ p ∷ drop (suc at) limits.profiles → (same_test p.test j.id ≡ true) ⊎ (same_test p.test j.id ≡ false) → slice_get (set places q at) i ≡ Some (at + position_or_len (λ (p : ProfileValue). same_test p.test j.id) (drop at limits.profiles))
     go items (inl yes') =
-        let same : i ≡ q = apart i q p.test (map_at (λ (j : Job). j.id) jobs i j job_at ∙ ap Some (sym (same_test_is p.test j.id yes'))) named in
+        let same : i ≡ q = apart i q p.test (map_at (λ (j : PlacedTest). j.id) jobs i j job_at ∙ ap Some (sym (same_test_is p.test j.id yes'))) named in
         let n : at + 0 ≡ at = omega arith in
         rw (items, yes', n, same) (set_here places q at (omega (arith, long, slice_get_within jobs i j job_at)))
     go items (inr no') =
@@ -82,7 +69,7 @@ profile_of_job limits jobs n at p places q next apart long there named are i j j
 
         apart_name : i ≡ q → same_test p.test j.id ≡ false → ⊥
         apart_name same no' =
-            let name : slice_get (names_of jobs) i ≡ Some j.id = map_at (λ (j : Job). j.id) jobs i j job_at in
+            let name : slice_get (names_of jobs) i ≡ Some j.id = map_at (λ (j : PlacedTest). j.id) jobs i j job_at in
             let one : p.test ≡ j.id = some_is (sym named ∙ sym (ap (slice_get (names_of jobs)) same) ∙ name) in
             true≢false (sym (same_test_itself j.id) ∙ subst (λ v. same_test v j.id ≡ false) one no')
 
@@ -93,20 +80,20 @@ drop_all (x ∷ xs) zero e = absurd (omega arith)
 drop_all (x ∷ xs) (suc n) e = drop_all xs n (omega arith)
 
 -- none is written yet
-pub no_profile_yet : (limits : LimitsValue) (jobs : List Job) (places : List ℕ) (n m : ℕ) → n ≡ length limits.profiles → m ≡ length jobs → ((i : ℕ) → i < m → slice_get places i ≡ Some n) → AreProfilesFrom limits jobs n places
+pub no_profile_yet : (limits : LimitsValue) (jobs : List PlacedTest) (places : List ℕ) (n m : ℕ) → n ≡ length limits.profiles → m ≡ length jobs → ((i : ℕ) → i < m → slice_get places i ≡ Some n) → AreProfilesFrom limits jobs n places
 no_profile_yet limits jobs places n m all long are i j job_at =
     let e : n + 0 ≡ n = omega arith in
     rw (drop_all limits.profiles n all, e) (are i (omega (arith, long, slice_get_within jobs i j job_at)))
 
-pub all_profiles : (limits : LimitsValue) (jobs : List Job) (places : List ℕ) (n : ℕ) → n ≡ 0 → AreProfilesFrom limits jobs n places → AreProfiles limits jobs places
+pub all_profiles : (limits : LimitsValue) (jobs : List PlacedTest) (places : List ℕ) (n : ℕ) → n ≡ 0 → AreProfilesFrom limits jobs n places → AreProfiles limits jobs places
 all_profiles limits jobs places n none are i j at =
     let e : 0 + profile_place limits j.id ≡ profile_place limits j.id = omega arith in
     rw none at (are i j at) ∙ ap Some e
 
 -- ---- what the jobs draw is what the planned tests draw
 
-pub power_is : (limits : LimitsValue) (tests : List PlannedTest) (c : ℕ) → drawn_by limits (map job_of tests) c ≡ power_at limits tests c
-power_is limits tests c = sum_by-map (drawn limits c) job_of tests ∙ sym (sum_by-filter (is_active c) (λ t. power_of limits t (c - t.start)) tests)
+pub power_is : (limits : LimitsValue) (tests : List PlannedTest) (c : ℕ) → drawn_by limits (map placed_of tests) c ≡ power_at limits tests c
+power_is limits tests c = sum_by-map (drawn limits c) placed_of tests ∙ sym (sum_by-filter (is_active c) (λ t. power_of limits t (c - t.start)) tests)
 
 -- ---- what the code reads
 
@@ -120,18 +107,18 @@ past_none (x ∷ xs) zero h = absurd (omega arith)
 past_none (x ∷ xs) (suc n) h = past_none xs n (omega arith)
 
 -- the steps of a job whose profile stands at a place, and of one without a profile
-pub steps_read : (limits : LimitsValue) (j : Job) (k : ℕ) (p : ProfileValue) → k ≡ profile_place limits j.id → slice_get limits.profiles k ≡ Some p → steps_of limits j ≡ p.steps
+pub steps_read : (limits : LimitsValue) (j : PlacedTest) (k : ℕ) (p : ProfileValue) → k ≡ profile_place limits j.id → slice_get limits.profiles k ≡ Some p → steps_of limits j ≡ p.steps
 steps_read limits j k p place at = let at' = rw place at at in ap (λ o. steps_from o j.power) at'
 
-pub steps_own : (limits : LimitsValue) (j : Job) (k : ℕ) → k ≡ profile_place limits j.id → length limits.profiles ≤ k → steps_of limits j ≡ (0, j.power) ∷ []
+pub steps_own : (limits : LimitsValue) (j : PlacedTest) (k : ℕ) → k ≡ profile_place limits j.id → length limits.profiles ≤ k → steps_of limits j ≡ (0, j.power) ∷ []
 steps_own limits j k place past = ap (λ o. steps_from o j.power) (past_none limits.profiles (profile_place limits j.id) (omega (arith, place)))
 
 -- ---- the first cycle of too much power
 
-pub none_over : (limits : LimitsValue) (tests : List PlannedTest) (most : ℕ) → IsFirstOver (drawn_by limits (map job_of tests)) most None → (c : ℕ) → power_at limits tests c ≤ most
+pub none_over : (limits : LimitsValue) (tests : List PlannedTest) (most : ℕ) → IsFirstOver (drawn_by limits (map placed_of tests)) most None → (c : ℕ) → power_at limits tests c ≤ most
 none_over limits tests most low c = omega (arith, low c, power_is limits tests c)
 
-pub excess_first : (limits : LimitsValue) (tests : List PlannedTest) (most : ℕ) (e : Excess) → limits.power ≡ Some most → IsFirstOver (drawn_by limits (map job_of tests)) most (Some e) → IsFirstExcess limits tests e.cycle e.sum
+pub excess_first : (limits : LimitsValue) (tests : List PlannedTest) (most : ℕ) (e : Excess) → limits.power ≡ Some most → IsFirstOver (drawn_by limits (map placed_of tests)) most (Some e) → IsFirstExcess limits tests e.cycle e.sum
 excess_first limits tests most e limit over = record {
   passes = λ within.
       let within' = rw limit at within in

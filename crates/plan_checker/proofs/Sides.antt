@@ -1,22 +1,22 @@
 -- From meetings in the order of starts to clashes in the order of the chip.
-use Rattle.std.proofs.Common.{◌≡◌, ℕ, ◌≤◌, ◌<◌, Bool, true, eqb, min, Option, Some, None, List, refl, ap, ◌∙◌, sym, subst, arith, inl, inr, ◌⊎◌}
-use Rattle.std.specs.Prelude.{slice_get, slice_index, ◌&&◌}
-use Rattle.std.proofs.lemmas.Bool.{cases_lt, cases_order, cases_Bool, and_parts, eqb-true, eq-eqb, true≢false}
-use Rattle.plan_checker.specs.declared.jobs.Job.{Job}
+use Rattle.std.proofs.Common.{◌≡◌, ℕ, ◌≤◌, ◌<◌, Bool, true, min, Option, Some, None, List, refl, ap, ◌∙◌, sym, subst, arith, inl, inr, ◌⊎◌}
+use Rattle.std.specs.Prelude.{slice_get, slice_index}
+use Rattle.std.proofs.lemmas.Bool.{cases_lt, cases_order, eqb-true, eq-eqb, true≢false}
+use Rattle.live_tests.specs.declared.placed.PlacedTest.{PlacedTest}
 use Rattle.plan_checker.specs.declared.meetings.Begin.{Begin}
 use Rattle.plan_checker.specs.declared.meetings.Key.TheVariants as key
 use Rattle.plan_checker.specs.declared.clashes.Apart.TheVariants as apart
-use Rattle.plan_checker.specs.Clashes.{keeps_apart, Clash, ParentsFirst, IsLeastCycle, IsFirstCycle}
-use Rattle.plan_checker.specs.Meetings.{slot, same_slot, notes_for, AreBegins, Meeting, IsFirstMeeting, earlier_of}
+use Rattle.plan_checker.specs.Clashes.{keeps_apart, same_slot, Clash, ParentsFirst, IsLeastCycle, IsFirstCycle}
+use Rattle.plan_checker.specs.Meetings.{notes_for, AreBegins, Meeting, IsFirstMeeting, earlier_of}
 use Rattle.plan_checker.proofs.Finding.{some_same}
 
 -- Two tests clash where one of two relations holds: `f` where the first of them in the order of the chip starts first, else
 -- `g`. And where either holds of two tests, in the order of their starts, they clash.
-pub record AreSides (r f g : Job → Job → Bool) (jobs : List Job) : Type 0 where
-  pub first : (x y : Job) → r x y ≡ true → f x y ≡ true
-  pub second : (x y : Job) → r x y ≡ true → g y x ≡ true
-  pub from_first : (i j : ℕ) (x y : Job) → slice_get jobs i ≡ Some x → slice_get jobs j ≡ Some y → (i ≡ j → ⊥) → f x y ≡ true → ((i < j) × (r x y ≡ true)) ⊎ ((j < i) × (r y x ≡ true))
-  pub from_second : (i j : ℕ) (x y : Job) → slice_get jobs i ≡ Some x → slice_get jobs j ≡ Some y → (i ≡ j → ⊥) → g x y ≡ true → ((i < j) × (r x y ≡ true)) ⊎ ((j < i) × (r y x ≡ true))
+pub record AreSides (r f g : PlacedTest → PlacedTest → Bool) (jobs : List PlacedTest) : Type 0 where
+  pub first : (x y : PlacedTest) → r x y ≡ true → f x y ≡ true
+  pub second : (x y : PlacedTest) → r x y ≡ true → g y x ≡ true
+  pub from_first : (i j : ℕ) (x y : PlacedTest) → slice_get jobs i ≡ Some x → slice_get jobs j ≡ Some y → (i ≡ j → ⊥) → f x y ≡ true → ((i < j) × (r x y ≡ true)) ⊎ ((j < i) × (r y x ≡ true))
+  pub from_second : (i j : ℕ) (x y : PlacedTest) → slice_get jobs i ≡ Some x → slice_get jobs j ≡ Some y → (i ≡ j → ⊥) → g x y ≡ true → ((i < j) × (r x y ≡ true)) ⊎ ((j < i) × (r y x ≡ true))
 
 -- ---- the two sides of each rule
 
@@ -26,39 +26,24 @@ same_slot_sym None u h = absurd (true≢false (sym h))
 same_slot_sym (Some s) None h = absurd (true≢false (sym h))
 same_slot_sym (Some s) (Some t) h = eq-eqb t s (sym (eqb-true s t h))
 
-either_way : (r : Job → Job → Bool) (i j : ℕ) (x y : Job) → (i ≡ j → ⊥) → r x y ≡ true → r y x ≡ true → ((i < j) × (r x y ≡ true)) ⊎ ((j < i) × (r y x ≡ true))
+either_way : (r : PlacedTest → PlacedTest → Bool) (i j : ℕ) (x y : PlacedTest) → (i ≡ j → ⊥) → r x y ≡ true → r y x ≡ true → ((i < j) × (r x y ≡ true)) ⊎ ((j < i) × (r y x ≡ true))
 either_way r i j x y other h h' = elim (cases_order i j) [
   | inl same ↦ absurd (other same)
   | inr apart' ↦ elim apart' [ inl less ↦ inl (less, h) | inr more ↦ inr (more, h') ]
 ]
 
-bus_there : (parents : List ℕ) (x y : Job) → keeps_apart parents apart.OneBus x y ≡ true → notes_for parents key.Bus key.Bus x y ≡ true
-bus_there parents x y h =
-    let p = and_parts x.tam (y.tam && eqb x.bus y.bus) h in
-    let q = and_parts y.tam (eqb x.bus y.bus) p.1 in
-    rw (p.0, q.0) q.1
-
-bus_back : (parents : List ℕ) (x y : Job) → notes_for parents key.Bus key.Bus x y ≡ true → keeps_apart parents apart.OneBus x y ≡ true
-bus_back parents x y h = elim (cases_Bool x.tam) [
-  | inl yes' ↦ elim (cases_Bool y.tam) [
-    | inl also ↦ let h' = rw (yes', also) at h in rw (yes', also) h'
-    | inr no' ↦ let h' = rw (yes', no') at h in absurd (true≢false (sym h'))
-  ]
-  | inr no' ↦ let h' = rw no' at h in absurd (true≢false (sym h'))
-]
-
-pub one_bus : (parents : List ℕ) (jobs : List Job) → AreSides (keeps_apart parents apart.OneBus) (notes_for parents key.Bus key.Bus) (notes_for parents key.Bus key.Bus) jobs
+pub one_bus : (parents : List ℕ) (jobs : List PlacedTest) → AreSides (keeps_apart parents apart.OneBus) (notes_for parents key.Bus key.Bus) (notes_for parents key.Bus key.Bus) jobs
 one_bus parents jobs = record {
-  first = bus_there parents;
-  second = λ x y h. same_slot_sym (slot parents key.Bus x) (slot parents key.Bus y) (bus_there parents x y h);
+  first = λ x y h. h;
+  second = λ x y h. same_slot_sym x.bus y.bus h;
   from_first = from;
   from_second = from;
 }
   where
-    from : (i j : ℕ) (x y : Job) → slice_get jobs i ≡ Some x → slice_get jobs j ≡ Some y → (i ≡ j → ⊥) → notes_for parents key.Bus key.Bus x y ≡ true → ((i < j) × (keeps_apart parents apart.OneBus x y ≡ true)) ⊎ ((j < i) × (keeps_apart parents apart.OneBus y x ≡ true))
-    from i j x y at at' other h = either_way (keeps_apart parents apart.OneBus) i j x y other (bus_back parents x y h) (bus_back parents y x (same_slot_sym (slot parents key.Bus x) (slot parents key.Bus y) h))
+    from : (i j : ℕ) (x y : PlacedTest) → slice_get jobs i ≡ Some x → slice_get jobs j ≡ Some y → (i ≡ j → ⊥) → notes_for parents key.Bus key.Bus x y ≡ true → ((i < j) × (keeps_apart parents apart.OneBus x y ≡ true)) ⊎ ((j < i) × (keeps_apart parents apart.OneBus y x ≡ true))
+    from i j x y at at' other h = either_way (keeps_apart parents apart.OneBus) i j x y other h (same_slot_sym x.bus y.bus h)
 
-pub one_module : (parents : List ℕ) (jobs : List Job) → AreSides (keeps_apart parents apart.OneModule) (notes_for parents key.Place key.Place) (notes_for parents key.Place key.Place) jobs
+pub one_module : (parents : List ℕ) (jobs : List PlacedTest) → AreSides (keeps_apart parents apart.OneModule) (notes_for parents key.Place key.Place) (notes_for parents key.Place key.Place) jobs
 one_module parents jobs = record {
   first = λ x y h. h;
   second = λ x y h. eq-eqb y.place x.place (sym (eqb-true x.place y.place h));
@@ -66,10 +51,10 @@ one_module parents jobs = record {
   from_second = from;
 }
   where
-    from : (i j : ℕ) (x y : Job) → slice_get jobs i ≡ Some x → slice_get jobs j ≡ Some y → (i ≡ j → ⊥) → notes_for parents key.Place key.Place x y ≡ true → ((i < j) × (keeps_apart parents apart.OneModule x y ≡ true)) ⊎ ((j < i) × (keeps_apart parents apart.OneModule y x ≡ true))
+    from : (i j : ℕ) (x y : PlacedTest) → slice_get jobs i ≡ Some x → slice_get jobs j ≡ Some y → (i ≡ j → ⊥) → notes_for parents key.Place key.Place x y ≡ true → ((i < j) × (keeps_apart parents apart.OneModule x y ≡ true)) ⊎ ((j < i) × (keeps_apart parents apart.OneModule y x ≡ true))
     from i j x y at at' other h = either_way (keeps_apart parents apart.OneModule) i j x y other h (eq-eqb y.place x.place (sym (eqb-true x.place y.place h)))
 
-pub parent_and_child : (parents : List ℕ) (jobs : List Job) → ParentsFirst parents jobs → AreSides (keeps_apart parents apart.ParentAndChild) (notes_for parents key.Place key.Parent) (notes_for parents key.Parent key.Place) jobs
+pub parent_and_child : (parents : List ℕ) (jobs : List PlacedTest) → ParentsFirst parents jobs → AreSides (keeps_apart parents apart.ParentAndChild) (notes_for parents key.Place key.Parent) (notes_for parents key.Parent key.Place) jobs
 parent_and_child parents jobs ordered = record {
   first = λ x y h. h;
   second = λ x y h. eq-eqb (slice_index parents y.place) x.place (sym (eqb-true x.place (slice_index parents y.place) h));
@@ -81,23 +66,23 @@ parent_and_child parents jobs ordered = record {
 
 -- ---- clashes and meetings
 
-record ClashAt (r : Job → Job → Bool) (jobs : List Job) (c : ℕ) : Type 0 where
+record ClashAt (r : PlacedTest → PlacedTest → Bool) (jobs : List PlacedTest) (c : ℕ) : Type 0 where
   i : ℕ
   j : ℕ
   clash : Clash r jobs i j c
 
-clash_of : (r h : Job → Job → Bool) (jobs : List Job) (begins : List Begin) → AreBegins jobs begins → ((i j : ℕ) (x y : Job) → slice_get jobs i ≡ Some x → slice_get jobs j ≡ Some y → (i ≡ j → ⊥) → h x y ≡ true → ((i < j) × (r x y ≡ true)) ⊎ ((j < i) × (r y x ≡ true))) → (p q c : ℕ) → Meeting h jobs begins p q c → ClashAt r jobs c
+clash_of : (r h : PlacedTest → PlacedTest → Bool) (jobs : List PlacedTest) (begins : List Begin) → AreBegins jobs begins → ((i j : ℕ) (x y : PlacedTest) → slice_get jobs i ≡ Some x → slice_get jobs j ≡ Some y → (i ≡ j → ⊥) → h x y ≡ true → ((i < j) × (r x y ≡ true)) ⊎ ((j < i) × (r y x ≡ true))) → (p q c : ℕ) → Meeting h jobs begins p q c → ClashAt r jobs c
 clash_of r h jobs begins are from p q c m = elim (from m.a.place m.b.place m.x m.y m.job m.job' (λ same. let one : p ≡ q = are.once p q m.a m.b m.at m.at' same in omega (arith, m.order)) m.both.related) [
   | inl f ↦ record { i = m.a.place; j = m.b.place; clash = record { a = m.x; b = m.y; at = m.job; at' = m.job'; order = f.0; both = record { related = f.1; begun = m.both.begun; begun' = m.both.begun'; active = m.both.active; active' = m.both.active' } } }
   | inr s ↦ record { i = m.b.place; j = m.a.place; clash = record { a = m.y; b = m.x; at = m.job'; at' = m.job; order = s.0; both = record { related = s.1; begun = m.both.begun'; begun' = m.both.begun; active = m.both.active'; active' = m.both.active } } }
 ]
 
-record MeetingAt (h : Job → Job → Bool) (jobs : List Job) (begins : List Begin) (c : ℕ) : Type 0 where
+record MeetingAt (h : PlacedTest → PlacedTest → Bool) (jobs : List PlacedTest) (begins : List Begin) (c : ℕ) : Type 0 where
   p : ℕ
   q : ℕ
   meeting : Meeting h jobs begins p q c
 
-meeting_of : (r f g : Job → Job → Bool) (jobs : List Job) (begins : List Begin) → AreSides r f g jobs → AreBegins jobs begins → (i j c : ℕ) → Clash r jobs i j c → MeetingAt f jobs begins c ⊎ MeetingAt g jobs begins c
+meeting_of : (r f g : PlacedTest → PlacedTest → Bool) (jobs : List PlacedTest) (begins : List Begin) → AreSides r f g jobs → AreBegins jobs begins → (i j c : ℕ) → Clash r jobs i j c → MeetingAt f jobs begins c ⊎ MeetingAt g jobs begins c
 meeting_of r f g jobs begins sides are i j c k =
     let a = are.all i k.a k.at in
     let b = are.all j k.b k.at' in
@@ -120,7 +105,7 @@ meeting_of r f g jobs begins sides are i j c k =
 
 -- ---- the least cycle of both sides
 
-least_from : (r f g : Job → Job → Bool) (jobs : List Job) (begins : List Begin) → AreSides r f g jobs → AreBegins jobs begins → (c : ℕ) → ClashAt r jobs c → ((p q d : ℕ) → Meeting f jobs begins p q d → c ≤ d) → ((p q d : ℕ) → Meeting g jobs begins p q d → c ≤ d) → IsLeastCycle r jobs c
+least_from : (r f g : PlacedTest → PlacedTest → Bool) (jobs : List PlacedTest) (begins : List Begin) → AreSides r f g jobs → AreBegins jobs begins → (c : ℕ) → ClashAt r jobs c → ((p q d : ℕ) → Meeting f jobs begins p q d → c ≤ d) → ((p q d : ℕ) → Meeting g jobs begins p q d → c ≤ d) → IsLeastCycle r jobs c
 least_from r f g jobs begins sides are c k first second = record {
   i = k.i;
   j = k.j;
@@ -131,7 +116,7 @@ least_from r f g jobs begins sides are c k first second = record {
   ];
 }
 
-pub first_cycle : (r f g : Job → Job → Bool) (jobs : List Job) (begins : List Begin) → AreSides r f g jobs → AreBegins jobs begins → (m n : Option ℕ) → IsFirstMeeting f jobs begins m → IsFirstMeeting g jobs begins n → IsFirstCycle r jobs (earlier_of m n)
+pub first_cycle : (r f g : PlacedTest → PlacedTest → Bool) (jobs : List PlacedTest) (begins : List Begin) → AreSides r f g jobs → AreBegins jobs begins → (m n : Option ℕ) → IsFirstMeeting f jobs begins m → IsFirstMeeting g jobs begins n → IsFirstCycle r jobs (earlier_of m n)
 first_cycle r f g jobs begins sides are None None none none' = λ i j c k. elim (meeting_of r f g jobs begins sides are i j c k) [
   | inl m ↦ none m.p m.q c m.meeting
   | inr m ↦ none' m.p m.q c m.meeting
@@ -154,5 +139,5 @@ earlier_itself None = refl
 earlier_itself (Some a) = ap Some (omega arith)
 
 -- where both sides are one
-pub one_side : (r f : Job → Job → Bool) (jobs : List Job) (begins : List Begin) → AreSides r f f jobs → AreBegins jobs begins → (m : Option ℕ) → IsFirstMeeting f jobs begins m → IsFirstCycle r jobs m
+pub one_side : (r f : PlacedTest → PlacedTest → Bool) (jobs : List PlacedTest) (begins : List Begin) → AreSides r f f jobs → AreBegins jobs begins → (m : Option ℕ) → IsFirstMeeting f jobs begins m → IsFirstCycle r jobs m
 one_side r f jobs begins sides are m first = subst (IsFirstCycle r jobs) (earlier_itself m) (first_cycle r f f jobs begins sides are m m first first)

@@ -8,13 +8,14 @@ use Rattle.std.proofs.lemmas.List.Sorted.{sum_by-IsPermutation}
 use Rattle.std.proofs.lemmas.List.Sums.{sum_by-cons, sum_by_more}
 use Rattle.std.proofs.lemmas.Option.{slice_get_within, slice_get-get_or, get_or_from_slice_get}
 use Rattle.plan_model.specs.Plans.{LimitsValue}
-use Rattle.plan_checker.specs.declared.jobs.Job.{Job}
-use Rattle.plan_checker.specs.declared.events.Event.{Event}
+use Rattle.live_tests.specs.declared.placed.PlacedTest.{PlacedTest}
+use Rattle.power_events.specs.declared.Event.{Event}
 use Rattle.plan_checker.specs.declared.events.Excess.{Excess}
-use Rattle.plan_checker.specs.Events.{upto, begun_by, ended_by, all_events, IsLastOf, IsHigh, IsFirstHigh, IsFirstOver}
-use Rattle.plan_checker.specs.Power.{drawn_by}
-use Rattle.plan_checker.specs.Steps.{HasSteps}
-use Rattle.plan_checker.proofs.Balance.{balance}
+use Rattle.plan_checker.specs.Events.{IsHigh, IsFirstHigh, IsFirstOver}
+use Rattle.power_events.specs.Events.{upto, begun_by, ended_by, all_events, IsLastOf}
+use Rattle.power_events.specs.Loads.{drawn_by}
+use Rattle.plan_checker.specs.Power.{HasSmallSteps}
+use Rattle.power_events.proofs.Balance.{balance}
 use Rattle.plan_checker.proofs.Finding.{some_same}
 
 -- where the first `i` events are up to a cycle and the others come later, the sum is that of the first `i`
@@ -139,10 +140,10 @@ all_summed events most i begun ended all summed = λ d. summed.kept d (λ e at. 
 
 -- ---- from the events to what is drawn
 
-pub over_from_high : (limits : LimitsValue) (jobs : List Job) (events : List Event) (most : ℕ) → ((i : ℕ) (j : Job) → slice_get jobs i ≡ Some j → HasSteps limits j) → IsPermutation (all_events limits jobs) events → (o : Option Excess) → IsFirstHigh events most o → IsFirstOver (drawn_by limits jobs) most o
+pub over_from_high : (limits : LimitsValue) (jobs : List PlacedTest) (events : List Event) (most : ℕ) → ((i : ℕ) (j : PlacedTest) → slice_get jobs i ≡ Some j → HasSmallSteps limits j) → IsPermutation (all_events limits jobs) events → (o : Option Excess) → IsFirstHigh events most o → IsFirstOver (drawn_by limits jobs) most o
 over_from_high limits jobs events most has moved None low = λ d. omega (arith, low d, level d) where
   level : (d : ℕ) → drawn_by limits jobs d + ended_by events d ≡ begun_by events d
-  level d = omega (arith, balance limits d jobs has, sum_by-IsPermutation (upto d (λ (e : Event). e.begins)) (all_events limits jobs) events moved, sum_by-IsPermutation (upto d (λ (e : Event). e.ends)) (all_events limits jobs) events moved)
+  level d = omega (arith, balance limits d jobs (λ i j at. (has i j at).steps), sum_by-IsPermutation (upto d (λ (e : Event). e.begins)) (all_events limits jobs) events moved, sum_by-IsPermutation (upto d (λ (e : Event). e.ends)) (all_events limits jobs) events moved)
 over_from_high limits jobs events most has moved (Some x) high = record {
   more = omega (arith, high.more, level x.cycle);
   sum_is = omega (arith, high.sum_is, level x.cycle);
@@ -150,4 +151,4 @@ over_from_high limits jobs events most has moved (Some x) high = record {
 }
   where
     level : (d : ℕ) → drawn_by limits jobs d + ended_by events d ≡ begun_by events d
-    level d = omega (arith, balance limits d jobs has, sum_by-IsPermutation (upto d (λ (e : Event). e.begins)) (all_events limits jobs) events moved, sum_by-IsPermutation (upto d (λ (e : Event). e.ends)) (all_events limits jobs) events moved)
+    level d = omega (arith, balance limits d jobs (λ i j at. (has i j at).steps), sum_by-IsPermutation (upto d (λ (e : Event). e.begins)) (all_events limits jobs) events moved, sum_by-IsPermutation (upto d (λ (e : Event). e.ends)) (all_events limits jobs) events moved)

@@ -1,32 +1,38 @@
 -- Pairs of jobs that may not meet and do.
-use Rattle.std.specs.Prelude.{◌≡◌, ℕ, ◌<◌, ◌≤◌, ◌⊎◌, ◌&&◌, Bool, true, Option, Some, None, List, length, slice_get, slice_index, nat_eq}
+use Rattle.std.specs.Prelude.{◌≡◌, ℕ, ◌<◌, ◌≤◌, ◌⊎◌, Bool, true, false, Option, Some, None, List, length, slice_get, slice_index, nat_eq}
 use Rattle.soc_model.specs.Chips.{SocValue, IsParent}
 use Rattle.soc_model.specs.declared.TestId.{TestId}
 use Rattle.plan_checker.specs.declared.PlanFault.{PlanFault}
 use Rattle.plan_checker.specs.declared.PlanFault.TheVariants as fault
 use Rattle.plan_model.specs.Rules.{Rule, Wires, Busy, Parents}
-use Rattle.plan_checker.specs.declared.jobs.Job.{Job}
+use Rattle.live_tests.specs.declared.placed.PlacedTest.{PlacedTest}
 use Rattle.plan_checker.specs.declared.clashes.Found.{Found}
 use Rattle.plan_checker.specs.declared.clashes.Apart.{Apart}
 use Rattle.plan_checker.specs.declared.clashes.Apart.TheVariants as apart
 
+-- both have the same number; without one it is none
+abbrev pub same_slot : Option ℕ → Option ℕ → Bool
+same_slot None b = false
+same_slot (Some s) None = false
+same_slot (Some s) (Some t) = nat_eq s t
+
 -- whether the rule keeps the two apart, the first being before the second in the order of the chip
-abbrev pub keeps_apart : List ℕ → Apart → Job → Job → Bool
-keeps_apart parents apart.OneBus a b = a.tam && (b.tam && nat_eq a.bus b.bus)
+abbrev pub keeps_apart : List ℕ → Apart → PlacedTest → PlacedTest → Bool
+keeps_apart parents apart.OneBus a b = same_slot a.bus b.bus
 keeps_apart parents apart.OneModule a b = nat_eq a.place b.place
 keeps_apart parents apart.ParentAndChild a b = nat_eq a.place (slice_index parents b.place)
 
 -- both are kept apart and active at the cycle
-pub record BothAt (r : Job → Job → Bool) (a b : Job) (c : ℕ) : Type 0 where
+pub record BothAt (r : PlacedTest → PlacedTest → Bool) (a b : PlacedTest) (c : ℕ) : Type 0 where
   pub related : r a b ≡ true
   pub begun : a.start ≤ c
   pub begun' : b.start ≤ c
   pub active : c < a.end
   pub active' : c < b.end
 
-pub record Clash (r : Job → Job → Bool) (jobs : List Job) (i j c : ℕ) : Type 0 where
-  pub a : Job
-  pub b : Job
+pub record Clash (r : PlacedTest → PlacedTest → Bool) (jobs : List PlacedTest) (i j c : ℕ) : Type 0 where
+  pub a : PlacedTest
+  pub b : PlacedTest
   pub at : slice_get jobs i ≡ Some a
   pub at' : slice_get jobs j ≡ Some b
   pub order : i < j
@@ -37,40 +43,40 @@ abbrev pub IsBefore : (i j i' j' : ℕ) → Type 0
 IsBefore i j i' j' = (i < i') ⊎ ((i ≡ i') × (j < j'))
 
 -- the least cycle, and the least pair there, of the pairs that stand before `i`, `j`
-pub record IsLeast (r : Job → Job → Bool) (jobs : List Job) (i j : ℕ) (f : Found) : Type 0 where
+pub record IsLeast (r : PlacedTest → PlacedTest → Bool) (jobs : List PlacedTest) (i j : ℕ) (f : Found) : Type 0 where
   pub clash : Clash r jobs f.first f.second f.cycle
   pub least : (x y c : ℕ) → IsBefore x y i j → Clash r jobs x y c → f.cycle ≤ c
   pub first : (x y : ℕ) → IsBefore x y f.first f.second → Clash r jobs x y f.cycle → ⊥
 
-abbrev pub IsBest : (Job → Job → Bool) → List Job → ℕ → ℕ → Option Found → Type 0
+abbrev pub IsBest : (PlacedTest → PlacedTest → Bool) → List PlacedTest → ℕ → ℕ → Option Found → Type 0
 IsBest r jobs i j None = (x y c : ℕ) → IsBefore x y i j → Clash r jobs x y c → ⊥
 IsBest r jobs i j (Some f) = IsLeast r jobs i j f
 
 -- ---- the pairs at one cycle
 
 -- no test behind the one at a place meets it at the cycle
-abbrev pub HasNoPartner : (Job → Job → Bool) → List Job → (i c : ℕ) → Type 0
+abbrev pub HasNoPartner : (PlacedTest → PlacedTest → Bool) → List PlacedTest → (i c : ℕ) → Type 0
 HasNoPartner r jobs i c = (j : ℕ) → Clash r jobs i j c → ⊥
 
 -- the first test that does
-pub record IsFirstPartner (r : Job → Job → Bool) (jobs : List Job) (i c j : ℕ) : Type 0 where
+pub record IsFirstPartner (r : PlacedTest → PlacedTest → Bool) (jobs : List PlacedTest) (i c j : ℕ) : Type 0 where
   pub clash : Clash r jobs i j c
   pub first : (k : ℕ) → k < j → Clash r jobs i k c → ⊥
 
 -- the first pair at the cycle
-pub record IsFirstPair (r : Job → Job → Bool) (jobs : List Job) (c : ℕ) (f : Found) : Type 0 where
+pub record IsFirstPair (r : PlacedTest → PlacedTest → Bool) (jobs : List PlacedTest) (c : ℕ) (f : Found) : Type 0 where
   pub cycle_is : f.cycle ≡ c
   pub clash : Clash r jobs f.first f.second c
   pub first : (x y : ℕ) → IsBefore x y f.first f.second → Clash r jobs x y c → ⊥
 
 -- the least cycle of a clash
-pub record IsLeastCycle (r : Job → Job → Bool) (jobs : List Job) (c : ℕ) : Type 0 where
+pub record IsLeastCycle (r : PlacedTest → PlacedTest → Bool) (jobs : List PlacedTest) (c : ℕ) : Type 0 where
   pub i : ℕ
   pub j : ℕ
   pub clash : Clash r jobs i j c
   pub least : (x y d : ℕ) → Clash r jobs x y d → c ≤ d
 
-abbrev pub IsFirstCycle : (Job → Job → Bool) → List Job → Option ℕ → Type 0
+abbrev pub IsFirstCycle : (PlacedTest → PlacedTest → Bool) → List PlacedTest → Option ℕ → Type 0
 IsFirstCycle r jobs None = (x y c : ℕ) → Clash r jobs x y c → ⊥
 IsFirstCycle r jobs (Some c) = IsLeastCycle r jobs c
 
@@ -91,11 +97,11 @@ rule_for apart.OneModule = Busy
 rule_for apart.ParentAndChild = Parents
 
 -- a test of a parent stands before each test of the child
-abbrev pub ParentsFirst : List ℕ → List Job → Type 0
-ParentsFirst parents jobs = (i j : ℕ) (a b : Job) → slice_get jobs i ≡ Some a → slice_get jobs j ≡ Some b → a.place ≡ slice_index parents b.place → i < j
+abbrev pub ParentsFirst : List ℕ → List PlacedTest → Type 0
+ParentsFirst parents jobs = (i j : ℕ) (a b : PlacedTest) → slice_get jobs i ≡ Some a → slice_get jobs j ≡ Some b → a.place ≡ slice_index parents b.place → i < j
 
-abbrev pub PlacesWithin : ℕ → List Job → Type 0
-PlacesWithin n jobs = (i : ℕ) (j : Job) → slice_get jobs i ≡ Some j → j.place < n
+abbrev pub PlacesWithin : ℕ → List PlacedTest → Type 0
+PlacesWithin n jobs = (i : ℕ) (j : PlacedTest) → slice_get jobs i ≡ Some j → j.place < n
 
 abbrev pub clash_fault : Apart → TestId → TestId → ℕ → PlanFault
 clash_fault apart.OneBus a b c = fault.Wire a b c

@@ -1,12 +1,12 @@
 -- What the pass over the starts of tests builds on.
 use Rattle.std.specs.Prelude.{ℕ, List}
-use Rattle.plan_checker.specs.declared.jobs.Job.{Job}
+use Rattle.live_tests.specs.declared.placed.PlacedTest.{PlacedTest}
 use Rattle.plan_checker.specs.declared.meetings.Begin.{Begin}
 use Rattle.plan_checker.specs.Clashes.{ParentsFirst}
 use Rattle.plan_checker.specs.Meetings.{AreSlots, AreBegins}
 
 -- the jobs are found among `n` ends, begin as listed, and parents come first
-pub record IsLayout (parents : List ℕ) (jobs : List Job) (begins : List Begin) (n : ℕ) : Type 0 where
+pub record IsLayout (parents : List ℕ) (jobs : List PlacedTest) (begins : List Begin) (n : ℕ) : Type 0 where
   pub slots : AreSlots parents jobs n
   pub begins_are : AreBegins jobs begins
   pub parents_first : ParentsFirst parents jobs

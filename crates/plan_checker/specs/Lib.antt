@@ -1,7 +1,7 @@
 pub mod FaultValues
 pub mod Broken
 pub mod Stages
-pub mod Jobs
+pub mod Listed
 pub mod Placing
 pub mod Clashes
 pub mod Meetings
@@ -9,11 +9,8 @@ pub mod Layout
 pub mod Lengths
 pub mod Order
 pub mod Named
-pub mod Steps
 pub mod Power
 pub mod Events
 pub mod Wires
 pub mod Marks
-pub mod Pairs
 pub mod Room
-pub mod Paths

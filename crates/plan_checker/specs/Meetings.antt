@@ -1,58 +1,53 @@
 -- Tests in the order of their starts, and the latest ends that one pass over them notes.
-use Rattle.std.specs.Prelude.{◌≡◌, ℕ, ◌<◌, ◌≤◌, ◌&&◌, Bool, false, max, min, Option, Some, None, List, length, slice_get, slice_index, slice_set, nat_eq, nat_lt, if◌then◌else◌}
+use Rattle.std.specs.Prelude.{◌≡◌, ℕ, ◌<◌, ◌≤◌, ◌&&◌, Bool, max, min, Option, Some, None, List, length, slice_get, slice_index, slice_set, nat_lt}
 use Rattle.std.specs.List.Sorted.{IsNonDecreasingBy}
-use Rattle.plan_checker.specs.declared.jobs.Job.{Job}
+use Rattle.live_tests.specs.declared.placed.PlacedTest.{PlacedTest}
 use Rattle.plan_checker.specs.declared.meetings.Begin.{Begin}
 use Rattle.plan_checker.specs.declared.meetings.Key.{Key}
 use Rattle.plan_checker.specs.declared.meetings.Key.TheVariants as key
-use Rattle.plan_checker.specs.Clashes.{BothAt}
+use Rattle.plan_checker.specs.Clashes.{BothAt, same_slot}
 
 -- the number by which a test is found
-abbrev pub slot : List ℕ → Key → Job → Option ℕ
-slot parents key.Bus j = if j.tam then Some j.bus else None
+abbrev pub slot : List ℕ → Key → PlacedTest → Option ℕ
+slot parents key.Bus j = j.bus
 slot parents key.Place j = Some j.place
 slot parents key.Parent j = Some (slice_index parents j.place)
 
-abbrev pub same_slot : Option ℕ → Option ℕ → Bool
-same_slot None b = false
-same_slot (Some s) None = false
-same_slot (Some s) (Some t) = nat_eq s t
-
 -- whether the first test's end is noted where the second one asks
-abbrev pub notes_for : List ℕ → Key → Key → Job → Job → Bool
+abbrev pub notes_for : List ℕ → Key → Key → PlacedTest → PlacedTest → Bool
 notes_for parents noted asked a b = same_slot (slot parents noted a) (slot parents asked b)
 
 -- every number by which a test is found is a place among the ends
-pub record HasSlots (parents : List ℕ) (n : ℕ) (j : Job) : Type 0 where
+pub record HasSlots (parents : List ℕ) (n : ℕ) (j : PlacedTest) : Type 0 where
   pub place : j.place < length parents
-  pub bus_in : j.bus < n
+  pub bus_in : (s : ℕ) → j.bus ≡ Some s → s < n
   pub place_in : j.place < n
   pub parent_in : slice_index parents j.place < n
 
-abbrev pub AreSlots : List ℕ → List Job → ℕ → Type 0
-AreSlots parents jobs n = (i : ℕ) (j : Job) → slice_get jobs i ≡ Some j → HasSlots parents n j
+abbrev pub AreSlots : List ℕ → List PlacedTest → ℕ → Type 0
+AreSlots parents jobs n = (i : ℕ) (j : PlacedTest) → slice_get jobs i ≡ Some j → HasSlots parents n j
 
 -- ---- begins
 
-abbrev pub begin_of : ℕ → Job → Begin
+abbrev pub begin_of : ℕ → PlacedTest → Begin
 begin_of place j = record { start = j.start; place = place }
 
 -- the begin of each job, in the order of the jobs
-pub record AreWritten (jobs : List Job) (begins : List Begin) : Type 0 where
+pub record AreWritten (jobs : List PlacedTest) (begins : List Begin) : Type 0 where
   pub long : length begins ≡ length jobs
-  pub at : (i : ℕ) (j : Job) → slice_get jobs i ≡ Some j → slice_get begins i ≡ Some (begin_of i j)
+  pub at : (i : ℕ) (j : PlacedTest) → slice_get jobs i ≡ Some j → slice_get begins i ≡ Some (begin_of i j)
 
 -- the job that a begin is of
-pub record BeginsJob (jobs : List Job) (b : Begin) : Type 0 where
-  pub j : Job
+pub record BeginsJob (jobs : List PlacedTest) (b : Begin) : Type 0 where
+  pub j : PlacedTest
   pub at : slice_get jobs b.place ≡ Some j
   pub start_is : b.start ≡ j.start
 
 -- the begins of all jobs, each once, by their starts
-pub record AreBegins (jobs : List Job) (begins : List Begin) : Type 0 where
+pub record AreBegins (jobs : List PlacedTest) (begins : List Begin) : Type 0 where
   pub sorted : IsNonDecreasingBy (λ (b : Begin). b.start) begins
   pub of : (p : ℕ) (b : Begin) → slice_get begins p ≡ Some b → BeginsJob jobs b
-  pub all : (i : ℕ) (j : Job) → slice_get jobs i ≡ Some j → (p : ℕ) × (b : Begin) × (slice_get begins p ≡ Some b) × (b.place ≡ i)
+  pub all : (i : ℕ) (j : PlacedTest) → slice_get jobs i ≡ Some j → (p : ℕ) × (b : Begin) × (slice_get begins p ≡ Some b) × (b.place ≡ i)
   pub once : (p q : ℕ) (a b : Begin) → slice_get begins p ≡ Some a → slice_get begins q ≡ Some b → a.place ≡ b.place → p ≡ q
 
 -- ---- ends
@@ -65,17 +60,17 @@ abbrev pub noted_end : List ℕ → Option ℕ → ℕ → List ℕ
 noted_end ends None e = ends
 noted_end ends (Some s) e = slice_set ends s (max (slice_index ends s) e)
 
-abbrev pub is_early : Job → ℕ → Bool
+abbrev pub is_early : PlacedTest → ℕ → Bool
 is_early j noted = nat_lt j.start j.end && nat_lt j.start noted
 
 -- ---- meetings
 
 -- two related tests that are active at a cycle, the first one before the other in the order of starts
-pub record Meeting (r : Job → Job → Bool) (jobs : List Job) (begins : List Begin) (p q c : ℕ) : Type 0 where
+pub record Meeting (r : PlacedTest → PlacedTest → Bool) (jobs : List PlacedTest) (begins : List Begin) (p q c : ℕ) : Type 0 where
   pub a : Begin
   pub b : Begin
-  pub x : Job
-  pub y : Job
+  pub x : PlacedTest
+  pub y : PlacedTest
   pub at : slice_get begins p ≡ Some a
   pub at' : slice_get begins q ≡ Some b
   pub job : slice_get jobs a.place ≡ Some x
@@ -84,13 +79,13 @@ pub record Meeting (r : Job → Job → Bool) (jobs : List Job) (begins : List B
   pub both : BothAt r x y c
 
 -- the least cycle of a meeting
-pub record IsLeastMeeting (r : Job → Job → Bool) (jobs : List Job) (begins : List Begin) (c : ℕ) : Type 0 where
+pub record IsLeastMeeting (r : PlacedTest → PlacedTest → Bool) (jobs : List PlacedTest) (begins : List Begin) (c : ℕ) : Type 0 where
   pub p : ℕ
   pub q : ℕ
   pub meeting : Meeting r jobs begins p q c
   pub least : (p q d : ℕ) → Meeting r jobs begins p q d → c ≤ d
 
-abbrev pub IsFirstMeeting : (Job → Job → Bool) → List Job → List Begin → Option ℕ → Type 0
+abbrev pub IsFirstMeeting : (PlacedTest → PlacedTest → Bool) → List PlacedTest → List Begin → Option ℕ → Type 0
 IsFirstMeeting r jobs begins None = (p q c : ℕ) → Meeting r jobs begins p q c → ⊥
 IsFirstMeeting r jobs begins (Some c) = IsLeastMeeting r jobs begins c
 

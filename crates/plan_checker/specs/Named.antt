@@ -1,12 +1,8 @@
 -- The jobs by the names of their tests.
-use Rattle.std.specs.Prelude.{◌≡◌, ℕ, Some, List, map, slice_get}
+use Rattle.std.specs.Prelude.{List, map}
 use Rattle.soc_model.specs.declared.TestId.{TestId}
-use Rattle.plan_checker.specs.declared.jobs.Job.{Job}
+use Rattle.live_tests.specs.declared.placed.PlacedTest.{PlacedTest}
 
 -- the names of the jobs, in their order
-abbrev pub names_of : List Job → List TestId
-names_of jobs = map (λ (j : Job). j.id) jobs
-
--- no item stands at two places
-abbrev pub AllApart : {X : Type 0} → List X → Type 0
-AllApart {X} xs = (p q : ℕ) (x : X) → slice_get xs p ≡ Some x → slice_get xs q ≡ Some x → p ≡ q
+abbrev pub names_of : List PlacedTest → List TestId
+names_of jobs = map (λ (j : PlacedTest). j.id) jobs

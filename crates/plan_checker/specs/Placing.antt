@@ -7,7 +7,7 @@ use Rattle.soc_model.specs.Chips.{soc_value}
 use Rattle.plan_model.specs.Views.{plan_value}
 use Rattle.plan_model.specs.Rules.{Each, HasWrapper, HasProperCells, used_pairs, pair_of}
 use Rattle.soc_model.specs.SoundChips.{IsSoundChip}
-use Rattle.plan_checker.specs.Jobs.{AreBuses, StartEarly}
+use Rattle.plan_checker.specs.Listed.{AreBuses, StartEarly}
 
 -- the chip and the plan, the starts, the pairs of a module and a mode in the order of the wrappers, and the buses
 pub record IsPlacing (soc : Soc) (plan : Plan) (starts : List (TestId × ℕ)) (pairs : List (ℕ × Bool)) (buses : List ℕ) : Type 0 where

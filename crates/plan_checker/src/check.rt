@@ -18,15 +18,17 @@ ghost use Rattle.plan_checker.specs.FaultValues.{fault_value};
 ghost use Rattle.plan_checker.specs.Room.{HasRoom};
 
 use crate::PlanFault;
-use crate::events::{EVENTS_EACH, Event};
-use crate::jobs::{Job, NO_JOB};
+use crate::events::EVENTS_EACH;
 use crate::lookups::module_count;
 use crate::meetings::{Begin, NO_BEGIN};
+use crate::placed::NO_TEST;
 use crate::verdict::check_rules;
 use bound_certificate::{BoundScratch, check_bound};
 use indexmap::{IndexMap, IndexSet};
+use live_tests::PlacedTest;
 use outside::NoMemory;
 use plan_model::{Limits, Plan, WIRES_MOST, faults_are_exact, good_plans_run_right};
+use power_events::Event;
 use soc_model::{Soc, Test, TestId, live, module_at};
 use std::alloc::Global;
 use std::marker::Model;
@@ -51,7 +53,7 @@ pub(crate) struct PlacedRooms {
     /// For each module the place of its parent.
     pub(crate) parents: Vec<usize>,
     /// The live tests as the plan places them, in the order of the chip.
-    pub(crate) jobs: Vec<Job>,
+    pub(crate) jobs: Vec<PlacedTest>,
     /// Where they begin, by their starts.
     pub(crate) begins: Vec<Begin>,
     /// The latest ends of the tests that a pass over the begins has seen, for each bus or each module.
@@ -177,7 +179,7 @@ impl Scratch {
         };
         let placed = PlacedRooms {
             parents: filled_room(alloc, 0, modules)?,
-            jobs: filled_room(alloc, NO_JOB, tests)?,
+            jobs: filled_room(alloc, NO_TEST, tests)?,
             begins: filled_room(alloc, NO_BEGIN, tests)?,
             ends: filled_room(alloc, 0, slots)?,
             names: name_room(alloc, tests)?,

@@ -1,17 +1,17 @@
 // The first pair of tests that may not meet and do: the least cycle first, then the least pair there.
 
 ghost use Rattle.std.specs.Prelude.{◌≡◌, ℕ, ◌<◌, length, slice_index, false, IsTrue, IfSome, IfNone};
-ghost use Rattle.plan_checker.specs.Clashes.{keeps_apart, BothAt, IsBest, HasNoPartner, IsFirstPartner, IsFirstPair, IsFirstCycle, PlacesWithin, AreParents, rule_for, clash_fault};
+ghost use Rattle.plan_checker.specs.Clashes.{keeps_apart, same_slot, BothAt, IsBest, HasNoPartner, IsFirstPartner, IsFirstPair, IsFirstCycle, PlacesWithin, AreParents, rule_for, clash_fault};
 ghost use Rattle.plan_checker.specs.Layout.{IsLayout};
-ghost use Rattle.plan_checker.specs.Power.{is_active_job};
+ghost use Rattle.power_events.specs.Loads.{is_active};
 ghost use Rattle.soc_model.specs.Chips.{SocValue};
 ghost use Rattle.plan_model.specs.Plans.{PlanValue, LimitsValue};
-ghost use Rattle.plan_checker.specs.Jobs.{jobs_of};
+ghost use Rattle.live_tests.specs.Placed.{placed_tests};
 ghost use Rattle.plan_checker.specs.Stages.{IsStage};
 
 use crate::PlanFault;
-use crate::jobs::Job;
 use crate::meetings::{Begin, Key, earlier, first_meeting};
+use live_tests::PlacedTest;
 use soc_model::TestId;
 
 /// What keeps two tests apart: a bus that both use, a module that both test, or that one tests the parent of the other.
@@ -38,27 +38,40 @@ fn parent_at(parents: &[usize], place: usize) -> usize
     parents[place]
 }
 
+/// Whether both are the same bus; a self test has none.
+fn is_one_bus(a: Option<usize>, b: Option<usize>) -> bool
+    ensures { result ≡ same_slot a b }
+{
+    match a {
+        None => false,
+        Some(first) => match b {
+            None => false,
+            Some(second) => first == second,
+        },
+    }
+}
+
 /// Whether the rule keeps the two tests apart.
-fn are_apart(parents: &[usize], apart: Apart, a: &Job, b: &Job) -> bool
+fn are_apart(parents: &[usize], apart: Apart, a: &PlacedTest, b: &PlacedTest) -> bool
     requires { b.now.place < length parents.now }
     ensures { result ≡ keeps_apart parents.now apart a.now b.now }
 {
     match apart {
-        Apart::OneBus => a.tam && b.tam && a.bus == b.bus,
+        Apart::OneBus => is_one_bus(a.bus, b.bus),
         Apart::OneModule => a.place == b.place,
         Apart::ParentAndChild => a.place == parent_at(parents, b.place),
     }
 }
 
 /// Whether the job is active at the cycle.
-fn is_active(job: &Job, cycle: u64) -> bool
-    ensures { result ≡ is_active_job cycle job.now }
+fn is_active(job: &PlacedTest, cycle: u64) -> bool
+    ensures { result ≡ is_active cycle job.now }
 {
     job.start <= cycle && cycle < job.end
 }
 
 /// Whether the rule keeps the two tests apart and both are active at the cycle.
-fn meet_at(parents: &[usize], apart: Apart, a: &Job, b: &Job, cycle: u64) -> bool
+fn meet_at(parents: &[usize], apart: Apart, a: &PlacedTest, b: &PlacedTest, cycle: u64) -> bool
     requires { b.now.place < length parents.now }
     ensures meet { IsTrue result → BothAt (keeps_apart parents.now apart) a.now b.now cycle }
     ensures differ { result ≡ false → BothAt (keeps_apart parents.now apart) a.now b.now cycle → ⊥ }
@@ -70,7 +83,7 @@ fn meet_at(parents: &[usize], apart: Apart, a: &Job, b: &Job, cycle: u64) -> boo
 fn first_partner(
     parents: &[usize],
     apart: Apart,
-    jobs: &[Job],
+    jobs: &[PlacedTest],
     first: usize,
     cycle: u64,
 ) -> Option<usize>
@@ -91,7 +104,7 @@ fn first_partner(
 }
 
 /// The least pair of tests that meet at the cycle, though the rule keeps them apart.
-fn first_pair(parents: &[usize], apart: Apart, jobs: &[Job], cycle: u64) -> Option<Found>
+fn first_pair(parents: &[usize], apart: Apart, jobs: &[PlacedTest], cycle: u64) -> Option<Found>
     requires { PlacesWithin (length parents.now) jobs.now }
     ensures found { IfSome result (λ f. IsFirstPair (keeps_apart parents.now apart) jobs.now cycle f) }
     ensures none { IfNone result ((i : ℕ) → HasNoPartner (keeps_apart parents.now apart) jobs.now i cycle) }
@@ -112,7 +125,7 @@ fn first_pair(parents: &[usize], apart: Apart, jobs: &[Job], cycle: u64) -> Opti
 fn least_cycle(
     parents: &[usize],
     apart: Apart,
-    jobs: &[Job],
+    jobs: &[PlacedTest],
     begins: &[Begin],
     ends: &mut [u64],
 ) -> Option<u64>
@@ -134,7 +147,7 @@ fn least_cycle(
 pub(crate) fn first_clash(
     parents: &[usize],
     apart: Apart,
-    jobs: &[Job],
+    jobs: &[PlacedTest],
     begins: &[Begin],
     ends: &mut [u64],
 ) -> Option<Found>
@@ -162,12 +175,12 @@ fn fault_of(apart: Apart, a: TestId, b: TestId, cycle: u64) -> PlanFault
 pub(crate) fn check_apart(
     parents: &[usize],
     apart: Apart,
-    jobs: &[Job],
+    jobs: &[PlacedTest],
     begins: &[Begin],
     ends: &mut [u64],
 ) -> Option<PlanFault>
     requires { IsLayout parents.now jobs.now begins.now (length ends.old) }
-    ensures { (soc : SocValue) (limits : LimitsValue) (plan : PlanValue) → jobs.now ≡ jobs_of soc plan → AreParents soc parents.now → IsStage soc limits plan (rule_for apart) result }
+    ensures { (soc : SocValue) (limits : LimitsValue) (plan : PlanValue) → jobs.now ≡ placed_tests soc plan → AreParents soc parents.now → IsStage soc limits plan (rule_for apart) result }
 {
     match first_clash(parents, apart, jobs, begins, ends) {
         Some(found) => Some(fault_of(

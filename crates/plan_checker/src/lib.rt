@@ -4,13 +4,13 @@
 mod check;
 mod clashes;
 mod events;
-mod jobs;
 mod known;
 mod lookups;
 mod meetings;
 mod named;
 mod order;
 mod parents;
+mod placed;
 mod places;
 mod power;
 mod starts;

@@ -4,11 +4,12 @@ ghost use Rattle.std.specs.Prelude.{◌≡◌, ℕ, ◌+◌, ◌<◌, ◌≤◌,
 ghost use Rattle.std.specs.List.{list_any};
 ghost use Rattle.indexmap.specs.IndexSet.{keys, spare};
 ghost use Rattle.soc_model.specs.Chips.{same_test};
-ghost use Rattle.plan_checker.specs.declared.jobs.Job.{Job};
-ghost use Rattle.plan_checker.specs.Named.{names_of, AllApart};
+ghost use Rattle.live_tests.specs.declared.placed.PlacedTest.{PlacedTest};
+ghost use Rattle.live_tests.specs.Names.{AllDiffer};
+ghost use Rattle.plan_checker.specs.Named.{names_of};
 
-use crate::jobs::Job;
 use indexmap::IndexSet;
+use live_tests::PlacedTest;
 use soc_model::TestId;
 
 /// Puts a name last.
@@ -22,8 +23,8 @@ fn put_name(names: &mut IndexSet<TestId>, id: TestId)
 }
 
 /// Writes the names of the jobs, in their order.
-pub(crate) fn fill_names(jobs: &[Job], names: &mut IndexSet<TestId>)
-    requires apart { AllApart (names_of jobs.now) }
+pub(crate) fn fill_names(jobs: &[PlacedTest], names: &mut IndexSet<TestId>)
+    requires apart { AllDiffer (names_of jobs.now) }
     requires space { length jobs.now ≤ length (keys names.old) + spare names.old }
     ensures filled { keys names.new ≡ names_of jobs.now }
     ensures space_left { length (keys names.old) + spare names.old ≤ length (keys names.new) + spare names.new }
@@ -43,7 +44,7 @@ pub(crate) fn place_named(names: &IndexSet<TestId>, id: TestId) -> Option<usize>
 }
 
 /// The job at a place.
-pub(crate) fn job_at(jobs: &[Job], place: usize) -> Job
+pub(crate) fn job_at(jobs: &[PlacedTest], place: usize) -> PlacedTest
     requires { place < length jobs.now }
     ensures { slice_get jobs.now place ≡ Some result }
 {
@@ -51,10 +52,14 @@ pub(crate) fn job_at(jobs: &[Job], place: usize) -> Job
 }
 
 /// The job of a name.
-pub(crate) fn job_named(jobs: &[Job], names: &IndexSet<TestId>, id: TestId) -> Option<Job>
+pub(crate) fn job_named(
+    jobs: &[PlacedTest],
+    names: &IndexSet<TestId>,
+    id: TestId,
+) -> Option<PlacedTest>
     requires { keys names.now ≡ names_of jobs.now }
     ensures found { IfSome result (λ j. (p : ℕ) × (slice_get jobs.now p ≡ Some j) × (j.id ≡ id)) }
-    ensures none { IfNone result ((p : ℕ) (j : Job) → slice_get jobs.now p ≡ Some j → j.id ≡ id → ⊥) }
+    ensures none { IfNone result ((p : ℕ) (j : PlacedTest) → slice_get jobs.now p ≡ Some j → j.id ≡ id → ⊥) }
 {
     match place_named(names, id) {
         Some(place) => Some(job_at(jobs, place)),

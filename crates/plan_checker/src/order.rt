@@ -5,23 +5,24 @@ ghost use Rattle.soc_model.specs.declared.TestId.{TestId};
 ghost use Rattle.soc_model.specs.Chips.{SocValue};
 ghost use Rattle.plan_model.specs.Plans.{PlanValue, LimitsValue};
 ghost use Rattle.plan_model.specs.Rules.{Precedences, Cycles};
-ghost use Rattle.plan_checker.specs.declared.jobs.Job.{Job};
-ghost use Rattle.plan_checker.specs.Jobs.{jobs_of};
+ghost use Rattle.live_tests.specs.declared.placed.PlacedTest.{PlacedTest};
+ghost use Rattle.live_tests.specs.Placed.{placed_tests};
 ghost use Rattle.indexmap.specs.IndexSet.{keys};
-ghost use Rattle.plan_checker.specs.Named.{names_of, AllApart};
+ghost use Rattle.live_tests.specs.Names.{AllDiffer};
+ghost use Rattle.plan_checker.specs.Named.{names_of};
 ghost use Rattle.plan_checker.specs.Stages.{IsStage};
 ghost use Rattle.plan_checker.specs.Order.{AreInOrder, last_end};
 
 use crate::PlanFault;
-use crate::jobs::Job;
 use crate::named::job_named;
 use indexmap::IndexSet;
+use live_tests::PlacedTest;
 use soc_model::TestId;
 
 /// Whether the first test has ended as the second starts, where both are live.
-fn in_order(jobs: &[Job], names: &IndexSet<TestId>, first: TestId, second: TestId) -> bool
+fn in_order(jobs: &[PlacedTest], names: &IndexSet<TestId>, first: TestId, second: TestId) -> bool
     requires named { keys names.now ≡ names_of jobs.now }
-    requires apart { AllApart (names_of jobs.now) }
+    requires apart { AllDiffer (names_of jobs.now) }
     ensures kept { IsTrue result → AreInOrder jobs.now [] (first, second) }
     ensures broken { result ≡ false → AreInOrder jobs.now [] (first, second) → ⊥ }
 {
@@ -37,12 +38,12 @@ fn in_order(jobs: &[Job], names: &IndexSet<TestId>, first: TestId, second: TestI
 /// The precedences of the limits against the jobs of a plan.
 pub(crate) fn check_before(
     before: &[(TestId, TestId)],
-    jobs: &[Job],
+    jobs: &[PlacedTest],
     names: &IndexSet<TestId>,
 ) -> Option<PlanFault>
     requires named { keys names.now ≡ names_of jobs.now }
-    requires apart { AllApart (names_of jobs.now) }
-    ensures { (soc : SocValue) (limits : LimitsValue) (plan : PlanValue) → jobs.now ≡ jobs_of soc plan → before.now ≡ limits.before → IsStage soc limits plan Precedences result }
+    requires apart { AllDiffer (names_of jobs.now) }
+    ensures { (soc : SocValue) (limits : LimitsValue) (plan : PlanValue) → jobs.now ≡ placed_tests soc plan → before.now ≡ limits.before → IsStage soc limits plan Precedences result }
 {
     for (a, b) in before {
         if !in_order(jobs, names, *a, *b) {
@@ -53,7 +54,7 @@ pub(crate) fn check_before(
 }
 
 /// The greatest end, 0 without jobs.
-fn latest(jobs: &[Job]) -> u64
+fn latest(jobs: &[PlacedTest]) -> u64
     ensures { result ≡ last_end jobs.now }
 {
     let mut end: u64 = 0;
@@ -64,8 +65,8 @@ fn latest(jobs: &[Job]) -> u64
 }
 
 /// The cycles that a plan says it takes against its jobs.
-pub(crate) fn check_cycles(cycles: u64, jobs: &[Job]) -> Option<PlanFault>
-    ensures { (soc : SocValue) (limits : LimitsValue) (plan : PlanValue) → jobs.now ≡ jobs_of soc plan → cycles ≡ plan.cycles → IsStage soc limits plan Cycles result }
+pub(crate) fn check_cycles(cycles: u64, jobs: &[PlacedTest]) -> Option<PlanFault>
+    ensures { (soc : SocValue) (limits : LimitsValue) (plan : PlanValue) → jobs.now ≡ placed_tests soc plan → cycles ≡ plan.cycles → IsStage soc limits plan Cycles result }
 {
     let right = latest(jobs);
     if cycles == right {

@@ -6,28 +6,31 @@ ghost use Rattle.soc_model.specs.Chips.{SocValue};
 ghost use Rattle.plan_model.specs.Plans.{PlanValue};
 ghost use Rattle.plan_model.specs.Rules.{Power};
 ghost use Rattle.plan_model.specs.Views.{limits_value};
-ghost use Rattle.plan_checker.specs.declared.jobs.Job.{Job};
-ghost use Rattle.plan_checker.specs.Events.{job_events, all_events, IsFirstOver};
-ghost use Rattle.plan_checker.specs.Jobs.{jobs_of};
-ghost use Rattle.plan_checker.specs.Named.{names_of, AllApart};
-ghost use Rattle.plan_checker.specs.Power.{AreProfiles, IsLoad, IsSoundLoad, drawn_by};
-ghost use Rattle.plan_checker.specs.Steps.{profile_place};
+ghost use Rattle.live_tests.specs.declared.placed.PlacedTest.{PlacedTest};
+ghost use Rattle.plan_checker.specs.Events.{IsFirstOver};
+ghost use Rattle.power_events.specs.Events.{test_events, all_events, profile_place};
+ghost use Rattle.live_tests.specs.Placed.{placed_tests};
+ghost use Rattle.live_tests.specs.Names.{AllDiffer};
+ghost use Rattle.plan_checker.specs.Named.{names_of};
+ghost use Rattle.plan_checker.specs.Power.{AreProfiles, IsLoad, IsSoundLoad};
+ghost use Rattle.power_events.specs.Loads.{drawn_by};
 ghost use Rattle.plan_checker.specs.Stages.{IsStage};
 
 use crate::PlanFault;
-use crate::events::{EVENTS_EACH, Event, Excess, first_excess, put_steps, sort_events};
-use crate::jobs::Job;
+use crate::events::{EVENTS_EACH, Excess, first_excess};
 use crate::named::{job_at, place_named};
 use crate::places::clear;
 use indexmap::IndexSet;
+use live_tests::PlacedTest;
 use plan_model::{Limits, Profile};
+use power_events::{Event, put_steps, sort_events};
 use soc_model::TestId;
 
 /// The jobs of a plan, and for each the place of its test's profile in the limits.
 #[derive(Clone, Copy, Drop)]
 pub(crate) struct Load<'a> {
     pub(crate) limits: &'a Limits,
-    pub(crate) jobs: &'a [Job],
+    pub(crate) jobs: &'a [PlacedTest],
     pub(crate) profiles: &'a [usize],
     pub(crate) most: u64,
 }
@@ -44,12 +47,12 @@ fn write_place(profiles: &mut [usize], job: usize, profile: usize)
 /// profile to the first.
 pub(crate) fn fill_profiles(
     limits: &Limits,
-    jobs: &[Job],
+    jobs: &[PlacedTest],
     names: &IndexSet<TestId>,
     profiles: &mut [usize],
 )
     requires named { keys names.now ≡ names_of jobs.now }
-    requires apart { AllApart (names_of jobs.now) }
+    requires apart { AllDiffer (names_of jobs.now) }
     requires room { length profiles.old ≡ length jobs.now }
     ensures { AreProfiles (limits_value limits.now) jobs.now profiles.new }
 {
@@ -74,7 +77,7 @@ fn profile_count(profiles: &[Profile]) -> usize
 fn profile_of(load: &Load<'_>, place: usize) -> usize
     requires load { IsSoundLoad load.now }
     requires within { place < length load.now.jobs.now }
-    ensures { (j : Job) → slice_get load.now.jobs.now place ≡ Some j → result ≡ profile_place (limits_value load.now.limits.now) j.id }
+    ensures { (j : PlacedTest) → slice_get load.now.jobs.now place ≡ Some j → result ≡ profile_place (limits_value load.now.limits.now) j.id }
 {
     load.profiles[place]
 }
@@ -84,15 +87,20 @@ fn put_job(load: &Load<'_>, place: usize, events: &mut Vec<Event>)
     requires load { IsSoundLoad load.now }
     requires within { place < length load.now.jobs.now }
     requires space { length events.old.items + EVENTS_EACH ≤ vec_capacity events.old }
-    ensures put { (j : Job) → slice_get load.now.jobs.now place ≡ Some j → events.new.items ≡ events.old.items ++ job_events (limits_value load.now.limits.now) j }
+    ensures put { (j : PlacedTest) → slice_get load.now.jobs.now place ≡ Some j → events.new.items ≡ events.old.items ++ test_events (limits_value load.now.limits.now) j }
     ensures room { vec_capacity events.old ≤ vec_capacity events.new }
 {
     let job = job_at(load.jobs, place);
     let profile = profile_of(load, place);
     if profile >= profile_count(&load.limits.profiles) {
-        put_steps(&job, &[(0, job.power)], events);
+        put_steps(job.start, job.end, &[(0, job.power)], events);
     } else {
-        put_steps(&job, &load.limits.profiles[profile].steps, events);
+        put_steps(
+            job.start,
+            job.end,
+            &load.limits.profiles[profile].steps,
+            events,
+        );
     }
 }
 
@@ -124,13 +132,13 @@ fn first_over(load: &Load<'_>, events: &mut Vec<Event>) -> Option<Excess>
 /// The power of the jobs of a plan against the limit.
 pub(crate) fn check_power(
     limits: &Limits,
-    jobs: &[Job],
+    jobs: &[PlacedTest],
     profiles: &[usize],
     events: &mut Vec<Event>,
 ) -> Option<PlanFault>
     requires load { (most : ℕ) → limits.now.power ≡ Some most → IsLoad (limits_value limits.now) jobs.now profiles.now most }
     requires space { length jobs.now * EVENTS_EACH ≤ vec_capacity events.old }
-    ensures stage { (soc : SocValue) (plan : PlanValue) → jobs.now ≡ jobs_of soc plan → IsStage soc (limits_value limits.now) plan Power result }
+    ensures stage { (soc : SocValue) (plan : PlanValue) → jobs.now ≡ placed_tests soc plan → IsStage soc (limits_value limits.now) plan Power result }
     ensures room { vec_capacity events.old ≤ vec_capacity events.new }
 {
     match limits.power {

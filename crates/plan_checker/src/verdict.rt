@@ -14,9 +14,11 @@ ghost use Rattle.plan_model.specs.Rules.{IsGood, used_pairs, pair_of, live_ids};
 ghost use Rattle.plan_model.specs.Faults.{IsFault};
 ghost use Rattle.soc_model.specs.Chips.{numbers};
 ghost use Rattle.soc_model.specs.SoundChips.{IsSoundChip};
-ghost use Rattle.plan_checker.specs.Jobs.{jobs_of, StartEarly};
+ghost use Rattle.plan_checker.specs.Listed.{StartEarly};
+ghost use Rattle.live_tests.specs.Placed.{placed_tests};
 ghost use Rattle.plan_model.specs.SoundLimits.{IsSoundLimits};
-ghost use Rattle.plan_checker.specs.Named.{names_of, AllApart};
+ghost use Rattle.live_tests.specs.Names.{AllDiffer};
+ghost use Rattle.plan_checker.specs.Named.{names_of};
 ghost use Rattle.plan_checker.specs.Power.{IsLoad};
 ghost use Rattle.plan_checker.specs.Placing.{IsPlacing};
 ghost use Rattle.plan_checker.specs.Stages.{KeptTo, IsVerdict};
@@ -29,20 +31,22 @@ ghost use Rattle.plan_checker.specs.Lengths.{AreAsLong};
 use crate::PlanFault;
 use crate::check::{PlacedRooms, Rooms};
 use crate::clashes::{Apart, check_apart};
-use crate::events::{EVENTS_EACH, Event};
-use crate::jobs::{Job, Placing, fill_jobs};
+use crate::events::EVENTS_EACH;
 use crate::known::{check_cells, check_known};
 use crate::meetings::{Begin, fill_begins};
 use crate::named::fill_names;
 use crate::order::{check_before, check_cycles};
 use crate::parents::fill_parents;
+use crate::placed::{Placing, fill_jobs};
 use crate::places::check_places;
 use crate::power::{check_power, fill_profiles};
 use crate::starts::check_starts;
 use crate::widths::check_widths;
 use crate::wrappers::check_wrappers;
 use indexmap::{IndexMap, IndexSet};
+use live_tests::PlacedTest;
 use plan_model::{Limits, Plan, WIRES_MOST};
+use power_events::Event;
 use soc_model::{Soc, TestId};
 
 /// The buses of the plan: their widths, the modules that it names, and their places.
@@ -64,12 +68,12 @@ fn check_buses(soc: &Soc, limits: &Limits, plan: &Plan, marks: &mut [usize]) -> 
 /// Tests that may not meet: on one bus, of one module, of a module and its parent.
 fn check_meetings(
     parents: &[usize],
-    jobs: &[Job],
+    jobs: &[PlacedTest],
     begins: &[Begin],
     ends: &mut [u64],
 ) -> Option<PlanFault>
     requires { IsLayout parents.now jobs.now begins.now (length ends.old) }
-    ensures { (soc : SocValue) (limits : LimitsValue) (plan : PlanValue) → jobs.now ≡ jobs_of soc plan → AreParents soc parents.now → KeptTo soc limits plan 7 → IsVerdict soc limits plan 10 result }
+    ensures { (soc : SocValue) (limits : LimitsValue) (plan : PlanValue) → jobs.now ≡ placed_tests soc plan → AreParents soc parents.now → KeptTo soc limits plan 7 → IsVerdict soc limits plan 10 result }
 {
     match check_apart(parents, Apart::OneBus, jobs, begins, ends) {
         Some(fault) => Some(fault),
@@ -114,16 +118,16 @@ fn check_tests(
 fn check_ends(
     limits: &Limits,
     plan: &Plan,
-    jobs: &[Job],
+    jobs: &[PlacedTest],
     names: &IndexSet<TestId>,
     profiles: &[usize],
     events: &mut Vec<Event>,
 ) -> Option<PlanFault>
     requires named { keys names.now ≡ names_of jobs.now }
-    requires apart { AllApart (names_of jobs.now) }
+    requires apart { AllDiffer (names_of jobs.now) }
     requires load { (most : ℕ) → limits.now.power ≡ Some most → IsLoad (limits_value limits.now) jobs.now profiles.now most }
     requires space { length jobs.now * EVENTS_EACH ≤ vec_capacity events.old }
-    ensures verdict { (soc : SocValue) → jobs.now ≡ jobs_of soc (plan_value plan.now) → KeptTo soc (limits_value limits.now) (plan_value plan.now) 10 → IsVerdict soc (limits_value limits.now) (plan_value plan.now) 13 result }
+    ensures verdict { (soc : SocValue) → jobs.now ≡ placed_tests soc (plan_value plan.now) → KeptTo soc (limits_value limits.now) (plan_value plan.now) 10 → IsVerdict soc (limits_value limits.now) (plan_value plan.now) 13 result }
     ensures room { vec_capacity events.old ≤ vec_capacity events.new }
 {
     match check_before(&limits.before, jobs, names) {
@@ -141,7 +145,7 @@ fn check_placed(limits: &Limits, from: &Placing<'_>, rooms: &mut PlacedRooms) ->
     requires kept { KeptTo (soc_value from.now.soc.now) (limits_value limits.now) (plan_value from.now.plan.now) 7 }
     requires limits { IsSoundLimits (soc_value from.now.soc.now) (limits_value limits.now) }
     requires parents_fit { length rooms.old.parents.items ≡ length (soc_value from.now.soc.now).modules }
-    requires jobs_fit { length rooms.old.jobs.items ≡ length (jobs_of (soc_value from.now.soc.now) (plan_value from.now.plan.now)) }
+    requires jobs_fit { length rooms.old.jobs.items ≡ length (placed_tests (soc_value from.now.soc.now) (plan_value from.now.plan.now)) }
     requires begins_fit { length rooms.old.begins.items ≡ length rooms.old.jobs.items }
     requires ends_fit { length rooms.old.ends.items ≡ length rooms.old.parents.items + WIRES_MOST + 1 }
     requires names_fit { length rooms.old.jobs.items ≤ length (keys rooms.old.names) + spare rooms.old.names }
@@ -153,7 +157,7 @@ fn check_placed(limits: &Limits, from: &Placing<'_>, rooms: &mut PlacedRooms) ->
     ensures events_left { vec_capacity rooms.old.events ≤ vec_capacity rooms.new.events }
 {
     let parents: &mut [usize] = &mut rooms.parents;
-    let jobs: &mut [Job] = &mut rooms.jobs;
+    let jobs: &mut [PlacedTest] = &mut rooms.jobs;
     let begins: &mut [Begin] = &mut rooms.begins;
     let profiles: &mut [usize] = &mut rooms.profiles;
     fill_parents(from.soc, parents);
@@ -188,7 +192,7 @@ pub(crate) fn check_rules(
     requires parents_fit { length rooms.old.placed.parents.items ≡ length (soc_value soc.now).modules }
     requires pairs_fit { length (used_pairs (soc_value soc.now)) ≤ length (keys rooms.old.wrappers) + spare rooms.old.wrappers }
     requires starts_fit { length (live_ids (soc_value soc.now)) ≤ index_map_len rooms.old.starts + spare_places rooms.old.starts }
-    requires jobs_fit { length rooms.old.placed.jobs.items ≡ length (jobs_of (soc_value soc.now) (plan_value plan.now)) }
+    requires jobs_fit { length rooms.old.placed.jobs.items ≡ length (placed_tests (soc_value soc.now) (plan_value plan.now)) }
     requires begins_fit { length rooms.old.placed.begins.items ≡ length rooms.old.placed.jobs.items }
     requires ends_fit { length rooms.old.placed.ends.items ≡ length rooms.old.marks.items + WIRES_MOST + 1 }
     requires names_fit { length rooms.old.placed.jobs.items ≤ length (keys rooms.old.placed.names) + spare rooms.old.placed.names }

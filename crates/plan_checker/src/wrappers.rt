@@ -13,11 +13,11 @@ ghost use Rattle.plan_checker.specs.Broken.{EachOf, Breaks};
 ghost use Rattle.plan_checker.specs.Stages.{IsStage};
 ghost use Rattle.plan_checker.specs.Marks.{AreBusesBy, IsWired};
 ghost use Rattle.soc_model.specs.SoundChips.{IsSoundChip};
-ghost use Rattle.plan_checker.specs.Pairs.{is_pair};
+ghost use Rattle.live_tests.specs.Index.{is_pair};
 
 use crate::PlanFault;
-use crate::jobs::bus_at;
 use crate::lookups::{find_module, module_count};
+use crate::placed::bus_at;
 use crate::places::known_place;
 use indexmap::IndexSet;
 use plan_model::{Bus, ChainPlan, Plan, Wrapper};

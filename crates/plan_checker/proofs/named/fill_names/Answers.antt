@@ -1,14 +1,14 @@
-use Rattle.std.proofs.Common.{false, length, take, ap, ◌∙◌, sym, arith}
+use Rattle.std.proofs.Common.{length, take, ap, ◌∙◌, sym, arith, None}
 use Rattle.std.proofs.lemmas.List.{take_all, length-append, length-take-le}
 use Rattle.std.proofs.lemmas.Option.{slice_get-get_or}
-use Rattle.plan_checker.specs.declared.jobs.Job.{Job}
+use Rattle.live_tests.specs.declared.placed.PlacedTest.{PlacedTest}
 use Rattle.plan_checker.specs.Named.{names_of}
 use Rattle.plan_checker.proofs.NamesApart.{name_new, names_more}
 use Rattle.plan_checker.proofs.Rooms.{length_values}
 use Rattle.plan_checker.proofs.named.fill_names.Goals as goal
 
-none : Job
-none = record { id = record { «module» = 0; test = 0 }; place = 0; tam = false; bus = 0; start = 0; end = 0; power = 0 }
+none : PlacedTest
+none = record { id = record { «module» = 0; test = 0 }; place = 0; bus = None; start = 0; end = 0; power = 0 }
 
 pub put_name-requires-clause-new : goal.put_name-requires-clause-new
 unfolding none
@@ -18,7 +18,7 @@ put_name-requires-clause-new c =
 
 pub put_name-requires-clause-space : goal.put_name-requires-clause-space
 put_name-requires-clause-space c =
-    let long = ap length c.loop-job.invariant.filled ∙ length_values (λ (j : Job). j.id) (take c.loop-job.job-index c.args.jobs.now) ∙ length-take-le c.loop-job.job-index c.args.jobs.now (omega arith) in
+    let long = ap length c.loop-job.invariant.filled ∙ length_values (λ (j : PlacedTest). j.id) (take c.loop-job.job-index c.args.jobs.now) ∙ length-take-le c.loop-job.job-index c.args.jobs.now (omega arith) in
     omega (arith, long, c.loop-job.invariant.space, c.requires.space)
 
 pub loop-job-preserved : goal.loop-job-preserved

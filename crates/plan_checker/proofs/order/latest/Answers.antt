@@ -1,14 +1,14 @@
-use Rattle.std.proofs.Common.{false, get_or, sym, ◌∙◌, arith}
+use Rattle.std.proofs.Common.{get_or, sym, ◌∙◌, arith, None}
 use Rattle.std.proofs.lemmas.Option.{slice_get-get_or, get_or_from_slice_get}
 use Rattle.plan_model.proofs.Greatest.{greatest_more}
-use Rattle.plan_checker.specs.declared.jobs.Job.{Job}
+use Rattle.live_tests.specs.declared.placed.PlacedTest.{PlacedTest}
 use Rattle.plan_checker.proofs.order.latest.Goals as goal
 
-none : Job
-none = record { id = record { «module» = 0; test = 0 }; place = 0; tam = false; bus = 0; start = 0; end = 0; power = 0 }
+none : PlacedTest
+none = record { id = record { «module» = 0; test = 0 }; place = 0; bus = None; start = 0; end = 0; power = 0 }
 
 pub loop-job-preserved : goal.loop-job-preserved
 unfolding none
 loop-job-preserved c =
     let at = slice_get-get_or c.args.jobs.now c.loop-job.job-index none (omega arith) in
-    c.max-end.ensures ∙ rw c.loop-job.invariant (sym (greatest_more (λ (j : Job). j.end) c.args.jobs.now c.loop-job.job-index (get_or c.args.jobs.now c.loop-job.job-index none) (omega arith) (get_or_from_slice_get c.args.jobs.now c.loop-job.job-index _ _ at)))
+    c.max-end.ensures ∙ rw c.loop-job.invariant (sym (greatest_more (λ (j : PlacedTest). j.end) c.args.jobs.now c.loop-job.job-index (get_or c.args.jobs.now c.loop-job.job-index none) (omega arith) (get_or_from_slice_get c.args.jobs.now c.loop-job.job-index _ _ at)))

@@ -1,14 +1,14 @@
-use Rattle.std.proofs.Common.{◌++◌, ◌∙◌, ap, length, get_or, sym, false, arith}
+use Rattle.std.proofs.Common.{◌++◌, ◌∙◌, ap, length, get_or, sym, arith, None}
 use Rattle.std.proofs.lemmas.List.{length-append}
 use Rattle.std.proofs.lemmas.Option.{slice_get-get_or}
 use Rattle.plan_model.specs.Views.{limits_value}
-use Rattle.plan_checker.specs.declared.jobs.Job.{Job}
-use Rattle.plan_checker.specs.Events.{job_events}
-use Rattle.plan_checker.proofs.Balance.{more_events, few_job_events}
+use Rattle.live_tests.specs.declared.placed.PlacedTest.{PlacedTest}
+use Rattle.power_events.specs.Events.{test_events}
+use Rattle.plan_checker.proofs.FewEvents.{more_events, few_test_events}
 use Rattle.plan_checker.proofs.power.fill_events.Goals as goal
 
-none : Job
-none = record { id = record { «module» = 0; test = 0 }; place = 0; tam = false; bus = 0; start = 0; end = 0; power = 0 }
+none : PlacedTest
+none = record { id = record { «module» = 0; test = 0 }; place = 0; bus = None; start = 0; end = 0; power = 0 }
 
 pub loop-place-preserved : goal.loop-place-preserved
 loop-place-preserved c =
@@ -17,9 +17,9 @@ loop-place-preserved c =
     let i = c.loop-place.place in
     let there = slice_get-get_or jobs i none c.loop-place-test.true in
     let put = c.put_job.ensures.put (get_or jobs i none) there in
-    let few = few_job_events limits (get_or jobs i none) (c.requires.load.steps i (get_or jobs i none) there) in
+    let few = few_test_events limits (get_or jobs i none) (c.requires.load.steps i (get_or jobs i none) there) in
     record {
-      filled = put ∙ ap (λ v. v ++ job_events limits (get_or jobs i none)) c.loop-place.invariant.filled ∙ sym (more_events limits jobs i none c.loop-place-test.true);
-      few = omega (arith, ap length put, length-append c.loop-place.events.items (job_events limits (get_or jobs i none)), few, c.loop-place.invariant.few);
+      filled = put ∙ ap (λ v. v ++ test_events limits (get_or jobs i none)) c.loop-place.invariant.filled ∙ sym (more_events limits jobs i none c.loop-place-test.true);
+      few = omega (arith, ap length put, length-append c.loop-place.events.items (test_events limits (get_or jobs i none)), few, c.loop-place.invariant.few);
       room = omega (arith, c.put_job.ensures.room, c.loop-place.invariant.room);
     }

@@ -4,7 +4,7 @@ use Rattle.plan_model.specs.declared.Profile.{Profile}
 use Rattle.std.proofs.lemmas.Option.{slice_get_within}
 use Rattle.plan_model.specs.Views.{limits_value, profile_value}
 use Rattle.plan_checker.specs.Named.{names_of}
-use Rattle.plan_checker.specs.declared.jobs.Job.{Job}
+use Rattle.live_tests.specs.declared.placed.PlacedTest.{PlacedTest}
 use Rattle.plan_checker.proofs.Profiles.{no_profile_yet, all_profiles, profile_of_job, profile_of_none, profile_read}
 use Rattle.plan_checker.proofs.Rooms.{length_values}
 use Rattle.plan_checker.proofs.power.fill_profiles.Goals as goal
@@ -17,7 +17,7 @@ loop-at-init c =
 pub write_place-requires : goal.write_place-requires
 write_place-requires c =
     let named = rw c.requires.named at c.in-Some.ensures.found in
-    omega (arith, slice_get_within (names_of c.args.jobs.now) c.in-Some.place _ named, length_values (λ (j : Job). j.id) c.args.jobs.now, c.requires.room, c.loop-at.auto.profiles)
+    omega (arith, slice_get_within (names_of c.args.jobs.now) c.in-Some.place _ named, length_values (λ (j : PlacedTest). j.id) c.args.jobs.now, c.requires.room, c.loop-at.auto.profiles)
 
 profile_at : (ps : List Profile) (x : Profile) (count at : ℕ) → 0 < at → at ≤ count → count ≡ length ps → x ≡ get_or ps (at - 1) x → slice_get (map profile_value ps) (at - 1) ≡ Some (profile_value x)
 profile_at ps x count at some within long is = profile_read ps (at - 1) x (omega arith) is

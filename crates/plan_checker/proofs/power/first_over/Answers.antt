@@ -1,10 +1,10 @@
 use Rattle.std.proofs.Common.{List, ap, length, subst, arith}
 use Rattle.std.proofs.lemmas.List.Sorted.{All-permutation, length_permutation}
 use Rattle.plan_model.specs.Views.{limits_value}
-use Rattle.plan_checker.specs.declared.events.Event.{Event}
+use Rattle.power_events.specs.declared.Event.{Event}
 use Rattle.std.specs.List.Sorted.{IsPermutation}
 use Rattle.plan_checker.specs.Events.{IsSmall}
-use Rattle.plan_checker.proofs.Balance.{small_events, few_events}
+use Rattle.plan_checker.proofs.FewEvents.{small_events, few_events}
 use Rattle.plan_checker.proofs.Summing.{over_from_high}
 use Rattle.plan_checker.proofs.power.first_over.Goals as goal
 

@@ -1,12 +1,12 @@
-use Rattle.std.proofs.Common.{false, get_or}
+use Rattle.std.proofs.Common.{get_or, None}
 use Rattle.std.proofs.lemmas.Option.{slice_get_within, slice_get-get_or, get_or_from_slice_get}
 use Rattle.plan_model.specs.Views.{limits_value}
-use Rattle.plan_checker.specs.declared.jobs.Job.{Job}
-use Rattle.plan_checker.specs.Steps.{profile_place}
+use Rattle.live_tests.specs.declared.placed.PlacedTest.{PlacedTest}
+use Rattle.power_events.specs.Events.{profile_place}
 use Rattle.plan_checker.proofs.power.profile_of.Goals as goal
 
-none : Job
-none = record { id = record { «module» = 0; test = 0 }; place = 0; tam = false; bus = 0; start = 0; end = 0; power = 0 }
+none : PlacedTest
+none = record { id = record { «module» = 0; test = 0 }; place = 0; bus = None; start = 0; end = 0; power = 0 }
 
 pub bounds-load-place : goal.bounds-load-place
 bounds-load-place c =

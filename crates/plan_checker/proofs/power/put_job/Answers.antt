@@ -1,24 +1,17 @@
 use Rattle.std.proofs.Common.{◌≡◌, ◌++◌, ◌∙◌, ap, length, subst, sym, arith}
 use Rattle.plan_model.specs.Views.{limits_value, profile_value}
-use Rattle.plan_checker.specs.declared.jobs.Job.{Job}
-use Rattle.plan_checker.specs.Events.{step_events, job_events}
+use Rattle.live_tests.specs.declared.placed.PlacedTest.{PlacedTest}
+use Rattle.power_events.specs.Events.{step_events, test_events}
 use Rattle.plan_checker.proofs.Finding.{some_same}
 use Rattle.plan_checker.proofs.Profiles.{profile_read, steps_read, steps_own}
 use Rattle.plan_checker.proofs.Rooms.{length_values}
 use Rattle.plan_checker.proofs.power.put_job.Goals as goal
 
-pub put_steps-requires-clause-early : goal.put_steps-requires-clause-early
-put_steps-requires-clause-early c = (c.requires.load.steps c.args.place c.job_at-job.result c.job_at-job.ensures).early
+pub put_steps-requires-clause-later : goal.put_steps-requires-clause-later
+put_steps-requires-clause-later c = (c.requires.load.steps c.args.place c.job_at-job.result c.job_at-job.ensures).steps.ends_later
 
-pub put_steps-requires-else-profile-profile_count-clause-early : goal.put_steps-requires-else-profile-profile_count-clause-early
-put_steps-requires-else-profile-profile_count-clause-early c = (c.requires.load.steps c.args.place c.job_at-job.result c.job_at-job.ensures).early
-
-pub put_steps-requires-else-profile-profile_count-clause-small : goal.put_steps-requires-else-profile-profile_count-clause-small
-put_steps-requires-else-profile-profile_count-clause-small c = λ n s at.
-    let within = rw (c.profile_count.ensures, c.deref.ensures.value) at c.if-profile-profile_count.false in
-    let read = profile_read c.args.load.now.limits.now.profiles.items c.profile_of-profile.result c.index.result.now within c.index.ensures in
-    let steps = steps_read (limits_value c.args.load.now.limits.now) c.job_at-job.result c.profile_of-profile.result (profile_value c.index.result.now) (c.profile_of-profile.ensures c.job_at-job.result c.job_at-job.ensures) read in
-    ((c.requires.load.steps c.args.place c.job_at-job.result c.job_at-job.ensures).small n s (rw steps (rw c.deref-else-profile-profile_count.ensures.value at at))).0
+pub put_steps-requires-else-profile-profile_count-clause-later : goal.put_steps-requires-else-profile-profile_count-clause-later
+put_steps-requires-else-profile-profile_count-clause-later c = (c.requires.load.steps c.args.place c.job_at-job.result c.job_at-job.ensures).steps.ends_later
 
 pub put_steps-requires-else-profile-profile_count-clause-space : goal.put_steps-requires-else-profile-profile_count-clause-space
 put_steps-requires-else-profile-profile_count-clause-space c =
@@ -33,7 +26,7 @@ returns-then-profile-profile_count-clause-put c = λ j at.
     let past = rw (c.profile_count.ensures, c.deref.ensures.value) at c.if-profile-profile_count.true in
     let own = steps_own (limits_value c.args.load.now.limits.now) c.job_at-job.result c.profile_of-profile.result (c.profile_of-profile.ensures c.job_at-job.result c.job_at-job.ensures) (omega (arith, past, length_values profile_value c.args.load.now.limits.now.profiles.items)) in
     let same : c.job_at-job.result ≡ j = some_same (sym c.job_at-job.ensures ∙ at) in
-    subst (λ (j : Job). c.put_steps.new.events.items ≡ c.args.events.now.items ++ job_events (limits_value c.args.load.now.limits.now) j) same
+    subst (λ (j : PlacedTest). c.put_steps.new.events.items ≡ c.args.events.now.items ++ test_events (limits_value c.args.load.now.limits.now) j) same
     (c.put_steps.ensures.put ∙ ap (λ v. c.args.events.now.items ++ step_events c.job_at-job.result.start c.job_at-job.result.end 0 v) (sym own))
 
 pub returns-else-profile-profile_count-clause-put : goal.returns-else-profile-profile_count-clause-put
@@ -42,5 +35,5 @@ returns-else-profile-profile_count-clause-put c = λ j at.
     let read = profile_read c.args.load.now.limits.now.profiles.items c.profile_of-profile.result c.index.result.now within c.index.ensures in
     let steps = steps_read (limits_value c.args.load.now.limits.now) c.job_at-job.result c.profile_of-profile.result (profile_value c.index.result.now) (c.profile_of-profile.ensures c.job_at-job.result c.job_at-job.ensures) read in
     let same : c.job_at-job.result ≡ j = some_same (sym c.job_at-job.ensures ∙ at) in
-    subst (λ (j : Job). c.put_steps-else-profile-profile_count.new.events.items ≡ c.args.events.now.items ++ job_events (limits_value c.args.load.now.limits.now) j) same
+    subst (λ (j : PlacedTest). c.put_steps-else-profile-profile_count.new.events.items ≡ c.args.events.now.items ++ test_events (limits_value c.args.load.now.limits.now) j) same
     (c.put_steps-else-profile-profile_count.ensures.put ∙ ap (λ v. c.args.events.now.items ++ step_events c.job_at-job.result.start c.job_at-job.result.end 0 v) (c.deref-else-profile-profile_count.ensures.value ∙ sym steps))

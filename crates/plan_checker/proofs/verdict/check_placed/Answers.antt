@@ -14,7 +14,7 @@ check_meetings-requires c =
     layout (soc_value c.args.from.now.soc.now) (limits_value c.args.limits.now) (plan_value c.args.from.now.plan.now) c.fill_parents.new.parents c.fill_jobs.new.jobs c.fill_begins.new.begins (length c.deref_mut.result.now) c.requires.limits c.requires.kept c.fill_jobs.ensures c.fill_parents.ensures (parents ∙ c.requires.parents_fit) c.fill_begins.ensures (omega (arith, parents, ap length c.deref_mut.ensures.value, c.requires.ends_fit))
 
 pub check_ends-requires-clause-load : goal.check_ends-requires-clause-load
-check_ends-requires-clause-load c = λ most limit. load_is (soc_value c.args.from.now.soc.now) (limits_value c.args.limits.now) (plan_value c.args.from.now.plan.now) c.fill_jobs.new.jobs c.fill_profiles.new.profiles most c.requires.placing.sound c.requires.limits (rw c.requires.placing.starts_are at c.requires.placing.early) c.fill_jobs.ensures c.fill_profiles.ensures limit
+check_ends-requires-clause-load c = λ most limit. load_is (soc_value c.args.from.now.soc.now) (limits_value c.args.limits.now) (plan_value c.args.from.now.plan.now) c.fill_jobs.new.jobs c.fill_profiles.new.profiles most c.requires.placing.sound c.requires.limits c.fill_jobs.ensures c.fill_profiles.ensures limit
 
 pub returns-in-Some-clause-verdict : goal.returns-in-Some-clause-verdict
 returns-in-Some-clause-verdict c = c.in-Some.ensures (soc_value c.args.from.now.soc.now) (limits_value c.args.limits.now) (plan_value c.args.from.now.plan.now) c.fill_jobs.ensures c.fill_parents.ensures c.requires.kept

@@ -1,8 +1,8 @@
 use Rattle.std.proofs.Common.{◌≡◌, ◌+◌, ◌++◌, length, take}
 use Rattle.plan_model.specs.Views.{plan_value}
 use Rattle.soc_model.specs.Chips.{module_value}
-use Rattle.plan_checker.specs.Jobs.{jobs_in}
-use Rattle.plan_checker.proofs.jobs.fill_module.Given as goal
+use Rattle.plan_checker.specs.Listed.{jobs_in}
+use Rattle.plan_checker.proofs.placed.fill_module.Given as goal
 
 abbrev pub invariant-loop-test : goal.invariant-loop-test
 invariant-loop-test l = record {

@@ -4,10 +4,10 @@ use Rattle.std.specs.List.{enumerate_from}
 use Rattle.std.proofs.lemmas.List.{take_all, length-append}
 use Rattle.soc_model.specs.Chips.{soc_value, module_value}
 use Rattle.plan_model.specs.Views.{plan_value}
-use Rattle.plan_checker.specs.Jobs.{all_jobs_in}
+use Rattle.plan_checker.specs.Listed.{all_jobs_in}
 use Rattle.plan_checker.proofs.Breaking.{flat_more_at, flat_room}
 use Rattle.plan_checker.proofs.Filling.{jobs_are, numbered_at, numbered_length}
-use Rattle.plan_checker.proofs.jobs.fill_jobs.Goals as goal
+use Rattle.plan_checker.proofs.placed.fill_jobs.Goals as goal
 
 pub fill_module-next-requires-clause-room : goal.fill_module-next-requires-clause-room
 fill_module-next-requires-clause-room c =
