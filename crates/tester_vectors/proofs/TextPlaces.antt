@@ -58,7 +58,7 @@ line_long content tests wires c =
     length-append (driven_text content tests wires c) (codes " " ++ (compared_text content tests wires c ++ codes "\n"))
     ∙ omega (arith, driven_long content tests wires c, length-append (compared_text content tests wires c) (codes "\n"), compared_long content tests wires c)
 
-line_driven : (content : Content) (tests : List PlannedTest) (wires c w : ℕ) → w < wires → slice_get (cycle_line content tests wires c) w ≡ Some (digit (carried content tests c w))
+pub line_driven : (content : Content) (tests : List PlannedTest) (wires c w : ℕ) → w < wires → slice_get (cycle_line content tests wires c) w ≡ Some (digit (carried content tests c w))
 unfolding cycle_line
 line_driven content tests wires c w h =
     let long = driven_long content tests wires c in
@@ -66,7 +66,21 @@ line_driven content tests wires c w h =
     ∙ at_range (λ w. digit (carried content tests c w)) 0 wires w h
     ∙ let place : 0 + w ≡ w = omega arith in rw place refl
 
-line_compared : (content : Content) (tests : List PlannedTest) (wires c w : ℕ) → w < wires → slice_get (cycle_line content tests wires c) (wires + 1 + w) ≡ Some (mark content tests c w)
+pub line_space : (content : Content) (tests : List PlannedTest) (wires c : ℕ) → slice_get (cycle_line content tests wires c) wires ≡ Some 32
+unfolding cycle_line
+line_space content tests wires c =
+    let long = driven_long content tests wires c in
+    at_back (driven_text content tests wires c) (codes " " ++ (compared_text content tests wires c ++ codes "\n")) 0 wires (omega arith)
+
+pub line_feed : (content : Content) (tests : List PlannedTest) (wires c : ℕ) → slice_get (cycle_line content tests wires c) (wires + 1 + wires) ≡ Some 10
+unfolding cycle_line
+line_feed content tests wires c =
+    let long = driven_long content tests wires c in
+    let long' = compared_long content tests wires c in
+    at_back (driven_text content tests wires c) (codes " " ++ (compared_text content tests wires c ++ codes "\n")) (suc wires) (wires + 1 + wires) (omega arith)
+    ∙ at_back (compared_text content tests wires c) (codes "\n") 0 wires (omega arith)
+
+pub line_compared : (content : Content) (tests : List PlannedTest) (wires c w : ℕ) → w < wires → slice_get (cycle_line content tests wires c) (wires + 1 + w) ≡ Some (mark content tests c w)
 unfolding cycle_line
 line_compared content tests wires c w h =
     let long = driven_long content tests wires c in

@@ -7,6 +7,7 @@ use Rattle.plan_model.specs.Plans.{PlannedTest, PlanValue, planned, uses, of_fir
 use Rattle.plan_model.specs.Right.{IsAt, IsReadAt}
 use Rattle.plan_model.specs.Runs.{Content, chain_at}
 use Rattle.bit_machine.specs.Chips.{IsCompared}
+pub use Rattle.bit_machine.specs.Vectors.{digit}
 
 -- how many Shifts lie between the last Capture and a cycle, and which Capture that is, where nothing but Shifts lies there
 abbrev pub since_capture : PlannedTest → (cycle : ℕ) → Option (ℕ × ℕ)
@@ -20,10 +21,6 @@ bit_shown cells (Some since) = if nat_lt since.0 (out_length cells) then option_
 -- the pattern and the cell whose bit of the response is read of a test on a wire that it uses
 abbrev pub read_of : (cycle wire : ℕ) → PlannedTest → Option (ℕ × Cell)
 read_of c w t = bit_shown (chain_at t (w - t.first_wire)) (since_capture t c)
-
--- `0` or `1`
-abbrev pub digit : Bool → ℕ
-digit bit = if bit then 49 else 48
 
 -- the digit of the response bit that is read, or `-`
 abbrev pub mark_of : (response : ℕ → Cell → Bool) → Option (ℕ × Cell) → ℕ

@@ -1,7 +1,7 @@
 // The text of a plan's test vectors: what a tester drives on each wire, cycle by cycle, and what it compares.
 #![tactic(auto)]
 
-ghost use Rattle.std.specs.Prelude.{◌≡◌, ℕ, ◌<◌, ◌≤◌, IfOk};
+ghost use Rattle.std.specs.Prelude.{◌≡◌, ℕ, ◌<◌, ◌≤◌};
 ghost use Rattle.soc_model.specs.Chips.{soc_value};
 ghost use Rattle.soc_model.specs.SoundChips.{IsSoundChip};
 ghost use Rattle.plan_model.specs.Rules.{IsGoodAlone};
@@ -13,7 +13,6 @@ ghost use Rattle.tester_vectors.specs.VectorText.{wire_cycles as cycles_by_wires
 ghost use Rattle.tester_vectors.specs.DrivenRuns.{RunsAsShown};
 
 mod laws;
-mod lines;
 mod text;
 
 pub use laws::{marks_are_reads, vectors_run_as_shown};
@@ -21,19 +20,10 @@ use outside::Sink;
 use plan_model::Plan;
 use soc_model::Soc;
 use std::alloc::Global;
-use text::{Run, all_wires, is_too_long, made_text, wire_cycles};
+use text::{Run, all_wires, is_too_long, wire_cycles};
 
 /// The cycles of a run of vectors times its wires, at most. A plan without wires counts as one of one wire.
 pub const RUN_MOST: u128 = 20_000_000;
-
-/// Why there are no vectors.
-#[derive(Clone, Copy, PartialEq, Eq, Debug)]
-pub enum VectorFault {
-    /// The run has so many cycles times wires, more than [`RUN_MOST`].
-    RunTooLong { cells: u128 },
-    /// Memory was refused.
-    NoMemory,
-}
 
 /// How the writing of vectors ended.
 #[derive(Clone, Copy, PartialEq, Eq, Debug)]
@@ -48,33 +38,9 @@ pub enum Outcome {
     NoMemory,
 }
 
-/// The vectors of a good plan of a sound chip, with the made contents of a seed: a line `vectors W C` with the wires of
-/// the plan and its cycles, then a line for each cycle. In it stand the bits that the wires carry, a space, and for each
+/// Writes the vectors of a good plan of a sound chip, with the made contents of a seed: a line `vectors W C` with the wires
+/// of the plan and its cycles, then a line for each cycle. In it stand the bits that the wires carry, a space, and for each
 /// wire the response bit that is read there, or `-` where none is.
-///
-/// `RunTooLong` comes exactly where cycles times wires pass [`RUN_MOST`].
-pub fn vector_text(alloc: Global, soc: &Soc, plan: &Plan, seed: u64) -> Result<Vec<u8>, VectorFault>
-    requires sound { IsSoundChip (soc_value soc.now) }
-    requires good { IsGoodAlone (soc_value soc.now) (plan_value plan.now) }
-    requires narrow { wires_of (plan_value plan.now) ≤ 256 }
-    ensures text { IfOk result (λ text. text.items ≡ whole_text (soc_value soc.now) (plan_value plan.now) (made_content (soc_value soc.now) seed)) }
-    ensures too_long { RUN_MOST < cycles_by_wires (plan_value plan.now) → result ≡ Err (VectorFault.RunTooLong (cycles_by_wires (plan_value plan.now))) }
-    ensures only { (cells : ℕ) → result ≡ Err (VectorFault.RunTooLong cells) → RUN_MOST < cycles_by_wires (plan_value plan.now) }
-    ensures marks { MarksReads (soc_value soc.now) (plan_value plan.now) (made_content (soc_value soc.now) seed) }
-    ensures run { IfOk result (λ text. RunsAsShown (soc_value soc.now) (plan_value plan.now) (made_content (soc_value soc.now) seed) text.items) }
-{
-    let wires = all_wires(&plan.buses);
-    let cells = wire_cycles(plan.cycles, wires);
-    if is_too_long(cells) {
-        return Err(VectorFault::RunTooLong { cells });
-    }
-    match made_text(alloc, soc, plan, seed, wires) {
-        Ok(text) => Ok(text),
-        Err(_) => Err(VectorFault::NoMemory),
-    }
-}
-
-/// Writes the vectors of a good plan of a sound chip, with the made contents of a seed, as [`vector_text`] makes them.
 ///
 /// All memory is taken first. Then the first line is put by itself, and the others in blocks of whole lines.
 ///

@@ -1,5 +1,5 @@
-// A run of vectors, cycle by cycle, and its text.
-ghost use Rattle.std.specs.Prelude.{◌≡◌, ℕ, ◌+◌, ◌*◌, ◌++◌, ◌<◌, ◌≤◌, true, length, max, slice_get, nat_lt, take, IfOk, OnOk, OnErr};
+// A run of vectors and its text.
+ghost use Rattle.std.specs.Prelude.{◌≡◌, ◌+◌, ◌*◌, ◌++◌, ◌<◌, ◌≤◌, length, max, nat_lt, take, IfOk, OnOk, OnErr};
 ghost use Rattle.std.specs.List.{sum_by};
 ghost use Rattle.soc_model.specs.Chips.{soc_value};
 ghost use Rattle.soc_model.specs.SoundChips.{IsSoundChip};
@@ -7,14 +7,14 @@ ghost use Rattle.outside.specs.Held.{Rose, Appended, AppendedFront};
 ghost use Rattle.plan_model.specs.declared.Bus.{Bus};
 ghost use Rattle.plan_model.specs.Rules.{IsGoodAlone};
 ghost use Rattle.plan_model.specs.Views.{plan_value};
-ghost use Rattle.bit_machine.specs.Chips.{wires_of, made_content, chip_content, chip_tests, carried_bits, shown_bits, IsCompared};
-ghost use Rattle.tester_vectors.specs.VectorText.{head_line, cycle_line, vector_text};
-ghost use Rattle.tester_vectors.specs.Lines.{lines_of, IsRunAt, IsRunning, IsWide};
+ghost use Rattle.bit_machine.specs.Chips.{wires_of};
+ghost use Rattle.bit_machine.specs.Vectors.{vectors_content};
+ghost use Rattle.tester_vectors.specs.VectorText.{head_line, vector_text};
+ghost use Rattle.tester_vectors.specs.Lines.{lines_of, IsRun};
 
 use crate::RUN_MOST;
-use crate::lines::put_line;
-use bit_machine::Chip;
-use outside::{NoMemory, Sink, WriteFault, copied, extend, push_number, put_all};
+use bit_machine::Vectors;
+use outside::{NoMemory, Sink, WriteFault, extend, push_number, put_all};
 use plan_model::{Bus, Plan};
 use soc_model::Soc;
 use std::alloc::Global;
@@ -83,94 +83,10 @@ fn push_head(text: &mut Vec<u8>, wires: u64, cycles: u64) -> Result<(), NoMemory
     extend(text, b"\n")
 }
 
-/// So many bits 0.
-fn zero_bits(alloc: Global, count: usize) -> Result<Vec<bool>, NoMemory>
-    ensures { IfOk result (λ bits. length bits.items ≡ count) }
-{
-    vec![in alloc; false; count].map_err(|_| NoMemory)
-}
-
-/// What stands on the wires at a cycle.
-#[derive(Drop)]
-struct Wires {
-    /// The bits that are driven.
-    drive: Vec<bool>,
-    /// Where a response bit is read.
-    care: Vec<bool>,
-    /// The bits that are shown.
-    read: Vec<bool>,
-}
-
-impl Wires {
-    /// So many wires.
-    fn new(alloc: Global, count: usize) -> Result<Wires, NoMemory>
-        ensures { IfOk result (λ wires. IsWide count wires) }
-    {
-        Ok(Wires {
-            drive: zero_bits(alloc, count)?,
-            care: zero_bits(alloc, count)?,
-            read: zero_bits(alloc, count)?,
-        })
-    }
-
-    /// Does one cycle of the chip with the bits that its wires want.
-    fn step(&mut self, chip: &mut Chip<'_>)
-        requires left { chip.old.cycle < chip.old.plan.cycles }
-        requires good { IsGoodAlone chip.old.soc chip.old.plan }
-        requires running { IsRunning chip.old.soc chip.old.plan chip.old.seed chip.old.cycle chip.old }
-        requires wide { IsWide (wires_of chip.old.plan) self.old }
-        ensures running { IsRunning chip.old.soc chip.old.plan chip.old.seed (chip.old.cycle + 1) chip.new }
-        ensures wide { IsWide (wires_of chip.old.plan) self.new }
-        ensures drive { self.new.drive.items ≡ carried_bits chip.old }
-        ensures care { (w : ℕ) → IsCompared (chip_tests chip.old) chip.old.cycle w → slice_get self.new.care.items w ≡ Some true }
-        ensures only { (w : ℕ) → slice_get self.new.care.items w ≡ Some true → IsCompared (chip_tests chip.old) chip.old.cycle w }
-        ensures read { self.new.read.items ≡ shown_bits chip.old }
-    {
-        chip.want(&mut self.drive);
-        chip.compared(&mut self.care);
-        chip.cycle(&self.drive, &mut self.read);
-    }
-}
-
-/// Does one cycle of the chip, and writes its line from a place on.
-fn put_cycle(text: &mut [u8], at: usize, chip: &mut Chip<'_>, wires: &mut Wires)
-    requires left { chip.old.cycle < chip.old.plan.cycles }
-    requires good { IsGoodAlone chip.old.soc chip.old.plan }
-    requires running { IsRunning chip.old.soc chip.old.plan chip.old.seed chip.old.cycle chip.old }
-    requires wide { IsWide (wires_of chip.old.plan) wires.old }
-    requires fits { at + (2 * wires_of chip.old.plan + 2) ≤ length text.old }
-    ensures running { IsRunning chip.old.soc chip.old.plan chip.old.seed (chip.old.cycle + 1) chip.new }
-    ensures wide { IsWide (wires_of chip.old.plan) wires.new }
-    ensures text { take (at + (2 * wires_of chip.old.plan + 2)) text.new ≡ take at text.old ++ cycle_line (chip_content chip.old) (chip_tests chip.old) (wires_of chip.old.plan) chip.old.cycle }
-{
-    wires.step(chip);
-    put_line(text, at, &wires.drive, &wires.care, &wires.read);
-}
-
-/// Does so many cycles of the chip, and fills the front of a block with their lines.
-fn fill(text: &mut [u8], line: usize, chip: &mut Chip<'_>, wires: &mut Wires, count: u64)
-    requires line { line ≡ 2 * wires_of chip.old.plan + 2 }
-    requires left { chip.old.cycle + count ≤ chip.old.plan.cycles }
-    requires good { IsGoodAlone chip.old.soc chip.old.plan }
-    requires running { IsRunning chip.old.soc chip.old.plan chip.old.seed chip.old.cycle chip.old }
-    requires wide { IsWide (wires_of chip.old.plan) wires.old }
-    requires fits { count * line ≤ length text.old }
-    ensures running { IsRunning chip.old.soc chip.old.plan chip.old.seed (chip.old.cycle + count) chip.new }
-    ensures wide { IsWide (wires_of chip.old.plan) wires.new }
-    ensures text { take (count * line) text.new ≡ lines_of chip.old chip.old.cycle count }
-{
-    let mut at = 0;
-    for _line in 0..count {
-        put_cycle(text, at, chip, wires);
-        at += line;
-    }
-}
-
 /// All that a run of vectors needs, before its first cycle.
 #[derive(Drop)]
 pub struct Run<'a> {
-    chip: Chip<'a>,
-    wires: Wires,
+    vectors: Vectors<'a>,
     /// The first line.
     head: Vec<u8>,
     /// The bytes of a line, the lines of a block, and the block.
@@ -192,18 +108,17 @@ impl<'a> Run<'a> {
         requires good { IsGoodAlone (soc_value soc.now) (plan_value plan.now) }
         requires wires { wires ≡ wires_of (plan_value plan.now) }
         requires few { wires ≤ 256 }
-        ensures { IfOk result (IsRunAt (soc_value soc.now) (plan_value plan.now) seed 0) }
+        ensures run { IfOk result IsRun }
+        ensures vectors { IfOk result (λ run. run.vectors ≡ record { soc = soc_value soc.now; plan = plan_value plan.now; seed = seed }) }
     {
         let line = line_length(wires as usize);
         let lines = lines_in_block(line, plan.cycles);
         let block = bytes(alloc, lines as usize * line)?;
-        let chip = Chip::new(alloc, soc, plan, seed)?;
-        let wires_now = Wires::new(alloc, wires as usize)?;
+        let vectors = Vectors::new(alloc, soc, plan, seed)?;
         let mut head = Vec::new(alloc);
         push_head(&mut head, wires, plan.cycles)?;
         Ok(Run {
-            chip,
-            wires: wires_now,
+            vectors,
             head,
             line,
             lines,
@@ -213,36 +128,30 @@ impl<'a> Run<'a> {
 
     /// Fills the block with the lines from a cycle on, as many as it has room for, and answers how many these are.
     fn next_block(&mut self, done: u64, cycles: u64) -> u64
-        requires at { IsRunAt self.old.chip.soc self.old.chip.plan self.old.chip.seed done self.old }
-        requires good { IsGoodAlone self.old.chip.soc self.old.chip.plan }
-        requires cycles { cycles ≡ self.old.chip.plan.cycles }
+        requires run { IsRun self.old }
+        requires good { IsGoodAlone self.old.vectors.soc self.old.vectors.plan }
         requires left { done < cycles }
         ensures some { 1 ≤ result }
         ensures within { done + result ≤ cycles }
-        ensures at { IsRunAt self.old.chip.soc self.old.chip.plan self.old.chip.seed (done + result) self.new }
+        ensures run { IsRun self.new }
+        ensures vectors { self.new.vectors ≡ self.old.vectors }
+        ensures line { self.new.line ≡ self.old.line }
         ensures size { result * self.new.line ≤ length self.new.block.items }
-        ensures head { self.new.head ≡ self.old.head }
-        ensures text { take (result * self.new.line) self.new.block.items ≡ lines_of self.old.chip done result }
+        ensures text { take (result * self.new.line) self.new.block.items ≡ lines_of self.old.vectors done result }
     {
         let count = self.lines.min(cycles - done);
-        fill(
-            &mut self.block,
-            self.line,
-            &mut self.chip,
-            &mut self.wires,
-            count,
-        );
+        self.vectors.put_lines(&mut self.block, done, count);
         count
     }
 
     /// Writes the whole text: the first line by itself, and then block by block, each of whole lines.
     pub fn write<K: Sink>(&mut self, cycles: u64, out: &mut K) -> Result<(), WriteFault>
-        requires at { IsRunAt self.old.chip.soc self.old.chip.plan self.old.chip.seed 0 self.old }
-        requires good { IsGoodAlone self.old.chip.soc self.old.chip.plan }
-        requires cycles { cycles ≡ self.old.chip.plan.cycles }
+        requires run { IsRun self.old }
+        requires good { IsGoodAlone self.old.vectors.soc self.old.vectors.plan }
+        requires cycles { cycles ≡ self.old.vectors.plan.cycles }
         ensures faults_never_fall { K.faults out.old ≤ K.faults out.new }
-        ensures all { OnOk result (Appended (K.written out.old) (vector_text self.old.chip.soc self.old.chip.plan (chip_content self.old.chip)) (K.written out.new)) }
-        ensures front { OnErr result (AppendedFront (K.written out.old) (vector_text self.old.chip.soc self.old.chip.plan (chip_content self.old.chip)) (K.written out.new)) }
+        ensures all { OnOk result (Appended (K.written out.old) (vector_text self.old.vectors.soc self.old.vectors.plan (vectors_content self.old.vectors)) (K.written out.new)) }
+        ensures front { OnErr result (AppendedFront (K.written out.old) (vector_text self.old.vectors.soc self.old.vectors.plan (vectors_content self.old.vectors)) (K.written out.new)) }
         ensures fault { OnErr result (Rose (K.faults out.old) (K.faults out.new)) }
     {
         put_all(out, &self.head)?;
@@ -254,12 +163,11 @@ impl<'a> Run<'a> {
 
     /// Writes the lines of all cycles.
     fn write_lines<K: Sink>(&mut self, cycles: u64, out: &mut K) -> Result<(), WriteFault>
-        requires at { IsRunAt self.old.chip.soc self.old.chip.plan self.old.chip.seed 0 self.old }
-        requires good { IsGoodAlone self.old.chip.soc self.old.chip.plan }
-        requires cycles { cycles ≡ self.old.chip.plan.cycles }
+        requires run { IsRun self.old }
+        requires good { IsGoodAlone self.old.vectors.soc self.old.vectors.plan }
         ensures faults_never_fall { K.faults out.old ≤ K.faults out.new }
-        ensures all { OnOk result (Appended (K.written out.old) (lines_of self.old.chip 0 cycles) (K.written out.new)) }
-        ensures front { OnErr result (AppendedFront (K.written out.old) (lines_of self.old.chip 0 cycles) (K.written out.new)) }
+        ensures all { OnOk result (Appended (K.written out.old) (lines_of self.old.vectors 0 cycles) (K.written out.new)) }
+        ensures front { OnErr result (AppendedFront (K.written out.old) (lines_of self.old.vectors 0 cycles) (K.written out.new)) }
         ensures fault { OnErr result (Rose (K.faults out.old) (K.faults out.new)) }
     {
         let mut done = 0;
@@ -271,40 +179,4 @@ impl<'a> Run<'a> {
         }
         Ok(())
     }
-
-    /// The whole text in memory.
-    fn text(&mut self, alloc: Global, cycles: u64) -> Result<Vec<u8>, NoMemory>
-        requires at { IsRunAt self.old.chip.soc self.old.chip.plan self.old.chip.seed 0 self.old }
-        requires good { IsGoodAlone self.old.chip.soc self.old.chip.plan }
-        requires cycles { cycles ≡ self.old.chip.plan.cycles }
-        ensures { IfOk result (λ text. text.items ≡ vector_text self.old.chip.soc self.old.chip.plan (chip_content self.old.chip)) }
-    {
-        let mut text = copied(alloc, &self.head)?;
-        let mut done = 0;
-        while done < cycles {
-            let count = self.next_block(done, cycles);
-            let size = count as usize * self.line;
-            extend(&mut text, &self.block[..size])?;
-            done += count;
-        }
-        Ok(text)
-    }
-}
-
-/// The whole text of a run in memory.
-pub fn made_text(
-    alloc: Global,
-    soc: &Soc,
-    plan: &Plan,
-    seed: u64,
-    wires: u64,
-) -> Result<Vec<u8>, NoMemory>
-    requires sound { IsSoundChip (soc_value soc.now) }
-    requires good { IsGoodAlone (soc_value soc.now) (plan_value plan.now) }
-    requires wires { wires ≡ wires_of (plan_value plan.now) }
-    requires few { wires ≤ 256 }
-    ensures { IfOk result (λ text. text.items ≡ vector_text (soc_value soc.now) (plan_value plan.now) (made_content (soc_value soc.now) seed)) }
-{
-    let mut run = Run::new(alloc, soc, plan, seed, wires)?;
-    run.text(alloc, plan.cycles)
 }

@@ -1,16 +1,16 @@
-use Rattle.std.proofs.Common.{◌≡◌}
+use Rattle.std.proofs.Common.{◌≡◌, subst, sym}
 use Rattle.soc_model.specs.Chips.{soc_value}
-use Rattle.plan_model.specs.Rules.{bare_limits}
+use Rattle.plan_model.specs.Rules.{IsGoodAlone, bare_limits}
 use Rattle.plan_model.specs.Views.{plan_value}
 use Rattle.bit_machine.specs.Chips.{wires_of, made_content}
 use Rattle.tester_vectors.proofs.Blocks.{not_too_long, wires_are}
-use Rattle.tester_vectors.proofs.CycleLines.{good_itself}
+use Rattle.bit_machine.specs.Vectors.{VectorsValue}
 use Rattle.tester_vectors.proofs.DrivenByText.{runs_as_shown}
 use Rattle.tester_vectors.proofs.ReadBits.{marks_read}
 use Rattle.tester_vectors.proofs.write_vectors.Goals as goal
 
 pub write-requires-clause-good : goal.write-requires-clause-good
-write-requires-clause-good g c = good_itself (soc_value c.args.soc.now) (plan_value c.args.plan.now) c.args.seed 0 c.in-Ok.run'.chip c.in-Ok.ensures.running c.requires.good
+write-requires-clause-good g c = subst (λ (v : VectorsValue). IsGoodAlone v.soc v.plan) (sym c.in-Ok.ensures.vectors) c.requires.good
 
 pub returns-then-is_too_long-clause-run : goal.returns-then-is_too_long-clause-run
 returns-then-is_too_long-clause-run g c = runs_as_shown (soc_value c.args.soc.now) (bare_limits (plan_value c.args.plan.now)) (plan_value c.args.plan.now) (made_content (soc_value c.args.soc.now) c.args.seed) c.requires.good

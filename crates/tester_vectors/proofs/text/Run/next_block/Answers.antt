@@ -1,28 +1,37 @@
-use Rattle.std.proofs.Common.{◌≡◌, ◌*◌, ◌∙◌, ap, refl, subst, length, take, arith}
+use Rattle.std.proofs.Common.{◌*◌, ◌∙◌, ap, length, take, arith}
 use Rattle.std.proofs.lemmas.List.{with_items_is}
-use Rattle.tester_vectors.specs.Lines.{lines_of}
-use Rattle.tester_vectors.proofs.Blocks.{run_on, block_fits}
+use Rattle.plan_model.specs.Rules.{bare_limits}
+use Rattle.bit_machine.specs.Vectors.{vectors_content}
+use Rattle.tester_vectors.proofs.Blocks.{block_fits}
+use Rattle.tester_vectors.proofs.CycleLines.{block_is}
+use Rattle.tester_vectors.proofs.ReadBits.{marks_read}
 use Rattle.tester_vectors.proofs.text.Run.next_block.Goals as goal
 
-pub fill-requires-clause-fits : goal.fill-requires-clause-fits
-fill-requires-clause-fits c =
-    let fits = block_fits c.min-count.result c.args.self.now.lines c.args.self.now.line (length c.args.self.now.block.items) (omega (arith, c.min-count.ensures)) c.requires.at.fits in
-    omega (arith, fits, ap length c.deref_mut.ensures.value)
+pub put_lines-requires-clause-rows : goal.put_lines-requires-clause-rows
+put_lines-requires-clause-rows c =
+    let fits = block_fits c.min-count.result c.args.self.now.lines c.args.self.now.line (length c.args.self.now.block.items) (omega (arith, c.min-count.ensures)) c.requires.run.fits in
+    let same = ap (λ n. c.min-count.result * n) c.requires.run.line in
+    omega (arith, fits, same, ap length c.deref_mut.ensures.value)
 
-pub returns-clause-at : goal.returns-clause-at
-returns-clause-at c =
-    let same = c.fill.auto.text ∙ ap length c.deref_mut.ensures.value in
-    run_on c.args.self.now _ c.args.done c.min-count.result c.requires.at c.fill.ensures.running c.fill.ensures.wide refl refl refl (ap length (with_items_is c.args.self.now.block c.fill.new.text (omega (arith, same, c.args.self.now.block.ok.0))) ∙ same)
+pub returns-clause-run : goal.returns-clause-run
+returns-clause-run c =
+    let same = c.put_lines.ensures.long ∙ ap length c.deref_mut.ensures.value in
+    let long = ap length (with_items_is c.args.self.now.block c.put_lines.new.text (omega (arith, same, c.args.self.now.block.ok.0))) ∙ same in
+    record { head = c.requires.run.head; line = c.requires.run.line; narrow = c.requires.run.narrow; some = c.requires.run.some; fits = omega (arith, c.requires.run.fits, long) }
 
 pub returns-clause-size : goal.returns-clause-size
 returns-clause-size c =
-    let same = c.fill.auto.text ∙ ap length c.deref_mut.ensures.value in
-    let long = ap length (with_items_is c.args.self.now.block c.fill.new.text (omega (arith, same, c.args.self.now.block.ok.0))) in
-    let fits = block_fits c.min-count.result c.args.self.now.lines c.args.self.now.line (length c.args.self.now.block.items) (omega (arith, c.min-count.ensures)) c.requires.at.fits in
+    let same = c.put_lines.ensures.long ∙ ap length c.deref_mut.ensures.value in
+    let long = ap length (with_items_is c.args.self.now.block c.put_lines.new.text (omega (arith, same, c.args.self.now.block.ok.0))) in
+    let fits = block_fits c.min-count.result c.args.self.now.lines c.args.self.now.line (length c.args.self.now.block.items) (omega (arith, c.min-count.ensures)) c.requires.run.fits in
     omega (arith, fits, same, long)
 
 pub returns-clause-text : goal.returns-clause-text
 returns-clause-text c =
-    let same = c.fill.auto.text ∙ ap length c.deref_mut.ensures.value in
-    ap (take (c.min-count.result * c.args.self.now.line)) (with_items_is c.args.self.now.block c.fill.new.text (omega (arith, same, c.args.self.now.block.ok.0)))
-    ∙ subst (λ n. take (c.min-count.result * c.args.self.now.line) c.fill.new.text ≡ lines_of c.args.self.now.chip n c.min-count.result) c.requires.at.running.cycle_is c.fill.ensures.text
+    let v = c.args.self.now.vectors in
+    let same = c.put_lines.ensures.long ∙ ap length c.deref_mut.ensures.value in
+    let fits = block_fits c.min-count.result c.args.self.now.lines c.args.self.now.line (length c.args.self.now.block.items) (omega (arith, c.min-count.ensures)) c.requires.run.fits in
+    let size = ap (λ n. c.min-count.result * n) c.requires.run.line in
+    ap (take (c.min-count.result * c.args.self.now.line)) (with_items_is c.args.self.now.block c.put_lines.new.text (omega (arith, same, c.args.self.now.block.ok.0)))
+    ∙ ap (λ n. take n c.put_lines.new.text) size
+    ∙ block_is v.soc v.plan (vectors_content v) (marks_read v.soc (bare_limits v.plan) v.plan (vectors_content v) c.requires.good) c.args.done c.min-count.result c.min-count.result c.put_lines.new.text (omega arith) (omega (arith, fits, size, same)) c.put_lines.ensures.lines

@@ -1,7 +1,8 @@
 use Rattle.std.proofs.Common.{rules, ◌≡◌, ◌++◌, ◌∙◌, Err, [], ap, sym, subst, List, ℕ}
 use Rattle.std.proofs.lemmas.List.{append-nil}
 use Rattle.outside.specs.Held.{AppendedFront}
-use Rattle.bit_machine.specs.Chips.{wires_of, chip_content}
+use Rattle.bit_machine.specs.Chips.{wires_of}
+use Rattle.bit_machine.specs.Vectors.{vectors_content}
 use Rattle.tester_vectors.specs.Lines.{lines_of}
 use Rattle.tester_vectors.specs.VectorText.{head_line, vector_text}
 use Rattle.tester_vectors.proofs.Blocks.{front_after, front_longer}
@@ -9,17 +10,17 @@ use Rattle.tester_vectors.proofs.text.Run.write.Goals as goal
 
 pub returns-in_err-put_all-clause-front : goal.returns-in_err-put_all-clause-front
 returns-in_err-put_all-clause-front g c =
-    let chip = c.args.self.now.chip in
-    let head = c.deref.ensures.value ∙ c.requires.at.head in
+    let v = c.args.self.now.vectors in
+    let head = c.deref.ensures.value ∙ c.requires.run.head in
     let is : c.from_residual.result ≡ Err c.in_err-put_all.field-0.0 = search rules in
     rw is
-    (front_longer (g.K.Sink.written c.args.out.now) (g.K.Sink.written c.put_all.new.out) (head_line (wires_of chip.plan) chip.plan.cycles) (lines_of chip 0 chip.plan.cycles)
+    (front_longer (g.K.Sink.written c.args.out.now) (g.K.Sink.written c.put_all.new.out) (head_line (wires_of v.plan) v.plan.cycles) (lines_of v 0 v.plan.cycles)
     (subst (λ (text : List ℕ). AppendedFront (g.K.Sink.written c.args.out.now) text (g.K.Sink.written c.put_all.new.out)) head c.in_err-put_all.ensures.front))
 
 pub returns-in-Err-clause-front : goal.returns-in-Err-clause-front
 returns-in-Err-clause-front g c =
-    let chip = c.args.self.now.chip in
-    let head = c.deref.ensures.value ∙ c.requires.at.head in
-    front_after (g.K.Sink.written c.args.out.now) (g.K.Sink.written c.put_all.new.out) (g.K.Sink.written c.write_lines.new.out) c.deref.result.now (lines_of chip 0 c.args.cycles) [] (vector_text chip.soc chip.plan (chip_content chip))
-    (ap (λ (text : List ℕ). text ++ lines_of chip 0 chip.plan.cycles) (sym head) ∙ ap (λ (text : List ℕ). c.deref.result.now ++ text) (ap (lines_of chip 0) (sym c.requires.cycles) ∙ sym (append-nil (lines_of chip 0 c.args.cycles))))
+    let v = c.args.self.now.vectors in
+    let head = c.deref.ensures.value ∙ c.requires.run.head in
+    front_after (g.K.Sink.written c.args.out.now) (g.K.Sink.written c.put_all.new.out) (g.K.Sink.written c.write_lines.new.out) c.deref.result.now (lines_of v 0 c.args.cycles) [] (vector_text v.soc v.plan (vectors_content v))
+    (ap (λ (text : List ℕ). text ++ lines_of v 0 v.plan.cycles) (sym head) ∙ ap (λ (text : List ℕ). c.deref.result.now ++ text) (ap (lines_of v 0) (sym c.requires.cycles) ∙ sym (append-nil (lines_of v 0 c.args.cycles))))
     c.in_ok-put_all.ensures.all c.in-Err.ensures.front

@@ -1,13 +1,14 @@
-use Rattle.std.proofs.Common.{◌-◌, ◌≤◌}
+use Rattle.std.proofs.Common.{◌≡◌, ◌-◌, ◌≤◌}
 use Rattle.outside.specs.Held.{Appended}
-use Rattle.tester_vectors.specs.Lines.{lines_of, IsRunAt}
+use Rattle.tester_vectors.specs.Lines.{lines_of, IsRun}
 use Rattle.tester_vectors.proofs.text.Run.write_lines.Given as goal
 
 abbrev pub invariant-loop-done : goal.invariant-loop-done
 invariant-loop-done g l = record {
-  at : IsRunAt l.initial.self.chip.soc l.initial.self.chip.plan l.initial.self.chip.seed l.done l.self;
+  run : IsRun l.self;
+  vectors : l.self.vectors ≡ l.initial.self.vectors;
   within : l.done ≤ l.cycles;
-  written : Appended (g.K.Sink.written l.initial.out) (lines_of l.initial.self.chip 0 l.done) (g.K.Sink.written l.out);
+  written : Appended (g.K.Sink.written l.initial.out) (lines_of l.initial.self.vectors 0 l.done) (g.K.Sink.written l.out);
   faults : g.K.Sink.faults l.initial.out ≤ g.K.Sink.faults l.out;
 }
 
