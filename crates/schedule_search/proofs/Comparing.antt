@@ -58,7 +58,7 @@ goes_one_way job a b e = elim (goes_to job a b e) [
   | inr same ↦ stays_from job b a (inr (sym same.0, omega (arith, same.1)))
 ]
 
-goes_on : (job : JobValue) (a b c : ℕ) → goes_before job a b ≡ true → goes_before job b c ≡ true → goes_before job a c ≡ true
+pub goes_on : (job : JobValue) (a b c : ℕ) → goes_before job a b ≡ true → goes_before job b c ≡ true → goes_before job a c ≡ true
 goes_on job a b c e f = elim (goes_to job a b e) [
   | inl more ↦ elim (goes_to job b c f) [ inl more' ↦ goes_from job a c (inl (omega (arith, more, more'))) | inr same' ↦ goes_from job a c (inl (omega (arith, more, same'.0))) ]
   | inr same ↦ elim (goes_to job b c f) [ inl more' ↦ goes_from job a c (inl (omega (arith, same.0, more'))) | inr same' ↦ goes_from job a c (inr (omega (arith, same.0, same'.0), omega (arith, same.1, same'.1))) ]

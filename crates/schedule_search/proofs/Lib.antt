@@ -17,6 +17,7 @@ pub mod Explorings
 pub mod Searching
 pub mod WalkOrders
 pub mod Taking
+pub mod Freed
 pub mod WalkCounts
 pub mod Agreeing
 pub mod Estimates

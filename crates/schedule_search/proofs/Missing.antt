@@ -15,7 +15,7 @@ use Rattle.schedule_search.specs.Prefixes.{turned, tests_after, one_missing, mis
 use Rattle.schedule_search.proofs.Predecessors.{at_place}
 use Rattle.schedule_search.proofs.Outside.{is_in_push}
 
-abbrev one_of : ℕ → ℕ → ℕ
+abbrev pub one_of : ℕ → ℕ → ℕ
 one_of t n = if nat_eq n t then 1 else 0
 
 -- ---- a test more in the prefix
@@ -57,7 +57,7 @@ missing-less path x t (p ∷ pairs) new =
           omega (arith, ih, a, b, one, after)
     ]
 
-missing_less : (job : JobValue) (path : List ℕ) (x t : ℕ) → is_in path x ≡ false → missing_of job (path ++ x ∷ []) t + times_in (tests_after x job.before) t ≡ missing_of job path t
+pub missing_less : (job : JobValue) (path : List ℕ) (x t : ℕ) → is_in path x ≡ false → missing_of job (path ++ x ∷ []) t + times_in (tests_after x job.before) t ≡ missing_of job path t
 missing_less job path x t new = missing-less path x t job.before new
 
 pub missing_added : (job : JobValue) (path old new : List ℕ) (x : ℕ) (after : List ℕ) → AreMissing job path old → AreLess old new after → after ≡ tests_after x job.before → is_in path x ≡ false → AreMissing job (path ++ x ∷ []) new

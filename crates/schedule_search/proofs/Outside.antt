@@ -54,7 +54,7 @@ order_filter job p (x ∷ xs) order = elim (cases_Bool (p x)) [
   | inr no' ↦ rw no' (order_filter job p xs order.1)
 ]
 
-never_itself : (job : JobValue) (x : ℕ) → goes_before job x x ≡ true → ⊥
+pub never_itself : (job : JobValue) (x : ℕ) → goes_before job x x ≡ true → ⊥
 never_itself job x e = elim (goes_to job x x e) [ inl more ↦ omega (arith, more) | inr same ↦ omega (arith, same.1) ]
 
 -- ---- one test less

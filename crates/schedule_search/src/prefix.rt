@@ -135,7 +135,8 @@ impl Prefix {
         requires way { IsUnderWay (job_value job.now) self.old }
         requires free { IsFirstFree self.old.rest.items self.old.missing.items place }
         ensures way { IsUnderWay (job_value job.now) self.new }
-        ensures fewer { length self.new.rest.items < length self.old.rest.items }
+        ensures tests { self.new.tests.items ≡ self.old.tests.items ++ slice_index_or self.old.rest.items place 0 ∷ [] }
+        ensures rest { self.new.rest.items ≡ remove self.old.rest.items place }
     {
         let test = self.rest.remove(place);
         self.add(job, tries, test);
