@@ -69,6 +69,14 @@ pub fn mark(history: &mut History)
     history.marks.push_reserved(changes);
 }
 
+/// Whether a note tells no later start than another, and half of the room for changes is used: the rest is for later starts.
+fn is_spared(log: &Vec<Change>, was: Note, value: Note) -> bool {
+    if was.start < value.start {
+        return false;
+    }
+    log.len() >= log.capacity() / 2
+}
+
 /// Changes a note for one of a greater depth, where there is room for the change.
 pub fn renew(history: &mut History, place: usize, value: Note)
     requires history { IsHistory history.old }
@@ -79,6 +87,9 @@ pub fn renew(history: &mut History, place: usize, value: Note)
     ensures marks { history.new.marks ≡ history.old.marks }
 {
     let was = history.values[place];
+    if is_spared(&history.log, was, value) {
+        return;
+    }
     if was.depth < value.depth && history.log.len() < history.log.capacity() {
         history.log.push_reserved(Change { place, was });
         history.values[place] = value;
