@@ -1,4 +1,4 @@
--- Bounds below which tests don't fit, as tests are placed and taken back.
+-- What is noted of tests, as tests are placed and taken back.
 use Rattle.std.proofs.Common.{◌≡◌, ◌⊎◌, ℕ, zero, suc, replicate, ◌+◌, ◌<◌, ◌≤◌, inl, inr, List, [], ◌∷◌, ◌++◌, length, get_or, set, take, map, arith, refl, sym, ap, ◌∙◌, subst, length-append}
 use Rattle.std.specs.Prelude.{vec_capacity}
 use Rattle.std.proofs.Math.ListN.{get_or-append}
@@ -6,25 +6,55 @@ use Rattle.std.proofs.Math.Seq.{get_or-append_seam}
 use Rattle.std.proofs.lemmas.Bool.{cases_eq, cases_lt}
 use Rattle.std.proofs.lemmas.List.{length-map, length-set, length-replicate, get_or-set_same, get_or-set_other, take_at, take-append-le}
 use Rattle.resource_table.specs.declared.Placement.{Placement}
+use Rattle.resource_table.specs.declared.history.Note.{Note}
 use Rattle.resource_table.specs.declared.history.History.{History}
-use Rattle.resource_table.specs.Histories.{at_change, past_of, IsHistory}
+use Rattle.resource_table.specs.Histories.{no_note, at_change, past_of, IsHistory}
 use Rattle.resource_table.specs.Jobs.{JobValue}
 use Rattle.resource_table.specs.Schedules.{Fits, IsEarliest}
-use Rattle.resource_table.specs.Kept.{AreBounds, IsBounded}
+use Rattle.resource_table.specs.Kept.{AreNotes, IsBounded}
 use Rattle.resource_table.proofs.Places.{same_item}
 use Rattle.resource_table.proofs.Schedules.{fits_fewer}
 
-no_zero : (n i : ℕ) → get_or (replicate n (let z : ℕ = 0 in z)) i 0 ≡ 0
-no_zero zero i = refl
-no_zero (suc n) zero = refl
-no_zero (suc n) (suc i) = no_zero n i
+empty_note : (n i : ℕ) → get_or (replicate n no_note) i no_note ≡ no_note
+empty_note zero i = refl
+empty_note (suc n) zero = refl
+empty_note (suc n) (suc i) = empty_note n i
 
-pub bounded_new : (job : JobValue) (placed : List Placement) (bounds : History) (count : ℕ) → placed ≡ [] → count ≡ length job.tests → bounds.values.items ≡ replicate count 0 → bounds.marks.items ≡ [] → IsHistory bounds → count ≤ vec_capacity bounds.marks →
+notes_none : (job : JobValue) (placed : List Placement) (notes : List Note) → ((test : ℕ) → get_or notes test no_note ≡ no_note) → AreNotes job placed notes
+notes_none job placed notes empty = record {
+  bound = (λ test start inside fits. (let e = ap (λ (n : Note). n.start) (empty test) in omega (arith, e)));
+  depth = (λ test. (let e = ap (λ (n : Note). n.depth) (empty test) in omega (arith, e)));
+  found = (λ test inside same. absurd (let e = ap (λ (n : Note). n.depth) (empty test) in omega (arith, e, same)));
+}
+
+-- notes of fewer tests say nothing of the least start
+notes_push : (job : JobValue) (placed : List Placement) (p : Placement) (notes : List Note) → AreNotes job placed notes → AreNotes job (placed ++ p ∷ []) notes
+notes_push job placed p notes are = record {
+  bound = (λ test start inside fits. are.bound test start inside (fits_fewer job placed (p ∷ []) test start fits));
+  depth = (λ test. (let d = are.depth test in omega (arith, d, length-append placed (p ∷ []))));
+  found = (λ test inside same. absurd (let d = are.depth test in omega (arith, d, same, length-append placed (p ∷ []))));
+}
+
+-- what holds of each note, where one is changed
+each_note : (notes : List Note) (test : ℕ) (note : Note) → test < length notes → (P : ℕ → Note → Type 0) → P test note → ((other : ℕ) → P other (get_or notes other no_note)) → (other : ℕ) → P other (get_or (set notes test note) other no_note)
+each_note notes test note lt P here there other = elim (cases_eq other test) [
+  | inl same ↦ subst (λ (k : ℕ). P k (get_or (set notes test note) k no_note)) (sym same) (subst (P test) (sym (get_or-set_same notes test note no_note lt)) here)
+  | inr apart ↦ subst (P other) (sym (get_or-set_other notes test other note no_note apart)) (there other)
+]
+
+notes_set : (job : JobValue) (placed : List Placement) (notes : List Note) (test : ℕ) (note : Note) → test < length notes → IsEarliest job placed test note.start → note.depth ≡ length placed + 1 → AreNotes job placed notes → AreNotes job placed (set notes test note)
+notes_set job placed notes test note lt earliest depth are = record {
+  bound = each_note notes test note lt (λ other n. (at : ℕ) → other < length job.tests → Fits job placed other at → n.start ≤ at) (λ at inside fits. earliest.least at fits) are.bound;
+  depth = each_note notes test note lt (λ other n. n.depth ≤ length placed + 1) (omega (arith, depth)) are.depth;
+  found = each_note notes test note lt (λ other n. other < length job.tests → n.depth ≡ length placed + 1 → IsEarliest job placed other n.start) (λ inside same. earliest) are.found;
+}
+
+pub bounded_new : (job : JobValue) (placed : List Placement) (bounds : History) (count : ℕ) → placed ≡ [] → count ≡ length job.tests → bounds.values.items ≡ replicate count no_note → bounds.marks.items ≡ [] → IsHistory bounds → count ≤ vec_capacity bounds.marks →
     IsBounded job placed bounds
 bounded_new job placed bounds count none count_is values marks history room = record {
   history = history;
-  long = ap length values ∙ length-replicate count 0 ∙ count_is;
-  now = (λ test start inside fits. omega (arith, ap (λ (v : List ℕ). get_or v test 0) values, no_zero count test));
+  long = ap length values ∙ length-replicate count no_note ∙ count_is;
+  now = notes_none job placed bounds.values.items (λ test. ap (λ (v : List Note). get_or v test no_note) values ∙ empty_note count test);
   levels = ap (λ (v : List ℕ). length (map (at_change bounds) v)) marks ∙ sym (ap length none);
   past = (λ i lt. absurd (omega (arith, lt, ap length none)));
   room = omega arith;
@@ -39,7 +69,7 @@ pub bounded_push : (job : JobValue) (placed all : List Placement) (p : Placement
 bounded_push job placed all p old new all_is is history values past room = subst (λ (v : List Placement). IsBounded job v new) (sym all_is) (record {
   history = history;
   long = ap length values ∙ is.long;
-  now = (λ test start inside fits. omega (arith, ap (λ (v : List ℕ). get_or v test 0) values, is.now test start inside (fits_fewer job placed (p ∷ []) test start fits)));
+  now = subst (AreNotes job (placed ++ p ∷ [])) (sym values) (notes_push job placed p old.values.items is.now);
   levels = omega (arith, ap length past, length-append (past_of old) (old.values.items ∷ []), is.levels, length-append placed (p ∷ []));
   past = (λ i lt. elim (cases_lt i (length placed)) [
     | inl less ↦ each i (sym (take-append-le i placed (p ∷ []) (omega arith))) (get_or-append (past_of old) (old.values.items ∷ []) [] i (let same = is.levels in omega (arith, less, same))) (is.past i less)
@@ -51,10 +81,10 @@ bounded_push job placed all p old new all_is is history values past room = subst
   room = omega (arith, is.room, room);
 })
   where
-    each : (i : ℕ) {before : List Placement} {bounds : List ℕ} → before ≡ take i (placed ++ p ∷ []) → get_or (past_of old ++ old.values.items ∷ []) i [] ≡ bounds → AreBounds job before bounds → AreBounds job (take i (placed ++ p ∷ [])) (get_or (past_of new) i [])
+    each : (i : ℕ) {before : List Placement} {bounds : List Note} → before ≡ take i (placed ++ p ∷ []) → get_or (past_of old ++ old.values.items ∷ []) i [] ≡ bounds → AreNotes job before bounds → AreNotes job (take i (placed ++ p ∷ [])) (get_or (past_of new) i [])
     each i {before} {bounds} front there are =
-        subst (λ (v : List Placement). AreBounds job v (get_or (past_of new) i [])) front
-        (subst (AreBounds job before) (sym (ap (λ (v : List (List ℕ)). get_or v i []) past ∙ there)) are)
+        subst (λ (v : List Placement). AreNotes job v (get_or (past_of new) i [])) front
+        (subst (AreNotes job before) (sym (ap (λ (v : List (List Note)). get_or v i []) past ∙ there)) are)
 
 pub bounded_pop : (job : JobValue) (placed all : List Placement) (p : Placement) (old new : History) → all ≡ placed ++ p ∷ [] → IsBounded job all old → IsHistory new → length new.values.items ≡ length old.values.items →
     past_of old ≡ past_of new ++ new.values.items ∷ [] → vec_capacity new.marks ≡ vec_capacity old.marks → IsBounded job placed new
@@ -65,36 +95,39 @@ bounded_pop job placed all p old new all_is whole history long past room =
     record {
       history = history;
       long = long ∙ is.long;
-      now = subst (λ (v : List Placement). AreBounds job v new.values.items) (take_at placed (p ∷ []) (length placed) refl)
-          (subst (AreBounds job (take (length placed) (placed ++ p ∷ []))) (ap (λ (v : List (List ℕ)). get_or v (length placed) []) past ∙ ap (λ (n : ℕ). get_or (past_of new ++ new.values.items ∷ []) n []) (sym levels) ∙ get_or-append_seam (past_of new) new.values.items [] [])
+      now = subst (λ (v : List Placement). AreNotes job v new.values.items) (take_at placed (p ∷ []) (length placed) refl)
+          (subst (AreNotes job (take (length placed) (placed ++ p ∷ []))) (ap (λ (v : List (List Note)). get_or v (length placed) []) past ∙ ap (λ (n : ℕ). get_or (past_of new ++ new.values.items ∷ []) n []) (sym levels) ∙ get_or-append_seam (past_of new) new.values.items [] [])
           (is.past (length placed) (omega (arith, more))));
       levels = levels;
-      past = (λ i lt. subst (λ (v : List Placement). AreBounds job v (get_or (past_of new) i [])) (take-append-le i placed (p ∷ []) (omega arith))
-          (subst (AreBounds job (take i (placed ++ p ∷ []))) (ap (λ (v : List (List ℕ)). get_or v i []) past ∙ get_or-append (past_of new) (new.values.items ∷ []) [] i (omega (arith, lt, levels)))
+      past = (λ i lt. subst (λ (v : List Placement). AreNotes job v (get_or (past_of new) i [])) (take-append-le i placed (p ∷ []) (omega arith))
+          (subst (AreNotes job (take i (placed ++ p ∷ []))) (ap (λ (v : List (List Note)). get_or v i []) past ∙ get_or-append (past_of new) (new.values.items ∷ []) [] i (omega (arith, lt, levels)))
           (is.past i (omega (arith, lt, more)))));
       room = omega (arith, is.room, room);
     }
 
-pub bounded_note : (job : JobValue) (placed : List Placement) (old new : History) (test start : ℕ) → IsBounded job placed old → IsHistory new → test < length job.tests → IsEarliest job placed test start →
-    (new.values.items ≡ old.values.items) ⊎ (new.values.items ≡ set old.values.items test start) → past_of new ≡ past_of old → new.marks ≡ old.marks → IsBounded job placed new
-bounded_note job placed old new test start is history inside earliest values past marks = record {
+pub bounded_note : (job : JobValue) (placed : List Placement) (old new : History) (test : ℕ) (note : Note) → IsBounded job placed old → IsHistory new → test < length job.tests → IsEarliest job placed test note.start → note.depth ≡ length placed + 1 →
+    (new.values.items ≡ old.values.items) ⊎ (new.values.items ≡ set old.values.items test note) → past_of new ≡ past_of old → new.marks ≡ old.marks → IsBounded job placed new
+bounded_note job placed old new test note is history inside earliest depth values past marks = record {
   history = history;
-  long = elim values [ inl same ↦ ap length same ∙ is.long | inr more ↦ ap length more ∙ length-set old.values.items test start ∙ is.long ];
+  long = elim values [ inl same ↦ ap length same ∙ is.long | inr more ↦ ap length more ∙ length-set old.values.items test note ∙ is.long ];
   now = elim values [
-    | inl same ↦ subst (AreBounds job placed) (sym same) is.now
-    | inr more ↦ subst (AreBounds job placed) (sym more) (λ other at within fits. elim (cases_eq other test) [
-      | inl here ↦ subst (λ (v : ℕ). Fits job placed v at → get_or (set old.values.items test start) v 0 ≤ at) (sym here)
-          (λ fits'. let set' = get_or-set_same old.values.items test start 0 (let long = is.long in omega arith) in omega (arith, set', earliest.least at fits')) fits
-      | inr apart ↦ omega (arith, get_or-set_other old.values.items test other start 0 apart, is.now other at within fits)
-    ])
+    | inl same ↦ subst (AreNotes job placed) (sym same) is.now
+    | inr more ↦ subst (AreNotes job placed) (sym more) (notes_set job placed old.values.items test note (let long = is.long in omega arith) earliest depth is.now)
   ];
   levels = ap length past ∙ is.levels;
-  past = (λ i lt. subst (λ (v : List (List ℕ)). AreBounds job (take i placed) (get_or v i [])) (sym past) (is.past i lt));
+  past = (λ i lt. subst (λ (v : List (List Note)). AreNotes job (take i placed) (get_or v i [])) (sym past) (is.past i lt));
   room = (let room = is.room in omega (arith, room, ap vec_capacity marks));
 }
 
--- a bound that was read
-pub noted : (job : JobValue) (placed : List Placement) (bounds : History) → IsBounded job placed bounds → (test start read : ℕ) → test < length job.tests → Fits job placed test start → read ≡ get_or bounds.values.items test read → read ≤ start
+-- a note that was read
+read_note : (job : JobValue) (placed : List Placement) (bounds : History) → IsBounded job placed bounds → (test : ℕ) (read : Note) → test < length job.tests → read ≡ get_or bounds.values.items test read → read ≡ get_or bounds.values.items test no_note
+read_note job placed bounds is test read inside at = at ∙ same_item bounds.values.items test read no_note (let long = is.long in omega arith)
+
+pub noted : (job : JobValue) (placed : List Placement) (bounds : History) → IsBounded job placed bounds → (test start : ℕ) (read : Note) → test < length job.tests → Fits job placed test start → read ≡ get_or bounds.values.items test read → read.start ≤ start
 noted job placed bounds is test start read inside fits at =
-    let long = is.long in
-    omega (arith, at, same_item bounds.values.items test read 0 (omega arith), is.now test start inside fits)
+    let same = ap (λ (n : Note). n.start) (read_note job placed bounds is test read inside at) in
+    omega (arith, same, is.now.bound test start inside fits)
+
+pub noted_found : (job : JobValue) (placed : List Placement) (bounds : History) → IsBounded job placed bounds → (test : ℕ) (read : Note) → test < length job.tests → read ≡ get_or bounds.values.items test read → read.depth ≡ length placed + 1 → IsEarliest job placed test read.start
+noted_found job placed bounds is test read inside at =
+    subst (λ (n : Note). n.depth ≡ length placed + 1 → IsEarliest job placed test n.start) (sym (read_note job placed bounds is test read inside at)) (is.now.found test inside)

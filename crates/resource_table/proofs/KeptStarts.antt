@@ -1,5 +1,5 @@
 -- Where a test fits, by what a table keeps.
-use Rattle.std.proofs.Common.{◌≡◌, ℕ, ◌+◌, ◌*◌, ◌<◌, ◌≤◌, ◌^◌, Option, Some, List, [], ◌∷◌, length, get_or, map, arith, refl, sym, ap, ◌∙◌, subst}
+use Rattle.std.proofs.Common.{◌≡◌, ℕ, ◌+◌, ◌-◌, ◌*◌, ◌<◌, ◌≤◌, ◌^◌, Option, None, Some, List, [], ◌∷◌, length, get_or, map, arith, refl, sym, ap, ◌∙◌, subst}
 use Rattle.std.specs.Prelude.{slice_get, IfSome}
 use Rattle.std.specs.List.{All, sum_by, flat_map}
 use Rattle.std.specs.Global.{Vec}
@@ -12,16 +12,17 @@ use Rattle.resource_table.specs.declared.JobTest.{JobTest}
 use Rattle.resource_table.specs.declared.Placement.{Placement}
 use Rattle.resource_table.specs.declared.power.Draw.{Draw}
 use Rattle.resource_table.specs.Jobs.{TestValue, JobValue, test_value, test_at, no_test, cycles_of, IsSoundTest}
-use Rattle.resource_table.specs.Schedules.{last_end, StaysWithin}
+use Rattle.resource_table.specs.Schedules.{last_end, power_at, StaysWithin}
+use Rattle.resource_table.specs.Calm.{IsCalm}
 use Rattle.resource_table.specs.Resources.{load_of, marks_of, StepsFit}
 use Rattle.resource_table.specs.Kept.{IsKept}
 use Rattle.resource_table.specs.declared.points.Point.{Point}
 use Rattle.resource_table.specs.Profiles.{ArePoints, AreMarked, IsEndedProfile}
-use Rattle.resource_table.proofs.Places.{all_at}
+use Rattle.resource_table.proofs.Places.{all_at, same_item}
 use Rattle.resource_table.proofs.Loads.{load_over}
 use Rattle.resource_table.proofs.Profiles.{drawn_profile}
 use Rattle.resource_table.proofs.KeptMarks.{all_marked}
-use Rattle.resource_table.proofs.Fitting.{in_map, draws_ended, last_small, cycles_small, steps_from_within, within_from_steps}
+use Rattle.resource_table.proofs.Fitting.{in_map, draws_ended, last_small, cycles_small, load_is_power, steps_from_within, within_from_steps, within_without_limit}
 
 -- a test that was read is the one of the job
 pub wanted_is : (tests : List JobTest) (test : ℕ) (r : JobTest) → test < length (map test_value tests) → r ≡ get_or tests test r → test_value r ≡ get_or (map test_value tests) test no_test
@@ -82,3 +83,56 @@ steps_counted limit (t ∷ tests) all =
     let few = here.few_steps in
     let ih = steps_counted limit tests (All-tail (IsSoundTest limit) (test_value t) (map test_value tests) all) in
     omega (arith, lasts, few, ih, sum_by-cons (λ (t : JobTest). length t.power.items) t tests, sum_by-cons (λ (t : TestValue). t.cycles) (test_value t) (map test_value tests))
+
+-- where little is drawn for good, each step of a test from then on fits
+pub steps_calm : (load : ℕ → ℕ) (limit most start length' : ℕ) (steps : List (ℕ × ℕ)) → ((c : ℕ) → start ≤ c → load c ≤ limit - most) → All (λ (s : ℕ × ℕ). s.1 ≤ most) steps → All (λ (s : ℕ × ℕ). s.1 ≤ limit) steps →
+    StepsFit load limit start length' steps
+steps_calm load limit most start length' [] calm low within = tt
+steps_calm load limit most start length' (s ∷ next) calm low within =
+    let here = All-head (λ (s : ℕ × ℕ). s.1 ≤ most) s next low in
+    let top = All-head (λ (s : ℕ × ℕ). s.1 ≤ limit) s next within in (
+      (λ c from to. (let free = calm c (omega (arith, from)) in omega (arith, free, here, top))),
+      steps_calm load limit most start length' next calm (All-tail (λ (s : ℕ × ℕ). s.1 ≤ most) s next low) (All-tail (λ (s : ℕ × ℕ). s.1 ≤ limit) s next within),
+    )
+
+-- each step draws no more than so much
+pub steps_low : (steps : List (ℕ × ℕ)) (most : ℕ) → ((k : ℕ) → k < length steps → (get_or steps k (0, 0)).1 ≤ most) → All (λ (s : ℕ × ℕ). s.1 ≤ most) steps
+steps_low steps most low k d lt = subst (λ (s : ℕ × ℕ). s.1 ≤ most) (sym (same_item steps k d (0, 0) lt)) (low k lt)
+
+-- what the draws take is what the placed tests draw
+pub power_is_load : (job : JobValue) (trail : SmallVec Placement) (ends : Vec (Option ℕ)) (lasts : Vec ℕ) (draws : Vec Draw) → IsKept job trail ends lasts draws → (c : ℕ) → load_of draws.items c ≡ power_at job trail.items c
+power_is_load job trail ends lasts draws kept c =
+    ap (λ (v : List Draw). load_of v c) kept.draws_are ∙ load_is_power job trail.items kept.sound.job (λ i p at. (kept.sound.placed i p at).in_job) c
+
+-- the profile that is kept tells what the draws take, whatever is asked of
+pub profile_now : (job : JobValue) (trail : SmallVec Placement) (ends : Vec (Option ℕ)) (lasts : Vec ℕ) (draws : Vec Draw) → IsKept job trail ends lasts draws → (points read : List Point) (last : ℕ) →
+    ArePoints draws.items (flat_map (marks_of job) trail.items) points → read ≡ points → last ≡ last_end job trail.items → IsEndedProfile (load_of draws.items) read last
+profile_now job trail ends lasts draws kept points read last are read_is is = subst (λ (v : List Point). IsEndedProfile (load_of draws.items) v last) (sym read_is) (record {
+  profile = drawn_profile draws.items (flat_map (marks_of job) trail.items) points (subst (λ (v : List Draw). AreMarked v (flat_map (marks_of job) trail.items)) (sym kept.draws_are) (all_marked job trail.items kept.sound.job (λ i p at. (kept.sound.placed i p at).in_job))) are;
+  over = (λ c late. load_over draws.items c (λ i d at. let end : d.to ≤ last = all_at (λ (d : Draw). d.to ≤ last) draws.items i d ended at in omega arith));
+})
+  where
+    ended : All (λ (d : Draw). d.to ≤ last) draws.items
+    ended = subst (λ (v : ℕ). All (λ (d : Draw). d.to ≤ v) draws.items) (sym is) (subst (λ (v : List Draw). All (λ (d : Draw). d.to ≤ last_end job trail.items) v) (sym kept.draws_are) (draws_ended job trail.items))
+
+-- where the draws take little from a cycle on, so do the placed tests
+pub calm_here : (job : JobValue) (trail : SmallVec Placement) (ends : Vec (Option ℕ)) (lasts : Vec ℕ) (draws : Vec Draw) → IsKept job trail ends lasts draws → (limit most calm : ℕ) → job.power ≡ Some limit →
+    ((c : ℕ) → calm ≤ c → load_of draws.items c ≤ limit - most) → IsCalm job trail.items most calm
+calm_here job trail ends lasts draws kept limit most calm is low c late =
+    subst (λ (o : Option ℕ). IfSome o (λ l. power_at job trail.items c ≤ l - most)) (sym is)
+    (let same = power_is_load job trail ends lasts draws kept c in let here = low c late in omega (arith, same, here))
+
+-- a test that draws no more than what is left free stays within the limit from a calm cycle on
+pub calm_within : (job : JobValue) (trail : SmallVec Placement) (ends : Vec (Option ℕ)) (lasts : Vec ℕ) (draws : Vec Draw) → (kept : IsKept job trail ends lasts draws) → (test : ℕ) → test < length job.tests → (wanted : TestValue) → wanted ≡ test_at job test →
+    (most calm start : ℕ) (steps : List (ℕ × ℕ)) → steps ≡ wanted.steps → IsCalm job trail.items most calm → calm ≤ start → All (λ (s : ℕ × ℕ). s.1 ≤ most) steps → StaysWithin job trail.items test start
+calm_within job trail ends lasts draws kept test inside wanted wanted_at most calm start steps steps_is stays late low = by_limit job.power refl
+  where
+    by_limit : (o : Option ℕ) → job.power ≡ o → StaysWithin job trail.items test start
+    by_limit None none = within_without_limit job trail.items test start none
+    by_limit (Some limit) is =
+        within_here job trail ends lasts draws kept test inside wanted wanted_at start limit draws.items steps refl steps_is is
+        (steps_calm (load_of draws.items) limit most start wanted.cycles steps
+        (λ c from. (let same = power_is_load job trail ends lasts draws kept c in
+        let here : power_at job trail.items c ≤ limit - most = subst (λ (o : Option ℕ). IfSome o (λ l. power_at job trail.items c ≤ l - most)) is (stays c (omega (arith, late, from))) in
+        omega (arith, same, here)))
+        low (steps_within_limit job trail ends lasts draws kept test inside wanted wanted_at steps limit steps_is is))

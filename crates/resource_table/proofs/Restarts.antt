@@ -21,7 +21,7 @@ use Rattle.resource_table.specs.Jobs.{TestValue, JobValue, test_value, test_at, 
 use Rattle.resource_table.specs.Schedules.{MayPlace}
 use Rattle.resource_table.specs.Resources.{draws_of, end_in}
 use Rattle.resource_table.specs.Befores.{AreListed}
-use Rattle.resource_table.specs.Histories.{IsHistory}
+use Rattle.resource_table.specs.Histories.{no_note, IsHistory}
 use Rattle.resource_table.specs.Kept.{IsKept, IsProfiled, IsBounded}
 use Rattle.resource_table.proofs.Bounds.{bounded_new}
 use Rattle.resource_table.proofs.KeptTables.{profiled_new}
@@ -175,7 +175,7 @@ module _ (job : JobValue) (buses : List (Option ℕ)) (lengths : List ℕ) (trai
       profiled_new new_job trail draws points (length job.tests) (sum_by (λ (t : TestValue). length t.steps) job.tests) (sym (length-tests_over buses lengths job.tests))
       (sym (sum_over (λ (t : TestValue). length t.steps) (λ bus cycles t. refl) buses lengths job.tests)) none draws_is points_is (let room = is.room in omega (arith, room, capacity))
 
-  bounded_over : (old bounds : History) → IsBounded job trail.items old → bounds.values.items ≡ replicate (length old.values.items) 0 → bounds.marks.items ≡ [] → IsHistory bounds → vec_capacity bounds.marks ≡ vec_capacity old.marks → IsBounded new_job trail.items bounds
+  bounded_over : (old bounds : History) → IsBounded job trail.items old → bounds.values.items ≡ replicate (length old.values.items) no_note → bounds.marks.items ≡ [] → IsHistory bounds → vec_capacity bounds.marks ≡ vec_capacity old.marks → IsBounded new_job trail.items bounds
   bounded_over old bounds is values marks history room =
       bounded_new new_job trail.items bounds (length old.values.items) none (is.long ∙ sym (length-tests_over buses lengths job.tests)) values marks history (let long = is.long in let most = is.room in omega (arith, long, most, room))
 
@@ -184,7 +184,7 @@ module _ (job : JobValue) (buses : List (Option ℕ)) (lengths : List ℕ) (trai
       (ends : Vec (Option ℕ)) (lasts : Vec ℕ) (draws : Vec Draw) (lists : List (List ℕ)) (old points : Vec Point) (times : Timelines) (was bounds : History) →
       IsKept job trail ends lasts draws × AreListed job lists × IsProfiled job trail draws old × AreTimes job trail.items times × IsBounded job trail.items was →
       points.items ≡ [] → vec_capacity points ≡ vec_capacity old →
-      bounds.values.items ≡ replicate (length was.values.items) 0 → bounds.marks.items ≡ [] → IsHistory bounds → vec_capacity bounds.marks ≡ vec_capacity was.marks →
+      bounds.values.items ≡ replicate (length was.values.items) no_note → bounds.marks.items ≡ [] → IsHistory bounds → vec_capacity bounds.marks ≡ vec_capacity was.marks →
       IsKept new_job trail ends lasts draws × AreListed new_job lists × IsProfiled new_job trail draws points × AreTimes new_job trail.items times × IsBounded new_job trail.items bounds
   kept_anew sound buses_long lengths_long few ends lasts draws lists old points times was bounds is points_is capacity values marks history room = (
     kept_over sound ends lasts draws is.0,

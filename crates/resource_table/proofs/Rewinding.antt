@@ -1,49 +1,50 @@
--- Numbers whose changes are taken back.
+-- Notes whose changes are taken back.
 use Rattle.std.proofs.Common.{◌≡◌, ℕ, zero, suc, ◌<◌, ◌≤◌, List, [], ◌∷◌, ◌++◌, length, get_or, set, map, drop, arith, refl, sym, ap, ◌∙◌, subst, length-append}
 use Rattle.std.specs.List.Sorted.{IsNonDecreasingBy}
 use Rattle.std.proofs.lemmas.List.{map-append, set-get_or, drop-append-le, drop_all}
 use Rattle.std.proofs.Math.ListN.{get_or-append}
 use Rattle.std.proofs.Math.Seq.{get_or-append_seam}
+use Rattle.resource_table.specs.declared.history.Note.{Note}
 use Rattle.resource_table.specs.declared.history.Change.{Change}
 use Rattle.resource_table.specs.declared.history.History.{History}
 use Rattle.resource_table.specs.Histories.{rewound, at_change, past_of, IsHistory}
 
 -- the last change is taken back first
-pub rewound_push : (changes : List Change) (c : Change) (values : List ℕ) → rewound (changes ++ c ∷ []) values ≡ rewound changes (set values c.place c.was)
+pub rewound_push : (changes : List Change) (c : Change) (values : List Note) → rewound (changes ++ c ∷ []) values ≡ rewound changes (set values c.place c.was)
 rewound_push [] c values = refl
-rewound_push (d ∷ changes) c values = ap (λ (v : List ℕ). set v d.place d.was) (rewound_push changes c values)
+rewound_push (d ∷ changes) c values = ap (λ (v : List Note). set v d.place d.was) (rewound_push changes c values)
 
-set_twice : (values : List ℕ) (place a b : ℕ) → set (set values place a) place b ≡ set values place b
+set_twice : (values : List Note) (place : ℕ) (a b : Note) → set (set values place a) place b ≡ set values place b
 set_twice [] place a b = refl
 set_twice (v ∷ values) zero a b = refl
-set_twice (v ∷ values) (suc place) a b = ap (λ (w : List ℕ). v ∷ w) (set_twice values place a b)
+set_twice (v ∷ values) (suc place) a b = ap (λ (w : List Note). v ∷ w) (set_twice values place a b)
 
 -- a change that is noted is taken back
-pub raised_back : (log : List Change) (values : List ℕ) (place was value n d : ℕ) → n ≤ length log → was ≡ get_or values place d →
+pub raised_back : (log : List Change) (values : List Note) (place : ℕ) (was value : Note) (n : ℕ) (d : Note) → n ≤ length log → was ≡ get_or values place d →
     rewound (drop n (log ++ (let c : Change = record { place = place; was = was } in c) ∷ [])) (set values place value) ≡ rewound (drop n log) values
 raised_back log values place was value n d le is =
     let c : Change = record { place = place; was = was } in
     ap (λ (v : List Change). rewound v (set values place value)) (drop-append-le n log (c ∷ []) le) ∙ rewound_push (drop n log) c (set values place value)
     ∙ ap (rewound (drop n log)) (set_twice values place value was ∙ ap (set values place) is ∙ set-get_or values place d)
 
-pub taken_back : (log rest : List Change) (last : Change) (values : List ℕ) (n : ℕ) → log ≡ rest ++ last ∷ [] → n < length log → rewound (drop n rest) (set values last.place last.was) ≡ rewound (drop n log) values
+pub taken_back : (log rest : List Change) (last : Change) (values : List Note) (n : ℕ) → log ≡ rest ++ last ∷ [] → n < length log → rewound (drop n rest) (set values last.place last.was) ≡ rewound (drop n log) values
 taken_back log rest last values n is lt =
     sym (ap (λ (v : List Change). rewound (drop n v) values) is ∙ ap (λ (v : List Change). rewound v values) (drop-append-le n rest (last ∷ []) (omega (arith, ap length is, length-append rest (last ∷ []), lt))) ∙ rewound_push (drop n rest) last values)
 
 -- marks that are kept see the same numbers
-pub same_past : (f g : ℕ → List ℕ) (marks : List ℕ) (most : ℕ) → ((n : ℕ) → n ≤ most → f n ≡ g n) → ((k d : ℕ) → k < length marks → get_or marks k d ≤ most) → map f marks ≡ map g marks
+pub same_past : (f g : ℕ → List Note) (marks : List ℕ) (most : ℕ) → ((n : ℕ) → n ≤ most → f n ≡ g n) → ((k d : ℕ) → k < length marks → get_or marks k d ≤ most) → map f marks ≡ map g marks
 same_past f g [] most same le = refl
 same_past f g (m ∷ marks) most same le =
     let here : f m ≡ g m = same m (le 0 0 (omega arith)) in
-    ap (λ (v : List ℕ). v ∷ map f marks) here ∙ ap (λ (v : List (List ℕ)). g m ∷ v) (same_past f g marks most same (λ k d lt. le (suc k) d (omega arith)))
+    ap (λ (v : List Note). v ∷ map f marks) here ∙ ap (λ (v : List (List Note)). g m ∷ v) (same_past f g marks most same (λ k d lt. le (suc k) d (omega arith)))
 
 -- where the changes behind the last mark are taken back, the numbers are those at the mark
 pub back_past : (old new : History) (marks : List ℕ) (changes : ℕ) → IsHistory old → old.marks.items ≡ marks ++ changes ∷ [] → ((n : ℕ) → n ≤ changes → at_change new n ≡ at_change old n) → length new.log.items ≤ changes →
     past_of old ≡ map (at_change new) marks ++ new.values.items ∷ []
 back_past old new marks changes history is same few =
     ap (map (at_change old)) is ∙ map-append (at_change old) marks (changes ∷ [])
-    ∙ ap (λ (v : List (List ℕ)). v ++ at_change old changes ∷ []) (same_past (at_change old) (at_change new) marks changes (λ n le. sym (same n le)) below)
-    ∙ ap (λ (v : List ℕ). map (at_change new) marks ++ v ∷ []) (sym (same changes (omega arith)) ∙ ap (λ (v : List Change). rewound v new.values.items) (drop_all changes new.log.items few))
+    ∙ ap (λ (v : List (List Note)). v ++ at_change old changes ∷ []) (same_past (at_change old) (at_change new) marks changes (λ n le. sym (same n le)) below)
+    ∙ ap (λ (v : List Note). map (at_change new) marks ++ v ∷ []) (sym (same changes (omega arith)) ∙ ap (λ (v : List Change). rewound v new.values.items) (drop_all changes new.log.items few))
   where
     below : (k d : ℕ) → k < length marks → get_or marks k d ≤ changes
     below k d lt =

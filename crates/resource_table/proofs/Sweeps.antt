@@ -168,3 +168,11 @@ swept_over points free from width last place start over swept =
 pub none_crowded : {P : Type 0} (points : List Point) (free from width last place start : ℕ) → (load : ℕ → ℕ) × IsEndedProfile load points last → length points ≤ place → IsSwept points free from width last place start true → P
 none_crowded points free from width last place start witness over swept =
     absurd (let inside = (swept.high refl witness.0 witness.1 (max from last) (omega arith) (free_at_last witness.0 points free width last from witness.1)).0 in omega (arith, inside, over))
+
+-- what is free from a point on, and calm from the next one on, is calm from that point on
+pub calm_more : (load : ℕ → ℕ) (points : List Point) (free last place calm : ℕ) → IsEndedProfile load points last → place < length points → (get_or points place no_point).load ≤ free →
+    (place + 1 < length points → calm ≤ (get_or points (place + 1) no_point).cycle) → ((c : ℕ) → calm ≤ c → load c ≤ free) → (c : ℕ) → (get_or points place no_point).cycle ≤ c → load c ≤ free
+calm_more load points free last place calm ended lt low ahead stays c from = elim (cases_lt c calm) [
+  | inr late ↦ stays c late
+  | inl early ↦ (let e = load_from load points ended.profile place c lt from (λ more. (let next = ahead more in omega (arith, next, early))) in omega (arith, e, low))
+]

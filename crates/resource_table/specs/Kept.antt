@@ -7,9 +7,10 @@ use Rattle.resource_table.specs.declared.Placement.{Placement}
 use Rattle.resource_table.specs.declared.power.Draw.{Draw}
 use Rattle.resource_table.specs.declared.points.Point.{Point}
 use Rattle.resource_table.specs.declared.history.History.{History}
-use Rattle.resource_table.specs.Histories.{past_of, IsHistory}
+use Rattle.resource_table.specs.declared.history.Note.{Note}
+use Rattle.resource_table.specs.Histories.{no_note, past_of, IsHistory}
 use Rattle.resource_table.specs.Jobs.{TestValue, JobValue}
-use Rattle.resource_table.specs.Schedules.{last_end, Fits, IsSoundTable}
+use Rattle.resource_table.specs.Schedules.{last_end, Fits, IsEarliest, IsSoundTable}
 use Rattle.resource_table.specs.Resources.{draws_of, marks_of, end_in}
 use Rattle.resource_table.specs.Profiles.{ArePoints}
 
@@ -30,15 +31,17 @@ pub record IsProfiled (job : JobValue) (trail : SmallVec Placement) (draws : Vec
   pub are : IfSome job.power (λ _. ArePoints draws.items (flat_map (marks_of job) trail.items) points.items)
   pub room : length job.tests + sum_by (λ (t : TestValue). length t.steps) job.tests ≤ vec_capacity points
 
--- each test fits at no start before its bound
-abbrev pub AreBounds : JobValue → List Placement → List ℕ → Type 0
-AreBounds job placed bounds = (test start : ℕ) → test < length job.tests → Fits job placed test start → slice_index_or bounds test 0 ≤ start
+-- what is noted of each test: it fits at no start before; and where the note is of these placed tests, that is its least start
+pub record AreNotes (job : JobValue) (placed : List Placement) (notes : List Note) : Type 0 where
+  pub bound : (test start : ℕ) → test < length job.tests → Fits job placed test start → (slice_index_or notes test no_note).start ≤ start
+  pub depth : (test : ℕ) → (slice_index_or notes test no_note).depth ≤ length placed + 1
+  pub found : (test : ℕ) → test < length job.tests → (slice_index_or notes test no_note).depth ≡ length placed + 1 → IsEarliest job placed test (slice_index_or notes test no_note).start
 
--- bounds beside the placed tests, and those that there were before each was placed
+-- notes beside the placed tests, and those that there were before each was placed
 pub record IsBounded (job : JobValue) (placed : List Placement) (bounds : History) : Type 0 where
   pub history : IsHistory bounds
   pub long : length bounds.values.items ≡ length job.tests
-  pub now : AreBounds job placed bounds.values.items
+  pub now : AreNotes job placed bounds.values.items
   pub levels : length (past_of bounds) ≡ length placed
-  pub past : (i : ℕ) → i < length placed → AreBounds job (take i placed) (slice_index_or (past_of bounds) i [])
+  pub past : (i : ℕ) → i < length placed → AreNotes job (take i placed) (slice_index_or (past_of bounds) i [])
   pub room : length job.tests ≤ vec_capacity bounds.marks

@@ -1,5 +1,6 @@
 pub mod Jobs
 pub mod Schedules
+pub mod Calm
 pub mod Resources
 pub mod BusyTimes
 pub mod Profiles

@@ -92,3 +92,23 @@ pub fn after_crowds(
         crowded = true;
     }
 }
+
+/// A cycle from which on no more is drawn than is free. It is looked for from the last point back, up to the first one from which
+/// on more is drawn.
+pub fn calm_end(points: &[Point], free: u64, last: u64) -> u64
+    requires profile { (load : ℕ → ℕ) × IsEndedProfile load points.now last }
+    ensures most { result ≤ last }
+    ensures calm { (load : ℕ → ℕ) → IsEndedProfile load points.now last → (c : ℕ) → result ≤ c → load c ≤ free }
+{
+    let mut calm: u64 = last;
+    let mut place = points.len();
+    while place > 0 {
+        place -= 1;
+        let now = points[place];
+        if now.load > free {
+            return calm;
+        }
+        calm = calm.min(now.cycle);
+    }
+    calm
+}

@@ -1,44 +1,56 @@
-// Numbers that are changed one by one and taken back to where they stood at a mark.
+// Notes of tests, which are changed one by one and taken back to what they were at a mark.
 ghost use Rattle.std.specs.Prelude.{◌≡◌, ℕ, ◌+◌, ◌<◌, ◌≤◌, ◌⊎◌, ◌++◌, ◌∷◌, [], length, slice_set, replicate, vec_capacity, IfOk};
-ghost use Rattle.resource_table.specs.Histories.{at_change, past_of, ArePlaces, IsHistory};
+ghost use Rattle.resource_table.specs.Histories.{no_note, at_change, past_of, ArePlaces, IsHistory};
 
 use outside::NoMemory;
 use std::alloc::Global;
 
-/// A number that was changed.
+/// What is noted of a test.
+#[derive(Clone, Copy)]
+pub struct Note {
+    /// A cycle before which it fits at no start.
+    pub start: u64,
+    /// One more than how many tests were placed as that was the least start at which it fits; 0 where none was found yet.
+    pub depth: usize,
+}
+
+/// A note that was changed.
 #[derive(Clone, Copy)]
 pub struct Change {
     /// Its place.
     pub place: usize,
     /// What it was before.
-    pub was: u64,
+    pub was: Note,
 }
 
-/// Numbers with their changes since each mark.
+/// Notes with their changes since each mark.
 #[derive(Drop)]
 pub struct History {
-    /// The numbers.
-    pub values: Vec<u64>,
+    /// The notes.
+    pub values: Vec<Note>,
     /// The changes, the last one last.
     pub log: Vec<Change>,
     /// For each mark how many changes there were.
     pub marks: Vec<usize>,
 }
 
-/// So many zeros, with room for so many marks and changes.
+/// Nothing is noted.
+const NO_NOTE: Note = Note { start: 0, depth: 0 };
+
+/// So many empty notes, with room for so many marks and changes.
 pub fn new_history(
     alloc: Global,
     count: usize,
     marks: usize,
     changes: usize,
 ) -> Result<History, NoMemory>
-    ensures values { IfOk result (λ h. h.values.items ≡ replicate count 0) }
+    ensures values { IfOk result (λ h. h.values.items ≡ replicate count no_note) }
     ensures marks { IfOk result (λ h. h.marks.items ≡ []) }
     ensures history { IfOk result IsHistory }
     ensures room { IfOk result (λ h. marks ≤ vec_capacity h.marks) }
 {
     Ok(History {
-        values: vec![in alloc; 0; count].map_err(|_| NoMemory)?,
+        values: vec![in alloc; NO_NOTE; count].map_err(|_| NoMemory)?,
         log: Vec::with_capacity(alloc, changes).map_err(|_| NoMemory)?,
         marks: Vec::with_capacity(alloc, marks).map_err(|_| NoMemory)?,
     })
@@ -57,8 +69,16 @@ pub fn mark(history: &mut History)
     history.marks.push_reserved(changes);
 }
 
-/// Raises a number, where there is room to note the change.
-pub fn raise(history: &mut History, place: usize, value: u64)
+/// Whether a note tells no later start than another, and half of the room for changes is used: the rest is for later starts.
+fn is_spared(log: &Vec<Change>, was: Note, value: Note) -> bool {
+    if was.start < value.start {
+        return false;
+    }
+    log.len() >= log.capacity() / 2
+}
+
+/// Changes a note for one of a greater depth, where there is room for the change.
+pub fn renew(history: &mut History, place: usize, value: Note)
     requires history { IsHistory history.old }
     requires place { place < length history.old.values.items }
     ensures history { IsHistory history.new }
@@ -67,7 +87,10 @@ pub fn raise(history: &mut History, place: usize, value: u64)
     ensures marks { history.new.marks ≡ history.old.marks }
 {
     let was = history.values[place];
-    if was < value && history.log.len() < history.log.capacity() {
+    if is_spared(&history.log, was, value) {
+        return;
+    }
+    if was.depth < value.depth && history.log.len() < history.log.capacity() {
         history.log.push_reserved(Change { place, was });
         history.values[place] = value;
     }
@@ -104,14 +127,14 @@ pub fn back(history: &mut History)
     }
 }
 
-/// Takes all changes and marks away, and makes each number 0.
+/// Takes all changes and marks away, and leaves no note.
 pub fn forget(history: &mut History)
-    ensures values { history.new.values.items ≡ replicate (length history.old.values.items) 0 }
+    ensures values { history.new.values.items ≡ replicate (length history.old.values.items) no_note }
     ensures marks { history.new.marks.items ≡ [] }
     ensures history { IsHistory history.new }
     ensures room { vec_capacity history.new.marks ≡ vec_capacity history.old.marks }
 {
     history.log.clear();
     history.marks.clear();
-    history.values.fill(0);
+    history.values.fill(NO_NOTE);
 }

@@ -1,5 +1,5 @@
 // What tests draw, step by step.
-ghost use Rattle.std.specs.Prelude.{◌≡◌, ℕ, ◌+◌, ◌^◌, ◌<◌, ◌≤◌, ◌++◌, ◌∷◌, [], drop, length as length_of, vec_len, vec_capacity};
+ghost use Rattle.std.specs.Prelude.{◌≡◌, ℕ, ◌+◌, ◌^◌, ◌<◌, ◌≤◌, ◌++◌, ◌∷◌, [], true, drop, length as length_of, slice_index_or, vec_len, vec_capacity};
 ghost use Rattle.std.specs.List.{All};
 ghost use Rattle.soc_model.specs.declared.TheConstants.{POWER_MOST, NUMBER_WORD_MOST};
 ghost use Rattle.resource_table.specs.Resources.{step_end as step_end_of, draws_from, StepsFit};
@@ -188,4 +188,16 @@ pub fn after_power(
         return after_only(points, limit, steps[0], length, start, last);
     }
     after_steps(points, limit, steps, length, start, last)
+}
+
+/// Whether no step draws more than so much.
+pub fn are_low(steps: &[(u64, u64)], most: u64) -> bool
+    ensures { result ≡ true → (k : ℕ) → k < length_of steps.now → (slice_index_or steps.now k (0, 0)).1 ≤ most }
+{
+    for place in 0..steps.len() {
+        if steps[place].1 > most {
+            return false;
+        }
+    }
+    true
 }

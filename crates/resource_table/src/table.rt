@@ -2,17 +2,19 @@
 ghost use Rattle.std.specs.Prelude.{◌≡◌, ℕ, ◌+◌, ◌-◌, ◌^◌, ◌<◌, ◌≤◌, ◌++◌, ◌∷◌, [], List, length, map, take, Some, slice_get, replicate, None, IfOk, ◌⊎◌, ◌*◌, vec_capacity, slice_index_or, unwrap_or, IfSome};
 ghost use Rattle.std.specs.List.{All, Contains, sum_by};
 ghost use Rattle.plan_model.specs.declared.TheConstants.{WIRES_MOST};
+ghost use Rattle.resource_table.specs.Calm.{IsCalm};
 ghost use Rattle.resource_table.specs.declared.JobTest.{JobTest};
 ghost use Rattle.resource_table.specs.declared.Placement.{Placement};
 ghost use Rattle.resource_table.specs.Jobs.{TestValue, test_value, job_value, cycles_of, test_over, tests_over, job_over, Precedes, IsSoundJob};
 ghost use Rattle.resource_table.specs.Schedules.{TableValue, at_start, end_of, last_end as last_end_of, ready_at, is_placed as is_placed_in, MeetsNone, StaysWithin, ComesAfter, Fits, IsEarliest, MayPlace, IsSoundTable};
 
 use crate::copies::copy_job;
+use crate::crowds::calm_end;
 use crate::earlier::{Before, all_before, earlier_than};
 use crate::empty_times::empty_times;
-use crate::history::{History, back, forget, mark, new_history, raise};
+use crate::history::{History, Note, back, forget, mark, new_history, renew};
 use crate::points::Point;
-use crate::power::{Draw, after_power, push_draws};
+use crate::power::{Draw, after_power, are_low, push_draws};
 use crate::profile::{add_drawn, take_drawn};
 use crate::timelines::{Span, Timelines, add_time, after_busy, remove_time};
 use crate::{Job, JobTest, Placement};
@@ -293,13 +295,11 @@ impl<J> TableOf<J> {
         ensures most { result ≤ last_end_of self.now.job self.now.placed }
         ensures least { (other : ℕ) → Fits self.now.job self.now.placed test other → result ≤ other }
     {
-        self.ready(test).max(self.bounds.values[test])
+        self.ready(test).max(self.bounds.values[test].start)
     }
 
-    /// The least start at which a test fits beside the placed tests: at no cycle it meets a test of its bus, of its
-    /// module, of that one's direct parent or of a direct child, the power stays within the limit, and the placed tests
-    /// that precede it have ended. It is the end of the last placed test at the latest.
-    pub fn earliest(&self, test: usize) -> u64
+    /// The least start at which a test fits beside the placed tests, by what they take.
+    fn sought_start(&self, test: usize) -> u64
         requires in_job { test < length self.now.job.tests }
         ensures earliest { IsEarliest self.now.job self.now.placed test result }
         ensures at_last { result ≤ last_end_of self.now.job self.now.placed }
@@ -321,6 +321,72 @@ impl<J> TableOf<J> {
         }
     }
 
+    /// One more than how many tests are placed.
+    fn depth(&self) -> usize
+        ensures depth { result ≡ length self.now.placed + 1 }
+        ensures sound { IsSoundTable self.now }
+    {
+        self.trail.len() + 1
+    }
+
+    /// What is noted of a test.
+    fn note_of(&self, test: usize) -> Note
+        requires in_job { test < length self.now.job.tests }
+        ensures found { result.depth ≡ length self.now.placed + 1 → IsEarliest self.now.job self.now.placed test result.start }
+        ensures at_last { result.depth ≡ length self.now.placed + 1 → result.start ≤ last_end_of self.now.job self.now.placed }
+        ensures sound { IsSoundTable self.now }
+    {
+        self.bounds.values[test]
+    }
+
+    /// The least start at which a test fits beside the placed tests: at no cycle it meets a test of its bus, of its
+    /// module, of that one's direct parent or of a direct child, the power stays within the limit, and the placed tests
+    /// that precede it have ended. It is the end of the last placed test at the latest.
+    pub fn earliest(&self, test: usize) -> u64
+        requires in_job { test < length self.now.job.tests }
+        ensures earliest { IsEarliest self.now.job self.now.placed test result }
+        ensures at_last { result ≤ last_end_of self.now.job self.now.placed }
+        ensures sound { IsSoundTable self.now }
+    {
+        let note = self.note_of(test);
+        if note.depth == self.depth() {
+            return note.start;
+        }
+        self.sought_start(test)
+    }
+
+    /// A cycle from which on a test fits within the limit on power beside the placed tests, whatever it is, if none of its steps draws
+    /// more than so much. It is the end of the last placed test at the latest.
+    pub fn calm_from(&self, most: u64) -> u64
+        ensures calm { IsCalm self.now.job self.now.placed most result }
+        ensures at_last { result ≤ last_end_of self.now.job self.now.placed }
+        ensures sound { IsSoundTable self.now }
+    {
+        let last = self.last();
+        let Some(limit) = self.own.power else {
+            return last;
+        };
+        calm_end(&self.points, limit.saturating_sub(most), last)
+    }
+
+    /// A start at which a test fits beside the placed tests. It is found without a look at what they draw: from a calm cycle on, if
+    /// none of its steps draws more than that leaves free; else it is the end of the last placed test.
+    pub fn calm_start(&self, test: usize, most: u64, calm: u64) -> u64
+        requires in_job { test < length self.now.job.tests }
+        requires calm { IsCalm self.now.job self.now.placed most calm }
+        requires at_last { calm ≤ last_end_of self.now.job self.now.placed }
+        ensures fits { Fits self.now.job self.now.placed test result }
+        ensures at_last { result ≤ last_end_of self.now.job self.now.placed }
+        ensures sound { IsSoundTable self.now }
+    {
+        let last = self.last();
+        if !are_low(&self.own.tests[test].power, most) {
+            return last;
+        }
+        let first = self.ready(test).max(calm);
+        self.after_times(test, first, last)
+    }
+
     /// Where a test ends if it starts at the least start at which it fits beside the placed tests.
     pub fn end_now(&self, test: usize) -> u64
         requires in_job { test < length self.now.job.tests }
@@ -338,7 +404,8 @@ impl<J> TableOf<J> {
         ensures sound { IsSoundTable self.new }
     {
         let start = self.earliest(test);
-        raise(&mut self.bounds, test, start);
+        let depth = self.depth();
+        renew(&mut self.bounds, test, Note { start, depth });
         start
     }
 

@@ -186,6 +186,7 @@ fn no_progress(alloc: Global, tests: usize) -> Result<Progress, NoMemory>
         cycles: 0,
         entered: 0,
         refused: false,
+        late: 0,
     })
 }
 

@@ -1,5 +1,5 @@
 // The order in which tests are tried, and what each test waits for.
-ghost use Rattle.std.specs.Prelude.{◌≡◌, [], map, IfOk};
+ghost use Rattle.std.specs.Prelude.{◌≡◌, ◌≤◌, [], map, IfOk};
 ghost use Rattle.resource_table.specs.Jobs.{job_value, IsSoundJob};
 ghost use Rattle.resource_table.specs.Befores.{listed};
 ghost use Rattle.schedule_search.specs.Walks.{by_length as by_length_of};
@@ -9,7 +9,7 @@ ghost use Rattle.schedule_search.specs.declared.tries.Turn.{Turn};
 
 use crate::order::cycles_at;
 use outside::{NoMemory, push};
-use resource_table::{Before, Job, all_before};
+use resource_table::{Before, Job, JobTest, all_before};
 use std::alloc::Global;
 use std::cmp::Reverse;
 
@@ -22,6 +22,8 @@ pub(crate) struct Tries {
     pub(crate) after: Vec<Before>,
     /// For each test how many precedences it has.
     pub(crate) missing: Vec<usize>,
+    /// The greatest power of a step of a test.
+    pub(crate) most: u64,
     /// How many prefixes of orders may be entered.
     pub(crate) budget: u64,
 }
@@ -101,6 +103,26 @@ fn count_before(alloc: Global, job: &Job) -> Result<Vec<usize>, NoMemory>
     Ok(missing)
 }
 
+/// The greatest power of some steps, or so much where none is greater.
+fn greater_power(steps: &[(u64, u64)], most: u64) -> u64
+    ensures { most ≤ result }
+{
+    let mut greatest: u64 = most;
+    for step in steps {
+        greatest = greatest.max(step.1);
+    }
+    greatest
+}
+
+/// The greatest power of a step of some tests, 0 where there is none. A walk takes it for a hint: any number would do.
+fn most_power(tests: &[JobTest]) -> u64 {
+    let mut most: u64 = 0;
+    for test in tests {
+        most = greater_power(&test.power, most);
+    }
+    most
+}
+
 /// What the walk over the orders of a job goes by. `NoMemory` where there is none.
 pub(crate) fn tries_of(alloc: Global, job: &Job, budget: u64) -> Result<Tries, NoMemory>
     requires { IsSoundJob (job_value job.now) }
@@ -111,6 +133,7 @@ pub(crate) fn tries_of(alloc: Global, job: &Job, budget: u64) -> Result<Tries, N
         tests: by_length(alloc, job)?,
         after: all_after(alloc, job)?,
         missing: count_before(alloc, job)?,
+        most: most_power(&job.tests),
         budget,
     })
 }

@@ -1,7 +1,8 @@
 // The walk over the orders of a job, depth first, within a budget of prefixes that are entered.
-ghost use Rattle.std.specs.Prelude.{◌≡◌, ℕ, ◌+◌, ◌-◌, ◌<◌, ◌≤◌, ◌++◌, ◌∷◌, [], true, false, length, vec_capacity};
+ghost use Rattle.std.specs.Prelude.{◌≡◌, ℕ, ◌+◌, ◌-◌, ◌<◌, ◌≤◌, ◌++◌, ◌∷◌, [], true, false, length, vec_capacity, IfSome};
 ghost use Rattle.resource_table.specs.Jobs.{job_value, cycles_of};
 ghost use Rattle.resource_table.specs.Schedules.{last_end, ready_at, IsEarliest, IsSoundTable};
+ghost use Rattle.resource_table.specs.Calm.{IsCalm};
 ghost use Rattle.schedule_search.specs.Estimates.{CanAsk};
 ghost use Rattle.schedule_search.specs.OrderCycles.{HasPlaced};
 ghost use Rattle.schedule_search.specs.Walks.{is_in, may_follow, walk_from, IsOpen};
@@ -27,6 +28,8 @@ pub(crate) struct Progress {
     pub(crate) entered: u64,
     /// Whether a prefix was refused.
     pub(crate) refused: bool,
+    /// The test that was late last, where one was.
+    pub(crate) late: usize,
 }
 
 /// Enters one prefix more, where the budget isn't spent; else notes the refusal.
@@ -80,9 +83,112 @@ fn ends_late<J, E: Estimate<J>>(
     ahead.ask(table, test) >= cycles
 }
 
+/// Whether a test is left that ends, by its estimate, as late as so many cycles, or later. Any number may be asked of. It isn't
+/// looked at where the test takes fewer cycles than are left behind the last placed one.
+fn asks_late<J, E: Estimate<J>>(
+    job: &Job,
+    ahead: &E,
+    table: &mut TableOf<J>,
+    test: usize,
+    left: u64,
+    cycles: u64,
+) -> bool
+    requires job { table.old.job ≡ job_value job.now }
+    requires estimates { E.estimates ahead.now }
+    requires sound { IsSoundTable table.old }
+    ensures late { result ≡ true → IsLateAt table.old cycles }
+    ensures same { table.new ≡ table.old }
+{
+    if test >= job.tests.len() {
+        return false;
+    }
+    if cycles_at(job, test) < left {
+        return false;
+    }
+    if table.is_placed(test) {
+        return false;
+    }
+    ends_late(job, ahead, table, test, cycles)
+}
+
+/// After so many tests that were asked of, it pays to see from which cycle on little power is drawn.
+const MANY: usize = 16;
+
+/// A cycle from which on each test fits within the limit on power that draws no more than so much, if it was looked for: that is done
+/// under such a limit, as soon as many tests were asked of.
+fn calm_after<J>(
+    job: &Job,
+    table: &TableOf<J>,
+    asked: usize,
+    calm: Option<u64>,
+    most: u64,
+) -> Option<u64>
+    requires calm { IfSome calm (IsCalm table.now.job table.now.placed most) }
+    requires at_last { IfSome calm (λ from. from ≤ last_end table.now.job table.now.placed) }
+    ensures calm { IfSome result (IsCalm table.now.job table.now.placed most) }
+    ensures at_last { IfSome result (λ from. from ≤ last_end table.now.job table.now.placed) }
+{
+    if asked != MANY {
+        return calm;
+    }
+    if job.power.is_none() {
+        return calm;
+    }
+    Some(table.calm_from(most))
+}
+
+/// Whether a test ends before so many cycles if it starts from a calm cycle on.
+fn is_in_time<J>(
+    job: &Job,
+    table: &TableOf<J>,
+    test: usize,
+    most: u64,
+    calm: Option<u64>,
+    cycles: u64,
+) -> bool
+    requires job { table.now.job ≡ job_value job.now }
+    requires in_job { test < length table.now.job.tests }
+    requires calm { IfSome calm (IsCalm table.now.job table.now.placed most) }
+    requires at_last { IfSome calm (λ from. from ≤ last_end table.now.job table.now.placed) }
+    ensures { result ≡ true → ready_at table.now.job table.now.placed test + cycles_of table.now.job test < cycles }
+{
+    let Some(from) = calm else {
+        return false;
+    };
+    let start = table.calm_start(test, most, from);
+    start < cycles.saturating_sub(cycles_at(job, test))
+}
+
+/// Whether a test that isn't placed ends, by its estimate, as late as so many cycles, or later. Where it is in time from a calm
+/// cycle on, it isn't asked where it fits first.
+fn ends_late_after<J, E: Estimate<J>>(
+    job: &Job,
+    ahead: &E,
+    table: &mut TableOf<J>,
+    test: usize,
+    most: u64,
+    calm: Option<u64>,
+    cycles: u64,
+) -> bool
+    requires job { table.old.job ≡ job_value job.now }
+    requires estimates { E.estimates ahead.now }
+    requires asked { CanAsk table.old test }
+    requires calm { IfSome calm (IsCalm table.old.job table.old.placed most) }
+    requires at_last { IfSome calm (λ from. from ≤ last_end table.old.job table.old.placed) }
+    ensures late { result ≡ true → (start : ℕ) → IsEarliest table.old.job table.old.placed test start → cycles ≤ start + cycles_of table.old.job test }
+    ensures in_time { result ≡ false → ready_at table.old.job table.old.placed test + cycles_of table.old.job test < cycles }
+    ensures same { table.new ≡ table.old }
+{
+    if is_in_time(job, table, test, most, calm, cycles) {
+        return false;
+    }
+    ends_late(job, ahead, table, test, cycles)
+}
+
 /// Whether one of some tests ends, by its estimate, as late as so many cycles, or later. The tests are those that aren't
 /// placed, longest first. Each starts at the end of the last placed test at the latest, and so the look ends at the first
-/// of them that is in time even then.
+/// of them that is in time even then. The one that was late last is asked of first: it often is again. After many, one that
+/// is in time even from a calm cycle on isn't asked of.
 fn is_late<J, E: Estimate<J>>(
     job: &Job,
     ahead: &E,
@@ -90,6 +196,8 @@ fn is_late<J, E: Estimate<J>>(
     rest: &[usize],
     end: u64,
     cycles: u64,
+    most: u64,
+    late: &mut usize,
 ) -> bool
     requires job { table.old.job ≡ job_value job.now }
     requires estimates { E.estimates ahead.now }
@@ -101,11 +209,17 @@ fn is_late<J, E: Estimate<J>>(
     ensures same { table.new ≡ table.old }
 {
     let left = cycles.saturating_sub(end);
-    for test in rest {
+    if asks_late(job, ahead, table, *late, left, cycles) {
+        return true;
+    }
+    let mut calm = None;
+    for (asked, test) in rest.iter().enumerate() {
         if cycles_at(job, *test) < left {
             return false;
         }
-        if ends_late(job, ahead, table, *test, cycles) {
+        calm = calm_after(job, table, asked, calm, most);
+        if ends_late_after(job, ahead, table, *test, most, calm, cycles) {
+            *late = *test;
             return true;
         }
     }
@@ -242,7 +356,16 @@ pub(crate) fn explore<J, E: Estimate<J>>(
         offer(progress, &prefix.tests, end);
         return;
     }
-    if is_late(job, ahead, table, &prefix.rest, end, progress.cycles) {
+    if is_late(
+        job,
+        ahead,
+        table,
+        &prefix.rest,
+        end,
+        progress.cycles,
+        tries.most,
+        &mut progress.late,
+    ) {
         return;
     }
     let count = prefix.rest.len();

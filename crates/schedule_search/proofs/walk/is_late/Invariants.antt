@@ -1,9 +1,14 @@
-use Rattle.std.proofs.Common.{◌≡◌}
+use Rattle.std.proofs.Common.{◌≡◌, ◌≤◌}
+use Rattle.std.specs.Prelude.{IfSome}
+use Rattle.resource_table.specs.Calm.{IsCalm}
+use Rattle.resource_table.specs.Schedules.{last_end}
 use Rattle.schedule_search.proofs.Lateness.{AreInTimeBelow}
 use Rattle.schedule_search.proofs.walk.is_late.Given as goal
 
-abbrev pub invariant-loop-test : goal.invariant-loop-test
-invariant-loop-test g l = record {
+abbrev pub invariant-loop-asked : goal.invariant-loop-asked
+invariant-loop-asked g l = record {
   same : l.table ≡ l.fn.table;
-  below : AreInTimeBelow l.fn.table l.rest l.test-index l.cycles;
+  below : AreInTimeBelow l.fn.table l.rest l.asked l.cycles;
+  calm : IfSome l.calm (IsCalm l.fn.table.job l.fn.table.placed l.most);
+  at_last : IfSome l.calm (λ from. from ≤ last_end l.fn.table.job l.fn.table.placed);
 }

@@ -13,7 +13,7 @@ pub returns-clause-most : goal.returns-clause-most
 returns-clause-most g c =
     let inside = subst (λ (t : TableValue). c.args.test < length t.job.tests) (sym c.self.view_is) c.requires.in_job in
     let fits = fits_at_last (job_value c.self.inside.own) c.self.inside.trail.items c.args.test c.self.invariant.0.sound.job inside in
-    let most : c.index.result.now ≤ last_end c.args.self.now.job c.args.self.now.placed = subst (λ (t : TableValue). c.index.result.now ≤ last_end t.job t.placed) c.self.view_is
+    let most : c.index.result.now.start ≤ last_end c.args.self.now.job c.args.self.now.placed = subst (λ (t : TableValue). c.index.result.now.start ≤ last_end t.job t.placed) c.self.view_is
     (noted (job_value c.self.inside.own) c.self.inside.trail.items c.self.inside.bounds c.self.invariant.4 c.args.test (last_end (job_value c.self.inside.own) c.self.inside.trail.items) c.index.result.now inside fits c.index.ensures) in
     omega (arith, most, c.ready.ensures.most, c.max.ensures)
 

@@ -1,4 +1,5 @@
-use Rattle.std.proofs.Common.{◌<◌, length, sym, subst}
+use Rattle.std.proofs.Common.{◌≡◌, ◌<◌, ◌+◌, length, sym, subst}
+use Rattle.resource_table.specs.declared.history.Note.{Note}
 use Rattle.resource_table.specs.Jobs.{job_value}
 use Rattle.resource_table.specs.Schedules.{TableValue, IsEarliest}
 use Rattle.resource_table.proofs.Bounds.{bounded_note}
@@ -12,5 +13,6 @@ invariant_of-self g c =
       c.self.invariant.1,
       c.self.invariant.2,
       c.self.invariant.3,
-      bounded_note (job_value c.self.inside.own) c.self.inside.trail.items c.self.inside.bounds c.raise.new.history c.args.test c.earliest-start.result c.self.invariant.4 c.raise.ensures.history inside earliest c.raise.ensures.values c.raise.ensures.past c.raise.ensures.marks,
+      bounded_note (job_value c.self.inside.own) c.self.inside.trail.items c.self.inside.bounds c.renew.new.history c.args.test (let n : Note = record { start = c.earliest-start.result; depth = c.depth-depth.result } in n) c.self.invariant.4 c.renew.ensures.history inside earliest
+          (subst (λ (t : TableValue). c.depth-depth.result ≡ length t.placed + 1) (sym c.self.view_is) c.depth-depth.ensures.depth) c.renew.ensures.values c.renew.ensures.past c.renew.ensures.marks,
     )

@@ -2,7 +2,7 @@ use Rattle.std.proofs.Common.{List, length, drop, set, ap, ◌∙◌}
 use Rattle.resource_table.specs.declared.history.Change.{Change}
 use Rattle.resource_table.specs.Histories.{at_change, rewound}
 use Rattle.resource_table.proofs.Rewinding.{raised_back, same_past}
-use Rattle.resource_table.proofs.history.raise.Goals as goal
+use Rattle.resource_table.proofs.history.renew.Goals as goal
 
 pub returns-then-len-capacity-clause-past : goal.returns-then-len-capacity-clause-past
 returns-then-len-capacity-clause-past c =

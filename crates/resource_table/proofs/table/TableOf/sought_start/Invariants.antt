@@ -1,6 +1,6 @@
 use Rattle.std.proofs.Common.{ℕ, ◌-◌, ◌≤◌}
 use Rattle.resource_table.specs.Schedules.{Fits, ComesAfter, MeetsNone}
-use Rattle.resource_table.proofs.table.TableOf.earliest.Given as goal
+use Rattle.resource_table.proofs.table.TableOf.sought_start.Given as goal
 
 abbrev pub invariant-starts : goal.invariant-starts
 invariant-starts g l = record {

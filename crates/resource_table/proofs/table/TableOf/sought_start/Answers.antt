@@ -1,6 +1,6 @@
 use Rattle.std.proofs.Common.{arith, subst}
 use Rattle.resource_table.specs.Schedules.{MeetsNone, StaysWithin}
-use Rattle.resource_table.proofs.table.TableOf.earliest.Goals as goal
+use Rattle.resource_table.proofs.table.TableOf.sought_start.Goals as goal
 
 pub starts-init : goal.starts-init
 starts-init g c =
