@@ -24,4 +24,3 @@ pub mod PrintedAnswers
 pub mod RoundCycles
 pub mod RanksOrCycles
 pub mod EachText
-pub mod ProfilePlaces

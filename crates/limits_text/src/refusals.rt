@@ -4,11 +4,13 @@ ghost use Rattle.soc_model.specs.Chips.{soc_value, module_value, live_of, live_t
 ghost use Rattle.plan_model.specs.declared.Profile.{Profile};
 ghost use Rattle.plan_model.specs.Views.{limits_value, profile_value};
 ghost use Rattle.limits_text.specs.Meaning.{is_known as is_in_chip, unknown_line as unknown_line_of, first_line, powers_named, NonePasses, IsFirstPassing};
-ghost use Rattle.limits_text.specs.Passing.{live_at, passing, first_passing, AreProfilePlaces};
+ghost use Rattle.live_tests.specs.Profiles.{AreProfilePlaces};
+ghost use Rattle.limits_text.specs.Passing.{live_at, passing, first_passing};
 ghost use Rattle.limits_text.specs.Views.{item_of};
 
 use crate::items::Item;
 use indexmap::IndexMap;
+use live_tests::{profile_place, profile_places};
 use outside::NoMemory;
 use plan_model::{Limits, Profile};
 use soc_model::{Module, Soc, Test, TestId, find_test, live};
@@ -56,29 +58,6 @@ pub fn first_unknown(soc: &Soc, list: &[Item]) -> Option<u64>
         }
     }
     None
-}
-
-/// The place of the profile of each test that has one, by the test's name; of more than one the first.
-fn profile_places(alloc: Global, profiles: &[Profile]) -> Result<IndexMap<TestId, usize>, NoMemory>
-    ensures { IfOk result (λ places. AreProfilePlaces places profiles.now) }
-{
-    let mut places = IndexMap::new(alloc);
-    for place in (0..profiles.len()).rev() {
-        places.insert(profiles[place].test, place)?;
-    }
-    Ok(places)
-}
-
-/// The place of the profile of a test.
-fn profile_place(
-    profiles: &[Profile],
-    places: &IndexMap<TestId, usize>,
-    id: TestId,
-) -> Option<usize>
-    requires { AreProfilePlaces places.now profiles.now }
-    ensures { result ≡ position (λ (p : Profile). same_test p.test id) profiles.now }
-{
-    places.get(&id).copied()
 }
 
 /// The powers of the steps of a profile: the first that passes the limit.
