@@ -15,15 +15,14 @@ use Rattle.plan_model.specs.declared.moments.Turn.{Turn}
 use Rattle.plan_model.specs.Cells as cells
 use Rattle.plan_model.specs.Cells.{chain_cells, out_length}
 use Rattle.plan_model.specs.declared.moments.Moment.{Moment}
-use Rattle.plan_model.specs.declared.Bus.{Bus}
 use Rattle.plan_model.specs.declared.Wrapper.{Wrapper}
 use Rattle.plan_model.specs.Moments.{ArePhases, IsMoment, moment_behind, phase_ops, turn_value}
 use Rattle.plan_model.specs.Operations.{Shift, Capture, ops_of}
-use Rattle.plan_model.specs.Plans.{BusValue, WrapperValue, PlanValue, PlannedTest, planned, uses, widths}
+use Rattle.plan_model.specs.Plans.{WrapperValue, PlanValue, PlannedTest, planned, uses, widths}
 use Rattle.plan_model.specs.Right.{IsAt, IsReadAt, IsRight}
 use Rattle.plan_model.specs.Rules.{IsGoodAlone, bare_limits}
 use Rattle.plan_model.specs.Runs.{Content, chain_at, operation_at}
-use Rattle.plan_model.specs.Views.{bus_value, chain_value, wrapper_value}
+use Rattle.plan_model.specs.Views.{chain_value, wrapper_value}
 use Rattle.plan_model.proofs.ChainsInTheRun.{AreApart, uses_wire}
 use Rattle.plan_model.proofs.GoodPlansRunRight.{every_good_plan_is_right}
 use Rattle.plan_model.proofs.LoadsAndReads.{at_start_plus, begun_at, chain_is}
@@ -307,10 +306,6 @@ chains_at soc plan u t is m at ws w are here =
     let own : from.0 ≡ w = sym (get_or_from_slice_get ws t.wrapper from.0 w from.1) ∙ sym here in
     let wrapper : v.wrapper ≡ wrapper_value w = sym from.2 ∙ ap wrapper_value own in
     v.chains ∙ ap (λ (m : ModuleValue). chain_cells m v.wrapper.scan v.wrapper.chains) core ∙ ap (λ (x : WrapperValue). chain_cells m x.scan x.chains) wrapper
-
-pub widths_are : (buses : List Bus) → map (λ (b : Bus). b.width) buses ≡ map (λ (b : BusValue). b.width) (map bus_value buses)
-widths_are [] = refl
-widths_are (b ∷ buses) = ap (λ v. b.width ∷ v) (widths_are buses)
 
 -- ---- at most one
 

@@ -24,5 +24,4 @@ pub mod PrintedAnswers
 pub mod RoundCycles
 pub mod RanksOrCycles
 pub mod EachText
-pub mod ProfilePlaces
 pub mod Noting

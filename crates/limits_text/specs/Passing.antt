@@ -1,11 +1,8 @@
 -- How the first live test that passes the limit on power is sought: test by test, up to the first with such a power.
-use Rattle.std.specs.Prelude.{◌≡◌, ℕ, List, [], ◌∷◌, Option, None, option_map, find, position, nat_lt}
-use Rattle.std.specs.Map.{lookup}
-use Rattle.indexmap.specs.IndexMap.{IndexMap}
+use Rattle.std.specs.Prelude.{◌≡◌, ℕ, List, [], ◌∷◌, Option, None, option_map, find, nat_lt}
 use Rattle.soc_model.specs.declared.Test.{Test}
 use Rattle.soc_model.specs.declared.TestId.{TestId}
-use Rattle.soc_model.specs.Chips.{ModuleValue, LiveTest, id_of, same_test}
-use Rattle.plan_model.specs.declared.Profile.{Profile}
+use Rattle.soc_model.specs.Chips.{ModuleValue, LiveTest, id_of}
 use Rattle.plan_model.specs.Plans.{ProfileValue}
 use Rattle.limits_text.specs.Meaning.{or_first, powers_of}
 
@@ -21,7 +18,3 @@ passing profiles most l = option_map (λ (power : ℕ). (id_of l, power)) (find 
 abbrev pub first_passing : List ProfileValue → (most : ℕ) → List LiveTest → Option (TestId × ℕ)
 first_passing profiles most [] = None
 first_passing profiles most (l ∷ tests) = or_first (passing profiles most l) (first_passing profiles most tests)
-
--- by its test's name a profile is found at the place of the first one of that name
-abbrev pub AreProfilePlaces : {S : Type 0} → IndexMap TestId ℕ S → List Profile → Type 0
-AreProfilePlaces places profiles = (id : TestId) → lookup (same_test id) places.entries ≡ position (λ (p : Profile). same_test p.test id) profiles

@@ -1,39 +1,17 @@
 // What a chip refuses of limits: powers that pass the limit.
-ghost use Rattle.std.specs.Prelude.{◌≡◌, ℕ, ◌∷◌, [], map, find, position, nat_lt, IfOk, MatchOption};
-ghost use Rattle.soc_model.specs.Chips.{soc_value, module_value, live_of, live_tests, same_test};
-ghost use Rattle.plan_model.specs.declared.Profile.{Profile};
+ghost use Rattle.std.specs.Prelude.{◌≡◌, ℕ, ◌∷◌, [], map, find, nat_lt, IfOk, MatchOption};
+ghost use Rattle.soc_model.specs.Chips.{soc_value, module_value, live_of, live_tests};
 ghost use Rattle.plan_model.specs.Views.{limits_value, profile_value};
+ghost use Rattle.live_tests.specs.Profiles.{AreProfilePlaces};
 ghost use Rattle.limits_text.specs.Meaning.{powers_named, NonePasses, IsFirstPassing};
-ghost use Rattle.limits_text.specs.Passing.{live_at, passing, first_passing, AreProfilePlaces};
+ghost use Rattle.limits_text.specs.Passing.{live_at, passing, first_passing};
 
 use indexmap::IndexMap;
+use live_tests::{profile_place, profile_places};
 use outside::NoMemory;
 use plan_model::{Limits, Profile};
 use soc_model::{Module, Soc, Test, TestId, live};
 use std::alloc::Global;
-
-/// The place of the profile of each test that has one, by the test's name; of more than one the first.
-fn profile_places(alloc: Global, profiles: &[Profile]) -> Result<IndexMap<TestId, usize>, NoMemory>
-    ensures { IfOk result (λ places. AreProfilePlaces places profiles.now) }
-{
-    let mut places = IndexMap::new(alloc);
-    for place in (0..profiles.len()).rev() {
-        places.insert(profiles[place].test, place)?;
-    }
-    Ok(places)
-}
-
-/// The place of the profile of a test.
-fn profile_place(
-    profiles: &[Profile],
-    places: &IndexMap<TestId, usize>,
-    id: TestId,
-) -> Option<usize>
-    requires { AreProfilePlaces places.now profiles.now }
-    ensures { result ≡ position (λ (p : Profile). same_test p.test id) profiles.now }
-{
-    places.get(&id).copied()
-}
 
 /// The powers of the steps of a profile: the first that passes the limit.
 fn passing_step(steps: &[(u64, u64)], most: u64) -> Option<u64>

@@ -4,4 +4,6 @@ pub mod Placing
 pub mod Sides
 pub mod NamesPut
 pub mod Indexed
+pub mod ProfilePlaces
+pub mod BusWidths
 pub mod FoundWrappers

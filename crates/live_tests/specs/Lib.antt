@@ -3,3 +3,4 @@ pub mod Placed
 pub mod Neighbours
 pub mod Index
 pub mod Wrapped
+pub mod Profiles

@@ -15,6 +15,7 @@ ghost use Rattle.live_tests.specs.Names.{both_places, names_in, places_of};
 mod index;
 mod neighbours;
 mod placed;
+mod profiles;
 mod wrapped;
 
 pub use index::PlanIndex;
@@ -22,6 +23,7 @@ use indexmap::IndexMap;
 pub use neighbours::{Neighbours, all_after};
 use outside::{NoMemory, push};
 pub use placed::{PlacedTest, PlacedTests, PlannedChip, first_wire, placed_test};
+pub use profiles::{profile_place, profile_places};
 use soc_model::{Module, Soc, TestId, live};
 use std::alloc::Global;
 use std::marker::Model;

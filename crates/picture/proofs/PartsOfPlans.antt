@@ -5,11 +5,9 @@ use Rattle.std.proofs.lemmas.Option.{slice_get_within, get_or_from_slice_get}
 use Rattle.std.proofs.Math.Path.{fun_ext}
 use Rattle.soc_model.specs.Chips.{SocValue}
 use Rattle.soc_model.proofs.Sums.{sum_by-map}
-use Rattle.plan_model.specs.declared.Bus.{Bus}
-use Rattle.plan_model.specs.Plans.{BusValue, PlanValue, LimitsValue, PlannedTest, ProfileValue, planned, end_of, greatest, is_active, power_at, power_of}
+use Rattle.plan_model.specs.Plans.{PlanValue, LimitsValue, PlannedTest, ProfileValue, planned, end_of, greatest, is_active, power_at, power_of}
 use Rattle.plan_model.specs.Rules.{IsGood, Cycles, Power}
 use Rattle.plan_model.specs.SoundLimits.{IsSoundLimits, IsSoundProfile, Grow}
-use Rattle.plan_model.specs.Views.{bus_value}
 use Rattle.plan_model.proofs.Greatest.{le-greatest_at}
 use Rattle.plan_model.proofs.Lists.{from_map}
 use Rattle.plan_model.proofs.Sums.{sum_by-filter}
@@ -23,11 +21,6 @@ use Rattle.picture.specs.Panels.{below, wires_panel}
 use Rattle.picture.specs.PictureText.{bottom_of, inner_text, lanes_of, lanes_text, limit_text, lines_text, load_text, plan_steps, power_text, self_tests, wires_text}
 use Rattle.picture.specs.Rectangles.{bus_wires, laned, wired}
 use Rattle.picture.proofs.Joining.{behind}
-
--- the widths of buses, seen both ways
-pub widths_are : (bs : List Bus) → map (λ (b : Bus). b.width) bs ≡ map (λ (b : BusValue). b.width) (map bus_value bs)
-widths_are [] = refl
-widths_are (b ∷ bs) = ap (λ ws. b.width ∷ ws) (widths_are bs)
 
 -- no test ends after the plan
 pub ends_by : (soc : SocValue) (limits : LimitsValue) (plan : PlanValue) → IsGood soc limits plan → (i : ℕ) (t : PlacedTest) → slice_get (placed_tests soc plan) i ≡ Some t → (t.start ≤ t.end) × (t.end ≤ plan.cycles)

@@ -12,7 +12,8 @@ use Rattle.power_events.specs.Loads.{drawn_by, load_steps}
 use Rattle.picture.specs.Panels.{below, lanes_panel}
 use Rattle.picture.specs.PictureText.{bottom_of, lanes_of, self_tests}
 use Rattle.picture.specs.Rectangles.{by_start, is_self, lane_ends, laned, wired, wires_from}
-use Rattle.picture.proofs.PartsOfPlans.{drawn_within, ends_by, has_steps, steps_are, widths_are}
+use Rattle.live_tests.proofs.BusWidths.{widths_are}
+use Rattle.picture.proofs.PartsOfPlans.{drawn_within, ends_by, has_steps, steps_are}
 use Rattle.picture.proofs.parts_of.Goals as goal
 
 pub new-requires-clause-good : goal.new-requires-clause-good

@@ -4,7 +4,7 @@ use Rattle.plan_model.specs.declared.Bus.{Bus}
 use Rattle.plan_model.specs.Plans.{planned}
 use Rattle.plan_model.specs.Views.{plan_value}
 use Rattle.fail_locate.specs.Locating.{AreFirsts}
-use Rattle.fail_locate.proofs.FoundSpots.{widths_are}
+use Rattle.live_tests.proofs.BusWidths.{widths_are}
 use Rattle.fail_locate.proofs.KeptTests.{in_order}
 use Rattle.fail_locate.proofs.locator.Locator.new.Goals as goal
 

@@ -3,8 +3,8 @@ use Rattle.std.specs.List.{position_from}
 use Rattle.std.specs.Map.{lookup}
 use Rattle.soc_model.specs.declared.TestId.{TestId}
 use Rattle.soc_model.specs.Chips.{same_test}
-use Rattle.limits_text.proofs.ProfilePlaces.{names_of, profiles_more, profiles_all}
-use Rattle.limits_text.proofs.refusals.profile_places.Goals as goal
+use Rattle.live_tests.proofs.ProfilePlaces.{names_of, profiles_more, profiles_all}
+use Rattle.live_tests.proofs.profiles.profile_places.Goals as goal
 
 pub loop-place-preserved : goal.loop-place-preserved
 loop-place-preserved c =

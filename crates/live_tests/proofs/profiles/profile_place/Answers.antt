@@ -1,5 +1,5 @@
 use Rattle.std.proofs.Common.{◌∙◌}
-use Rattle.limits_text.proofs.refusals.profile_place.Goals as goal
+use Rattle.live_tests.proofs.profiles.profile_place.Goals as goal
 
 pub returns : goal.returns
 returns c = c.copied.ensures ∙ c.get.ensures.value ∙ c.requires c.args.id
