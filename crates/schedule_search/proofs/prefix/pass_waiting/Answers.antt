@@ -1,4 +1,4 @@
-use Rattle.std.proofs.Common.{◌≡◌, ◌∙◌, ◌+◌, ◌<◌, ℕ, List, length, get_or, set, refl, sym, subst, arith, rules}
+use Rattle.std.proofs.Common.{◌≡◌, ◌∙◌, ◌+◌, ◌<◌, ℕ, length, set, refl, sym, subst, arith, rules}
 use Rattle.std.proofs.lemmas.List.{length-set, get_or-set_other}
 use Rattle.schedule_search.specs.declared.prefix.Taken.{Taken}
 use Rattle.schedule_search.specs.Taken.{HasPassed}

@@ -1,6 +1,5 @@
 use Rattle.std.proofs.Common.{◌≡◌, ◌∙◌, ◌+◌, ◌<◌, ◌≤◌, ◌++◌, ◌∷◌, [], ℕ, List, length, refl, sym, ap, subst, arith}
 use Rattle.std.specs.Vec.{with_items}
-use Rattle.std.specs.List.{remove}
 use Rattle.std.proofs.lemmas.List.{with_items_is}
 use Rattle.std.proofs.lemmas.List.Edits.{length-remove}
 use Rattle.schedule_search.specs.Taken.{HasPassed}
