@@ -1,4 +1,4 @@
-use Rattle.std.proofs.Common.{◌≡◌, ◌∙◌, ◌+◌, ◌≤◌, ℕ, sym, ap, arith, ltb-true}
+use Rattle.std.proofs.Common.{◌≡◌, ◌∙◌, sym, ap, arith, ltb-true}
 use Rattle.resource_table.specs.Jobs.{JobValue, cycles_of}
 use Rattle.resource_table.proofs.Ready.{ready-least}
 use Rattle.schedule_search.proofs.walk.is_in_time.Goals as goal
