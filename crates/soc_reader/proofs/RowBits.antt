@@ -1,11 +1,14 @@
 -- The rows that were given of a subject, one bit each.
-use Rattle.std.proofs.Common.{◌≡◌, ◌∙◌, sym, ap, refl, ℕ, ◌≤◌, ◌^◌, ◌&&◌, ◌||◌, Bool, true, false, Option, None, Some, option_map, is_some, eqb, nat_eq, arith, inl, inr}
+use Rattle.std.proofs.Common.{◌≡◌, ◌∙◌, sym, ap, refl, ℕ, ◌≤◌, ◌^◌, ◌&&◌, ◌||◌, Bool, true, false, Option, None, Some, option_map, is_some, slice_get, cond, eqb, nat_eq, arith, inl, inr}
 use Rattle.std.specs.Prelude.{not, if◌then◌else◌}
 use Rattle.std.specs.Int.Bits.{bit_and, bit_or}
 use Rattle.std.proofs.lemmas.Grind.{common_steps}
 use Rattle.std.proofs.lemmas.Bool.{cases_Bool, eqb-true, ne_eqb}
+use Rattle.std.proofs.lemmas.Option.{same_Some, slice_get-map}
 use Rattle.std.proofs.lemmas.Nat.{and_or_self, and_or_apart, pow_apart, pow_pos}
-use Rattle.indexmap.specs.IndexMap.{IndexMap}
+use Rattle.std.specs.Cmp.{IsEquivalence, decided}
+use Rattle.indexmap.specs.IndexMap.{IndexMap, values, with_value_at, IsUnique}
+use Rattle.indexmap.proofs.CallerLemmas.{updates-with_value_at}
 use Rattle.soc_reader.specs.declared.keys.Given.{Given}
 use Rattle.soc_reader.specs.declared.keys.Subject.{Subject}
 use Rattle.soc_reader.specs.declared.keys.Subject.TheVariants.{Chip, OfModule, OfTest}
@@ -47,6 +50,17 @@ pub rows_known : {S : Type 0} (marks : IndexMap Subject ℕ S) (last subject : S
 rows_known marks last subject rows known same =
     let one : subject ≡ last = subject_same subject last (sym (same_turned last subject) ∙ same) in
     ap (λ v. bits_of marks v) one ∙ known
+
+subject_is : (s u : Subject) → is_same s u ≡ true → s ≡ u
+subject_is s u e = sym (subject_same u s (sym (same_turned s u) ∙ e))
+
+same_self : (s : Subject) → is_same s s ≡ true
+same_self Chip = refl
+same_self (OfModule n) = grind (arith, common_steps)
+same_self (OfTest n u) = grind (arith, common_steps)
+
+same_laws : IsEquivalence is_same
+same_laws = decided is_same (λ s u. (subject_is s u, λ e. sym (ap (λ v. is_same v u) (sym e)) ∙ same_self u))
 
 -- ---- rows
 
@@ -117,6 +131,33 @@ marked_first old new g bit is none next s k = ap (λ o. has_row o k) (next s) �
     or_none : (b : Bool) → b ≡ (b || false)
     or_none true = refl
     or_none false = refl
+
+-- one row more, written where the subject stands
+row_at : {S : Type 0} (old : IndexMap Subject ℕ S) (place rows bit : ℕ) (found subject : Subject) → IsUnique is_same old → slice_get old.entries place ≡ Some (found, rows) → bits_of old found ≡ Some rows → is_same found subject ≡ true →
+    (s : Subject) → bits_of (with_value_at old place (bit_or rows bit)) s ≡ with_row subject bit s (bits_of old s)
+row_at old place rows bit found subject unique at known same s =
+    let one : found ≡ subject = subject_is found subject same in
+    let there : slice_get old.entries place ≡ Some (subject, rows) = at ∙ ap (λ v. Some (v, rows)) one in
+    (updates-with_value_at old place (bit_or rows bit) same_laws unique subject rows there).0 s ∙ by (is_same subject s) refl
+  where
+    by : (b : Bool) → is_same subject s ≡ b → cond b (Some (bit_or rows bit)) (bits_of old s) ≡ (if b then option_map (λ bits. bit_or bits bit) (bits_of old s) else bits_of old s)
+    by false e = refl
+    by true e = sym (ap (option_map (λ bits. bit_or bits bit)) (ap (λ v. bits_of old v) (sym (subject_is found subject same ∙ subject_is subject s e)) ∙ known))
+
+abbrev rows_of : Subject × ℕ → ℕ
+rows_of e = e.1
+
+pub row_written : {S : Type 0} (old : IndexMap Subject ℕ S) (place written rows bit : ℕ) (found subject : Subject) (t : Bool) → IsUnique is_same old → Some (found, rows) ≡ slice_get old.entries place → bits_of old found ≡ Some rows →
+    Some written ≡ slice_get (values old) place → t ≡ is_same found subject → t ≡ true →
+    (s : Subject) → bits_of (with_value_at old place (bit_or written bit)) s ≡ with_row subject bit s (bits_of old s)
+row_written old place written rows bit found subject t unique at known back is yes' s =
+    let one : written ≡ rows = same_Some written rows (back ∙ slice_get-map rows_of old.entries place ∙ ap (option_map rows_of) (sym at)) in
+    ap (λ v. bits_of (with_value_at old place (bit_or v bit)) s) one ∙ row_at old place rows bit found subject unique (sym at) known (sym is ∙ yes') s
+
+-- what is noted goes by marks that are left as they were
+pub marked_left : {S : Type 0} (old left new : IndexMap Subject ℕ S) (g : Given) → left ≡ old → ((s : Subject) (k : Key) → is_marked s k new ≡ ((same_subject s g.subject && nat_eq (row k) (row g.key)) || is_marked s k left)) →
+    (s : Subject) (k : Key) → is_marked s k new ≡ ((same_subject s g.subject && nat_eq (row k) (row g.key)) || is_marked s k old)
+marked_left old left new g same next s k = next s k ∙ ap (λ m. (same_subject s g.subject && nat_eq (row k) (row g.key)) || is_marked s k m) same
 
 pub none_of : {X : Type 0} (o : Option X) (t : Bool) → t ≡ is_some o → t ≡ false → o ≡ None
 none_of None t is e = refl

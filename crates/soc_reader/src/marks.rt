@@ -1,5 +1,5 @@
 // What was given, found by its subject: a bit for each row of the table.
-ghost use Rattle.std.specs.Prelude.{◌≡◌, ◌&&◌, ◌^◌, None, nat_eq, option_map, OnOk, OnErr, IfSome, ◌||◌, true, is_some, if◌then◌else◌};
+ghost use Rattle.std.specs.Prelude.{◌≡◌, ◌&&◌, ◌^◌, None, nat_eq, option_map, OnOk, OnErr, IfSome, ◌||◌, true, false, is_some, if◌then◌else◌};
 ghost use Rattle.std.specs.Int.Bits.{bit_or};
 ghost use Rattle.soc_reader.specs.Grammar.{same_subject, row};
 ghost use Rattle.soc_reader.specs.Marks.{bits_of, is_marked, is_same, with_row};
@@ -70,6 +70,26 @@ fn add_row(marks: &mut Marks, subject: Subject, bit: u32)
     }
 }
 
+/// Notes a row of a subject, where it is the last of which rows were given, and says whether it is.
+fn add_to_last(marks: &mut Marks, subject: Subject, bit: u32) -> bool
+    ensures last { result ≡ true → is_some (bits_of marks.old subject) ≡ true }
+    ensures row { result ≡ true → (s : Subject) → bits_of marks.new s ≡ with_row subject bit s (bits_of marks.old s) }
+    ensures other { result ≡ false → marks.new ≡ marks.old }
+{
+    let place = marks.len().saturating_sub(1);
+    match marks.get_index(place) {
+        Some((last, _)) if *last == subject => {}
+        _ => return false,
+    }
+    match marks.get_index_mut(place) {
+        Some(rows) => {
+            *rows |= bit;
+            true
+        }
+        None => unreachable!(),
+    }
+}
+
 /// Notes the first row of a subject.
 fn add_subject(marks: &mut Marks, subject: Subject, bit: u32) -> Result<(), Stop>
     requires { bits_of marks.old subject ≡ None }
@@ -80,24 +100,18 @@ fn add_subject(marks: &mut Marks, subject: Subject, bit: u32) -> Result<(), Stop
     Ok(())
 }
 
-/// Whether rows of a subject were given.
-fn has_rows(marks: &Marks, subject: Subject) -> bool
-    ensures { result ≡ is_some (bits_of marks.now subject) }
-{
-    if last_rows(marks, subject).is_some() {
-        return true;
-    }
-    marks.contains_key(&subject)
-}
-
 /// Notes that this was given.
 pub fn mark(marks: &mut Marks, given: Given) -> Result<(), Stop>
     ensures ok { OnOk result ((s : Subject) (k : Key) → is_marked s k marks.new ≡ ((same_subject s given.subject && nat_eq (row k) (row given.key)) || is_marked s k marks.old)) }
     ensures memory { OnErr result (result ≡ Err Stop.NoMemory) }
 {
-    if has_rows(marks, given.subject) {
-        add_row(marks, given.subject, row_bit(given.key));
+    let bit = row_bit(given.key);
+    if add_to_last(marks, given.subject, bit) {
         return Ok(());
     }
-    add_subject(marks, given.subject, row_bit(given.key))
+    if marks.contains_key(&given.subject) {
+        add_row(marks, given.subject, bit);
+        return Ok(());
+    }
+    add_subject(marks, given.subject, bit)
 }
