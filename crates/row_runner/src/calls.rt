@@ -1,5 +1,5 @@
 // Calls that no command over files in memory makes: real files and a real output, limits that are printed, vectors that are
-// written, and one module that is stepped by itself.
+// written, and a chip and one of its modules that are stepped by themselves.
 ghost use Rattle.std.specs.Prelude.{◌≡◌, IfSome};
 ghost use Rattle.soc_model.specs.Chips.{soc_value};
 ghost use Rattle.soc_model.specs.SoundChips.{IsSoundChip};
@@ -7,6 +7,7 @@ ghost use Rattle.plan_model.specs.Faults.{IsFaultless};
 ghost use Rattle.plan_model.specs.SoundLimits.{IsSoundLimits};
 ghost use Rattle.plan_model.specs.Views.{limits_value, plan_value};
 
+use crate::chips::run_of_chip;
 use crate::lines::{count_of, part};
 use crate::rig::Rig;
 use crate::runs::{ended, words_of};
@@ -148,17 +149,39 @@ fn written_of(
     Ok(text)
 }
 
-/// `stream SEED`: how the vectors of the plan of PLAN are written to an output of the rig.
-pub fn written_vectors(rig: &Rig, seed: &str) -> Result<Vec<u8>, NoMemory> {
+/// The run of the chip under an accepted plan.
+fn run_under(
+    rig: &Rig,
+    soc: &Soc,
+    limits: &Limits,
+    plan: &Plan,
+    seed: u64,
+) -> Result<Vec<u8>, NoMemory>
+    requires sound { IsSoundChip (soc_value soc.now) }
+    requires limits { IsSoundLimits (soc_value soc.now) (limits_value limits.now) }
+    requires accepted { IsFaultless (soc_value soc.now) (limits_value limits.now) (plan_value plan.now) }
+{
+    good_without_limits();
+    run_of_chip(rig.alloc(), soc, plan, seed)
+}
+
+/// `stream SEED` and `chip SEED`: how the vectors of the plan of PLAN are written to an output of the rig, and the run of the
+/// chip under that plan.
+pub fn under_the_plan(rig: &Rig, stepped: bool, seed: &str) -> Result<Vec<u8>, NoMemory> {
     let Some(soc) = chip_of(rig) else {
         return copied(rig.alloc(), b"no chip");
     };
     let Some(limits) = limits_of(rig, &soc) else {
         return copied(rig.alloc(), b"no limits");
     };
-    match accepted_plan(rig, &soc, &limits) {
-        Some(plan) => written_of(rig, &soc, &limits, &plan, count_of(seed.trim())),
-        None => copied(rig.alloc(), b"no plan"),
+    let Some(plan) = accepted_plan(rig, &soc, &limits) else {
+        return copied(rig.alloc(), b"no plan");
+    };
+    let seed = count_of(seed.trim());
+    if stepped {
+        run_under(rig, &soc, &limits, &plan, seed)
+    } else {
+        written_of(rig, &soc, &limits, &plan, seed)
     }
 }
 

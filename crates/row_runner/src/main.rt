@@ -4,13 +4,14 @@
 #![tactic(auto)]
 
 mod calls;
+mod chips;
 mod lines;
 mod rig;
 mod runs;
 mod sessions;
 
 use crate::calls::{
-    printed_again, run_of_real_files, session_of_plan, what_a_load_answers, written_vectors,
+    printed_again, run_of_real_files, session_of_plan, under_the_plan, what_a_load_answers,
 };
 use crate::lines::{Line, line_of, with_line_ends};
 use crate::rig::Rig;
@@ -43,7 +44,8 @@ fn answer_of<R: Files + AllocGlobal>(
         "real" => Ok(Some(run_of_real_files(rt, words)?)),
         "load" => Ok(Some(what_a_load_answers(rt, words)?)),
         "prints" => Ok(Some(printed_again(rig, words)?)),
-        "stream" => Ok(Some(written_vectors(rig, words)?)),
+        "stream" => Ok(Some(under_the_plan(rig, false, words)?)),
+        "chip" => Ok(Some(under_the_plan(rig, true, words)?)),
         "session" => Ok(Some(session_of_plan(rig, words)?)),
         _ => Ok(None),
     }
