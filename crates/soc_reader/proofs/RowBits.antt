@@ -5,7 +5,8 @@ use Rattle.std.specs.Int.Bits.{bit_and, bit_or}
 use Rattle.std.proofs.lemmas.Grind.{common_steps}
 use Rattle.std.proofs.lemmas.Bool.{cases_Bool, eqb-true, ne_eqb}
 use Rattle.std.proofs.lemmas.Option.{same_Some, slice_get-map}
-use Rattle.std.proofs.lemmas.Nat.{and_or_self, and_or_apart, pow_apart, pow_pos}
+use Rattle.std.proofs.lemmas.Nat.{or_comm, and_or_self, and_or_apart, pow_apart, pow_pos}
+use Rattle.std.specs.Option.{option_map_or}
 use Rattle.std.specs.Cmp.{IsEquivalence, decided}
 use Rattle.indexmap.specs.IndexMap.{IndexMap, values, with_value_at, IsUnique}
 use Rattle.indexmap.proofs.CallerLemmas.{updates-with_value_at}
@@ -118,19 +119,23 @@ marked_more old new g bit t is there yes' next s k = ap (λ o. has_row o k) (nex
     some None h = absurd cc
     some (Some bits) h = row_more bits (row k) (row g.key)
 
--- the first row of a subject
-pub marked_first : {S : Type 0} (old new : IndexMap Subject ℕ S) (g : Given) (bit : ℕ) → bit ≡ 2 ^ row g.key → bits_of old g.subject ≡ None → ((s : Subject) → bits_of new s ≡ (if is_same g.subject s then Some bit else bits_of old s)) →
+-- one row more of a subject, or its first
+pub marked_any : {S : Type 0} (old new : IndexMap Subject ℕ S) (g : Given) (bit : ℕ) → bit ≡ 2 ^ row g.key → ((s : Subject) → bits_of new s ≡ (if is_same g.subject s then Some (option_map_or (λ rows. bit_or rows bit) (bits_of old g.subject) bit) else bits_of old s)) →
     (s : Subject) (k : Key) → is_marked s k new ≡ ((same_subject s g.subject && nat_eq (row k) (row g.key)) || is_marked s k old)
-marked_first old new g bit is none next s k = ap (λ o. has_row o k) (next s) ∙ elim (cases_Bool (same_subject s g.subject)) [
+marked_any old new g bit is next s k = ap (λ o. has_row o k) (next s) ∙ elim (cases_Bool (same_subject s g.subject)) [
   | inr other ↦ rw (other, same_turned g.subject s ∙ other) refl
   | inl same ↦
       let one : s ≡ g.subject = subject_same s g.subject same in
-      rw (same, same_turned g.subject s ∙ same, is, ap (λ v. bits_of old v) one ∙ none) (row_first (row k) (row g.key) ∙ or_none (nat_eq (row k) (row g.key)))
+      rw (same, same_turned g.subject s ∙ same, is, ap (λ v. bits_of old v) one) (any (bits_of old g.subject))
 ]
   where
     or_none : (b : Bool) → b ≡ (b || false)
     or_none true = refl
     or_none false = refl
+
+    any : (o : Option ℕ) → has_row (Some (option_map_or (λ rows. bit_or rows (2 ^ row g.key)) o (2 ^ row g.key))) k ≡ (nat_eq (row k) (row g.key) || has_row o k)
+    any None = row_first (row k) (row g.key) ∙ or_none (nat_eq (row k) (row g.key))
+    any (Some bits) = row_more bits (row k) (row g.key)
 
 -- one row more, written where the subject stands
 row_at : {S : Type 0} (old : IndexMap Subject ℕ S) (place rows bit : ℕ) (found subject : Subject) → IsUnique is_same old → slice_get old.entries place ≡ Some (found, rows) → bits_of old found ≡ Some rows → is_same found subject ≡ true →
@@ -159,6 +164,12 @@ pub marked_left : {S : Type 0} (old left new : IndexMap Subject ℕ S) (g : Give
     (s : Subject) (k : Key) → is_marked s k new ≡ ((same_subject s g.subject && nat_eq (row k) (row g.key)) || is_marked s k old)
 marked_left old left new g same next s k = next s k ∙ ap (λ m. (same_subject s g.subject && nat_eq (row k) (row g.key)) || is_marked s k m) same
 
-pub none_of : {X : Type 0} (o : Option X) (t : Bool) → t ≡ is_some o → t ≡ false → o ≡ None
-none_of None t is e = refl
-none_of (Some x) t is e = absurd cc
+-- a row is put in the place of those before, and these are noted again
+pub noted_again : {S : Type 0} (old put new : IndexMap Subject ℕ S) (subject : Subject) (bit rows : ℕ) → ((s : Subject) → bits_of put s ≡ cond (is_same subject s) (Some bit) (bits_of old s)) → ((s : Subject) → bits_of new s ≡ with_row subject rows s (bits_of put s)) → Some rows ≡ bits_of old subject →
+    (s : Subject) → bits_of new s ≡ (if is_same subject s then Some (option_map_or (λ rows. bit_or rows bit) (bits_of old subject) bit) else bits_of old s)
+noted_again old put new subject bit rows first next known s = next s ∙ by (is_same subject s) refl
+  where
+    by : (b : Bool) → is_same subject s ≡ b → (if b then option_map (λ x. bit_or x rows) (bits_of put s) else bits_of put s) ≡ (if b then Some (option_map_or (λ rows. bit_or rows bit) (bits_of old subject) bit) else bits_of old s)
+    by false e = first s ∙ ap (λ b. cond b (Some bit) (bits_of old s)) e
+    by true e =
+        ap (option_map (λ x. bit_or x rows)) (first s ∙ ap (λ b. cond b (Some bit) (bits_of old s)) e) ∙ ap Some (or_comm bit rows) ∙ ap (λ o. Some (option_map_or (λ rows. bit_or rows bit) o bit)) known

@@ -1,6 +1,7 @@
 // What was given, found by its subject: a bit for each row of the table.
-ghost use Rattle.std.specs.Prelude.{◌≡◌, ◌&&◌, ◌^◌, None, nat_eq, option_map, OnOk, OnErr, IfSome, ◌||◌, true, false, is_some, if◌then◌else◌};
+ghost use Rattle.std.specs.Prelude.{◌≡◌, ◌&&◌, ◌^◌, nat_eq, option_map, OnOk, OnErr, IfSome, ◌||◌, true, false, is_some, if◌then◌else◌};
 ghost use Rattle.std.specs.Int.Bits.{bit_or};
+ghost use Rattle.std.specs.Option.{option_map_or};
 ghost use Rattle.soc_reader.specs.Grammar.{same_subject, row};
 ghost use Rattle.soc_reader.specs.Marks.{bits_of, is_marked, is_same, with_row};
 
@@ -90,14 +91,18 @@ fn add_to_last(marks: &mut Marks, subject: Subject, bit: u32) -> bool
     }
 }
 
-/// Notes the first row of a subject.
-fn add_subject(marks: &mut Marks, subject: Subject, bit: u32) -> Result<(), Stop>
-    requires { bits_of marks.old subject ≡ None }
-    ensures ok { OnOk result ((s : Subject) → bits_of marks.new s ≡ (if is_same subject s then Some bit else bits_of marks.old s)) }
+/// Notes a row of a subject, found by its hash.
+fn add_by_hash(marks: &mut Marks, subject: Subject, bit: u32) -> Result<(), Stop>
+    ensures ok { OnOk result ((s : Subject) → bits_of marks.new s ≡ (if is_same subject s then Some (option_map_or (λ rows. bit_or rows bit) (bits_of marks.old subject) bit) else bits_of marks.old s)) }
     ensures memory { OnErr result (result ≡ Err Stop.NoMemory) }
 {
-    marks.insert(subject, bit)?;
-    Ok(())
+    match marks.insert(subject, bit)? {
+        Some(rows) => {
+            add_row(marks, subject, rows);
+            Ok(())
+        }
+        None => Ok(()),
+    }
 }
 
 /// Notes that this was given.
@@ -109,9 +114,5 @@ pub fn mark(marks: &mut Marks, given: Given) -> Result<(), Stop>
     if add_to_last(marks, given.subject, bit) {
         return Ok(());
     }
-    if marks.contains_key(&given.subject) {
-        add_row(marks, given.subject, bit);
-        return Ok(());
-    }
-    add_subject(marks, given.subject, bit)
+    add_by_hash(marks, given.subject, bit)
 }
