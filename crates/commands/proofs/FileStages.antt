@@ -15,7 +15,7 @@ use Rattle.commands.specs.Texts.{is_line, too_long_line}
 use Rattle.commands.specs.Readings.{most_of, IsRead}
 use Rattle.commands.specs.Procedures.{Procedure, Read, Unless, Answer, NoCommand, nothing, with_bytes, done_with, done_with_any}
 use Rattle.commands.specs.Answers.{Stage, Answers}
-use Rattle.commands.specs.Decides.{MayFail, IsUnread, Follows, Gives, GivesUnless, GivesAny, GivesText, Refuses}
+use Rattle.commands.specs.Decides.{MayFail, IsUnread, Follows, Gives, GivesAny, GivesText, Refuses}
 
 within_case : (A B : Type 0) (b : Bool) → b ≡ false → B → MatchBool b A B
 within_case A B true e x = absurd cc
@@ -71,17 +71,6 @@ pub done_of : (answer : List ℕ) (made : Result (Vec ℕ) MemoryFault) (held : 
 done_of answer (Ok text) held before after verdict is d = done answer held before after verdict (rw is at d)
 done_of answer (Err fault) held before after verdict is d = rw d tt
 
--- a text that is the answer unless a line refuses it
-pub unless_refused : (refusal : Option (List ℕ)) (answer : List ℕ) (held : Option Files) (before after : ℕ) (verdict : Verdict) → GivesUnless refusal answer verdict → Follows (Unless refusal (done_with answer)) held before after verdict
-unless_refused None answer None before after (Answered status text) d = (rw d.0 tt, tt)
-unless_refused None answer (Some files) before after (Answered status text) d = (rw d.0 tt, d)
-unless_refused None answer held before after (CannotRead missed) d = absurd d
-unless_refused None answer held before after OutOfMemory d = tt
-unless_refused (Some line) answer None before after (Answered status text) d = (rw d.0 d.2, tt)
-unless_refused (Some line) answer (Some files) before after (Answered status text) d = (rw d.0 d.2, (d.0, d.1))
-unless_refused (Some line) answer held before after (CannotRead missed) d = absurd d
-unless_refused (Some line) answer held before after OutOfMemory d = tt
-
 -- a line that a call made refuses
 pub line_refuses : (line : List ℕ) (made : Result (Vec ℕ) MemoryFault) (verdict : Verdict) → IfOk made (λ text. text.items ≡ line) → IfOk made (λ text. IsTrue (is_line text.items)) → GivesText Refused made verdict → Refuses line verdict
 line_refuses line (Err fault) verdict is one d = rw d tt
@@ -97,10 +86,6 @@ unless_line refusal line next held before after verdict is d = subst (λ r. Foll
   go (Some files) (Answered status text) d = (rw d.0 d.2, (d.0, d.1))
   go held (CannotRead missed) d = absurd d
   go held OutOfMemory d = tt
-
--- what comes next, where nothing refuses
-pub unless_none : (refusal : Option (List ℕ)) (next : Procedure) (held : Option Files) (before after : ℕ) (verdict : Verdict) → refusal ≡ None → Follows next held before after verdict → Follows (Unless refusal next) held before after verdict
-unless_none refusal next held before after verdict is d = subst (λ r. Follows (Unless r next) held before after verdict) (sym is) d
 
 -- an answer of any text that is allowed with Done, or want of memory for it
 pub may_be_done : (May : Status → List ℕ → Type 0) (made : Result (Vec ℕ) MemoryFault) (held : Option Files) (before after : ℕ) (verdict : Verdict) → IfOk made (λ text. May Done text.items) → GivesText Done made verdict → Follows (Answer May) held before after verdict
@@ -129,11 +114,6 @@ gives_line refusal line May made verdict some is ends d = subst (λ (r : Option 
     go (Ok text) (CannotRead missed) is ends d = absurd d
     go (Ok text) OutOfMemory is ends d = tt
     go (Ok text) (Answered status bytes) is ends d = (d.0, d.1 ∙ is, rw d.1 ends)
-
--- want of memory
-pub gives_none : (refusal : Option (List ℕ)) (May : List ℕ → Type 0) → GivesAny refusal May OutOfMemory
-gives_none None May = tt
-gives_none (Some line) May = tt
 
 -- what is given follows
 pub unless_any : (refusal : Option (List ℕ)) (May : List ℕ → Type 0) (held : Option Files) (before after : ℕ) (verdict : Verdict) → GivesAny refusal May verdict → Follows (Unless refusal (done_with_any May)) held before after verdict

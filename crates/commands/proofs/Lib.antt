@@ -6,4 +6,5 @@ pub mod Refusals
 pub mod SaidOnce
 pub mod Settled
 pub mod Trusted
+pub mod UnlessRefused
 pub mod Written

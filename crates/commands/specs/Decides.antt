@@ -133,11 +133,6 @@ Refuses line (Answered given bytes) = (given ≡ Refused) × (bytes.items ≡ li
 Refuses line (CannotRead file) = ⊥
 Refuses line OutOfMemory = Unit {0}
 
--- a verdict is the line that refuses, or else the answer, or wants memory
-abbrev pub GivesUnless : Option (List ℕ) → List ℕ → Verdict → Type 0
-GivesUnless None answer verdict = Gives Done answer verdict
-GivesUnless (Some line) answer verdict = Refuses line verdict
-
 -- a verdict is the line that refuses, or else any text that is allowed, or wants memory
 abbrev pub GivesAny : Option (List ℕ) → (List ℕ → Type 0) → Verdict → Type 0
 GivesAny None May (Answered given bytes) = (given ≡ Done) × May bytes.items

@@ -34,6 +34,11 @@ Writes (Answered status text) before after old end new = IsWritten status text.i
 Writes (CannotRead file) before after old end new = IsWritten ReadFault (unread_line file) before after old end new
 Writes OutOfMemory before after old end new = (end ≡ NoMemory) × (new ≡ old)
 
+-- The line that refuses is written, or else the text, by the count of the output's faults; or nothing for want of memory.
+abbrev pub WritesUnless : Option (List ℕ) → List ℕ → ℕ → ℕ → Option (List ℕ) → Status → Option (List ℕ) → Type 0
+WritesUnless None text before after old end new = ((end ≡ NoMemory) × (new ≡ old)) ⊎ IsWritten Done text before after old end new
+WritesUnless (Some line) text before after old end new = ((end ≡ NoMemory) × (new ≡ old)) ⊎ (IsTrue (is_line line) × IsWritten Refused line before after old end new)
+
 -- ---- what may be answered
 
 -- a status and its text answer what is asked for, over what the shelf tells and its counts of faults
@@ -42,6 +47,11 @@ MayAnswer steps held before after ReadFault text = (file : FileKind) × (text �
 MayAnswer steps held before after WriteFault text = ⊥
 MayAnswer steps held before after NoMemory text = ⊥
 MayAnswer steps held before after status text = IfSome held (λ files. Answers steps files status text)
+
+-- where the shelf tells, the procedure may answer the line that refuses, or else the text
+abbrev pub MayUnless : Procedure → Option Files → Option (List ℕ) → List ℕ → Type 0
+MayUnless steps held None text = IfSome held (λ files. Answers steps files Done text)
+MayUnless steps held (Some line) text = IfSome held (λ files. Answers steps files Refused line)
 
 -- What is written when a call ends so, where these texts may be answered. A failed output stands in the place of the
 -- status that it was for, with a prefix of that text.
@@ -56,6 +66,13 @@ OneLine old Done new = Unit {0}
 OneLine old WriteFault new = Unit {0}
 OneLine old NoMemory new = new ≡ old
 OneLine old status new = (line : List ℕ) × IsTrue (is_line line) × Appended old line new
+
+-- the words are those of a command
+abbrev pub IsCommand : Procedure → Type 0
+IsCommand NoCommand = ⊥
+IsCommand (Answer May) = Unit {0}
+IsCommand (Unless refusal next) = Unit {0}
+IsCommand (Read file Says Refuses name next) = Unit {0}
 
 -- BadWords comes exactly where the words are no command, but for want of memory and a failed output.
 abbrev pub EndsByWords : Procedure → Type 0 → Status → Type 0

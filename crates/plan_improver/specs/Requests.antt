@@ -1,5 +1,5 @@
 -- What the words of a command line ask for, and how that is answered.
-use Rattle.std.specs.Prelude.{◌≡◌, ℕ, List, [], ◌∷◌, Option, None, Some}
+use Rattle.std.specs.Prelude.{◌≡◌, ℕ, ◌<◌, List, [], ◌∷◌, Option, None, Some}
 use Rattle.outside.specs.Decimal.{number_of}
 use Rattle.soc_model.specs.declared.TheConstants.{NUMBER_WORD_MOST}
 use Rattle.plan_model.specs.Plans.{PlanValue}
@@ -7,6 +7,7 @@ use Rattle.plan_text.specs.PlanLines.{plan_text}
 use Rattle.commands.specs.Procedures.{Procedure, done_with_any, with_all}
 use Rattle.plan_improver.specs.declared.TheConstants.{TRIES_MOST}
 use Rattle.plan_improver.specs.declared.Request.{Request}
+use Rattle.plan_improver.specs.declared.progress.TheConstants.{TOLD_FROM}
 use Rattle.plan_improver.specs.Improved.{IsImproved}
 
 -- the names of three files, how often a change is tried, and a seed
@@ -30,6 +31,11 @@ with_numbers soc limits plan None seed = None
 abbrev pub request_of : List (List ℕ) → Option RequestValue
 request_of (soc ∷ limits ∷ plan ∷ tries ∷ seed ∷ []) = with_numbers soc limits plan (number_of tries TRIES_MOST) (number_of seed NUMBER_WORD_MOST)
 request_of words = None
+
+-- nothing is told as it is answered: the words ask for nothing, or for few tries
+abbrev pub IsQuiet : Option RequestValue → Type 0
+IsQuiet None = Unit {0}
+IsQuiet (Some r) = r.tries < TOLD_FROM
 
 -- The answer is the text of a plan that is improved after so many tries: for the chip and the limits, from the plan that is
 -- accepted for both.

@@ -9,8 +9,9 @@ ghost use Rattle.plan_model.specs.Views.{limits_value, plan_value};
 ghost use Rattle.plan_text.specs.PlanLines.{plan_text};
 ghost use Rattle.commands.specs.Procedures.{asked};
 ghost use Rattle.commands.specs.Decides.{Follows, Decides};
+ghost use Rattle.plan_improver.specs.declared.progress.TheConstants.{TOLD_FROM};
 ghost use Rattle.plan_improver.specs.Improved.{IsImproved};
-ghost use Rattle.plan_improver.specs.Requests.{request_value, request_of, procedure_of};
+ghost use Rattle.plan_improver.specs.Requests.{request_value, request_of, procedure_of, IsQuiet};
 
 use crate::Request;
 use crate::improving::improved;
@@ -37,6 +38,7 @@ fn text_of<T: Sink>(
     requires given { IsFaultless (soc_value soc.now) (limits_value limits.now) (plan_value plan) }
     ensures text { IfOk result (λ text. (value : PlanValue) × IsImproved (soc_value soc.now) (limits_value limits.now) tries (plan_value plan) value × (text.items ≡ plan_text value)) }
     ensures faults_never_fall { T.faults told.old ≤ T.faults told.new }
+    ensures quiet { tries < TOLD_FROM → told.new ≡ told.old }
 {
     let better = improved(alloc, soc, limits, plan, tries, seed, told)?;
     print_plan(alloc, &better)
@@ -53,6 +55,7 @@ fn decide_request<H: Shelf, T: Sink>(
     ensures faults_never_fall { H.faults shelf.old ≤ H.faults shelf.new }
     ensures told_faults_never_fall { T.faults told.old ≤ T.faults told.new }
     ensures follows { Follows (procedure_of (request_value request.now)) (H.held shelf.old) (H.faults shelf.old) (H.faults shelf.new) result }
+    ensures quiet { request.now.tries < TOLD_FROM → told.new ≡ told.old }
 {
     match load_all(alloc, request.soc, request.limits, request.plan, shelf) {
         Ok(all) => {
@@ -86,6 +89,7 @@ pub(crate) fn decide<H: Shelf, T: Sink>(
     ensures told_faults_never_fall { T.faults told.old ≤ T.faults told.new }
     ensures decides { Decides (asked procedure_of (request_of (map string_bytes words.now))) (H.held shelf.old) (H.faults shelf.old) (H.faults shelf.new) result }
     ensures untouched { request_of (map string_bytes words.now) ≡ None → shelf.new ≡ shelf.old }
+    ensures quiet { IsQuiet (request_of (map string_bytes words.now)) → told.new ≡ told.old }
 {
     match asked_for(words) {
         Some(request) => decide_request(alloc, &request, shelf, told),

@@ -3,7 +3,7 @@ ghost use Rattle.std.specs.Prelude.{◌≡◌, ◌≤◌, true, false, None, map
 ghost use Rattle.outside.specs.Held.{Rose};
 ghost use Rattle.commands.specs.Procedures.{asked};
 ghost use Rattle.commands.specs.Ends.{MayAnswer, Ends, OneLine, EndsByWords, Complete, Finishes, SaysBadWords};
-ghost use Rattle.plan_improver.specs.Requests.{request_of, procedure_of};
+ghost use Rattle.plan_improver.specs.Requests.{request_of, procedure_of, IsQuiet};
 ghost use Rattle.plan_improver.specs.Headlines.{Headline};
 
 use crate::deciding::decide;
@@ -16,8 +16,8 @@ use std::alloc::Global;
 ///
 /// The words are the names of three files, a number of tries, at most 10,000,000, and a seed below 10^12. The files are
 /// taken in this order, each only where the ones before it are taken; the plan has to be accepted. All memory is taken before
-/// the first byte is written. From 100,000 tries on, `told` is told each tenth of them with the best cycles so far; what
-/// becomes of that changes nothing else.
+/// the first byte is written. From 100,000 tries on, `told` is told each tenth of them with the best cycles so far, and
+/// for fewer nothing; what becomes of that changes nothing else.
 pub fn improve<H: Shelf, K: Sink, T: Sink>(
     alloc: Global,
     words: &[String],
@@ -33,6 +33,7 @@ pub fn improve<H: Shelf, K: Sink, T: Sink>(
     ensures one_line { OneLine (K.written out.old) result (K.written out.new) }
     ensures by_words { EndsByWords (asked procedure_of (request_of (map string_bytes words.now))) (Rose (K.faults out.old) (K.faults out.new)) result }
     ensures untouched { request_of (map string_bytes words.now) ≡ None → shelf.new ≡ shelf.old }
+    ensures quiet { IsQuiet (request_of (map string_bytes words.now)) → told.new ≡ told.old }
 
     // Where the files give an answer and nothing fails, one comes, but for want of memory. The plan is any improved one.
     ensures complete { Complete false (asked procedure_of (request_of (map string_bytes words.now))) (H.held shelf.old) (Rose (H.faults shelf.old) (H.faults shelf.new)) (Rose (K.faults out.old) (K.faults out.new)) (K.written out.old) result (K.written out.new) }

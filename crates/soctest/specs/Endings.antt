@@ -11,27 +11,12 @@ use Rattle.bit_machine.specs.Chips.{made_content}
 use Rattle.tester_vectors.specs.VectorText.{vector_text}
 use Rattle.commands.specs.declared.Status.{Status}
 use Rattle.commands.specs.declared.loading.Accepted.{Accepted}
-use Rattle.commands.specs.declared.Status.TheVariants.{Done, Refused, NoMemory}
-use Rattle.commands.specs.Answers.{Answers}
 use Rattle.commands.specs.Decides.{Decides}
-use Rattle.commands.specs.Ends.{IsWritten, Writes}
-use Rattle.commands.specs.Procedures.{Procedure, Read, Unless, Answer, NoCommand}
-use Rattle.commands.specs.Texts.{is_line}
+use Rattle.commands.specs.Ends.{IsCommand, MayUnless, Writes, WritesUnless}
+use Rattle.commands.specs.Procedures.{Procedure}
 use Rattle.soctest.specs.Procedures.{run_refusal}
 use Rattle.soctest.specs.declared.ending.Ending.{Ending}
 use Rattle.soctest.specs.declared.ending.Ending.TheVariants as ending
-
--- the words are those of a command
-abbrev pub IsCommand : Procedure → Type 0
-IsCommand NoCommand = ⊥
-IsCommand (Answer May) = Unit {0}
-IsCommand (Unless refusal next) = Unit {0}
-IsCommand (Read file Says Refuses name next) = Unit {0}
-
--- where the shelf tells, the procedure may answer the line that refuses, or else the text
-abbrev pub MayUnless : Procedure → Option Files → Option (List ℕ) → List ℕ → Type 0
-MayUnless steps held None text = IfSome held (λ files. Answers steps files Done text)
-MayUnless steps held (Some line) text = IfSome held (λ files. Answers steps files Refused line)
 
 -- how a call is decided: by a verdict, or to write the vectors of a plan unless their run is too long
 abbrev pub Closes : Procedure → Option Files → ℕ → ℕ → Ending → Type 0
@@ -49,11 +34,6 @@ pub record IsTaken (all : Accepted) : Type 0 where
 abbrev pub IsRunnable : Ending → Type 0
 IsRunnable (ending.Decided verdict) = Unit {0}
 IsRunnable (ending.Run all seed) = IsTaken all
-
--- the line that refuses is written, or else the text, by the count of the output's faults; or nothing for want of memory
-abbrev pub WritesUnless : Option (List ℕ) → List ℕ → ℕ → ℕ → Option (List ℕ) → Status → Option (List ℕ) → Type 0
-WritesUnless None text before after old end new = ((end ≡ NoMemory) × (new ≡ old)) ⊎ IsWritten Done text before after old end new
-WritesUnless (Some line) text before after old end new = ((end ≡ NoMemory) × (new ≡ old)) ⊎ (IsTrue (is_line line) × IsWritten Refused line before after old end new)
 
 -- what is written of an ending
 abbrev pub WritesEnding : Ending → ℕ → ℕ → Option (List ℕ) → Status → Option (List ℕ) → Type 0

@@ -6,7 +6,8 @@ ghost use Rattle.plan_model.specs.Rules.{IsGoodAlone};
 ghost use Rattle.plan_model.specs.Views.{plan_value};
 ghost use Rattle.bit_machine.specs.Chips.{wires_of, made_content};
 ghost use Rattle.tester_vectors.specs.VectorText.{vector_text};
-ghost use Rattle.soctest.specs.Endings.{IsRunnable, WritesEnding, WritesUnless};
+ghost use Rattle.commands.specs.Ends.{WritesUnless};
+ghost use Rattle.soctest.specs.Endings.{IsRunnable, WritesEnding};
 ghost use Rattle.soctest.specs.Procedures.{run_refusal};
 
 use crate::lines::run_line;

@@ -6,7 +6,7 @@ use Rattle.plan_model.specs.Views.{plan_value}
 use Rattle.commands.specs.Procedures.{Unless, done_with}
 use Rattle.soctest.specs.Procedures.{run_refusal}
 use Rattle.commands.proofs.AllFiles.{not_all}
-use Rattle.soctest.proofs.Endings.{may_unless}
+use Rattle.commands.proofs.UnlessRefused.{may_unless}
 use Rattle.soctest.proofs.deciding.decide_vectors.Goals as goal
 
 pub returns-in-Ok-clause-closes : goal.returns-in-Ok-clause-closes

@@ -4,7 +4,8 @@ use Rattle.plan_model.specs.Views.{plan_value}
 use Rattle.bit_machine.specs.Chips.{made_content}
 use Rattle.tester_vectors.specs.VectorText.{wire_cycles, vector_text}
 use Rattle.soctest.specs.Procedures.{run_refusal}
-use Rattle.soctest.proofs.Endings.{run_written, nothing_written, long_written, same_cells}
+use Rattle.commands.proofs.UnlessRefused.{nothing_written}
+use Rattle.soctest.proofs.Endings.{run_written, long_written, same_cells}
 use Rattle.soctest.proofs.ending.write_run.Goals as goal
 
 pub returns-in-Written-clause-written : goal.returns-in-Written-clause-written
