@@ -226,6 +226,51 @@ fn is_late<J, E: Estimate<J>>(
     false
 }
 
+/// Where so few tests are left, the least start of each is noted. What is noted beside more placed tests is gone again as these are
+/// taken back, and the orders of the last tests are walked again and again: each question would be a search from the first cycle on.
+const FEW: usize = 32;
+
+/// Notes the least starts of the tests that are left, where they have just become few.
+fn note_few<J>(table: &mut TableOf<J>, rest: &[usize])
+    requires rest { AreUnplaced table.old.job table.old.placed rest.now }
+    ensures same { table.new ≡ table.old }
+{
+    if rest.len() != FEW {
+        return;
+    }
+    for place in 0..rest.len() {
+        table.note(rest[place]);
+    }
+}
+
+/// Whether one of the tests that are left is late, as [`is_late`] answers it. Where none is, and they have just become few, their
+/// least starts are noted.
+fn is_over<J, E: Estimate<J>>(
+    job: &Job,
+    ahead: &E,
+    table: &mut TableOf<J>,
+    rest: &[usize],
+    end: u64,
+    cycles: u64,
+    most: u64,
+    late: &mut usize,
+) -> bool
+    requires job { table.old.job ≡ job_value job.now }
+    requires estimates { E.estimates ahead.now }
+    requires sound { IsSoundTable table.old }
+    requires ends { end ≡ last_end table.old.job table.old.placed }
+    requires rest { AreUnplaced table.old.job table.old.placed rest.now }
+    ensures late { result ≡ true → IsLateAt table.old cycles }
+    ensures in_time { result ≡ false → AreInTime table.old cycles }
+    ensures same { table.new ≡ table.old }
+{
+    if is_late(job, ahead, table, rest, end, cycles, most, late) {
+        return true;
+    }
+    note_few(table, rest);
+    false
+}
+
 /// Goes on with all orders that begin with the placed tests and then with one more, which waits for none. Its start is noted:
 /// the orders that go on from here with other tests ask for it and place it again and again.
 #[cycle(explore)]
@@ -356,7 +401,7 @@ pub(crate) fn explore<J, E: Estimate<J>>(
         offer(progress, &prefix.tests, end);
         return;
     }
-    if is_late(
+    if is_over(
         job,
         ahead,
         table,

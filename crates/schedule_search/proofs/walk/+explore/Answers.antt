@@ -52,19 +52,19 @@ explore-returns-then-is_empty-clause-explored g t c =
     (takes_placed c.args.table.now job path c.args.end c.requires.job c.requires.placed)
     (λ less. c.offer.ensures.fewer less ∙ ap (λ (l : List ℕ). record (stand_of c.enter.new.progress) { best = l; cycles = c.args.end }) c.deref.ensures.value) c.offer.ensures.kept c.requires.opened c.requires.going c.requires.none_before
 
-pub explore-is_late-requires-clause-rest : goal.explore-is_late-requires-clause-rest
-explore-is_late-requires-clause-rest g t c =
+pub explore-is_over-requires-clause-rest : goal.explore-is_over-requires-clause-rest
+explore-is_over-requires-clause-rest g t c =
     let path : List ℕ = c.args.prefix.now.tests.items in
     unplaced_outside c.args.table.now.job c.args.table.now.placed path c.deref-2.result.now c.requires.placed.in_order (c.deref-2.ensures.value ∙ c.requires.at.rest_are ∙ ap (λ (j : JobValue). outside j path) (sym c.requires.job))
 
-pub explore-returns-then-is_late-clause-best : goal.explore-returns-then-is_late-clause-best
-explore-returns-then-is_late-clause-best g t c = best_entered (job_value c.args.job.now) c.args.progress.now c.enter.new.progress (c.enter.ensures.entered c.if-not-enter.false).1 c.requires.best
+pub explore-returns-then-is_over-clause-best : goal.explore-returns-then-is_over-clause-best
+explore-returns-then-is_over-clause-best g t c = best_entered (job_value c.args.job.now) c.args.progress.now c.enter.new.progress (c.enter.ensures.entered c.if-not-enter.false).1 c.requires.best
 
-pub explore-returns-then-is_late-clause-explored : goal.explore-returns-then-is_late-clause-explored
-explore-returns-then-is_late-clause-explored g t c =
+pub explore-returns-then-is_over-clause-explored : goal.explore-returns-then-is_over-clause-explored
+explore-returns-then-is_over-clause-explored g t c =
     let path : List ℕ = c.args.prefix.now.tests.items in
     explored_left c.args.table.now (job_value c.args.job.now) c.args.tries.now.budget (length (job_value c.args.job.now).tests - length path) path c.args.end c.args.progress.now c.enter.new.progress
-    c.requires.job c.requires.sound c.requires.placed (c.is_late.ensures.late c.if-is_late.true) (c.enter.ensures.entered c.if-not-enter.false).1 c.requires.opened c.requires.going c.requires.none_before
+    c.requires.job c.requires.sound c.requires.placed (c.is_over.ensures.late c.if-is_over.true) (c.enter.ensures.entered c.if-not-enter.false).1 c.requires.opened c.requires.going c.requires.none_before
 
 pub explore-loop-place-init : goal.explore-loop-place-init
 explore-loop-place-init g t c =
@@ -77,7 +77,7 @@ explore-loop-place-init g t c =
     let short : length path ≡ length job.tests → ⊥ = λ long. omega (arith, long, some, ap length c.requires.at.rest_are, c.requires.left) in
     let own : IsAt job path c.args.prefix.now.rest.items c.args.prefix.now = subst (λ (l : List ℕ). IsAt job path l c.args.prefix.now) (sym c.requires.at.rest_are) c.requires.at in
     record {
-      table = c.is_late.ensures.same;
+      table = c.is_over.ensures.same;
       at = subst (λ (l : List ℕ). IsAt job path (remove l 0) c.take_first-test.new.self) c.requires.at.rest_are (c.take_first-test.ensures.at job path own);
       few = omega arith;
       test = λ within. c.take_first-test.ensures.test ∙ ap (λ (l : List ℕ). get_or l 0 0) c.requires.at.rest_are;
@@ -114,7 +114,7 @@ explore-follow-requires g t c κs within_measure =
     let best_room : length job.tests ≤ vec_capacity c.loop-place.progress.best = omega (arith, c.requires.best_room, inv.best_room, ap (λ (p : Progress). vec_capacity p.best) entered.1) in
     let cycles_same : c.enter.new.progress.cycles ≡ c.args.progress.now.cycles = ap (λ (p : Progress). p.cycles) entered.1 in
     let most : AtMostFirst job c.enter.new.progress.cycles = subst (AtMostFirst job) (sym cycles_same) c.requires.best.at_most_first in
-    let opened : IsOpen job (now ++ test ∷ []) = open_below c.args.table.now job path (now ++ test ∷ []) c.args.end c.enter.new.progress.cycles test c.requires.job c.requires.placed (c.is_late.ensures.in_time c.if-is_late.false) most c.requires.opened (ap (λ (l : List ℕ). l ++ test ∷ []) now_is) in
+    let opened : IsOpen job (now ++ test ∷ []) = open_below c.args.table.now job path (now ++ test ∷ []) c.args.end c.enter.new.progress.cycles test c.requires.job c.requires.placed (c.is_over.ensures.in_time c.if-is_over.false) most c.requires.opened (ap (λ (l : List ℕ). l ++ test ∷ []) now_is) in
     let none_before : NoneBefore job (now ++ test ∷ []) c.loop-place.progress.best.items = subst (λ (l : List ℕ). NoneBefore job (l ++ test ∷ []) c.loop-place.progress.best.items) (sym now_is) (subst (λ (n : ℕ). NoneBefore job (path ++ n ∷ []) c.loop-place.progress.best.items) (sym (inv.test within')) (inv.none_before place (omega arith) within')) in
     let measure : (length job.tests - length now) * 3 + 1 < (length job.tests - length path) * 3 + 2 = omega (arith, ap length now_is) in
     let going = inv.going in
