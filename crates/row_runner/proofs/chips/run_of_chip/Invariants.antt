@@ -6,7 +6,7 @@ use Rattle.row_runner.proofs.chips.run_of_chip.Given as goal
 
 abbrev pub invariant-loop-cycle : goal.invariant-loop-cycle
 invariant-loop-cycle l = record {
-  plan : l.chip.plan ≡ plan_value l.initial.plan.now;
+  plan : l.chip.plan ≡ plan_value l.initial.plan;
   cycle : l.chip.cycle ≡ l._cycle;
-  wide : IsWide (wires_of (plan_value l.initial.plan.now)) l.wires;
+  wide : IsWide (wires_of (plan_value l.initial.plan)) l.wires;
 }
