@@ -12,7 +12,7 @@ use indexmap::IndexMap;
 pub use laws::parents_are_found;
 pub use lookups::{find_test, live, module_at, parent, place_of};
 pub use modes::{has_tam_test, is_of_mode, mode_chains, over_wires, uses_mode};
-pub use sizes::check_size;
+pub use sizes::{cells_and_one, check_size};
 use std::alloc::Global;
 
 /// Modules of a chip, at most.

@@ -90,8 +90,9 @@ fn scan_cells(chains: &[u64]) -> u128
     sum
 }
 
-/// One, and the module's input cells, its output cells and twice its scan cells.
-fn cells_and_one(module: &Module) -> u128
+/// One, and the module's input cells, its output cells and twice its scan cells: what a pattern of a test weighs in the work of a
+/// chip.
+pub fn cells_and_one(module: &Module) -> u128
     requires terminals { «module».now.inputs + «module».now.outputs + «module».now.bidirs < 10 ^ 13 }
     requires small { All (λ n. n < NUMBER_WORD_MOST + 1) «module».now.chains.items }
     requires few { length «module».now.chains.items ≤ 1000 }

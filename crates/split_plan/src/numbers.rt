@@ -1,8 +1,7 @@
 // The numbers that the limits on the size of a chip ask for, of the chip of parts, before it is made.
-ghost use Rattle.std.specs.Prelude.{◌≡◌, ℕ, ◌+◌, ◌*◌, ◌^◌, ◌<◌, ◌≤◌, length, sum, sum_by, OnOk, IfErr, if◌then◌else◌};
+ghost use Rattle.std.specs.Prelude.{◌≡◌, ℕ, ◌+◌, ◌*◌, ◌^◌, ◌<◌, ◌≤◌, length, sum_by, OnOk, IfErr, if◌then◌else◌};
 ghost use Rattle.std.specs.List.{All};
 ghost use Rattle.soc_model.specs.declared.Test.{Test};
-ghost use Rattle.soc_model.specs.declared.TheConstants.{NUMBER_WORD_MOST};
 ghost use Rattle.soc_model.specs.Chips.{soc_value, module_value};
 ghost use Rattle.soc_model.specs.Sizes.{HasSmall, IsWithinSize};
 ghost use Rattle.soc_model.specs.SoundChips.{IsSoundChip};
@@ -14,7 +13,7 @@ ghost use Rattle.split_plan.specs.Parts.{split_chip};
 ghost use Rattle.split_plan.specs.Steps.{count_in, count_all as parts_in_all, parts_work, module_work as work_in, total_work as work_in_all};
 
 use crate::SplitFault;
-use soc_model::{Module, Soc, TESTS_MOST, Test, WORK_MOST, Which, live, over_wires};
+use soc_model::{Module, Soc, TESTS_MOST, Test, WORK_MOST, Which, cells_and_one, live, over_wires};
 
 /// How many parts a test has.
 pub(crate) fn part_count(test: &Test, most: u64) -> u64
@@ -57,33 +56,6 @@ fn count_all(soc: &Soc, most: u64) -> u128
         total += count_parts(module, most);
     }
     total
-}
-
-/// The cells of a module's scan chains.
-fn scan_cells(chains: &[u64]) -> u128
-    requires small { All (λ n. n < NUMBER_WORD_MOST + 1) chains.now }
-    requires few { length chains.now ≤ 1000 }
-    ensures cells { result ≡ sum chains.now }
-    ensures bounded { result ≤ 10 ^ 15 }
-{
-    let mut sum = 0u128;
-    for length in chains {
-        sum += u128::from(*length);
-    }
-    sum
-}
-
-/// One, and the module's input cells, its output cells and twice its scan cells.
-fn cells_and_one(module: &Module) -> u128
-    requires terminals { «module».now.inputs + «module».now.outputs + «module».now.bidirs < 10 ^ 13 }
-    requires small { All (λ n. n < NUMBER_WORD_MOST + 1) «module».now.chains.items }
-    requires few { length «module».now.chains.items ≤ 1000 }
-    ensures cells { let m = «module».now in result ≡ 1 + (m.inputs + m.bidirs) + (m.outputs + m.bidirs) + 2 * sum m.chains.items }
-    ensures bounded { result < 10 ^ 16 }
-{
-    let inputs = u128::from(module.inputs) + u128::from(module.bidirs);
-    let outputs = u128::from(module.outputs) + u128::from(module.bidirs);
-    1 + inputs + outputs + 2 * scan_cells(&module.chains)
 }
 
 /// The work of a test's parts together: patterns times cells, and the setup once a part where the test goes over the wires.
