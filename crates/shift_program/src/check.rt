@@ -44,10 +44,8 @@ impl ProgramRoom {
     pub fn new(alloc: Global, program: &Program) -> Result<ProgramRoom, NoMemory>
         ensures { IfOk result (λ room. length program.now.entries.items ≤ room) }
     {
-        match IndexSet::with_capacity(alloc, program.entries.len()) {
-            Ok(seen) => Ok(ProgramRoom { seen }),
-            Err(_) => Err(NoMemory),
-        }
+        let seen = IndexSet::with_capacity(alloc, program.entries.len())?;
+        Ok(ProgramRoom { seen })
     }
 }
 

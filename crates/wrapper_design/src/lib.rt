@@ -42,14 +42,12 @@ pub fn design(alloc: Global, module: &Module, scan: bool, width: u64) -> Result<
     ensures proper { IfOk result (λ w. IsProper (module_value «module».now) scan (wrapper_value w).chains) }
     ensures balanced { IfOk result (λ w. IsBalanced (mode_of (module_value «module».now) scan) (wrapper_value w).chains) }
 {
-    match chains_of(alloc, module, scan, width) {
-        Ok(chains) => Ok(Wrapper {
-            module: module.number,
-            scan,
-            chains,
-        }),
-        Err(_) => Err(NoMemory),
-    }
+    let chains = chains_of(alloc, module, scan, width)?;
+    Ok(Wrapper {
+        module: module.number,
+        scan,
+        chains,
+    })
 }
 
 /// The chains of the wrapper of a mode of the module.
