@@ -31,6 +31,6 @@ at_byte (suc n) b right less = by (both (same (get_or ENDS n false) (ends_word n
     by parts (inl here) rest = ap (λ k. get_or ENDS k false) here ∙ same_is (get_or ENDS n false) (ends_word n) parts.0 ∙ ap ends_word (sym here)
     by parts (inr apart) rest = rest parts.1 (omega (arith, less, apart))
 
--- what the table has of a byte below 64
-pub ENDS_at : (b : ℕ) → b < 64 → get_or ENDS b false ≡ ends_word b
-ENDS_at b less = at_byte 64 b refl less
+-- what the table has of a byte
+pub ENDS_at : (b : ℕ) → b < 256 → get_or ENDS b false ≡ ends_word b
+ENDS_at b less = at_byte 256 b refl less

@@ -1,5 +1,5 @@
 -- What the reader's values stand for.
-use Rattle.std.specs.Prelude.{◌≡◌, ℕ, List, map, reverse, false, Option, None, Some, Result, Ok, Err}
+use Rattle.std.specs.Prelude.{◌≡◌, ℕ, List, map, reverse, Bool, true, false, Option, None, Some, Result, Ok, Err}
 use Rattle.soc_reader.specs.declared.keys.Subject.{Subject}
 use Rattle.soc_reader.specs.declared.items.ReadValue.{ReadValue}
 use Rattle.soc_reader.specs.declared.items.ReadValue.TheVariants.{Nothing, Word, Count, Flag, Lengths}
@@ -50,6 +50,11 @@ part_of (Counted s k n) = counted s k n
 part_of (Listing s k read left) = listing s k read.items left
 part_of WantsCoordinate = wants_coordinate
 part_of (NameOrData m w) = name_or_data m w.now
+
+-- whether lengths of a list are read
+abbrev pub is_list : ReadPart → Bool
+is_list (Listing s k read left) = true
+is_list part = false
 
 -- The next state is this part and these items; or there is none.
 abbrev pub Steps : Option State → Result (Unit {0}) Stop → ReadPart → Items → Type 0

@@ -2,7 +2,7 @@
 ghost use Rattle.std.specs.Prelude.{◌≡◌, ◌∷◌, ◌++◌, [], true, false, option_map, OnErr};
 ghost use Rattle.soc_reader.specs.Grammar.{after as after_done, open_after, has_xy, may_name as may_be_named};
 ghost use Rattle.soc_reader.specs.Steps.{begin_if, after_value, at, between, begun, begin_entry as begins_entry, begin_name as begins_name, begin_data as begins_data, begin_free as begins_free, begin as begins, is_data_word as is_data_word_after, list_from as lists_from, after_length as lists_after, step_value as steps_value, step_counted as steps_counted, step_listing as steps_listing, step_name as steps_name, step_at, closed_at};
-ghost use Rattle.soc_reader.specs.Views.{value_of, item_of, done_of, part_of, InStep, Steps, Closes, AddsLength};
+ghost use Rattle.soc_reader.specs.Views.{value_of, item_of, done_of, part_of, InStep, is_list, Steps, Closes, AddsLength};
 ghost use Rattle.soc_reader.specs.Table.{word_value as value_that_is, owner as owner_of, shape_of as shape_that_follows, entry, name as named_item, place_data, lengths};
 ghost use Rattle.soc_reader.specs.Keywords.{number as number_in, is_lengths_word as says_lengths, is_coordinate as is_number_like};
 ghost use Rattle.soc_reader.specs.Names.{KeepsNames};
@@ -399,28 +399,20 @@ fn add_length(part: &mut ReadPart<'_>, word: &[u8]) -> Result<bool, Stop>
     }
 }
 
-/// The next word, wherever it stands.
-fn step_part<'a>(
-    alloc: Global,
+/// A word behind some lengths. In the midst of a list nothing is moved.
+fn step_listing<'a>(
     items: &mut Items<'a>,
     part: &mut ReadPart<'a>,
     word: Word<'a>,
 ) -> Result<(), Stop>
-    requires { InStep items.old }
+    requires in_step { InStep items.old }
+    requires list { is_list part.old ≡ true }
     ensures { Steps (step_at (done_of items.old) (part_of part.old) (word.entry.bytes.now, word.entry.line)) result part.new items.new }
 {
+    if add_length(part, word.bytes)? {
+        return Ok(());
+    }
     match replace(part, ReadPart::Between) {
-        ReadPart::Between => begin(items, part, word.bytes),
-        ReadPart::Wants {
-            subject,
-            key,
-            shape,
-        } => step_value(items, part, subject, key, shape, word),
-        ReadPart::Counted {
-            subject,
-            key,
-            count,
-        } => step_counted(alloc, items, part, subject, key, count, word.bytes),
         ReadPart::Listing {
             subject,
             key,
@@ -432,17 +424,11 @@ fn step_part<'a>(
             }
             step_length(items, part, subject, key, read, left - 1, word.bytes)
         }
-        ReadPart::WantsCoordinate => {
-            if !is_coordinate(word.bytes) {
-                return Err(Stop::Refused);
-            }
-            pushed(items, part, ReadItem::PlaceData)
-        }
-        ReadPart::NameOrData { module, name } => step_name(items, part, module, name, word.bytes),
+        _ => unreachable!(),
     }
 }
 
-/// The next word. Most words of a long text are lengths in the midst of a list.
+/// The next word, wherever it stands.
 pub fn step<'a>(
     alloc: Global,
     items: &mut Items<'a>,
@@ -452,10 +438,36 @@ pub fn step<'a>(
     requires { InStep items.old }
     ensures { Steps (step_at (done_of items.old) (part_of part.old) (word.entry.bytes.now, word.entry.line)) result part.new items.new }
 {
-    if add_length(part, word.bytes)? {
-        return Ok(());
+    match part {
+        ReadPart::Between => begin(items, part, word.bytes),
+        ReadPart::Wants {
+            subject,
+            key,
+            shape,
+        } => {
+            let (subject, key, shape) = (*subject, *key, *shape);
+            step_value(items, part, subject, key, shape, word)
+        }
+        ReadPart::Counted {
+            subject,
+            key,
+            count,
+        } => {
+            let (subject, key, count) = (*subject, *key, *count);
+            step_counted(alloc, items, part, subject, key, count, word.bytes)
+        }
+        ReadPart::Listing { .. } => step_listing(items, part, word),
+        ReadPart::WantsCoordinate => {
+            if !is_coordinate(word.bytes) {
+                return Err(Stop::Refused);
+            }
+            pushed(items, part, ReadItem::PlaceData)
+        }
+        ReadPart::NameOrData { module, name } => {
+            let (module, name) = (*module, *name);
+            step_name(items, part, module, name, word.bytes)
+        }
     }
-    step_part(alloc, items, part, word)
 }
 
 /// The text ends here.

@@ -3,4 +3,4 @@ use Rattle.outside.proofs.EndTable.{ENDS_at}
 use Rattle.outside.proofs.words.ends_word.Goals as goal
 
 pub returns : goal.returns
-returns c = ENDS_at c.args.b (omega (arith, c.if-b-ge64.false))
+returns c = ENDS_at c.args.b (omega (arith))
