@@ -72,26 +72,18 @@ fn push_scan(chain: &mut ChainPlan, scan: u64) -> Result<(), Stop>
     Ok(())
 }
 
-/// What comes next is this.
-fn set_part(part: &mut Part, next: Part) -> Result<(), Stop>
-    ensures ok { result ≡ Ok tt }
-    ensures set { part.new ≡ next }
-{
-    *part = next;
-    Ok(())
-}
-
 /// What a keyword begins, where a section is not over.
 fn begin(part: &mut Part, key: Keyword, section: Section) -> Result<(), Stop>
     ensures { Begins (begins key section) result part.new }
 {
-    match (key, section) {
-        (Keyword::Bus, Section::Buses) => set_part(part, Part::WantsWidth),
-        (Keyword::Wrapper, Section::Buses | Section::Wrappers) => set_part(part, Part::WantsModule),
-        (Keyword::Start, _) => set_part(part, Part::WantsTestModule),
-        (Keyword::Bound, _) => set_part(part, Part::WantsBound),
-        _ => Err(Stop::Refused),
-    }
+    *part = match (key, section) {
+        (Keyword::Bus, Section::Buses) => Part::WantsWidth,
+        (Keyword::Wrapper, Section::Buses | Section::Wrappers) => Part::WantsModule,
+        (Keyword::Start, _) => Part::WantsTestModule,
+        (Keyword::Bound, _) => Part::WantsBound,
+        _ => return Err(Stop::Refused),
+    };
+    Ok(())
 }
 
 /// A wrapper in the mode of its keyword, without chains yet.
@@ -103,71 +95,60 @@ fn begin_mode(alloc: Global, part: &mut Part, key: Keyword, module: u64) -> Resu
         Keyword::Terminals => false,
         _ => return Err(Stop::Refused),
     };
-    set_part(
-        part,
-        Part::InWrapper(Wrapper {
-            module,
-            scan,
-            chains: Vec::new(alloc),
-        }),
-    )
+    *part = Part::InWrapper(Wrapper {
+        module,
+        scan,
+        chains: Vec::new(alloc),
+    });
+    Ok(())
 }
 
 /// A bound for the reason of its keyword.
 fn begin_reason(alloc: Global, part: &mut Part, key: Keyword, cycles: u64) -> Result<(), Stop>
     ensures { Begins (begins_reason key cycles) result part.new }
 {
-    match key {
-        Keyword::Module => set_part(part, Part::WantsBoundModule { cycles }),
-        Keyword::Pair => set_part(part, Part::WantsPairModule { cycles }),
-        Keyword::Chain => set_part(
-            part,
-            Part::InTests {
-                cycles,
-                tests: Vec::new(alloc),
-            },
-        ),
-        Keyword::Area => set_part(
-            part,
-            Part::Whole(Bound {
-                cycles,
-                why: Why::Area,
-            }),
-        ),
-        Keyword::Power => set_part(
-            part,
-            Part::Whole(Bound {
-                cycles,
-                why: Why::Power,
-            }),
-        ),
-        Keyword::Forced => set_part(
-            part,
-            Part::InForced {
-                cycles,
-                modules: Vec::new(alloc),
-            },
-        ),
-        _ => Err(Stop::Refused),
-    }
+    *part = match key {
+        Keyword::Module => Part::WantsBoundModule { cycles },
+        Keyword::Pair => Part::WantsPairModule { cycles },
+        Keyword::Chain => Part::InTests {
+            cycles,
+            tests: Vec::new(alloc),
+        },
+        Keyword::Area => Part::Whole(Bound {
+            cycles,
+            why: Why::Area,
+        }),
+        Keyword::Power => Part::Whole(Bound {
+            cycles,
+            why: Why::Power,
+        }),
+        Keyword::Forced => Part::InForced {
+            cycles,
+            modules: Vec::new(alloc),
+        },
+        _ => return Err(Stop::Refused),
+    };
+    Ok(())
 }
 
 fn begin_plan(part: &mut Part, key: Keyword) -> Result<(), Stop>
     ensures { Begins (begins_plan key) result part.new }
 {
-    match key {
-        Keyword::Plan => set_part(part, Part::WantsForm),
-        _ => Err(Stop::Refused),
-    }
+    *part = match key {
+        Keyword::Plan => Part::WantsForm,
+        _ => return Err(Stop::Refused),
+    };
+    Ok(())
 }
 
 fn begin_cycles(part: &mut Part, key: Keyword) -> Result<(), Stop>
     ensures { Begins (begins_cycles key) result part.new }
 {
-    match key {
-        Keyword::Cycles => set_part(part, Part::WantsCycles),
-        _ => Err(Stop::Refused),
-    }
+    *part = match key {
+        Keyword::Cycles => Part::WantsCycles,
+        _ => return Err(Stop::Refused),
+    };
+    Ok(())
 }
 
 fn is_chain(key: Keyword) -> bool
@@ -186,7 +167,8 @@ fn step_wrapper(
     ensures { Steps (steps_wrapper (draft_value draft.old) (wrapper_value wrapper) key (chains key)) result part.new draft.new }
 {
     if is_chain(key) {
-        return set_part(part, Part::WantsIns(wrapper));
+        *part = Part::WantsIns(wrapper);
+        return Ok(());
     }
     push_wrapper(draft, wrapper)?;
     begin(part, key, Section::Wrappers)
@@ -200,23 +182,63 @@ fn step_bus(draft: &mut Draft, part: &mut Part, bus: Bus, key: Keyword) -> Resul
     begin(part, key, Section::Buses)
 }
 
+/// A wrapper that stands where one is taken away.
+fn no_wrapper(alloc: Global) -> Wrapper {
+    Wrapper {
+        module: 0,
+        scan: false,
+        chains: Vec::new(alloc),
+    }
+}
+
+/// A chain that stands where one is taken away.
+fn no_chain(alloc: Global) -> ChainPlan {
+    ChainPlan {
+        ins: 0,
+        scans: Vec::new(alloc),
+        outs: 0,
+    }
+}
+
+/// A bus that stands where one is taken away.
+fn no_bus(alloc: Global) -> Bus {
+    Bus {
+        width: 0,
+        modules: Vec::new(alloc),
+    }
+}
+
 /// A keyword as the next word.
 fn step_key(alloc: Global, draft: &mut Draft, part: &mut Part, key: Keyword) -> Result<(), Stop>
     ensures { Steps (steps_key (draft_value draft.old) (part_value part.old) key) result part.new draft.new }
 {
-    match replace(part, Part::WantsPlan) {
+    match part {
         Part::WantsPlan => begin_plan(part, key),
         Part::WantsCyclesWord => begin_cycles(part, key),
         Part::AfterCycles => begin(part, key, Section::Buses),
-        Part::InBus(bus) => step_bus(draft, part, bus, key),
-        Part::WantsMode { module } => begin_mode(alloc, part, key, module),
-        Part::InWrapper(wrapper) => step_wrapper(draft, part, wrapper, key),
-        Part::InChain { mut wrapper, chain } => {
-            push_chain(&mut wrapper, chain)?;
+        Part::InBus(bus) => {
+            let bus = replace(bus, no_bus(alloc));
+            step_bus(draft, part, bus, key)
+        }
+        Part::WantsMode { module } => {
+            let module = *module;
+            begin_mode(alloc, part, key, module)
+        }
+        Part::InWrapper(wrapper) => {
+            let wrapper = replace(wrapper, no_wrapper(alloc));
+            step_wrapper(draft, part, wrapper, key)
+        }
+        Part::InChain { wrapper, chain } => {
+            let chain = replace(chain, no_chain(alloc));
+            push_chain(wrapper, chain)?;
+            let wrapper = replace(wrapper, no_wrapper(alloc));
             step_wrapper(draft, part, wrapper, key)
         }
         Part::AfterStart => begin(part, key, Section::Starts),
-        Part::WantsReason { cycles } => begin_reason(alloc, part, key, cycles),
+        Part::WantsReason { cycles } => {
+            let cycles = *cycles;
+            begin_reason(alloc, part, key, cycles)
+        }
         Part::WantsForm
         | Part::WantsCycles
         | Part::WantsWidth
@@ -241,7 +263,8 @@ fn step_form(draft: &mut Draft, part: &mut Part, n: u64) -> Result<(), Stop>
     ensures { Steps (steps_number (draft_value draft.old) wants_form n) result part.new draft.new }
 {
     if n == 1 {
-        set_part(part, Part::WantsCyclesWord)
+        *part = Part::WantsCyclesWord;
+        Ok(())
     } else {
         Err(Stop::Refused)
     }
@@ -255,87 +278,107 @@ fn step_start(draft: &mut Draft, part: &mut Part, test: TestId, n: u64) -> Resul
         return Err(Stop::Refused);
     }
     push_start(draft, test, n)?;
-    set_part(part, Part::AfterStart)
+    *part = Part::AfterStart;
+    Ok(())
 }
 
-/// A number as the next word.
+/// A number as the next word. What goes on is changed where it stands.
 fn step_number(alloc: Global, draft: &mut Draft, part: &mut Part, n: u64) -> Result<(), Stop>
     ensures { Steps (steps_number (draft_value draft.old) (part_value part.old) n) result part.new draft.new }
 {
-    match replace(part, Part::WantsPlan) {
+    match part {
         Part::WantsForm => step_form(draft, part, n),
         Part::WantsCycles => {
             draft.cycles = n;
-            set_part(part, Part::AfterCycles)
+            *part = Part::AfterCycles;
+            Ok(())
         }
-        Part::WantsWidth => set_part(
-            part,
-            Part::InBus(Bus {
+        Part::WantsWidth => {
+            *part = Part::InBus(Bus {
                 width: n,
                 modules: Vec::new(alloc),
-            }),
-        ),
-        Part::InBus(mut bus) => {
-            push_module(&mut bus, n)?;
-            set_part(part, Part::InBus(bus))
+            });
+            Ok(())
         }
-        Part::WantsModule => set_part(part, Part::WantsMode { module: n }),
-        Part::WantsIns(wrapper) => set_part(part, Part::WantsOuts { wrapper, ins: n }),
-        Part::WantsOuts { wrapper, ins } => set_part(
-            part,
-            Part::InChain {
-                wrapper,
-                chain: ChainPlan {
-                    ins,
-                    scans: Vec::new(alloc),
-                    outs: n,
-                },
-            },
-        ),
-        Part::InChain { wrapper, mut chain } => {
-            push_scan(&mut chain, n)?;
-            set_part(part, Part::InChain { wrapper, chain })
+        Part::InBus(bus) => push_module(bus, n),
+        Part::WantsModule => {
+            *part = Part::WantsMode { module: n };
+            Ok(())
         }
-        Part::WantsTestModule => set_part(part, Part::WantsTest { module: n }),
-        Part::WantsTest { module } => set_part(part, Part::WantsStart(TestId { module, test: n })),
-        Part::WantsStart(test) => step_start(draft, part, test, n),
-        Part::WantsBound => set_part(part, Part::WantsReason { cycles: n }),
-        Part::WantsBoundModule { cycles } => set_part(
-            part,
-            Part::Whole(Bound {
+        Part::WantsIns(wrapper) => {
+            let wrapper = replace(wrapper, no_wrapper(alloc));
+            *part = Part::WantsOuts { wrapper, ins: n };
+            Ok(())
+        }
+        Part::WantsOuts { wrapper, ins } => {
+            let wrapper = replace(wrapper, no_wrapper(alloc));
+            let chain = ChainPlan {
+                ins: *ins,
+                scans: Vec::new(alloc),
+                outs: n,
+            };
+            *part = Part::InChain { wrapper, chain };
+            Ok(())
+        }
+        Part::InChain { chain, .. } => push_scan(chain, n),
+        Part::WantsTestModule => {
+            *part = Part::WantsTest { module: n };
+            Ok(())
+        }
+        Part::WantsTest { module } => {
+            let module = *module;
+            *part = Part::WantsStart(TestId { module, test: n });
+            Ok(())
+        }
+        Part::WantsStart(test) => {
+            let test = *test;
+            step_start(draft, part, test, n)
+        }
+        Part::WantsBound => {
+            *part = Part::WantsReason { cycles: n };
+            Ok(())
+        }
+        Part::WantsBoundModule { cycles } => {
+            let cycles = *cycles;
+            *part = Part::Whole(Bound {
                 cycles,
                 why: Why::Module { module: n },
-            }),
-        ),
-        Part::WantsPairModule { cycles } => set_part(
-            part,
-            Part::Whole(Bound {
+            });
+            Ok(())
+        }
+        Part::WantsPairModule { cycles } => {
+            let cycles = *cycles;
+            *part = Part::Whole(Bound {
                 cycles,
                 why: Why::Pair { module: n },
-            }),
-        ),
-        Part::InTests { cycles, tests } => set_part(
-            part,
-            Part::WantsTestOf {
+            });
+            Ok(())
+        }
+        Part::InTests { cycles, tests } => {
+            let cycles = *cycles;
+            let tests = replace(tests, Vec::new(alloc));
+            *part = Part::WantsTestOf {
                 cycles,
                 tests,
                 module: n,
-            },
-        ),
+            };
+            Ok(())
+        }
         Part::WantsTestOf {
             cycles,
-            mut tests,
+            tests,
             module,
         } => {
+            let cycles = *cycles;
+            let module = *module;
             tests.push(TestId { module, test: n })?;
-            set_part(part, Part::InTests { cycles, tests })
+            let tests = replace(tests, Vec::new(alloc));
+            *part = Part::InTests { cycles, tests };
+            Ok(())
         }
-        Part::InForced {
-            cycles,
-            mut modules,
-        } => {
+        Part::InForced { modules, .. } => {
             modules.push(n)?;
-            set_part(part, Part::InForced { cycles, modules })
+            Ok(())
         }
         Part::WantsPlan
         | Part::WantsCyclesWord
