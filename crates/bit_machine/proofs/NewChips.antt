@@ -15,6 +15,7 @@ use Rattle.plan_model.specs.Rules.{IsGood, IsGoodAlone, Wrappers, Proper, bare_l
 use Rattle.plan_model.specs.Views.{bus_value}
 use Rattle.plan_model.proofs.ShortTests.{short_test, planned_operations}
 use Rattle.plan_model.specs.declared.Bus.{Bus}
+use Rattle.live_tests.proofs.BusWidths.{widths_are}
 use Rattle.bit_machine.specs.Chips.{made_content, wires_of, at_first}
 use Rattle.bit_machine.specs.Lanes.{lane_bits, AreNewLanes}
 use Rattle.bit_machine.specs.Machines.{lanes_state, AreLanes, AreOnWires, AreSomeLanes, IsMachine}
@@ -25,7 +26,6 @@ use Rattle.bit_machine.specs.declared.machine.Machine.{Machine}
 use Rattle.bit_machine.proofs.GoodWires.{good_wires}
 use Rattle.bit_machine.proofs.WireSteps.{state_is, lanes_width}
 use Rattle.bit_machine.proofs.WholeChip.{chip_view}
-use Rattle.bit_machine.proofs.PlacedLanes.{widths_are}
 
 -- ---- the operations of all tests together are within the work
 

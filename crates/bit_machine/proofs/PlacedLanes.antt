@@ -34,6 +34,7 @@ use Rattle.plan_model.proofs.ShortTests.{short_planned}
 use Rattle.plan_model.specs.Right.{IsAt}
 use Rattle.live_tests.specs.declared.placed.PlacedTest.{PlacedTest}
 use Rattle.live_tests.specs.Placed.{bus_over, placed_of}
+use Rattle.live_tests.proofs.BusWidths.{widths_are}
 use Rattle.live_tests.proofs.Placing.{the_live, in_live, places_of_origin}
 use Rattle.soc_model.specs.Lookups.{test_places}
 use Rattle.bit_machine.specs.Chips.{made_content, made_stimulus, made_response, of_live}
@@ -360,10 +361,6 @@ bus_there soc limits plan good p q m t at there live tam =
 
 pub same_wired : (plan : PlanValue) (seed : ℕ) (placed : PlacedTest) (bus q : ℕ) (m : ModuleValue) (t u : Test) (l : Lane) → t ≡ u → IsWiredLane plan seed placed bus q m t l → IsWiredLane plan seed placed bus q m u l
 same_wired plan seed placed bus q m t u l same is = subst (λ t. IsWiredLane plan seed placed bus q m t l) same is
-
-pub widths_are : (buses : List Bus) → map (λ (b : Bus). b.width) buses ≡ map (λ (b : BusValue). b.width) (map bus_value buses)
-widths_are [] = refl
-widths_are (b ∷ buses) = ap (λ v. b.width ∷ v) (widths_are buses)
 
 pub first_is : (buses seen : List Bus) (bus r : ℕ) → r ≡ sum (take bus (map (λ (b : Bus). b.width) seen)) → seen ≡ buses → r ≡ sum (take bus (map (λ (b : BusValue). b.width) (map bus_value buses)))
 first_is buses seen bus r e f = e ∙ rw (f, widths_are buses) refl

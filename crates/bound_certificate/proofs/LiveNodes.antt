@@ -1,9 +1,9 @@
 -- The nodes of a chip's live tests, without precedences.
-use Rattle.std.proofs.Common.{◌≡◌, inl, inr, ℕ, ◌+◌, ◌*◌, ◌≤◌, ◌^◌, max, Some, List, [], ◌∷◌, ◌++◌, get_or, map, refl, sym, ap, ◌∙◌, subst, arith}
+use Rattle.std.proofs.Common.{◌≡◌, inl, inr, ℕ, ◌+◌, ◌*◌, ◌≤◌, ◌^◌, max, Some, List, [], ◌∷◌, ◌++◌, length, get_or, map, refl, sym, ap, ◌∙◌, arith}
 use Rattle.std.specs.Prelude.{slice_get}
-use Rattle.std.specs.List.{All, filter, flat_map, Contains}
+use Rattle.std.specs.List.{All, filter, flat_map}
 use Rattle.std.proofs.lemmas.Bool.{cases_Bool}
-use Rattle.std.proofs.lemmas.List.{map-append}
+use Rattle.std.proofs.lemmas.List.{length-map, map-append}
 use Rattle.std.proofs.lemmas.Option.{slice_get-map, slice_get-get_or}
 use Rattle.std.proofs.Math.Nat.{mul-le-mul_left}
 use Rattle.soc_model.specs.declared.Test.{Test}
@@ -23,8 +23,8 @@ use Rattle.bound_rules.specs.Sizes.{sizes_of, least_chain, IsFitting}
 use Rattle.bound_rules.proofs.Works.{time_by-le, tam_time_is, self_time_is}
 use Rattle.bound_rules.proofs.Modules.{fitting_sizes, time_by_sizes, work_by_sizes, module_size-le_work}
 use Rattle.bound_rules.proofs.SoundWork.{live_work-le, live_work-le_live}
-use Rattle.bound_certificate.specs.Nodes.{NodeValue, ids_of, fixed_parts, HasSmallWork, node_in, nodes_in, live_nodes, AreLinked, AreNodes}
-use Rattle.live_tests.specs.Names.{AllDiffer}
+use Rattle.bound_certificate.specs.declared.nodes.Node.{Node}
+use Rattle.bound_certificate.specs.Nodes.{NodeValue, node_value, node_values, ids_of, fixed_parts, HasSmallWork, node_in, nodes_in, live_nodes, AreLinked, AreNodes}
 use Rattle.live_tests.proofs.LiveIds.{ids_differ}
 use Rattle.bound_certificate.proofs.Links.{ids_same}
 
@@ -80,20 +80,6 @@ ids_are w (l ∷ ls) = ap (λ ids. id_of l ∷ ids) (ids_are w ls)
 pub live_ids_are : (soc : SocValue) (w : ℕ) → ids_of (live_nodes soc w) ≡ live_ids soc
 live_ids_are soc w = ap ids_of (nodes_are soc w) ∙ ids_are w (live_tests soc)
 
-pub live_differ : (soc : SocValue) (w : ℕ) → IsSoundChip soc → AllDiffer (ids_of (live_nodes soc w))
-live_differ soc w sound = subst (λ (ids : List TestId). AllDiffer ids) (sym (live_ids_are soc w)) (ids_differ soc sound)
-
--- no precedences yet
-pub none_linked : (soc : SocValue) (w : ℕ) → AreLinked [] (live_nodes soc w)
-none_linked soc w = subst (λ (ns : List NodeValue). AreLinked [] ns) (sym (nodes_are soc w)) (record { listed = λ j p n at c. listed j p n at c; all = λ i j m n at there c. absurd (omega (arith, c.1)) })
-  where
-    listed : (j p : ℕ) (n : NodeValue) → slice_get (map (node_of w) (live_tests soc)) j ≡ Some n → Contains n.before p → (m : NodeValue) × (slice_get (map (node_of w) (live_tests soc)) p ≡ Some m) × Contains {X = TestId × TestId} [] (m.id, n.id)
-    listed j p n at c =
-        let l = from_map (node_of w) (live_tests soc) j n at in
-        let none : [] ≡ n.before = ap (λ (n : NodeValue). n.before) l.2 in
-        let c' = rw (← none) at c in
-        absurd (omega (arith, c'.1))
-
 -- ---- with their precedences
 
 -- a live test by its place
@@ -136,3 +122,8 @@ nodes_found soc limits nodes sound some same linked = record {
   short = λ i n at. (let b = behind soc limits.wires nodes same i n at in omega (arith, b.time, lower_small b.l.core b.l.test limits.wires some (live_patterns soc i b.l b.at) (live_work-le_live soc sound i b.l b.at)));
   linked = linked;
 }
+
+-- there are as many nodes as live tests
+pub node_count : (soc : SocValue) (w : ℕ) (nodes : List Node) → node_values nodes ≡ live_nodes soc w → length nodes ≡ length (live_ids soc)
+node_count soc w nodes are =
+    sym (length-map nodes node_value) ∙ sym (length-map (node_values nodes) (λ (n : NodeValue). n.id)) ∙ ap (λ (ns : List NodeValue). length (ids_of ns)) are ∙ ap length (live_ids_are soc w)

@@ -1,5 +1,5 @@
 -- The live tests of a chip as nodes of a graph, whose edges are the precedences of live tests.
-use Rattle.std.specs.Prelude.{◌≡◌, ℕ, zero, suc, ◌^◌, ◌≤◌, Option, Some, None, List, [], ◌∷◌, ◌++◌, map, slice_get, true}
+use Rattle.std.specs.Prelude.{◌≡◌, ℕ, ◌^◌, ◌≤◌, Some, List, [], map, slice_get, slice_index_or, true}
 use Rattle.std.specs.List.{flat_map, filter, Contains}
 use Rattle.soc_model.specs.declared.Test.{Test}
 use Rattle.soc_model.specs.declared.TestId.{TestId}
@@ -9,6 +9,8 @@ use Rattle.plan_model.specs.Plans.{LimitsValue}
 use Rattle.plan_model.specs.Bounds.{lower_time}
 use Rattle.plan_model.specs.Rules.{live_ids}
 use Rattle.plan_model.specs.Certificates.{lower_of_id}
+use Rattle.live_tests.specs.declared.neighbours.Neighbours.{Neighbours}
+use Rattle.live_tests.specs.Neighbours.{tests_of}
 use Rattle.bound_certificate.specs.declared.nodes.Node.{Node}
 
 -- a live test with its lower time, and the places of those that precede it
@@ -49,17 +51,13 @@ live_nodes soc wires = flat_map (nodes_in wires) soc.modules
 
 -- ---- precedences
 
--- one more test precedes the test at a place
-unfoldable pub add_before : (first place : ℕ) → List NodeValue → List NodeValue
-add_before first place [] = []
-add_before first zero (n ∷ nodes) = record n { before = n.before ++ first ∷ [] } ∷ nodes
-add_before first (suc place) (n ∷ nodes) = n ∷ add_before first place nodes
+-- the places of the tests before the node at a place
+abbrev pub before_at : List Node → ℕ → List ℕ
+before_at nodes i = slice_index_or (map (λ (n : Node). n.before.items) nodes) i []
 
--- one more precedence, where both tests have a place
-abbrev pub linked : Option ℕ → Option ℕ → List NodeValue → List NodeValue
-linked (Some first) (Some place) nodes = add_before first place nodes
-linked None second nodes = nodes
-linked (Some first) None nodes = nodes
+-- the list at a place
+abbrev pub tests_at : List Neighbours → ℕ → List ℕ
+tests_at lists i = slice_index_or (map tests_of lists) i []
 
 -- the nodes have exactly these precedences
 pub record AreLinked (before : List (TestId × TestId)) (nodes : List NodeValue) : Type 0 where

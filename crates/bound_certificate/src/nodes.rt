@@ -1,17 +1,17 @@
 // The live tests of a chip as the nodes of a graph, with their precedences as its edges.
-ghost use Rattle.std.specs.Prelude.{◌≡◌, ◌<◌, ◌≤◌, ◌++◌, [], length, IfOk, OnOk, IfSome};
+ghost use Rattle.std.specs.Prelude.{◌≡◌, ℕ, ◌<◌, ◌≤◌, ◌++◌, length, IfOk, OnOk};
 ghost use Rattle.soc_model.specs.Chips.{soc_value, module_value};
 ghost use Rattle.soc_model.specs.SoundChips.{IsSoundChip};
 ghost use Rattle.plan_model.specs.Views.{limits_value};
-ghost use Rattle.bound_certificate.specs.Nodes.{node_values, ids_of as names, fixed_parts, HasSmallWork, nodes_in, live_nodes as nodes_of_tests, linked, AreLinked, AreNodes};
-ghost use Rattle.live_tests.specs.Names.{AllDiffer};
+ghost use Rattle.bound_certificate.specs.Nodes.{node_values, fixed_parts, before_at, tests_at, HasSmallWork, nodes_in, live_nodes as nodes_of_tests, AreNodes};
 
 use bound_rules::lower_time;
-use live_tests::LiveTests;
+use live_tests::{LiveTests, Neighbours, all_before};
 use outside::NoMemory;
 use plan_model::Limits;
 use soc_model::{Module, Soc, TestId, live};
 use std::alloc::Global;
+use std::mem;
 
 /// A live test among its precedences.
 #[derive(Drop)]
@@ -66,39 +66,15 @@ fn live_nodes(alloc: Global, soc: &Soc, wires: u64) -> Result<Vec<Node>, NoMemor
     Ok(nodes)
 }
 
-/// Adds a precedence, where both tests have a place.
-fn link(nodes: &mut Vec<Node>, first: Option<usize>, second: Option<usize>) -> Result<(), NoMemory>
-    requires { IfSome second (λ place. place < length nodes.old.items) }
-    ensures { OnOk result (node_values nodes.new.items ≡ linked first second (node_values nodes.old.items)) }
+/// Gives each node the tests before it, which stand in these lists.
+fn link(nodes: &mut Vec<Node>, lists: &mut Vec<Neighbours>)
+    requires { length lists.old.items ≡ length nodes.old.items }
+    ensures fixed { fixed_parts (node_values nodes.new.items) ≡ fixed_parts (node_values nodes.old.items) }
+    ensures before { (i : ℕ) → i < length nodes.old.items → before_at nodes.new.items i ≡ tests_at lists.old.items i }
 {
-    let Some(place) = first else {
-        return Ok(());
-    };
-    let Some(later) = second else {
-        return Ok(());
-    };
-    match nodes[later].before.push(place) {
-        Ok(()) => Ok(()),
-        Err(_) => Err(NoMemory),
+    for place in 0..nodes.len() {
+        mem::swap(&mut nodes[place].before, &mut lists[place].tests);
     }
-}
-
-/// Adds all precedences of tests that have places.
-fn link_all(
-    nodes: &mut Vec<Node>,
-    tests: &LiveTests,
-    before: &[(TestId, TestId)],
-) -> Result<(), NoMemory>
-    requires ids { tests.now ≡ names (node_values nodes.old.items) }
-    requires differ { AllDiffer (names (node_values nodes.old.items)) }
-    requires none { AreLinked [] (node_values nodes.old.items) }
-    ensures fixed { OnOk result (fixed_parts (node_values nodes.new.items) ≡ fixed_parts (node_values nodes.old.items)) }
-    ensures linked { OnOk result (AreLinked before.now (node_values nodes.new.items)) }
-{
-    for (first, second) in before {
-        link(nodes, tests.place(*first), tests.place(*second))?;
-    }
-    Ok(())
 }
 
 /// The live tests in the order of the chip, with their precedences.
@@ -109,6 +85,8 @@ pub fn nodes_of(alloc: Global, soc: &Soc, limits: &Limits) -> Result<Vec<Node>, 
 {
     let mut nodes = live_nodes(alloc, soc, limits.wires)?;
     let tests = LiveTests::new(alloc, soc)?;
-    link_all(&mut nodes, &tests, &limits.before)?;
+    let pairs = tests.precedences(alloc, &limits.before)?;
+    let mut before = all_before(alloc, tests.names().len(), &pairs)?;
+    link(&mut nodes, &mut before);
     Ok(nodes)
 }

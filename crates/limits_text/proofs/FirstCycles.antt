@@ -5,11 +5,12 @@ use Rattle.std.specs.List.{All, Contains}
 use Rattle.std.proofs.lemmas.Bool.{cases_lt, eqb-true}
 use Rattle.std.proofs.lemmas.List.Elements.{All-contains}
 use Rattle.std.proofs.lemmas.Option.{slice_get-get_or, slice_get_within}
+use Rattle.plan_model.proofs.Finding.{none_passes}
 use Rattle.limits_text.specs.Cycles.{IsTaken, take_away, Remains, IsFirstRemaining, IsForerunner, IsWalk, IsFirstCycle, HasRank}
 use Rattle.limits_text.specs.Orders.{is_in, least_before, Counts, IsTaking, AreMarked, ComesAgain, IsBack}
 use Rattle.limits_text.proofs.Complete.{some_same}
 use Rattle.limits_text.proofs.GraphSteps.{eq_true}
-use Rattle.limits_text.proofs.Positions.{fails, fails_before, passes_at}
+use Rattle.limits_text.proofs.Positions.{fails_before, passes_at}
 use Rattle.limits_text.proofs.Taking.{in_at, in_take_at, contains_from, contains_here}
 
 abbrev pub AreWithin : List (ℕ × ℕ) → ℕ → Type 0
@@ -83,7 +84,7 @@ pub all_ranked : (pairs : List (ℕ × ℕ)) (count : ℕ) (order : List ℕ) (g
 all_ranked pairs count order gone all t m none = (λ j. rank_in order j, λ i j c. grows i j c)
   where
     every : (j : ℕ) → j < count → is_in order j ≡ true
-    every j small = marked_in count order gone j true m small (not_false (get_or gone j false) (fails not gone j (get_or gone j false) none (slice_get-get_or gone j false (omega (arith, small, m.long)))))
+    every j small = marked_in count order gone j true m small (not_false (get_or gone j false) (none_passes not gone none j (get_or gone j false) (slice_get-get_or gone j false (omega (arith, small, m.long)))))
 
     grows : (i j : ℕ) → Contains pairs (i, j) → rank_in order i < rank_in order j
     grows i j c =

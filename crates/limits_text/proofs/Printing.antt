@@ -10,6 +10,7 @@ use Rattle.soc_model.specs.declared.TheConstants.{NUMBER_WORD_MOST, POWER_MOST}
 use Rattle.soc_model.specs.Chips.{SocValue, same_test}
 use Rattle.plan_model.specs.Plans.{ProfileValue}
 use Rattle.plan_model.specs.SoundLimits.{IsSoundProfile}
+use Rattle.plan_model.proofs.CertificatesAreBounds.{same_test_is}
 use Rattle.limits_text.specs.declared.items.Amount.{Amount}
 use Rattle.limits_text.specs.declared.items.Amount.TheVariants.{Wires, Power, Budget}
 use Rattle.limits_text.specs.declared.items.Key.TheVariants.{One, Before, Profile}
@@ -20,7 +21,6 @@ use Rattle.limits_text.specs.Texts.{test_fields, number_line, before_line, step_
 use Rattle.limits_text.proofs.WordFacts.{number-decimal}
 use Rattle.limits_text.proofs.PrintedWords.{IsSmall, IsSmallTest, AreSmall, names_test, test_words, test_fields_words, number_line_words, before_words, before_line_words, pair_words, pairs_are, step_fields_words}
 use Rattle.limits_text.proofs.Taking.{false_from}
-use Rattle.limits_text.proofs.CycleTests.{same_is}
 
 -- the words of the items of a text are these items, and then the words of the rest
 pub record Printed (whole : List Word) (form : Bool) (items : List Item) (line : ℕ) (rest : List ℕ) : Type 0 where
@@ -160,7 +160,7 @@ profile_in (profile_item line other steps ∷ items) id e = by (or_cases (same_t
   where
     by : (same_test id other ≡ true) ⊎ (has_profile id items ≡ true) → (has_profile id items ≡ true → (q : ℕ) × (x : ProfileValue) × (slice_get (limits_of items).profiles q ≡ Some x) × (x.test ≡ id))
         → (q : ℕ) × (x : ProfileValue) × (slice_get (limits_of (profile_item line other steps ∷ items)).profiles q ≡ Some x) × (x.test ≡ id)
-    by (inl f) again = (length (limits_of items).profiles, record { test = other; steps = steps }, at_length (limits_of items).profiles [] (record { test = other; steps = steps }), sym (same_is id other f))
+    by (inl f) again = (length (limits_of items).profiles, record { test = other; steps = steps }, at_length (limits_of items).profiles [] (record { test = other; steps = steps }), sym (same_test_is id other f))
     by (inr f) again = let k = again f in (k.0, k.1, in_front (limits_of items).profiles (record { test = other; steps = steps } ∷ []) k.0 k.1 k.2, k.3)
 
 abbrev pub OneEach : List ProfileValue → Type 0

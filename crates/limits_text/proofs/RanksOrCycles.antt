@@ -10,6 +10,7 @@ use Rattle.soc_model.specs.declared.TestId.{TestId}
 use Rattle.plan_model.specs.Rules.{live_ids}
 use Rattle.plan_model.specs.SoundLimits.{IsAcyclic}
 use Rattle.plan_model.proofs.Lists.{contains_at, at_contains}
+use Rattle.live_tests.proofs.Precedences.{pairs_within}
 use Rattle.limits_text.specs.Cycles.{precedences, IsFirstCycle, AreAt, IsCycleOf, HasRank}
 use Rattle.limits_text.specs.Orders.{is_in, held, IsOrdered, IsTaking, least_before, Counts, ComesAgain, IsBack}
 use Rattle.limits_text.specs.Laws.{RanksOrCycles}
@@ -17,7 +18,7 @@ use Rattle.limits_text.proofs.SoundText.{push_cases}
 use Rattle.limits_text.proofs.Taking.{Once, EachAt, true_or_false, in_at, in_take_at, at_in_take, few, each_push, once_push, all_gone, some_left}
 use Rattle.limits_text.proofs.Walking.{IsWalking, least_small, walk_none, at_front, walk_more, walk_short, walk_ends}
 use Rattle.limits_text.proofs.FirstCycles.{AreWithin, Marked, all_ranked, first_left, cycle_found}
-use Rattle.limits_text.proofs.CycleTests.{pairs_within, acyclic, cycle_within}
+use Rattle.limits_text.proofs.CycleTests.{acyclic, cycle_within}
 
 -- the values of a function below `n`
 table : {X : Type 0} → (ℕ → X) → ℕ → List X

@@ -8,10 +8,10 @@ use Rattle.soc_model.specs.Chips.{SocValue}
 use Rattle.plan_model.specs.Plans.{LimitsValue}
 use Rattle.plan_model.specs.Rules.{live_ids}
 use Rattle.plan_model.proofs.Lists.{at_contains}
+use Rattle.live_tests.proofs.Precedences.{place_among, StandsFor, stands_for}
 use Rattle.limits_text.specs.Cycles.{precedences, IsFirstCycle, AreAt, GoesRound}
 use Rattle.limits_text.specs.Laws.{CyclesGoRound}
 use Rattle.limits_text.proofs.Complete.{some_same}
-use Rattle.limits_text.proofs.CycleTests.{place_among, StandsFor, stands_for}
 
 -- the place of a shown test
 place_at : (ids : List TestId) (places : List ℕ) (tests : List TestId) (k : ℕ) (a : TestId) → AreAt ids places tests → slice_get tests k ≡ Some a → (x : ℕ) × (slice_get places k ≡ Some x) × (slice_get ids x ≡ Some a)

@@ -8,12 +8,12 @@ use Rattle.std.proofs.lemmas.Bool.{cases_eq}
 use Rattle.std.proofs.lemmas.List.Elements.{All-get_or, All-from_get_or}
 use Rattle.std.proofs.lemmas.Option.{slice_get_within}
 use Rattle.soc_model.proofs.Places.{slice_get-from_position}
+use Rattle.plan_model.proofs.Finding.{none_passes}
 use Rattle.limits_text.specs.Orders.{is_in, least_before, Counts, ComesAgain}
 use Rattle.limits_text.proofs.Complete.{some_same}
 use Rattle.limits_text.proofs.SoundText.{push_cases}
 use Rattle.limits_text.proofs.GraphSteps.{set_at, set_other, set_length, eq_true, eq_false}
 use Rattle.limits_text.proofs.Taking.{each_push, once_push, few, in_at, false_from, false_true}
-use Rattle.limits_text.proofs.Positions.{fails}
 
 -- ---- the least test before each
 
@@ -175,7 +175,7 @@ from_front (z ∷ xs) y zero x less e = e
 from_front (z ∷ xs) y (suc p) x less e = from_front xs y p x (omega (arith, less)) e
 
 walked_fresh : (walk : List ℕ) (test : ℕ) → position (nat_eq test) walk ≡ None → is_in walk test ≡ false
-walked_fresh walk test none = false_from (is_in walk test) (λ e. (let a = in_at walk test e in false_true (nat_eq test test) (fails (nat_eq test) walk a.0 test none a.1) (eq_true test test refl)))
+walked_fresh walk test none = false_from (is_in walk test) (λ e. (let a = in_at walk test e in false_true (nat_eq test test) (none_passes (nat_eq test) walk none a.0 test a.1) (eq_true test test refl)))
 
 pub walk_more : (next : List ℕ) (start : ℕ) (walk : List ℕ) (test new : ℕ) → IsWalking next start walk test → position (nat_eq test) walk ≡ None → All (λ j. j < length next) next → new ≡ slice_index next test → IsWalking next start (walk ++ test ∷ []) new
 walk_more next start walk test new w none all is = record {

@@ -1,5 +1,5 @@
 -- How the first live test that passes the limit on power is sought: test by test, up to the first with such a power.
-use Rattle.std.specs.Prelude.{◌≡◌, ℕ, List, [], ◌∷◌, Option, None, option_map, find, nat_lt}
+use Rattle.std.specs.Prelude.{ℕ, List, [], ◌∷◌, Option, None, option_map, find, nat_lt}
 use Rattle.soc_model.specs.declared.Test.{Test}
 use Rattle.soc_model.specs.declared.TestId.{TestId}
 use Rattle.soc_model.specs.Chips.{ModuleValue, LiveTest, id_of}

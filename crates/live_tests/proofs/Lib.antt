@@ -2,6 +2,7 @@ pub mod LiveIds
 pub mod Indexing
 pub mod Placing
 pub mod Sides
+pub mod Precedences
 pub mod NamesPut
 pub mod Indexed
 pub mod ProfilePlaces

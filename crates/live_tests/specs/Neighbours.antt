@@ -1,4 +1,4 @@
--- The tests that come after a test by precedences. Tests go by their places.
+-- The tests that come after a test by precedences, and those before it. Tests go by their places.
 use Rattle.std.specs.Prelude.{ℕ, List, [], ◌∷◌, nat_eq, if◌then◌else◌}
 use Rattle.live_tests.specs.declared.neighbours.Neighbours.{Neighbours}
 
@@ -14,3 +14,7 @@ other_sides side other i (e ∷ pairs) = if nat_eq i (side e) then other e ∷ o
 -- the tests that pairs of an earlier and a later test have after a test
 abbrev pub after : ℕ → List (ℕ × ℕ) → List ℕ
 after i pairs = other_sides (λ (e : ℕ × ℕ). e.0) (λ (e : ℕ × ℕ). e.1) i pairs
+
+-- the tests that they have before a test
+abbrev pub before : ℕ → List (ℕ × ℕ) → List ℕ
+before i pairs = other_sides (λ (e : ℕ × ℕ). e.1) (λ (e : ℕ × ℕ). e.0) i pairs

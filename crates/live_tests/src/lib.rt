@@ -20,7 +20,7 @@ mod wrapped;
 
 pub use index::PlanIndex;
 use indexmap::IndexMap;
-pub use neighbours::{Neighbours, all_after};
+pub use neighbours::{Neighbours, all_after, all_before};
 use outside::{NoMemory, push};
 pub use placed::{PlacedTest, PlacedTests, PlannedChip, first_wire, placed_test};
 pub use profiles::{profile_place, profile_places};

@@ -1,12 +1,12 @@
-// The tests that come after each test by precedences. Tests go by their places.
+// The tests that come after each test by precedences, and those before it. Tests go by their places.
 ghost use Rattle.std.specs.Prelude.{◌≡◌, ℕ, ◌<◌, [], length, map, slice_index_or, IfOk};
 ghost use Rattle.std.specs.List.{All};
-ghost use Rattle.live_tests.specs.Neighbours.{after, tests_of};
+ghost use Rattle.live_tests.specs.Neighbours.{after, before, tests_of};
 
 use outside::{NoMemory, push};
 use std::alloc::Global;
 
-/// The tests that come after a test, in the order of the precedences.
+/// The tests that come after a test, or those before it, in the order of the precedences.
 #[derive(Drop)]
 pub struct Neighbours {
     /// Their places.
@@ -40,6 +40,24 @@ pub fn all_after(
     let mut lists = no_neighbours(alloc, count)?;
     for (first, second) in pairs {
         push(&mut lists[*first].tests, *second)?;
+    }
+    Ok(lists)
+}
+
+/// For each of `count` tests those that come before it, by pairs of an earlier and a later test. `NoMemory` where there is
+/// none.
+pub fn all_before(
+    alloc: Global,
+    count: usize,
+    pairs: &[(usize, usize)],
+) -> Result<Vec<Neighbours>, NoMemory>
+    requires { All (λ (e : ℕ × ℕ). (e.0 < count) × (e.1 < count)) pairs.now }
+    ensures long { IfOk result (λ lists. length lists.items ≡ count) }
+    ensures lists { IfOk result (λ lists. (i : ℕ) → i < count → slice_index_or (map tests_of lists.items) i [] ≡ before i pairs.now) }
+{
+    let mut lists = no_neighbours(alloc, count)?;
+    for (first, second) in pairs {
+        push(&mut lists[*second].tests, *first)?;
     }
     Ok(lists)
 }
