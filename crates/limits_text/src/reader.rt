@@ -1,8 +1,8 @@
 // Reads a text word by word.
-ghost use Rattle.std.specs.Prelude.{◌≡◌, ◌∷◌, ◌++◌, [], IfOk, Ok};
+ghost use Rattle.std.specs.Prelude.{◌≡◌, ◌∷◌, ◌++◌, [], IfOk};
 ghost use Rattle.soc_model.specs.declared.TestId.{TestId};
 ghost use Rattle.limits_text.specs.Items.{number as number_in, is_title as says_title, amount_item, profile_item};
-ghost use Rattle.limits_text.specs.Steps.{at, between, begin as begins, after_title as goes_after_title, after_version as goes_after_version, after_amount as goes_after_amount, named as goes_after_name, after_test as goes_after_test, may_follow as may_come_next, end_profile as goes_on, after_step as goes_after_step, after_power as goes_after_power, step_at, ended_at, whole_of};
+ghost use Rattle.limits_text.specs.Steps.{at, between, begin as begins, after_title as goes_after_title, after_version as goes_after_version, after_amount as goes_after_amount, named as goes_after_name, after_module as goes_after_module, after_test as goes_after_test, may_follow as may_come_next, end_profile as goes_on, after_step as goes_after_step, after_power as goes_after_power, step_at, ended_at, whole_of};
 ghost use Rattle.limits_text.specs.Views.{item_of, done_of, part_of, InStep, Steps, Closes};
 
 use crate::collect::{has_amount, has_profile, push};
@@ -19,15 +19,7 @@ fn pushed(items: &mut Items, part: &mut Part, item: Item) -> Result<(), Stop>
     ensures { Steps (at items.old.second (item_of item ∷ done_of items.old) between) result part.new items.new }
 {
     push(items, item)?;
-    set_part(part, Part::Between)
-}
-
-/// What comes next is this.
-fn set_part(part: &mut Part, next: Part) -> Result<(), Stop>
-    ensures ok { result ≡ Ok tt }
-    ensures set { part.new ≡ next }
-{
-    *part = next;
+    *part = Part::Between;
     Ok(())
 }
 
@@ -37,22 +29,23 @@ fn begin(items: &Items, part: &mut Part, word: Word<'_>) -> Result<(), Stop>
     ensures { Steps (begins items.now.second (done_of items.now) (word.entry.bytes.now, word.entry.line)) result part.new items.now }
 {
     let line = word.line;
-    match key_of(word.bytes) {
+    *part = match key_of(word.bytes) {
         Some(Key::One(amount)) => {
             if has_amount(items, amount) {
                 return Err(Stop::Refused);
             }
-            set_part(part, Part::Wants(amount))
+            Part::Wants(amount)
         }
-        Some(Key::Before) => set_part(part, Part::ModuleFor(Naming::First { line })),
+        Some(Key::Before) => Part::ModuleFor(Naming::First { line }),
         Some(Key::Profile) => {
             if !items.second {
                 return Err(Stop::Refused);
             }
-            set_part(part, Part::ModuleFor(Naming::Profiled { line }))
+            Part::ModuleFor(Naming::Profiled { line })
         }
-        None => Err(Stop::Refused),
-    }
+        None => return Err(Stop::Refused),
+    };
+    Ok(())
 }
 
 /// The word `Limits`.
@@ -63,7 +56,8 @@ fn step_title(items: &Items, part: &mut Part, word: &[u8]) -> Result<(), Stop>
     if !is_title(word) {
         return Err(Stop::Refused);
     }
-    set_part(part, Part::Version)
+    *part = Part::Version;
+    Ok(())
 }
 
 /// The number of the form.
@@ -74,7 +68,8 @@ fn step_version(items: &mut Items, part: &mut Part, word: &[u8]) -> Result<(), S
     match number_of(word) {
         Some(form) if 1 <= form && form <= 2 => {
             items.second = form == 2;
-            set_part(part, Part::Between)
+            *part = Part::Between;
+            Ok(())
         }
         _ => Err(Stop::Refused),
     }
@@ -107,7 +102,8 @@ fn name_test(
 {
     match naming {
         Naming::First { line } => {
-            set_part(part, Part::ModuleFor(Naming::Second { line, first: test }))
+            *part = Part::ModuleFor(Naming::Second { line, first: test });
+            Ok(())
         }
         Naming::Second { line, first } => pushed(
             items,
@@ -122,16 +118,26 @@ fn name_test(
             if has_profile(items, test) {
                 return Err(Stop::Refused);
             }
-            set_part(
-                part,
-                Part::StepsFor {
-                    line,
-                    test,
-                    steps: Vec::new(alloc),
-                },
-            )
+            *part = Part::StepsFor {
+                line,
+                test,
+                steps: Vec::new(alloc),
+            };
+            Ok(())
         }
     }
+}
+
+/// The module of a test.
+fn step_module(items: &Items, part: &mut Part, naming: Naming, word: &[u8]) -> Result<(), Stop>
+    requires { InStep items.now }
+    ensures { Steps (goes_after_module items.now.second (done_of items.now) naming (number_in word.now)) result part.new items.now }
+{
+    let Some(number) = number_of(word) else {
+        return Err(Stop::Refused);
+    };
+    *part = Part::TestFor { naming, number };
+    Ok(())
 }
 
 /// The number of a test in its module.
@@ -199,15 +205,13 @@ fn step_steps(
     if !may_follow(steps.as_slice(), from) {
         return Err(Stop::Refused);
     }
-    set_part(
-        part,
-        Part::PowerFor {
-            line,
-            test,
-            steps,
-            from,
-        },
-    )
+    *part = Part::PowerFor {
+        line,
+        test,
+        steps,
+        from,
+    };
+    Ok(())
 }
 
 /// The second number of a step.
@@ -230,7 +234,8 @@ fn step_power(
         return Err(Stop::Refused);
     }
     steps.push((from, power))?;
-    set_part(part, Part::StepsFor { line, test, steps })
+    *part = Part::StepsFor { line, test, steps };
+    Ok(())
 }
 
 /// The next word.
@@ -238,25 +243,37 @@ pub fn step(alloc: Global, items: &mut Items, part: &mut Part, word: Word<'_>) -
     requires { InStep items.old }
     ensures { Steps (step_at items.old.second (done_of items.old) (part_of part.old) (word.entry.bytes.now, word.entry.line)) result part.new items.new }
 {
-    match replace(part, Part::Between) {
+    match part {
         Part::Title => step_title(items, part, word.bytes),
         Part::Version => step_version(items, part, word.bytes),
         Part::Between => begin(items, part, word),
-        Part::Wants(amount) => step_amount(items, part, amount, word.bytes),
-        Part::ModuleFor(naming) => match number_of(word.bytes) {
-            Some(number) => set_part(part, Part::TestFor { naming, number }),
-            None => Err(Stop::Refused),
-        },
-        Part::TestFor { naming, number } => step_test(
-            alloc, items, part, naming, number, word.bytes,
-        ),
-        Part::StepsFor { line, test, steps } => step_steps(items, part, line, test, steps, word),
+        Part::Wants(amount) => {
+            let amount = *amount;
+            step_amount(items, part, amount, word.bytes)
+        }
+        Part::ModuleFor(naming) => {
+            let naming = *naming;
+            step_module(items, part, naming, word.bytes)
+        }
+        Part::TestFor { naming, number } => {
+            let (naming, number) = (*naming, *number);
+            step_test(alloc, items, part, naming, number, word.bytes)
+        }
+        Part::StepsFor { line, test, steps } => {
+            let (line, test) = (*line, *test);
+            let steps = replace(steps, Vec::new(alloc));
+            step_steps(items, part, line, test, steps, word)
+        }
         Part::PowerFor {
             line,
             test,
             steps,
             from,
-        } => step_power(items, part, line, test, steps, from, word.bytes),
+        } => {
+            let (line, test, from) = (*line, *test, *from);
+            let steps = replace(steps, Vec::new(alloc));
+            step_power(items, part, line, test, steps, from, word.bytes)
+        }
     }
 }
 
