@@ -16,9 +16,6 @@ use Rattle.schedule_search.specs.Walks.{is_in, may_follow}
 use Rattle.resource_table.proofs.Befores.{before_from, before_has}
 use Rattle.schedule_search.proofs.Predecessors.{at_place}
 
-pub all_more : {X : Type 0} (P : X → Type 0) (xs : List X) (k : ℕ) (d : X) → All P (take k xs) → k < length xs → P (get_or xs k d) → All P (take (k + 1) xs)
-all_more {X} P xs k d all within here = subst (All P) (sym (take_more xs k d within)) (All-append P (take k xs) (get_or xs k d ∷ []) all (All-cons P (get_or xs k d) [] here (All-nil P)))
-
 -- ---- which tests are placed
 
 pub in_placed : (placed : List Placement) (test : ℕ) → is_in (map (λ (p : Placement). p.test) placed) test ≡ is_placed placed test

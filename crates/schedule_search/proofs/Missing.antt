@@ -141,13 +141,6 @@ follows_not job path t some = elim (cases_Bool (list_all (is_in path) (tests_bef
     none true = refl
     none false = refl
 
-pub follows_none : (job : JobValue) (path : List ℕ) (t : ℕ) → may_follow job path t ≡ true → missing_of job path t ≡ 0
-follows_none job path t may = missing-none path t job.before (second (not (is_in path t)) (list_all (is_in path) (tests_before t job.before)) may)
-  where
-    second : (a b : Bool) → (a && b) ≡ true → b ≡ true
-    second true b e = e
-    second false b e = absurd cc
-
 -- a test that comes after all of its predecessors misses none
 pub missing_ready : (job : JobValue) (path : List ℕ) (t : ℕ) → ((earlier : ℕ) → Precedes job earlier t → Contains path earlier) → missing_of job path t ≡ 0
 missing_ready job path t after = missing-none path t job.before (list_all-from_AllPass (is_in path) (tests_before t job.before) (λ k d less.

@@ -78,9 +78,6 @@ free_same job path a b test but some some' = same_filter (waits_for_none path a)
   | inr apart ↦ ap (λ n. not (is_in path t) && nat_eq n 0) (but t apart)
 ])
 
-pub free_sorted : (job : JobValue) (path missing free : List ℕ) → free ≡ all_free job path missing → AreSorted job free
-free_sorted job path missing free are = record { passes = waits_for_none path missing; are = are }
-
 -- ---- one test more in the prefix
 
 push_waits : (path missing : List ℕ) (x : ℕ) → IsWithout (waits_for_none path missing) (waits_for_none (path ++ x ∷ []) missing) x
