@@ -1,5 +1,5 @@
 -- The order that is best so far, and the orders that aren't better.
-use Rattle.std.proofs.Common.{◌≡◌, ◌⊎◌, inl, inr, ℕ, zero, suc, ◌+◌, ◌-◌, ◌<◌, ◌≤◌, Option, None, true, false, true≢false, Some, List, [], ◌∷◌, ◌++◌, length, get_or, take, drop, map, refl, sym, ◌∙◌, ap, subst, arith, append_assoc, length-append}
+use Rattle.std.proofs.Common.{◌≡◌, ◌⊎◌, inl, inr, ℕ, ◌+◌, ◌-◌, ◌<◌, ◌≤◌, Option, None, true, false, true≢false, Some, List, [], ◌∷◌, ◌++◌, length, get_or, take, drop, map, refl, sym, ◌∙◌, ap, subst, arith, append_assoc, length-append}
 use Rattle.std.specs.Prelude.{slice_get, IfSome}
 use Rattle.std.specs.List.{Contains}
 use Rattle.std.proofs.lemmas.Bool.{cases_Bool, cases_lt, cases_eq, eq-eqb}
@@ -20,7 +20,7 @@ use Rattle.schedule_search.specs.Progress.{AtMostFirst, NoneBefore}
 use Rattle.schedule_search.proofs.PlacedOrders.{placed_has, placed_not, first_topological}
 use Rattle.schedule_search.proofs.LeastStarts.{some_earliest}
 use Rattle.schedule_search.proofs.CycleCounts.{same_placed}
-use Rattle.schedule_search.proofs.Following.{in_placed, in_to}
+use Rattle.schedule_search.proofs.Following.{in_placed, in_to, in_front}
 use Rattle.schedule_search.proofs.Comparing.{stays_from, AreInOrder, in_order_at, later_stays, after_prefix, differ_here}
 use Rattle.schedule_search.proofs.Counting.{topological_long}
 use Rattle.schedule_search.proofs.Walking.{extends_in}
@@ -52,13 +52,6 @@ followers_unplaced t test sound free later before = elim (cases_Bool (is_placed 
       let early = contains_at (take k.0 path) test has in
       absurd (true≢false (sym (placed_has t.placed path test refl (at_contains path early.0 test (in_front path k.0 early.0 test early.1))) ∙ free))
 ]
-  where
-    in_front : (xs : List ℕ) (n i x : ℕ) → slice_get (take n xs) i ≡ Some x → slice_get xs i ≡ Some x
-    in_front [] zero i x at = at
-    in_front [] (suc n) i x at = at
-    in_front (y ∷ xs) zero i x at = absurd cc
-    in_front (y ∷ xs) (suc n) zero x at = at
-    in_front (y ∷ xs) (suc n) (suc i) x at = in_front xs n i x at
 
 -- ---- below a prefix with a late test
 

@@ -1,12 +1,10 @@
 -- What a walk has shown, step by step of the code.
-use Rattle.std.proofs.Common.{◌≡◌, inl, inr, ℕ, zero, suc, ◌+◌, ◌-◌, ◌<◌, ◌≤◌, ◌^◌, Bool, true, false, Some, List, [], ◌∷◌, ◌++◌, length, get_or, take, max, sym, ◌∙◌, ap, subst, arith, length-append}
-use Rattle.std.specs.List.{All, Contains, remove}
-use Rattle.std.proofs.lemmas.Option.{slice_get-get_or}
-use Rattle.std.specs.Prelude.{slice_get, nat_eq, if◌then◌else◌}
-use Rattle.std.proofs.lemmas.Bool.{cases_lt, cases_Bool, eqb-true}
+use Rattle.std.proofs.Common.{◌≡◌, inl, inr, ℕ, zero, suc, ◌+◌, ◌-◌, ◌<◌, ◌≤◌, ◌^◌, Bool, true, false, List, [], ◌∷◌, ◌++◌, length, get_or, take, max, sym, ◌∙◌, ap, subst, arith, length-append}
+use Rattle.std.specs.List.{All, Contains}
+use Rattle.std.specs.Prelude.{nat_eq}
+use Rattle.std.proofs.lemmas.Bool.{cases_lt, eqb-true}
 use Rattle.std.proofs.lemmas.List.{map-append, take_at}
 use Rattle.plan_model.specs.Rules.{Each}
-use Rattle.plan_model.proofs.Lists.{contains_at}
 use Rattle.resource_table.specs.declared.Placement.{Placement}
 use Rattle.resource_table.specs.Jobs.{JobValue, cycles_of, Precedes}
 use Rattle.resource_table.specs.Schedules.{TableValue, at_start, IsEarliest, MayPlace, IsSoundTable}
@@ -16,17 +14,16 @@ use Rattle.schedule_search.specs.Orders.{IsReady, IsTopological}
 use Rattle.schedule_search.specs.OrderCycles.{Takes, HasPlaced}
 use Rattle.schedule_search.specs.Walks.{may_follow, walk_from, IsShut, IsOpen}
 use Rattle.schedule_search.specs.Late.{IsLateAt, AreInTime}
-use Rattle.schedule_search.specs.Progress.{Stand, stand_of, AtMostFirst, IsBest, NoneBefore, IsKeptOrFewer, Explored, branch}
+use Rattle.schedule_search.specs.Progress.{Stand, stand_of, AtMostFirst, IsBest, NoneBefore, IsKeptOrFewer, Explored}
 use Rattle.schedule_search.specs.declared.prefix.Prefix.{Prefix}
-use Rattle.schedule_search.specs.Prefixes.{outside, IsAt}
-use Rattle.schedule_search.proofs.Outside.{outside_more, remove_past}
+use Rattle.schedule_search.specs.Prefixes.{followers, IsAt}
 use Rattle.schedule_search.proofs.PlacedOrders.{placed_has, placed_not}
 use Rattle.schedule_search.proofs.Following.{ready_from}
 use Rattle.schedule_search.proofs.Comparing.{AreInOrder}
 use Rattle.schedule_search.proofs.Counting.{topological_long, whole_topological}
-use Rattle.schedule_search.proofs.Walking.{Extends, tried, left, walk_all, walk_split, tried_branch, walk_extends, walk_head}
+use Rattle.schedule_search.proofs.Walking.{Extends, tried, left, walk_all, walk_split, tried_more, walk_extends, walk_head}
 use Rattle.schedule_search.proofs.Bests.{placed_ready, late_below, not_shut, open_more, none_before_later}
-use Rattle.schedule_search.proofs.Stretches.{refused_here, entered_here, fewer_here, kept_here, left_here, nothing_here, joined, stopped}
+use Rattle.schedule_search.proofs.Stretches.{refused_here, entered_here, fewer_here, kept_here, left_here, joined, stopped}
 
 -- ---- the best order
 
@@ -101,47 +98,36 @@ explored_left t job budget more path end p q same sound has late entered open_ g
 
 -- ---- the loop
 
-pub explored_entered : (job : JobValue) (budget more : ℕ) (path tests : List ℕ) (p q : Progress) → q ≡ record p { entered = p.entered + 1 } → IsOpen job path → p.refused ≡ false → (length path ≡ length job.tests → ⊥) → Explored job budget (tried job more path tests 0) (stand_of p) (stand_of q)
-explored_entered job budget more path tests p q entered open_ going short =
+pub explored_entered : (job : JobValue) (budget more : ℕ) (path : List ℕ) (p q : Progress) → q ≡ record p { entered = p.entered + 1 } → IsOpen job path → p.refused ≡ false → (length path ≡ length job.tests → ⊥) → Explored job budget (tried job more path 0) (stand_of p) (stand_of q)
+explored_entered job budget more path p q entered open_ going short =
     subst (λ (x : Progress). Explored job budget (path ∷ []) (stand_of p) (stand_of x)) (sym entered)
     (entered_here job budget path (stand_of p) open_ going (λ topological. short (topological_long job path topological)))
 
-pub turn : (job : JobValue) (budget more : ℕ) (path tests : List ℕ) (place test : ℕ) (a b c : Stand) → place < length tests → test ≡ get_or tests place 0 → b.refused ≡ false
-    → Explored job budget (tried job more path tests place) a b → Explored job budget (branch job more path test) b c → Explored job budget (tried job more path tests (place + 1)) a c
-turn job budget more path tests place test a b c within at going one two =
-    subst (λ (ws : List (List ℕ)). Explored job budget ws a c) (sym (tried_branch job more path tests place within))
-    (joined job budget (tried job more path tests place) (branch job more path (get_or tests place 0)) a b c going one (subst (λ (n : ℕ). Explored job budget (branch job more path n) b c) at two))
+pub turn : (job : JobValue) (budget more : ℕ) (path : List ℕ) (place test : ℕ) (a b c : Stand) → place < length (followers job path) → test ≡ get_or (followers job path) place 0 → b.refused ≡ false
+    → Explored job budget (tried job more path place) a b → Explored job budget (walk_from job more (path ++ test ∷ [])) b c → Explored job budget (tried job more path (place + 1)) a c
+turn job budget more path place test a b c within at going one two =
+    subst (λ (ws : List (List ℕ)). Explored job budget ws a c) (sym (tried_more job more path place within))
+    (joined job budget (tried job more path place) (walk_from job more (path ++ get_or (followers job path) place 0 ∷ [])) a b c going one (subst (λ (n : ℕ). Explored job budget (walk_from job more (path ++ n ∷ [])) b c) at two))
 
--- a test that may not follow
-pub branch_passed : (job : JobValue) (budget more : ℕ) (path : List ℕ) (test : ℕ) (s : Stand) → may_follow job path test ≡ false → s.refused ≡ false → Explored job budget (branch job more path test) s s
-branch_passed job budget more path test s may going =
-    let none : branch job more path test ≡ [] = ap (λ b. if b then walk_from job more (path ++ test ∷ []) else []) may in
-    subst (λ (ws : List (List ℕ)). Explored job budget ws s s) (sym none) (nothing_here job budget s going)
-
-pub branch_followed : (job : JobValue) (budget tests : ℕ) (path pushed : List ℕ) (test : ℕ) (a b : Stand) → pushed ≡ path ++ test ∷ [] → may_follow job path test ≡ true → Explored job budget (walk_from job (tests - length pushed) pushed) a b → Explored job budget (branch job (tests - length path - 1) path test) a b
-branch_followed job budget tests path pushed test a b is may explored =
-    let some : branch job (tests - length path - 1) path test ≡ walk_from job (tests - length path - 1) (path ++ test ∷ []) = ap (λ b. if b then walk_from job (tests - length path - 1) (path ++ test ∷ []) else []) may in
+-- below a test that follows
+pub followed : (job : JobValue) (budget tests : ℕ) (path pushed : List ℕ) (test : ℕ) (a b : Stand) → pushed ≡ path ++ test ∷ [] → Explored job budget (walk_from job (tests - length pushed) pushed) a b → Explored job budget (walk_from job (tests - length path - 1) (path ++ test ∷ [])) a b
+followed job budget tests path pushed test a b is explored =
     let more : tests - length pushed ≡ tests - length path - 1 = omega (arith, ap length is, length-append path (test ∷ [])) in
-    subst (λ (ws : List (List ℕ)). Explored job budget ws a b) (sym some)
-    (subst (λ (n : ℕ). Explored job budget (walk_from job n (path ++ test ∷ [])) a b) more (subst (λ (l : List ℕ). Explored job budget (walk_from job (tests - length pushed) l) a b) is explored))
+    subst (λ (n : ℕ). Explored job budget (walk_from job n (path ++ test ∷ [])) a b) more (subst (λ (l : List ℕ). Explored job budget (walk_from job (tests - length pushed) l) a b) is explored)
 
--- whose entries begin with the test, where there are any
-pub branch_best : (job : JobValue) (more : ℕ) (path : List ℕ) (test : ℕ) (a b : Stand) → IsKeptOrFewer (branch job more path test) a b → IsKeptOrFewer (walk_from job more (path ++ test ∷ [])) a b
-branch_best job more path test a b (inl same) = inl same
-branch_best job more path test a b (inr fewer) = elim (cases_Bool (may_follow job path test)) [
-  | inl yes' ↦ inr (fewer.0, subst (λ (ws : List (List ℕ)). Contains ws b.best) (ap (λ c. if c then walk_from job more (path ++ test ∷ []) else []) yes') fewer.1)
-  | inr no' ↦
-      let there : Contains [] b.best = subst (λ (ws : List (List ℕ)). Contains ws b.best) (ap (λ c. if c then walk_from job more (path ++ test ∷ []) else []) no') fewer.1 in
-      absurd (let k = contains_at [] b.best there in let e = k.1 in cc)
-]
+pub child_of : (job : JobValue) (budget : ℕ) (path : List ℕ) (p : Prefix) (place : ℕ) (a b : Stand) → IsAt job path p
+    → Explored job budget (walk_from job (length job.tests - length p.tests.items - 1) (p.tests.items ++ get_or p.free.items place 0 ∷ [])) a b → Explored job budget (walk_from job (length job.tests - length path - 1) (path ++ get_or (followers job path) place 0 ∷ [])) a b
+child_of job budget path p place a b at explored =
+    subst (λ (l : List ℕ). Explored job budget (walk_from job (length job.tests - length path - 1) (path ++ get_or l place 0 ∷ [])) a b) at.free_are
+    (subst (λ (l : List ℕ). Explored job budget (walk_from job (length job.tests - length l - 1) (l ++ get_or p.free.items place 0 ∷ [])) a b) at.tests_are explored)
 
-pub walk_stopped : (job : JobValue) (budget more : ℕ) (path : List ℕ) (place : ℕ) (a b : Stand) → 0 < more → b.refused ≡ true → Explored job budget (tried job (more - 1) path (outside job path) place) a b → Explored job budget (walk_from job more path) a b
+pub walk_stopped : (job : JobValue) (budget more : ℕ) (path : List ℕ) (place : ℕ) (a b : Stand) → 0 < more → b.refused ≡ true → Explored job budget (tried job (more - 1) path place) a b → Explored job budget (walk_from job more path) a b
 walk_stopped job budget more path place a b some refused one =
-    subst (λ (ws : List (List ℕ)). Explored job budget ws a b) (sym (walk_split job more path place some)) (stopped job budget (tried job (more - 1) path (outside job path) place) (left job (more - 1) path (outside job path) place) a b refused one)
+    subst (λ (ws : List (List ℕ)). Explored job budget ws a b) (sym (walk_split job more path place some)) (stopped job budget (tried job (more - 1) path place) (left job (more - 1) path place) a b refused one)
 
-pub walk_ended : (job : JobValue) (budget more : ℕ) (path : List ℕ) (place : ℕ) (a b : Stand) → 0 < more → place ≡ length (outside job path) → Explored job budget (tried job (more - 1) path (outside job path) place) a b → Explored job budget (walk_from job more path) a b
+pub walk_ended : (job : JobValue) (budget more : ℕ) (path : List ℕ) (place : ℕ) (a b : Stand) → 0 < more → place ≡ length (followers job path) → Explored job budget (tried job (more - 1) path place) a b → Explored job budget (walk_from job more path) a b
 walk_ended job budget more path place a b some all one =
-    subst (λ (ws : List (List ℕ)). Explored job budget ws a b) (sym (walk_all job more path some)) (subst (λ (n : ℕ). Explored job budget (tried job (more - 1) path (outside job path) n) a b) all one)
+    subst (λ (ws : List (List ℕ)). Explored job budget ws a b) (sym (walk_all job more path some)) (subst (λ (n : ℕ). Explored job budget (tried job (more - 1) path n) a b) all one)
 
 -- ---- a test is placed
 
@@ -184,28 +170,8 @@ taken_back t u v n test start back grown before =
     back ∙ ap (λ (x : TableValue). (let r : TableValue = record { job = x.job; placed = take n x.placed } in r)) grown
     ∙ ap (λ (l : List Placement). (let r : TableValue = record { job = t.job; placed = l } in r)) (take_at t.placed (at_start test start ∷ []) n (sym before))
 
--- ---- the walk's own prefix
+-- ---- whether any are left
 
-pub first_at : (xs : List ℕ) (place test : ℕ) → place < length xs → test ≡ get_or xs place 0 → slice_get xs place ≡ Some test
-first_at xs place test within is = slice_get-get_or xs place 0 within ∙ ap Some (sym is)
-
--- at a test of those that are left
-pub at_next : (job : JobValue) (path now : List ℕ) (place test : ℕ) (p : Prefix) → IsAt job path (remove (outside job path) place) p → slice_get (outside job path) place ≡ Some test → now ≡ path → IsAt job now (outside job (now ++ test ∷ [])) p
-at_next job path now place test p at here same =
-    subst (λ (l : List ℕ). IsAt job l (outside job (l ++ test ∷ [])) p) (sym same) (subst (λ (l : List ℕ). IsAt job path l p) (sym (outside_more job path place test here)) at)
-
-pub at_back : (job : JobValue) (path now : List ℕ) (place test : ℕ) (p : Prefix) → IsAt job now (outside job (now ++ test ∷ [])) p → slice_get (outside job path) place ≡ Some test → now ≡ path → IsAt job path (remove (outside job path) place) p
-at_back job path now place test p at here same =
-    subst (λ (l : List ℕ). IsAt job path l p) (outside_more job path place test here) (subst (λ (l : List ℕ). IsAt job l (outside job (l ++ test ∷ [])) p) same at)
-
--- its own tests, and those that are left
-pub at_own : (job : JobValue) (path rest : List ℕ) (p : Prefix) → IsAt job path rest p → rest ≡ outside job path → IsAt job p.tests.items (outside job p.tests.items) p
-at_own job path rest p at left = subst (λ (l : List ℕ). IsAt job l (outside job l) p) (sym at.tests_are) (subst (λ (l : List ℕ). IsAt job path l p) left at)
-
-pub at_all : (job : JobValue) (path : List ℕ) (place : ℕ) (p : Prefix) → IsAt job path (remove (outside job path) place) p → length (outside job path) ≤ place → IsAt job path (outside job path) p
-at_all job path place p at past = subst (λ (l : List ℕ). IsAt job path l p) (remove_past (outside job path) place past) at
-
--- whether any are left
 pub none_left : (n : ℕ) (b : Bool) → b ≡ nat_eq n 0 → b ≡ true → n ≡ 0
 none_left n b is e = eqb-true n 0 (sym is ∙ e)
 

@@ -1,6 +1,6 @@
 -- Whether a test may follow a prefix, and whether it is ready.
-use Rattle.std.proofs.Common.{◌≡◌, inl, inr, ℕ, ◌+◌, ◌<◌, Bool, true, false, not, true≢false, Some, List, [], ◌∷◌, length, get_or, take, map, refl, sym, ◌∙◌, ap, subst}
-use Rattle.std.specs.Prelude.{nat_eq, ◌||◌}
+use Rattle.std.proofs.Common.{◌≡◌, inl, inr, ℕ, zero, suc, ◌+◌, ◌<◌, Bool, true, false, not, true≢false, Some, List, [], ◌∷◌, length, get_or, take, map, refl, sym, ◌∙◌, ap, subst}
+use Rattle.std.specs.Prelude.{slice_get, nat_eq, ◌||◌}
 use Rattle.std.specs.List.{All, Contains, list_all}
 use Rattle.std.proofs.lemmas.Bool.{cases_Bool, eqb-true, eq-eqb, and_parts, and_from}
 use Rattle.std.proofs.lemmas.List.{take_more}
@@ -15,9 +15,6 @@ use Rattle.resource_table.specs.Befores.{tests_before}
 use Rattle.schedule_search.specs.Walks.{is_in, may_follow}
 use Rattle.resource_table.proofs.Befores.{before_from, before_has}
 use Rattle.schedule_search.proofs.Predecessors.{at_place}
-
-pub all_more : {X : Type 0} (P : X → Type 0) (xs : List X) (k : ℕ) (d : X) → All P (take k xs) → k < length xs → P (get_or xs k d) → All P (take (k + 1) xs)
-all_more {X} P xs k d all within here = subst (All P) (sym (take_more xs k d within)) (All-append P (take k xs) (get_or xs k d ∷ []) all (All-cons P (get_or xs k d) [] here (All-nil P)))
 
 -- ---- which tests are placed
 
@@ -64,3 +61,11 @@ ready_to job prefix test ready = and_from (not (is_in prefix test)) (list_all (i
     (true_not (is_in prefix test) (λ is. ready.new (in_to prefix test is)))
     (list_all-from_AllPass (is_in prefix) (tests_before test job.before) (λ k d less.
     in_from prefix (get_or (tests_before test job.before) k d) (ready.after (get_or (tests_before test job.before) k d) (before_from job.before (get_or (tests_before test job.before) k d) test (at_place (tests_before test job.before) k d less)))))
+
+-- what stands in a front of a list stands in the list
+pub in_front : (xs : List ℕ) (n i x : ℕ) → slice_get (take n xs) i ≡ Some x → slice_get xs i ≡ Some x
+in_front [] zero i x at = at
+in_front [] (suc n) i x at = at
+in_front (y ∷ xs) zero i x at = absurd cc
+in_front (y ∷ xs) (suc n) zero x at = at
+in_front (y ∷ xs) (suc n) (suc i) x at = in_front xs n i x at

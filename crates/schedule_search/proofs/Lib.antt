@@ -7,7 +7,9 @@ pub mod LeastStarts
 pub mod CycleCounts
 pub mod Outside
 pub mod Missing
-pub mod Passing
+pub mod Sorting
+pub mod Waiting
+pub mod Stepping
 pub mod Lateness
 pub mod Counting
 pub mod Walking
@@ -17,7 +19,6 @@ pub mod Explorings
 pub mod Searching
 pub mod WalkOrders
 pub mod Taking
-pub mod Freed
 pub mod WalkCounts
 pub mod Agreeing
 pub mod Estimates

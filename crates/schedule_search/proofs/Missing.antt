@@ -3,16 +3,17 @@ use Rattle.std.proofs.Common.{◌≡◌, inl, inr, ℕ, ◌+◌, ◌<◌, ◌≤
 use Rattle.std.specs.Prelude.{slice_get, slice_index_or, nat_eq, ◌||◌, ◌&&◌, if◌then◌else◌}
 use Rattle.std.specs.List.{All, Contains, list_all, sum_by}
 use Rattle.std.proofs.lemmas.Bool.{cases_Bool, cases_eq, eqb-true, eq-eqb, ne_eqb, and_from}
-use Rattle.std.proofs.lemmas.List.Sums.{sum_by-cons, sum_by_more, sum_by-take-le}
+use Rattle.std.proofs.lemmas.List.Sums.{sum_by-cons, sum_by_more, sum_by-take-le, list_all-from_AllPass}
 use Rattle.std.proofs.lemmas.List.Elements.{All-contains}
 use Rattle.std.proofs.lemmas.Option.{slice_get-get_or}
 use Rattle.plan_model.proofs.Lists.{at_contains, contains_at, from_map}
-use Rattle.resource_table.specs.Jobs.{JobValue}
+use Rattle.resource_table.specs.Jobs.{JobValue, Precedes}
 use Rattle.resource_table.specs.Befores.{tests_before}
 use Rattle.resource_table.proofs.Befores.{before_from, set_at, set_other, set_length}
 use Rattle.schedule_search.specs.Walks.{is_in, may_follow}
 use Rattle.schedule_search.specs.Prefixes.{turned, tests_after, one_missing, missing_of, times_in, AreInRange, AreFollowers, AreMissing, AreLess}
 use Rattle.schedule_search.proofs.Predecessors.{at_place}
+use Rattle.schedule_search.proofs.Following.{in_from}
 use Rattle.schedule_search.proofs.Outside.{is_in_push}
 
 abbrev pub one_of : ℕ → ℕ → ℕ
@@ -140,34 +141,17 @@ follows_not job path t some = elim (cases_Bool (list_all (is_in path) (tests_bef
     none true = refl
     none false = refl
 
-pub follows_none : (job : JobValue) (path : List ℕ) (t : ℕ) → may_follow job path t ≡ true → missing_of job path t ≡ 0
-follows_none job path t may = missing-none path t job.before (second (not (is_in path t)) (list_all (is_in path) (tests_before t job.before)) may)
-  where
-    second : (a b : Bool) → (a && b) ≡ true → b ≡ true
-    second true b e = e
-    second false b e = absurd cc
-
--- as the code tells it
-some_or_none : (b w : Bool) → w ≡ not b → w ≡ true → b ≡ false
-some_or_none true w is e = cc
-some_or_none false w is e = refl
-
-none_or_some : (b w : Bool) → w ≡ not b → w ≡ false → b ≡ true
-none_or_some true w is e = refl
-none_or_some false w is e = cc
-
-pub waits_not : (job : JobValue) (path missing : List ℕ) (t : ℕ) (w : Bool) → AreMissing job path missing → t < length job.tests → w ≡ not (nat_eq (slice_index_or missing t 0) 0) → w ≡ true → may_follow job path t ≡ false
-waits_not job path missing t w are inside is waits = follows_not job path t (λ none. true≢false (sym (eq-eqb (slice_index_or missing t 0) 0 (are.are t inside ∙ none)) ∙ some_or_none (nat_eq (slice_index_or missing t 0) 0) w is waits))
-
-pub waits_then : (job : JobValue) (path missing : List ℕ) (t : ℕ) (w : Bool) → AreMissing job path missing → t < length job.tests → is_in path t ≡ false → w ≡ not (nat_eq (slice_index_or missing t 0) 0) → w ≡ false → may_follow job path t ≡ true
-waits_then job path missing t w are inside new is free = follows_from job path t new (sym (are.are t inside) ∙ eqb-true (slice_index_or missing t 0) 0 (none_or_some (nat_eq (slice_index_or missing t 0) 0) w is free))
+-- a test that comes after all of its predecessors misses none
+pub missing_ready : (job : JobValue) (path : List ℕ) (t : ℕ) → ((earlier : ℕ) → Precedes job earlier t → Contains path earlier) → missing_of job path t ≡ 0
+missing_ready job path t after = missing-none path t job.before (list_all-from_AllPass (is_in path) (tests_before t job.before) (λ k d less.
+    in_from path (get_or (tests_before t job.before) k d) (after (get_or (tests_before t job.before) k d) (before_from job.before (get_or (tests_before t job.before) k d) t (at_place (tests_before t job.before) k d less)))))
 
 -- ---- counting down and up
 
-times_more : (places : List ℕ) (i n : ℕ) → i < length places → times_in (take (i + 1) places) n ≡ times_in (take i places) n + one_of n (get_or places i 0)
+pub times_more : (places : List ℕ) (i n : ℕ) → i < length places → times_in (take (i + 1) places) n ≡ times_in (take i places) n + one_of n (get_or places i 0)
 times_more places i n within = sum_by_more (one_of n) places i 0 within
 
-one_here : (n m : ℕ) → m ≡ n → one_of n m ≡ 1
+pub one_here : (n m : ℕ) → m ≡ n → one_of n m ≡ 1
 one_here n m same = ap (λ b. if b then 1 else 0) (eq-eqb m n same)
 
 -- the count of a place that is still to come isn't 0
@@ -186,6 +170,45 @@ more_fits old now places i place less within is inside small =
     let one : one_of place (get_or places i 0) ≡ 1 = one_here place (get_or places i 0) (sym is) in
     let most : times_in (take (i + 1) places) place ≤ times_in places place = sum_by-take-le (one_of place) places (i + 1) in
     omega (arith, here, more, one, most, small)
+
+-- one count less of a test, and one more
+pub less_more : (old now places : List ℕ) (i test v : ℕ) → AreLess old now (take i places) → i < length places → test ≡ get_or places i 0 → test < length old → v + 1 ≡ slice_index_or now test 0 → AreLess old (set now test v) (take (i + 1) places)
+less_more old now places i test v less within is inside one = record {
+  long = set_length now test v ∙ less.long;
+  are = λ n known. (
+      let before = less.are n known in
+      let more = times_more places i n within in
+      elim (cases_eq n test) [
+        | inl same ↦
+            let here : one_of n (get_or places i 0) ≡ 1 = one_here n (get_or places i 0) (sym is ∙ sym same) in
+            let new : slice_index_or (set now test v) n 0 ≡ v = set_at now test n v 0 (omega (arith, inside, less.long)) same in
+            let old' : slice_index_or now n 0 ≡ v + 1 = ap (λ k. slice_index_or now k 0) same ∙ sym one in
+            omega (arith, before, more, here, new, old')
+        | inr apart ↦
+            let none : one_of n (get_or places i 0) ≡ 0 = ap (λ b. if b then 1 else 0) (ne_eqb (get_or places i 0) n (λ e. apart (sym e ∙ sym is))) in
+            let new : slice_index_or (set now test v) n 0 ≡ slice_index_or now n 0 = set_other now test n v 0 apart in
+            omega (arith, before, more, none, new)
+      ]);
+}
+
+pub more_more : (old now places : List ℕ) (i test v : ℕ) → AreLess now old (take i places) → i < length places → test ≡ get_or places i 0 → test < length now → v ≡ slice_index_or now test 0 + 1 → AreLess (set now test v) old (take (i + 1) places)
+more_more old now places i test v less within is inside one = record {
+  long = less.long ∙ sym (set_length now test v);
+  are = λ n known. (
+      let before = less.are n (omega (arith, known, set_length now test v)) in
+      let more = times_more places i n within in
+      elim (cases_eq n test) [
+        | inl same ↦
+            let here : one_of n (get_or places i 0) ≡ 1 = one_here n (get_or places i 0) (sym is ∙ sym same) in
+            let new : slice_index_or (set now test v) n 0 ≡ v = set_at now test n v 0 inside same in
+            let old' : slice_index_or now n 0 + 1 ≡ v = ap (λ k. slice_index_or now k 0 + 1) same ∙ sym one in
+            omega (arith, before, more, here, new, old')
+        | inr apart ↦
+            let none : one_of n (get_or places i 0) ≡ 0 = ap (λ b. if b then 1 else 0) (ne_eqb (get_or places i 0) n (λ e. apart (sym e ∙ sym is))) in
+            let new : slice_index_or (set now test v) n 0 ≡ slice_index_or now n 0 = set_other now test n v 0 apart in
+            omega (arith, before, more, none, new)
+      ]);
+}
 
 -- ---- as the code has them
 

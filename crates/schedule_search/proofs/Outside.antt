@@ -1,11 +1,11 @@
 -- The tests outside a prefix, in the order in which they are tried.
-use Rattle.std.proofs.Common.{◌≡◌, inl, inr, ℕ, zero, suc, ◌+◌, ◌<◌, ◌≤◌, Bool, true, false, not, true≢false, cond, Some, List, [], ◌∷◌, ◌++◌, length, get_or, set, take, drop, map, refl, sym, ◌∙◌, ap, subst, arith, length-append}
+use Rattle.std.proofs.Common.{◌≡◌, inl, inr, ℕ, zero, suc, ◌+◌, ◌<◌, ◌≤◌, Bool, true, false, not, true≢false, cond, Some, List, [], ◌∷◌, ◌++◌, length, get_or, take, drop, map, refl, sym, ◌∙◌, ap, subst, arith, length-append}
 use Rattle.std.specs.Prelude.{slice_get, nat_eq, ◌||◌, ◌&&◌}
-use Rattle.std.specs.List.{All, filter, remove}
+use Rattle.std.specs.List.{All, filter, insert, remove}
 use Rattle.std.proofs.lemmas.Bool.{cases_Bool, eq-eqb, ne_eqb}
 use Rattle.std.proofs.lemmas.List.{take_at}
 use Rattle.std.proofs.lemmas.List.Edits.{length-remove}
-use Rattle.std.proofs.lemmas.List.Elements.{All-cons, All-filter}
+use Rattle.std.proofs.lemmas.List.Elements.{All-filter}
 use Rattle.std.proofs.lemmas.Option.{slice_get_within, get_or_from_slice_get}
 use Rattle.plan_model.proofs.Lists.{from_filter}
 use Rattle.resource_table.specs.declared.Placement.{Placement}
@@ -14,36 +14,40 @@ use Rattle.resource_table.specs.Schedules.{is_placed}
 use Rattle.resource_table.proofs.Places.{in_filter}
 use Rattle.schedule_search.specs.Walks.{goes_before, put_by_length, first_by_length, by_length, is_in, may_follow}
 use Rattle.schedule_search.specs.Late.{AreUnplaced}
-use Rattle.schedule_search.specs.Prefixes.{outside}
+use Rattle.schedule_search.specs.Prefixes.{outside, followers, IsWithout}
 use Rattle.schedule_search.proofs.Comparing.{AreInOrder, goes_to, first_in_order, first_within, first_has, in_order_at}
 use Rattle.schedule_search.proofs.Following.{in_placed, not_true}
 
--- ---- a list without one of its items
+-- ---- an item is put back
 
-pub remove_next : (xs : List ℕ) (k d : ℕ) → suc k < length xs → set (remove xs k) k (get_or xs k d) ≡ remove xs (suc k)
-remove_next [] k d within = absurd (omega (arith, within))
-remove_next (x ∷ []) k d within = absurd (omega (arith, within))
-remove_next (x ∷ y ∷ xs) zero d within = refl
-remove_next (x ∷ y ∷ xs) (suc k) d within = ap (λ l. x ∷ l) (remove_next (y ∷ xs) k d (omega (arith, within)))
+some_is : (x y : ℕ) → Some x ≡ Some y → x ≡ y
+some_is x y e = cc
 
-pub remove_last : (xs : List ℕ) (k d : ℕ) → suc k ≡ length xs → remove xs k ++ get_or xs k d ∷ [] ≡ remove xs (suc k)
-remove_last [] k d last = absurd (omega (arith, last))
-remove_last (x ∷ []) zero d last = refl
-remove_last (x ∷ []) (suc k) d last = absurd (omega (arith, last))
-remove_last (x ∷ y ∷ xs) zero d last = absurd (omega (arith, last))
-remove_last (x ∷ y ∷ xs) (suc k) d last = ap (λ l. x ∷ l) (remove_last (y ∷ xs) k d (omega (arith, last)))
+pub insert_removed : (xs : List ℕ) (k x : ℕ) → slice_get xs k ≡ Some x → insert (remove xs k) k x ≡ xs
+insert_removed [] k x at = absurd cc
+insert_removed (y ∷ xs) zero x at = ap (λ (n : ℕ). n ∷ xs) (sym (some_is y x at))
+insert_removed (y ∷ xs) (suc k) x at = ap (λ l. y ∷ l) (insert_removed xs k x at)
 
-pub remove_past : (xs : List ℕ) (k : ℕ) → length xs ≤ k → remove xs k ≡ xs
-remove_past [] zero past = refl
-remove_past [] (suc k) past = refl
-remove_past (x ∷ xs) zero past = absurd (omega (arith, past))
-remove_past (x ∷ xs) (suc k) past = ap (λ l. x ∷ l) (remove_past xs k (omega (arith, past)))
+-- ---- how many pass a test
 
-pub all_removed : (P : ℕ → Type 0) (xs : List ℕ) (k : ℕ) → All P xs → All P (remove xs k)
-all_removed P [] zero all = all
-all_removed P [] (suc k) all = all
-all_removed P (x ∷ xs) zero all = λ n d less. all (suc n) d (omega (arith, less))
-all_removed P (x ∷ xs) (suc k) all = All-cons P x (remove xs k) (all 0 x (omega arith)) (all_removed P xs k (λ n d less. all (suc n) d (omega (arith, less))))
+pub filter_few : (p : ℕ → Bool) (xs : List ℕ) → length (filter p xs) ≤ length xs
+filter_few p [] = omega arith
+filter_few p (x ∷ xs) = let few = filter_few p xs in elim (cases_Bool (p x)) [
+  | inl yes' ↦ rw yes' (omega (arith, few))
+  | inr no' ↦ rw no' (omega (arith, few))
+]
+
+pub filter_fewer : (p : ℕ → Bool) (xs : List ℕ) (k x : ℕ) → slice_get xs k ≡ Some x → p x ≡ false → length (filter p xs) < length xs
+filter_fewer p [] k x at out = absurd cc
+filter_fewer p (y ∷ xs) zero x at out =
+    let same : y ≡ x = cc in
+    let none : p y ≡ false = ap p same ∙ out in
+    let few = filter_few p xs in
+    rw none (omega (arith, few))
+filter_fewer p (y ∷ xs) (suc k) x at out = let fewer = filter_fewer p xs k x at out in elim (cases_Bool (p y)) [
+  | inl yes' ↦ rw yes' (omega (arith, fewer))
+  | inr no' ↦ rw no' (omega (arith, fewer))
+]
 
 -- ---- lists in the order of trying
 
@@ -59,14 +63,11 @@ never_itself job x e = elim (goes_to job x x e) [ inl more ↦ omega (arith, mor
 
 -- ---- one test less
 
-same_filter : (p q : ℕ → Bool) (xs : List ℕ) → ((k t : ℕ) → slice_get xs k ≡ Some t → p t ≡ q t) → filter p xs ≡ filter q xs
+pub same_filter : (p q : ℕ → Bool) (xs : List ℕ) → ((k t : ℕ) → slice_get xs k ≡ Some t → p t ≡ q t) → filter p xs ≡ filter q xs
 same_filter p q [] same = refl
 same_filter p q (x ∷ xs) same =
     ap (λ b. cond b (x ∷ filter p xs) (filter p xs)) (same 0 x refl)
     ∙ ap (λ l. cond (q x) (x ∷ l) l) (same_filter p q xs (λ k t at. same (suc k) t at))
-
-abbrev pub IsWithout : (p q : ℕ → Bool) → ℕ → Type 0
-IsWithout p q x = (t : ℕ) → q t ≡ (p t && not (nat_eq x t))
 
 keeps_other : (p q : ℕ → Bool) (x t : ℕ) → IsWithout p q x → (x ≡ t → ⊥) → p t ≡ q t
 keeps_other p q x t without apart = sym (without t ∙ ap (λ b. p t && not b) (ne_eqb x t apart) ∙ also (p t))
@@ -82,13 +83,10 @@ drops_same p q x t without same = without t ∙ ap (λ b. p t && not b) (eq-eqb 
     none true = refl
     none false = refl
 
-some_is : (x y : ℕ) → Some x ≡ Some y → x ≡ y
-some_is x y e = cc
-
 pub from_all : (job : JobValue) (y : ℕ) (zs : List ℕ) (j t : ℕ) → slice_get zs j ≡ Some t → All (λ u. goes_before job y u ≡ true) zs → goes_before job y t ≡ true
 from_all job y zs j t there all = subst (λ (n : ℕ). goes_before job y n ≡ true) (get_or_from_slice_get zs j t t there) (all j t (slice_get_within zs j t there))
 
-filter_without : (job : JobValue) (p q : ℕ → Bool) (x : ℕ) (xs : List ℕ) (k : ℕ) → IsWithout p q x → AreInOrder job xs → slice_get (filter p xs) k ≡ Some x → filter q xs ≡ remove (filter p xs) k
+pub filter_without : (job : JobValue) (p q : ℕ → Bool) (x : ℕ) (xs : List ℕ) (k : ℕ) → IsWithout p q x → AreInOrder job xs → slice_get (filter p xs) k ≡ Some x → filter q xs ≡ remove (filter p xs) k
 filter_without job p q x [] k without order at = absurd cc
 filter_without job p q x (y ∷ ys) zero without order at = elim (cases_Bool (p y)) [
   | inr no' ↦
@@ -132,18 +130,37 @@ not_or false b = refl
 
 -- ---- the tests outside a prefix
 
+pub known_at : (job : JobValue) (k x : ℕ) → slice_get (by_length job) k ≡ Some x → x < length job.tests
+known_at job k x at = subst (λ (t : ℕ). t < length job.tests) (get_or_from_slice_get (by_length job) k x x at) (first_within job (length job.tests) k x (slice_get_within (by_length job) k x at))
+
+-- what passes a test stands in order
+pub passing_order : (job : JobValue) (p : ℕ → Bool) → AreInOrder job (filter p (by_length job))
+passing_order job p = order_filter job p (by_length job) (first_in_order job (length job.tests))
+
 pub outside_order : (job : JobValue) (path : List ℕ) → AreInOrder job (outside job path)
-outside_order job path = order_filter job (λ test. not (is_in path test)) (by_length job) (first_in_order job (length job.tests))
+outside_order job path = passing_order job (λ test. not (is_in path test))
 
 pub outside_more : (job : JobValue) (path : List ℕ) (k x : ℕ) → slice_get (outside job path) k ≡ Some x → outside job (path ++ x ∷ []) ≡ remove (outside job path) k
 outside_more job path k x at =
     filter_without job (λ test. not (is_in path test)) (λ test. not (is_in (path ++ x ∷ []) test)) x (by_length job) k
     (λ t. ap not (is_in_push path x t) ∙ not_or (is_in path t) (nat_eq x t)) (first_in_order job (length job.tests)) at
 
+-- a test that passes is one of the job
+pub passing_at : (job : JobValue) (p : ℕ → Bool) (k x : ℕ) → slice_get (filter p (by_length job)) k ≡ Some x → (x < length job.tests) × (p x ≡ true)
+passing_at job p k x at =
+    let f = from_filter p (by_length job) k x at in
+    (known_at job f.0 x f.1, f.2)
+
+-- and one of the job that passes is among them
+pub passing_has : (job : JobValue) (p : ℕ → Bool) (x : ℕ) → x < length job.tests → p x ≡ true → (k : ℕ) × (slice_get (filter p (by_length job)) k ≡ Some x)
+passing_has job p x inside passes =
+    let k = first_has job (length job.tests) x inside in
+    in_filter p (by_length job) k.0 x k.1 passes
+
 pub outside_at : (job : JobValue) (path : List ℕ) (k x : ℕ) → slice_get (outside job path) k ≡ Some x → (x < length job.tests) × (is_in path x ≡ false)
 outside_at job path k x at =
-    let f = from_filter (λ test. not (is_in path test)) (by_length job) k x at in
-    (subst (λ (t : ℕ). t < length job.tests) (get_or_from_slice_get (by_length job) f.0 x x f.1) (first_within job (length job.tests) f.0 x (slice_get_within (by_length job) f.0 x f.1)), not_true (is_in path x) f.2)
+    let f = passing_at job (λ test. not (is_in path test)) k x at in
+    (f.0, not_true (is_in path x) f.1)
 
 put_long : (job : JobValue) (test : ℕ) (tests : List ℕ) → length (put_by_length job test tests) ≡ suc (length tests)
 put_long job test [] = refl
@@ -160,11 +177,15 @@ all_pass : (xs : List ℕ) → filter (λ test. not (is_in [] test)) xs ≡ xs
 all_pass [] = refl
 all_pass (x ∷ xs) = ap (λ l. x ∷ l) (all_pass xs)
 
+-- there are as many as the job has
+pub all_long : (job : JobValue) → length (by_length job) ≡ length job.tests
+all_long job = first_long job (length job.tests)
+
 pub outside_none : (job : JobValue) → outside job [] ≡ by_length job
 outside_none job = all_pass (by_length job)
 
 pub outside_all : (job : JobValue) → length (outside job []) ≡ length job.tests
-outside_all job = ap length (outside_none job) ∙ first_long job (length job.tests)
+outside_all job = ap length (outside_none job) ∙ all_long job
 
 pub outside_less : (job : JobValue) (path : List ℕ) (k x : ℕ) → slice_get (outside job path) k ≡ Some x → length (outside job (path ++ x ∷ [])) + 1 ≡ length (outside job path)
 outside_less job path k x at = omega (arith, ap length (outside_more job path k x at), length-remove (outside job path) k (slice_get_within (outside job path) k x at))
@@ -184,12 +205,15 @@ filter_twice p q (x ∷ xs) both = elim (cases_Bool (p x)) [
   ]
 ]
 
-pub may_outside : (job : JobValue) (path : List ℕ) → filter (may_follow job path) (outside job path) ≡ filter (may_follow job path) (by_length job)
+pub may_outside : (job : JobValue) (path : List ℕ) → filter (may_follow job path) (outside job path) ≡ followers job path
 may_outside job path = filter_twice (λ test. not (is_in path test)) (may_follow job path) (by_length job) (λ t may. first (not (is_in path t)) _ may)
   where
     first : (a b : Bool) → (a && b) ≡ true → a ≡ true
     first true b e = refl
     first false b e = e
+
+pub few_follow : (job : JobValue) (path : List ℕ) → length (followers job path) ≤ length (outside job path)
+few_follow job path = omega (arith, filter_few (may_follow job path) (outside job path), ap length (may_outside job path))
 
 -- ---- the last test of a prefix
 
@@ -219,8 +243,7 @@ pub unplaced_outside : (job : JobValue) (placed : List Placement) (path rest : L
 unplaced_outside job placed path rest is left = subst (AreUnplaced job placed) (sym left) (record {
   free = λ n test at. (let f = outside_at job path n test at in (f.0, sym (in_same test) ∙ f.1));
   whole = λ test inside free. (
-      let k = first_has job (length job.tests) test inside in
-      in_filter (λ t. not (is_in path t)) (by_length job) k.0 test k.1 (ap not (in_same test ∙ free)));
+      passing_has job (λ t. not (is_in path t)) test inside (ap not (in_same test ∙ free)));
   falls = λ m n test later less at at'. falls_from job test later
       (subst (λ (t : ℕ). goes_before job t later ≡ true) (get_or_from_slice_get (outside job path) m test 0 at)
       (subst (λ (t : ℕ). goes_before job (get_or (outside job path) m 0) t ≡ true) (get_or_from_slice_get (outside job path) n later 0 at') (in_order_at job (outside job path) m n 0 (outside_order job path) less (slice_get_within (outside job path) n later at'))));
@@ -231,6 +254,4 @@ unplaced_outside job placed path rest is left = subst (AreUnplaced job placed) (
 
 -- a test of the job that isn't in a prefix is outside
 pub outside_has : (job : JobValue) (path : List ℕ) (test : ℕ) → test < length job.tests → is_in path test ≡ false → (n : ℕ) × (slice_get (outside job path) n ≡ Some test)
-outside_has job path test inside new =
-    let k = first_has job (length job.tests) test inside in
-    in_filter (λ t. not (is_in path t)) (by_length job) k.0 test k.1 (ap not new)
+outside_has job path test inside new = passing_has job (λ t. not (is_in path t)) test inside (ap not new)

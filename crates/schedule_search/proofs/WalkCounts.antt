@@ -10,7 +10,7 @@ use Rattle.schedule_search.specs.Walks.{by_length, may_follow, walk_from, walk, 
 use Rattle.schedule_search.specs.WalkSizes.{factorial, lists_of, lists_upto, prefixes}
 use Rattle.schedule_search.specs.Prefixes.{outside}
 use Rattle.schedule_search.specs.Found.{IsFound}
-use Rattle.schedule_search.proofs.Outside.{outside_all, outside_less, may_outside}
+use Rattle.schedule_search.proofs.Outside.{filter_few, outside_all, outside_less, may_outside}
 use Rattle.schedule_search.proofs.Walking.{below}
 
 -- ---- numbers of lists
@@ -44,15 +44,6 @@ flat_few f most (t ∷ tests) few =
     let back = mul_comm most (length tests) in
     let more : suc (length tests) * most ≡ most + length tests * most = omega (arith, turned, one, back) in
     omega (arith, here, rest, more, length-append (f t) (flat_map f tests))
-
-filter_few : (p : ℕ → Bool) (xs : List ℕ) → length (filter p xs) ≤ length xs
-filter_few p [] = omega arith
-filter_few p (x ∷ xs) =
-    let ih = filter_few p xs in
-    elim (cases_Bool (p x)) [
-      | inl yes' ↦ rw yes' (omega (arith, ih))
-      | inr no' ↦ rw no' (omega (arith, ih))
-    ]
 
 walk_few : (job : JobValue) (more : ℕ) (prefix : List ℕ) → length (outside job prefix) ≡ more → length (walk_from job more prefix) ≤ prefixes more
 walk_few job zero prefix left = omega arith

@@ -1,10 +1,10 @@
 -- The walk over orders, step by step.
-use Rattle.std.proofs.Common.{◌≡◌, ℕ, zero, suc, ◌+◌, ◌-◌, ◌<◌, ◌≤◌, Bool, true, false, cond, Some, List, [], ◌∷◌, ◌++◌, length, get_or, take, drop, refl, sym, ◌∙◌, ap, subst, arith, append_assoc}
+use Rattle.std.proofs.Common.{◌≡◌, ℕ, zero, suc, ◌+◌, ◌-◌, ◌<◌, ◌≤◌, Some, List, [], ◌∷◌, ◌++◌, length, get_or, take, drop, refl, sym, ◌∙◌, ap, subst, arith, append_assoc}
 use Rattle.std.specs.Prelude.{slice_get}
 use Rattle.std.specs.List.{All, Contains, filter, flat_map}
 use Rattle.std.proofs.lemmas.Grind.{flat_map-append}
-use Rattle.std.proofs.lemmas.List.{append-nil, take_all, take-append-drop}
-use Rattle.std.proofs.lemmas.List.Elements.{All-nil, All-cons, All-append, All-weaker, All-contains, filter-append, filter_more}
+use Rattle.std.proofs.lemmas.List.{append-nil, take_all, take_more, take-append-drop}
+use Rattle.std.proofs.lemmas.List.Elements.{All-nil, All-cons, All-append, All-weaker, All-contains}
 use Rattle.std.proofs.lemmas.Option.{slice_get_within, get_or_from_slice_get}
 use Rattle.plan_model.specs.Rules.{Each}
 use Rattle.plan_model.proofs.Lists.{at_contains, contains_at, from_filter, from_flat_map, in_flat_map}
@@ -13,9 +13,7 @@ use Rattle.resource_table.proofs.Placed.{each_push, each_front, each_last}
 use Rattle.schedule_search.specs.Orders.{IsReady, IsTopological}
 use Rattle.schedule_search.specs.Walks.{by_length, may_follow, walk_from, walk}
 use Rattle.resource_table.proofs.Places.{in_filter}
-use Rattle.schedule_search.specs.Prefixes.{outside}
-use Rattle.schedule_search.specs.Progress.{branch}
-use Rattle.schedule_search.proofs.Outside.{may_outside}
+use Rattle.schedule_search.specs.Prefixes.{followers}
 use Rattle.schedule_search.proofs.Following.{ready_from, ready_to}
 use Rattle.schedule_search.proofs.Comparing.{first_within, first_has}
 use Rattle.schedule_search.proofs.Counting.{ready_few, topological_long}
@@ -24,47 +22,39 @@ use Rattle.schedule_search.proofs.Counting.{ready_few, topological_long}
 abbrev pub below : JobValue → ℕ → List ℕ → ℕ → List (List ℕ)
 below job more prefix test = walk_from job more (prefix ++ test ∷ [])
 
--- a prefix, and what is below it by the first of some tests
-abbrev pub tried : JobValue → ℕ → List ℕ → List ℕ → ℕ → List (List ℕ)
-tried job more prefix tests count = prefix ∷ flat_map (below job more prefix) (filter (may_follow job prefix) (take count tests))
+-- a prefix, and what is below it by the first of the tests that may follow
+abbrev pub tried : JobValue → ℕ → List ℕ → ℕ → List (List ℕ)
+tried job more prefix count = prefix ∷ flat_map (below job more prefix) (take count (followers job prefix))
 
 -- what is below it by the others
-abbrev pub left : JobValue → ℕ → List ℕ → List ℕ → ℕ → List (List ℕ)
-left job more prefix tests count = flat_map (below job more prefix) (filter (may_follow job prefix) (drop count tests))
+abbrev pub left : JobValue → ℕ → List ℕ → ℕ → List (List ℕ)
+left job more prefix count = flat_map (below job more prefix) (drop count (followers job prefix))
 
-walk-suc : (job : JobValue) (more : ℕ) (prefix : List ℕ) → walk_from job (suc more) prefix ≡ tried job more prefix (outside job prefix) (length (outside job prefix))
-walk-suc job more prefix =
-    ap (λ l. prefix ∷ flat_map (below job more prefix) l) (sym (may_outside job prefix))
-    ∙ ap (λ l. prefix ∷ flat_map (below job more prefix) (filter (may_follow job prefix) l)) (sym (take_all (length (outside job prefix)) (outside job prefix) (omega arith)))
+walk-suc : (job : JobValue) (more : ℕ) (prefix : List ℕ) → walk_from job (suc more) prefix ≡ tried job more prefix (length (followers job prefix))
+walk-suc job more prefix = ap (λ l. prefix ∷ flat_map (below job more prefix) l) (sym (take_all (length (followers job prefix)) (followers job prefix) (omega arith)))
 
-pub walk_all : (job : JobValue) (more : ℕ) (prefix : List ℕ) → 0 < more → walk_from job more prefix ≡ tried job (more - 1) prefix (outside job prefix) (length (outside job prefix))
+pub walk_all : (job : JobValue) (more : ℕ) (prefix : List ℕ) → 0 < more → walk_from job more prefix ≡ tried job (more - 1) prefix (length (followers job prefix))
 walk_all job zero prefix some = absurd (omega (arith, some))
 walk_all job (suc more) prefix some = let e : suc more - 1 ≡ more = omega arith in rw e (walk-suc job more prefix)
 
-tried-split : (job : JobValue) (more : ℕ) (prefix tests : List ℕ) (count : ℕ) → tried job more prefix tests (length tests) ≡ tried job more prefix tests count ++ left job more prefix tests count
-tried-split job more prefix tests count =
-    let p = may_follow job prefix in
+tried-split : (job : JobValue) (more : ℕ) (prefix : List ℕ) (count : ℕ) → tried job more prefix (length (followers job prefix)) ≡ tried job more prefix count ++ left job more prefix count
+tried-split job more prefix count =
     let f = below job more prefix in
+    let tests : List ℕ = followers job prefix in
     let whole : take (length tests) tests ≡ take count tests ++ drop count tests = take_all (length tests) tests (omega arith) ∙ sym (take-append-drop count tests) in
-    ap (λ l. prefix ∷ flat_map f (filter p l)) whole
-    ∙ ap (λ l. prefix ∷ flat_map f l) (filter-append p (take count tests) (drop count tests))
-    ∙ ap (λ l. prefix ∷ l) (flat_map-append f (filter p (take count tests)) (filter p (drop count tests)))
+    ap (λ l. prefix ∷ flat_map f l) whole ∙ ap (λ l. prefix ∷ l) (flat_map-append f (take count tests) (drop count tests))
 
-pub walk_split : (job : JobValue) (more : ℕ) (prefix : List ℕ) (count : ℕ) → 0 < more → walk_from job more prefix ≡ tried job (more - 1) prefix (outside job prefix) count ++ left job (more - 1) prefix (outside job prefix) count
-walk_split job more prefix count some = walk_all job more prefix some ∙ tried-split job (more - 1) prefix (outside job prefix) count
+pub walk_split : (job : JobValue) (more : ℕ) (prefix : List ℕ) (count : ℕ) → 0 < more → walk_from job more prefix ≡ tried job (more - 1) prefix count ++ left job (more - 1) prefix count
+walk_split job more prefix count some = walk_all job more prefix some ∙ tried-split job (more - 1) prefix count
 
 -- one test more
-pub tried_branch : (job : JobValue) (more : ℕ) (prefix tests : List ℕ) (count : ℕ) → count < length tests → tried job more prefix tests (count + 1) ≡ tried job more prefix tests count ++ branch job more prefix (get_or tests count 0)
-tried_branch job more prefix tests count within =
-    let p = may_follow job prefix in
+pub tried_more : (job : JobValue) (more : ℕ) (prefix : List ℕ) (count : ℕ) → count < length (followers job prefix) → tried job more prefix (count + 1) ≡ tried job more prefix count ++ below job more prefix (get_or (followers job prefix) count 0)
+tried_more job more prefix count within =
     let f = below job more prefix in
+    let tests : List ℕ = followers job prefix in
     let test : ℕ = get_or tests count 0 in
-    ap (λ l. prefix ∷ flat_map f l) (filter_more p tests count 0 within)
-    ∙ ap (λ l. prefix ∷ l) (flat_map-append f (filter p (take count tests)) (cond (p test) (test ∷ []) []) ∙ ap (λ l. flat_map f (filter p (take count tests)) ++ l) (one (p test)))
-  where
-    one : (b : Bool) → flat_map (below job more prefix) (cond b (get_or tests count 0 ∷ []) []) ≡ cond b (below job more prefix (get_or tests count 0)) []
-    one true = append-nil (below job more prefix (get_or tests count 0))
-    one false = refl
+    ap (λ l. prefix ∷ flat_map f l) (take_more tests count 0 within)
+    ∙ ap (λ l. prefix ∷ l) (flat_map-append f (take count tests) (test ∷ []) ∙ ap (λ l. flat_map f (take count tests) ++ l) (append-nil (f test)))
 
 -- ---- entries begin with their prefix
 

@@ -1,5 +1,4 @@
 pub mod Orders
-pub mod Firsts
 pub mod OrderCycles
 pub mod Walks
 pub mod Prefixes
@@ -14,4 +13,3 @@ pub mod Noted
 pub mod Begun
 pub mod Kept
 pub mod Exchanges
-pub mod Taken

@@ -1,10 +1,12 @@
 -- A prefix of an order, with the tests outside it and how many tests each waits for.
-use Rattle.std.specs.Prelude.{◌≡◌, ℕ, ◌+◌, ◌<◌, ◌≤◌, not, ◌&&◌, nat_eq, false, List, [], ◌∷◌, ◌++◌, length, map, slice_index_or, vec_capacity, if◌then◌else◌}
+use Rattle.std.specs.Prelude.{◌≡◌, ℕ, ◌+◌, ◌<◌, ◌≤◌, Bool, true, false, not, ◌&&◌, nat_eq, Some, List, [], ◌∷◌, ◌++◌, length, map, slice_get, slice_index_or, vec_capacity, if◌then◌else◌}
 use Rattle.std.specs.List.{All, filter, sum_by}
+use Rattle.plan_model.specs.Rules.{Each}
 use Rattle.resource_table.specs.Jobs.{JobValue}
 use Rattle.resource_table.specs.Befores.{tests_before}
 use Rattle.schedule_search.specs.declared.prefix.Prefix.{Prefix}
-use Rattle.schedule_search.specs.Walks.{by_length, is_in}
+use Rattle.schedule_search.specs.Orders.{IsReady}
+use Rattle.schedule_search.specs.Walks.{goes_before, by_length, is_in, may_follow}
 
 -- precedences are between tests of the job
 abbrev pub AreInRange : JobValue → Type 0
@@ -13,6 +15,25 @@ AreInRange job = All (λ (p : ℕ × ℕ). (p.0 < length job.tests) × (p.1 < le
 -- the tests outside a prefix, in the order in which they are tried
 abbrev pub outside : JobValue → List ℕ → List ℕ
 outside job prefix = filter (λ test. not (is_in prefix test)) (by_length job)
+
+-- the tests that may follow a prefix, in that order
+abbrev pub followers : JobValue → List ℕ → List ℕ
+followers job prefix = filter (may_follow job prefix) (by_length job)
+
+-- some tests of a job, in that order: those that pass a test
+pub record AreSorted (job : JobValue) (tests : List ℕ) : Type 0 where
+  pub passes : ℕ → Bool
+  pub are : tests ≡ filter passes (by_length job)
+
+-- what passes the second test is what passes the first, but for one
+abbrev pub IsWithout : (p q : ℕ → Bool) → ℕ → Type 0
+IsWithout p q x = (t : ℕ) → q t ≡ (p t && not (nat_eq x t))
+
+-- so many of some tests are tried before a test, and these stand first
+pub record IsPlaceOf (job : JobValue) (tests : List ℕ) (test place : ℕ) : Type 0 where
+  pub most : place ≤ length tests
+  pub before : (k : ℕ) → k < place → goes_before job (slice_index_or tests k 0) test ≡ true
+  pub behind : (k : ℕ) → place ≤ k → k < length tests → goes_before job (slice_index_or tests k 0) test ≡ false
 
 -- a precedence, seen from its later test
 abbrev pub turned : ℕ × ℕ → ℕ × ℕ
@@ -39,9 +60,21 @@ pub record AreMissing (job : JobValue) (prefix missing : List ℕ) : Type 0 wher
   pub long : length missing ≡ length job.tests
   pub are : (test : ℕ) → test < length job.tests → slice_index_or missing test 0 ≡ missing_of job prefix test
 
+-- whether a test is outside a prefix and waits for none, by how many of its precedences are missing
+abbrev pub waits_for_none : (prefix missing : List ℕ) → ℕ → Bool
+waits_for_none prefix missing test = not (is_in prefix test) && nat_eq (slice_index_or missing test 0) 0
+
+-- all such tests, in the order in which they are tried
+abbrev pub all_free : JobValue → (prefix missing : List ℕ) → List ℕ
+all_free job prefix missing = filter (waits_for_none prefix missing) (by_length job)
+
 -- how often a number stands in a list
 abbrev pub times_in : List ℕ → ℕ → ℕ
 times_in numbers n = sum_by (λ m. if nat_eq m n then 1 else 0) numbers
+
+-- no test of a prefix stands in a list
+abbrev pub AreApart : (prefix tests : List ℕ) → Type 0
+AreApart prefix tests = (n : ℕ) → is_in prefix n ≡ true → times_in tests n ≡ 0
 
 -- numbers by place, each less by how often its place stands in a list
 pub record AreLess (old new places : List ℕ) : Type 0 where
@@ -52,19 +85,23 @@ pub record AreLess (old new places : List ℕ) : Type 0 where
 pub record HasPrefixRoom (tests : ℕ) (p : Prefix) : Type 0 where
   pub tests_room : tests ≤ vec_capacity p.tests
   pub rest_room : tests ≤ vec_capacity p.rest
+  pub free_room : tests ≤ vec_capacity p.free
   pub missing_room : tests ≤ vec_capacity p.missing
 
--- it has these tests, and these are left
-pub record IsAt (job : JobValue) (path rest : List ℕ) (p : Prefix) : Type 0 where
+-- It has these tests, which are in order so far, and the others are left.
+pub record IsAt (job : JobValue) (path : List ℕ) (p : Prefix) : Type 0 where
   pub tests_are : p.tests.items ≡ path
-  pub rest_are : p.rest.items ≡ rest
+  pub ready : Each (IsReady job) path
+  pub left : length (outside job path) + length path ≡ length job.tests
+  pub rest_are : p.rest.items ≡ outside job path
+  pub free_are : p.free.items ≡ followers job path
   pub missing_are : AreMissing job path p.missing.items
   pub has_room : HasPrefixRoom (length job.tests) p
 
--- a prefix ends with a test of the job that doesn't stand before
-pub record EndsNew (job : JobValue) (prefix : List ℕ) : Type 0 where
+-- the last test of a prefix was taken from these places among the tests that may follow the others, and among those outside
+pub record IsTaken (job : JobValue) (prefix : List ℕ) (place left : ℕ) : Type 0 where
   pub front : List ℕ
   pub test : ℕ
   pub is : prefix ≡ front ++ test ∷ []
-  pub in_job : test < length job.tests
-  pub new : is_in front test ≡ false
+  pub free_at : slice_get (followers job front) place ≡ Some test
+  pub left_at : slice_get (outside job front) left ≡ Some test

@@ -1,5 +1,5 @@
 -- How far a walk has come, and what a stretch of it has shown.
-use Rattle.std.specs.Prelude.{◌≡◌, ℕ, ◌+◌, ◌<◌, ◌≤◌, ◌⊎◌, Bool, true, false, List, [], ◌∷◌, ◌++◌, length, map, take, if◌then◌else◌}
+use Rattle.std.specs.Prelude.{◌≡◌, ℕ, ◌+◌, ◌<◌, ◌≤◌, ◌⊎◌, Bool, true, false, List, [], ◌++◌, length, map, take}
 use Rattle.std.specs.List.{All, Contains}
 use Rattle.resource_table.specs.Jobs.{JobValue}
 use Rattle.schedule_search.specs.declared.walk.Progress.{Progress}
@@ -8,17 +8,13 @@ use Rattle.schedule_search.specs.Orders.{IsTopological, IsFirstOrder}
 use Rattle.resource_table.specs.Befores.{listed}
 use Rattle.schedule_search.specs.OrderCycles.{Takes}
 use Rattle.schedule_search.specs.Prefixes.{AreFollowers, AreMissing}
-use Rattle.schedule_search.specs.Walks.{stands_before, by_length, may_follow, walk_from, StandIn, IsOpen}
+use Rattle.schedule_search.specs.Walks.{stands_before, by_length, StandIn, IsOpen}
 
 -- all tests in the order of trying, those that each precedes, and how many precedences each has
 pub record AreTries (job : JobValue) (tries : Tries) : Type 0 where
   pub tests : tries.tests.items ≡ by_length job
   pub after : AreFollowers job (map listed tries.after.items)
   pub missing : AreMissing job [] tries.missing.items
-
--- the part of the walk below a prefix that begins with a test, where it may follow
-abbrev pub branch : JobValue → ℕ → List ℕ → ℕ → List (List ℕ)
-branch job more prefix test = if may_follow job prefix test then walk_from job more (prefix ++ test ∷ []) else []
 
 -- the best order so far and its cycles, how many prefixes were entered, and whether one was refused
 pub record Stand : Type 0 where

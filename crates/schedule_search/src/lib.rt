@@ -10,6 +10,7 @@ mod order_laws;
 mod placing;
 mod prefix;
 mod search;
+mod sorted;
 mod starts;
 mod tries;
 mod walk;

@@ -1,5 +1,6 @@
 // Lists that stand in room that was taken for them before.
-ghost use Rattle.std.specs.Prelude.{◌≡◌, ◌≤◌, length, vec_capacity, IfOk};
+ghost use Rattle.std.specs.Prelude.{◌≡◌, ◌<◌, ◌≤◌, length, vec_capacity, IfOk};
+ghost use Rattle.std.specs.List.{insert};
 
 use outside::NoMemory;
 use std::alloc::Global;
@@ -20,5 +21,18 @@ pub(crate) fn copy_to(to: &mut Vec<usize>, from: &[usize])
     to.clear();
     for item in from {
         to.push_reserved(*item);
+    }
+}
+
+/// Puts an item to a place, in room that is there.
+pub(crate) fn put_at(to: &mut Vec<usize>, place: usize, item: usize)
+    requires place { place ≤ length to.old.items }
+    requires room { length to.old.items < vec_capacity to.old }
+    ensures items { to.new.items ≡ insert to.old.items place item }
+    ensures room { vec_capacity to.new ≡ vec_capacity to.old }
+{
+    match to.insert(place, item) {
+        Ok(()) => {}
+        Err(_) => unreachable!(),
     }
 }

@@ -1,19 +1,19 @@
 // The walk over the orders of a job, depth first, within a budget of prefixes that are entered.
-ghost use Rattle.std.specs.Prelude.{◌≡◌, ℕ, ◌+◌, ◌-◌, ◌<◌, ◌≤◌, ◌++◌, ◌∷◌, [], true, false, length, vec_capacity, IfSome};
+ghost use Rattle.std.specs.Prelude.{◌≡◌, ℕ, ◌+◌, ◌-◌, ◌<◌, ◌≤◌, ◌++◌, ◌∷◌, [], true, false, length, slice_index_or, vec_capacity, IfSome};
 ghost use Rattle.resource_table.specs.Jobs.{job_value, cycles_of};
 ghost use Rattle.resource_table.specs.Schedules.{last_end, ready_at, IsEarliest, IsSoundTable};
 ghost use Rattle.resource_table.specs.Calm.{IsCalm};
 ghost use Rattle.schedule_search.specs.Estimates.{CanAsk};
 ghost use Rattle.schedule_search.specs.OrderCycles.{HasPlaced};
-ghost use Rattle.schedule_search.specs.Walks.{is_in, may_follow, walk_from, IsOpen};
-ghost use Rattle.schedule_search.specs.Prefixes.{outside, HasPrefixRoom, IsAt};
-ghost use Rattle.schedule_search.specs.Progress.{AreTries, branch, stand_of, IsBest, NoneBefore, Explored};
+ghost use Rattle.schedule_search.specs.Walks.{walk_from, IsOpen};
+ghost use Rattle.schedule_search.specs.Prefixes.{HasPrefixRoom, IsAt};
+ghost use Rattle.schedule_search.specs.Progress.{AreTries, stand_of, IsBest, NoneBefore, Explored};
 ghost use Rattle.schedule_search.specs.Late.{IsLateAt, AreInTime, AreUnplaced};
 
 use crate::ahead::Estimate;
 use crate::lists::copy_to;
 use crate::order::cycles_at;
-use crate::prefix::{Prefix, Taken};
+use crate::prefix::Prefix;
 use crate::tries::Tries;
 use resource_table::{Job, TableOf, list_schedules_are_short};
 
@@ -271,8 +271,8 @@ fn is_over<J, E: Estimate<J>>(
     false
 }
 
-/// Goes on with all orders that begin with the placed tests and then with one more, which waits for none. Its start is noted:
-/// the orders that go on from here with other tests ask for it and place it again and again.
+/// Goes on with all orders that begin with the placed tests and then with one more, which stands at a place of the free ones.
+/// Its start is noted: the orders that go on from here with other tests ask for it and place it again and again.
 #[cycle(explore)]
 fn go_on<J, E: Estimate<J>>(
     job: &Job,
@@ -282,83 +282,40 @@ fn go_on<J, E: Estimate<J>>(
     prefix: &mut Prefix,
     progress: &mut Progress,
     end: u64,
-    test: usize,
+    place: usize,
 )
     requires job { table.old.job ≡ job_value job.now }
     requires sound { IsSoundTable table.old }
     requires tries { AreTries (job_value job.now) tries.now }
     requires estimates { E.estimates ahead.now }
     requires placed { HasPlaced table.old prefix.old.tests.items end }
-    requires in_job { test < length (job_value job.now).tests }
-    requires may { may_follow (job_value job.now) prefix.old.tests.items test ≡ true }
-    requires unplaced { is_in prefix.old.tests.items test ≡ false }
-    requires at { IsAt (job_value job.now) prefix.old.tests.items (outside (job_value job.now) (prefix.old.tests.items ++ test ∷ [])) prefix.old }
-    requires left { length (outside (job_value job.now) (prefix.old.tests.items ++ test ∷ [])) + length prefix.old.tests.items + 1 ≡ length (job_value job.now).tests }
+    requires at { IsAt (job_value job.now) prefix.old.tests.items prefix.old }
+    requires within_free { place < length prefix.old.free.items }
     requires best_room { length (job_value job.now).tests ≤ vec_capacity progress.old.best }
     requires going { progress.old.refused ≡ false }
     requires within { progress.old.entered ≤ tries.now.budget }
-    requires opened { IsOpen (job_value job.now) (prefix.old.tests.items ++ test ∷ []) }
+    requires opened { IsOpen (job_value job.now) (prefix.old.tests.items ++ slice_index_or prefix.old.free.items place 0 ∷ []) }
     requires best { IsBest (job_value job.now) (stand_of progress.old) }
-    requires none_before { NoneBefore (job_value job.now) (prefix.old.tests.items ++ test ∷ []) progress.old.best.items }
+    requires none_before { NoneBefore (job_value job.now) (prefix.old.tests.items ++ slice_index_or prefix.old.free.items place 0 ∷ []) progress.old.best.items }
     ensures table { table.new ≡ table.old }
-    ensures at { progress.new.refused ≡ false → IsAt (job_value job.now) prefix.old.tests.items (outside (job_value job.now) (prefix.old.tests.items ++ test ∷ [])) prefix.new }
+    ensures at { progress.new.refused ≡ false → IsAt (job_value job.now) prefix.old.tests.items prefix.new }
     ensures room { HasPrefixRoom (length (job_value job.now).tests) prefix.new }
     ensures best_room { vec_capacity progress.new.best ≡ vec_capacity progress.old.best }
     ensures within { progress.new.entered ≤ tries.now.budget }
     ensures best { IsBest (job_value job.now) (stand_of progress.new) }
-    ensures explored { Explored (job_value job.now) tries.now.budget (branch (job_value job.now) (length (job_value job.now).tests - length prefix.old.tests.items - 1) prefix.old.tests.items test) (stand_of progress.old) (stand_of progress.new) }
+    ensures explored { Explored (job_value job.now) tries.now.budget (walk_from (job_value job.now) (length (job_value job.now).tests - length prefix.old.tests.items - 1) (prefix.old.tests.items ++ slice_index_or prefix.old.free.items place 0 ∷ [])) (stand_of progress.old) (stand_of progress.new) }
 {
     list_schedules_are_short();
+    let test = prefix.free[place];
     let start = table.noted_start(test);
     let next_end = end.max(start + cycles_at(job, test));
-    prefix.add(job, tries, test);
+    let left = prefix.take(job, tries, place);
     let mut frame = table.place(test, start);
     explore(job, tries, ahead, frame.table(), prefix, progress, next_end);
     frame.undo();
     if !progress.refused {
-        prefix.take_back(job, tries);
+        prefix.take_back(job, tries, place, left);
     }
-}
-
-/// Goes on with all orders that begin with the placed tests and then with one more, where it may follow them.
-#[cycle(explore)]
-fn follow<J, E: Estimate<J>>(
-    job: &Job,
-    tries: &Tries,
-    ahead: &E,
-    table: &mut TableOf<J>,
-    prefix: &mut Prefix,
-    progress: &mut Progress,
-    end: u64,
-    test: usize,
-)
-    requires job { table.old.job ≡ job_value job.now }
-    requires sound { IsSoundTable table.old }
-    requires tries { AreTries (job_value job.now) tries.now }
-    requires estimates { E.estimates ahead.now }
-    requires placed { HasPlaced table.old prefix.old.tests.items end }
-    requires in_job { test < length (job_value job.now).tests }
-    requires unplaced { is_in prefix.old.tests.items test ≡ false }
-    requires at { IsAt (job_value job.now) prefix.old.tests.items (outside (job_value job.now) (prefix.old.tests.items ++ test ∷ [])) prefix.old }
-    requires left { length (outside (job_value job.now) (prefix.old.tests.items ++ test ∷ [])) + length prefix.old.tests.items + 1 ≡ length (job_value job.now).tests }
-    requires best_room { length (job_value job.now).tests ≤ vec_capacity progress.old.best }
-    requires going { progress.old.refused ≡ false }
-    requires within { progress.old.entered ≤ tries.now.budget }
-    requires opened { IsOpen (job_value job.now) (prefix.old.tests.items ++ test ∷ []) }
-    requires best { IsBest (job_value job.now) (stand_of progress.old) }
-    requires none_before { NoneBefore (job_value job.now) (prefix.old.tests.items ++ test ∷ []) progress.old.best.items }
-    ensures table { table.new ≡ table.old }
-    ensures at { progress.new.refused ≡ false → IsAt (job_value job.now) prefix.old.tests.items (outside (job_value job.now) (prefix.old.tests.items ++ test ∷ [])) prefix.new }
-    ensures room { HasPrefixRoom (length (job_value job.now).tests) prefix.new }
-    ensures best_room { vec_capacity progress.new.best ≡ vec_capacity progress.old.best }
-    ensures within { progress.new.entered ≤ tries.now.budget }
-    ensures best { IsBest (job_value job.now) (stand_of progress.new) }
-    ensures explored { Explored (job_value job.now) tries.now.budget (branch (job_value job.now) (length (job_value job.now).tests - length prefix.old.tests.items - 1) prefix.old.tests.items test) (stand_of progress.old) (stand_of progress.new) }
-{
-    if prefix.waits(test) {
-        return;
-    }
-    go_on(job, tries, ahead, table, prefix, progress, end, test);
 }
 
 /// Goes on with all orders that begin with the placed tests. Where a prefix was refused, the walk is over, and its own
@@ -378,8 +335,7 @@ pub(crate) fn explore<J, E: Estimate<J>>(
     requires tries { AreTries (job_value job.now) tries.now }
     requires estimates { E.estimates ahead.now }
     requires placed { HasPlaced table.old prefix.old.tests.items end }
-    requires at { IsAt (job_value job.now) prefix.old.tests.items (outside (job_value job.now) prefix.old.tests.items) prefix.old }
-    requires left { length (outside (job_value job.now) prefix.old.tests.items) + length prefix.old.tests.items ≡ length (job_value job.now).tests }
+    requires at { IsAt (job_value job.now) prefix.old.tests.items prefix.old }
     requires best_room { length (job_value job.now).tests ≤ vec_capacity progress.old.best }
     requires going { progress.old.refused ≡ false }
     requires within { progress.old.entered ≤ tries.now.budget }
@@ -387,7 +343,7 @@ pub(crate) fn explore<J, E: Estimate<J>>(
     requires best { IsBest (job_value job.now) (stand_of progress.old) }
     requires none_before { NoneBefore (job_value job.now) prefix.old.tests.items progress.old.best.items }
     ensures table { table.new ≡ table.old }
-    ensures at { progress.new.refused ≡ false → IsAt (job_value job.now) prefix.old.tests.items (outside (job_value job.now) prefix.old.tests.items) prefix.new }
+    ensures at { progress.new.refused ≡ false → IsAt (job_value job.now) prefix.old.tests.items prefix.new }
     ensures room { HasPrefixRoom (length (job_value job.now).tests) prefix.new }
     ensures best_room { vec_capacity progress.new.best ≡ vec_capacity progress.old.best }
     ensures within { progress.new.entered ≤ tries.now.budget }
@@ -413,16 +369,11 @@ pub(crate) fn explore<J, E: Estimate<J>>(
     ) {
         return;
     }
-    let count = prefix.rest.len();
-    let mut test = prefix.take_first();
-    let mut place = 0;
-    while place < count {
-        follow(job, tries, ahead, table, prefix, progress, end, test);
+    let count = prefix.free.len();
+    for place in 0..count {
+        go_on(job, tries, ahead, table, prefix, progress, end, place);
         if progress.refused {
             return;
         }
-        let next = prefix.next(Taken { place, test });
-        place = next.place;
-        test = next.test;
     }
 }

@@ -1,21 +1,22 @@
-use Rattle.std.proofs.Common.{arith}
+use Rattle.std.proofs.Common.{◌≡◌, ◌∙◌, ◌<◌, ◌++◌, ◌∷◌, [], ℕ, length, get_or, sym, subst}
 use Rattle.resource_table.specs.Jobs.{job_value}
-use Rattle.schedule_search.proofs.Taking.{none_taken, rest_known, all_taken}
+use Rattle.schedule_search.proofs.Explorings.{none_left, some_left}
+use Rattle.schedule_search.proofs.Stepping.{at_own}
+use Rattle.schedule_search.proofs.Taking.{longest_more, all_taken}
 use Rattle.schedule_search.proofs.order.first_by.Goals as goal
 
-pub tests-init : goal.tests-init
-tests-init c = record {
-  way = none_taken (job_value c.args.job.now) c.begin.new.self c.begin.ensures.tests c.begin.ensures.at;
-  few = omega arith;
-  wait = λ k less. absurd (omega (arith, less));
-}
+pub loop-prefix-preserved : goal.loop-prefix-preserved
+loop-prefix-preserved c =
+    let job = job_value c.args.job.now in
+    let p = c.loop-prefix.prefix in
+    let some : 0 < length p.free.items = subst (λ (n : ℕ). 0 < n) p.free.ok.0 (some_left p.free.len c.is_empty.result c.is_empty.ensures c.loop-prefix-test.true) in
+    record {
+      at = at_own job (p.tests.items ++ get_or p.free.items 0 0 ∷ []) c.take.new.self c.take.ensures.at;
+      longest = longest_more job p c.take.new.self c.loop-prefix.invariant.at c.loop-prefix.invariant.longest some c.take.ensures.at.tests_are;
+    }
 
-pub first_free-requires : goal.first_free-requires
-first_free-requires c = record {
-  in_range = rest_known (job_value c.args.job.now) c.tests.prefix c.tests.invariant.way;
-  from = c.tests.invariant.few;
-  wait = c.tests.invariant.wait;
-}
-
-pub returns-in-None : goal.returns-in-None
-returns-in-None c = all_taken (job_value c.args.job.now) c.tests.prefix c.requires.sound c.tests.invariant.way c.in-None.ensures.none
+pub returns : goal.returns
+returns c =
+    let p = c.loop-prefix.prefix in
+    let none : length p.free.items ≡ 0 = sym p.free.ok.0 ∙ none_left p.free.len c.is_empty.result c.is_empty.ensures c.loop-prefix-test.false in
+    all_taken (job_value c.args.job.now) p c.requires.sound c.loop-prefix.invariant.at c.loop-prefix.invariant.longest none

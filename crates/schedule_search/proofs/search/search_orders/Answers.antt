@@ -1,9 +1,6 @@
-use Rattle.std.proofs.Common.{ℕ, List, length, ap, arith}
 use Rattle.resource_table.specs.Jobs.{job_value}
 use Rattle.schedule_search.specs.Progress.{stand_of}
 use Rattle.schedule_search.proofs.PlacedOrders.{first_topological}
-use Rattle.schedule_search.specs.Prefixes.{outside}
-use Rattle.schedule_search.proofs.Outside.{outside_all}
 use Rattle.schedule_search.proofs.Searching.{begun_best, begun_behind, searched, explored_all}
 use Rattle.schedule_search.proofs.search.search_orders.Goals as goal
 
@@ -12,12 +9,6 @@ explore-requires-clause-best g c = begun_best (job_value c.args.job.now) c.args.
 
 pub explore-requires-clause-none_before : goal.explore-requires-clause-none_before
 explore-requires-clause-none_before g c = begun_behind (job_value c.args.job.now) c.args.first.now (stand_of c.begin.new.progress) c.begin-2.new.self.tests.items c.requires.first c.begin.ensures.begun c.begin-2.ensures.tests
-
-pub explore-requires-clause-left : goal.explore-requires-clause-left
-explore-requires-clause-left g c =
-    let job = job_value c.args.job.now in
-    let tests = c.begin-2.ensures.tests in
-    omega (arith, outside_all job, ap (λ (l : List ℕ). length (outside job l)) tests, ap length tests)
 
 pub returns-clause-found : goal.returns-clause-found
 returns-clause-found g c =

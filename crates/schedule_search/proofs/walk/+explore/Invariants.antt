@@ -1,33 +1,24 @@
 use Rattle.std.proofs.Common.{◌≡◌, ◌<◌, ◌≤◌, ◌+◌, ◌-◌, ◌*◌, ◌∷◌, ◌++◌, [], ℕ, false, length, get_or, vec_capacity}
-use Rattle.std.specs.List.{remove}
 use Rattle.resource_table.specs.Jobs.{job_value}
-use Rattle.schedule_search.specs.Prefixes.{outside, IsAt}
+use Rattle.schedule_search.specs.Prefixes.{followers, IsAt}
 use Rattle.schedule_search.specs.Progress.{stand_of, IsBest, NoneBefore, Explored}
 use Rattle.schedule_search.proofs.Walking.{tried}
 use Rattle.schedule_search.proofs.walk.+explore.Given as goal
 
 abbrev pub decreases-explore : goal.decreases-explore
-decreases-explore g l = (length (job_value l.job.now).tests - length l.prefix.now.tests.items) * 3 + 2
-
-abbrev pub decreases-follow : goal.decreases-follow
-decreases-follow g l = (length (job_value l.job.now).tests - length l.prefix.now.tests.items) * 3 + 1
+decreases-explore g l = (length (job_value l.job.now).tests - length l.prefix.now.tests.items) * 2 + 1
 
 abbrev pub decreases-go_on : goal.decreases-go_on
-decreases-go_on g l = (length (job_value l.job.now).tests - length l.prefix.now.tests.items) * 3
+decreases-go_on g l = (length (job_value l.job.now).tests - length l.prefix.now.tests.items) * 2
 
 abbrev pub invariant-explore-loop-place : goal.invariant-explore-loop-place
 invariant-explore-loop-place g l = record {
   table : l.table ≡ l.fn.table;
-  at : IsAt (job_value l.job) l.fn.prefix.tests.items (remove (outside (job_value l.job) l.fn.prefix.tests.items) l.place) l.prefix;
-  few : l.place ≤ length (outside (job_value l.job) l.fn.prefix.tests.items);
-  test : l.place < length (outside (job_value l.job) l.fn.prefix.tests.items) → l.test ≡ get_or (outside (job_value l.job) l.fn.prefix.tests.items) l.place 0;
+  at : IsAt (job_value l.job) l.fn.prefix.tests.items l.prefix;
   best_room : vec_capacity l.progress.best ≡ vec_capacity l.initial.progress.best;
   going : l.progress.refused ≡ false;
   within : l.progress.entered ≤ l.tries.budget;
   best : IsBest (job_value l.job) (stand_of l.progress);
-  none_before : (later : ℕ) → l.place ≤ later → later < length (outside (job_value l.job) l.fn.prefix.tests.items) → NoneBefore (job_value l.job) (l.fn.prefix.tests.items ++ get_or (outside (job_value l.job) l.fn.prefix.tests.items) later 0 ∷ []) l.progress.best.items;
-  explored : Explored (job_value l.job) l.tries.budget (tried (job_value l.job) (length (job_value l.job).tests - length l.fn.prefix.tests.items - 1) l.fn.prefix.tests.items (outside (job_value l.job) l.fn.prefix.tests.items) l.place) (stand_of l.fn.progress) (stand_of l.progress);
+  none_before : (later : ℕ) → l.place ≤ later → later < length (followers (job_value l.job) l.fn.prefix.tests.items) → NoneBefore (job_value l.job) (l.fn.prefix.tests.items ++ get_or (followers (job_value l.job) l.fn.prefix.tests.items) later 0 ∷ []) l.progress.best.items;
+  explored : Explored (job_value l.job) l.tries.budget (tried (job_value l.job) (length (job_value l.job).tests - length l.fn.prefix.tests.items - 1) l.fn.prefix.tests.items l.place) (stand_of l.fn.progress) (stand_of l.progress);
 }
-
-abbrev pub decreases-explore-loop-place : goal.decreases-explore-loop-place
-decreases-explore-loop-place g l = length (outside (job_value l.job) l.fn.prefix.tests.items) - l.place
