@@ -10,7 +10,7 @@ use Rattle.soc_model.specs.declared.Test.{Test}
 use Rattle.soc_model.specs.Chips.{ModuleValue, SocValue, LiveTest, is_live, live_of, live_from, id_of}
 use Rattle.plan_model.specs.Rules.{IsFirstBreach, live_ids}
 use Rattle.plan_model.proofs.Lists.{from_append}
-use Rattle.plan_checker.specs.Broken.{EachOf, Breaks, ids_in}
+use Rattle.plan_checker.specs.Broken.{EachOf, Breaks}
 
 pub of_none : {X : Type 0} (Q : X → Type 0) → EachOf Q []
 of_none Q n x e = absurd cc
@@ -69,25 +69,7 @@ flat_kept Q f xs i x h e a b = rw (flat_more f xs i x h e) (of_append Q (flat_ma
 pub flat_breaks : {X Y : Type 0} (Q : Y → Type 0) (f : X → List Y) (xs : List X) (i : ℕ) (x : X) (y : Y) → i < length xs → get_or xs i x ≡ x → EachOf Q (flat_map f (take i xs)) → Breaks Q (f x) y → Breaks Q (flat_map f xs) y
 flat_breaks Q f xs i x y h e a b = rw (flat_split f xs i x h e) (breaks_behind Q (flat_map f (take i xs)) (f x ++ flat_map f (drop (suc i) xs)) y a (breaks_front Q (f x) (flat_map f (drop (suc i) xs)) y b))
 
--- ---- the live tests of a chip, module by module
-
-abbrev the_test : ℕ → ModuleValue → Test → LiveTest
-the_test base m t = record { place = base; core = m; test = t }
-
-ids_of_module : (base : ℕ) (m : ModuleValue) (tests : List Test) → map id_of (map (λ (t : Test). the_test base m t) (filter is_live tests)) ≡ ids_in m.number tests
-ids_of_module base m [] = refl
-ids_of_module base m (t ∷ ts) = elim (cases_Bool (is_live t)) [
-  | inl yes' ↦ rw yes' (ap (λ v. id_of (the_test base m t) ∷ v) (ids_of_module base m ts))
-  | inr no' ↦ rw no' (ids_of_module base m ts)
-]
-
-ids_from : (base : ℕ) (ms : List ModuleValue) → map id_of (live_from base ms) ≡ flat_map (λ (m : ModuleValue). ids_in m.number m.tests) ms
-unfolding live_from
-ids_from base [] = refl
-ids_from base (m ∷ ms) = map-append id_of (live_of base m) (live_from (base + 1) ms) ∙ ap (λ v. v ++ map id_of (live_from (base + 1) ms)) (ids_of_module base m m.tests) ∙ ap (λ v. ids_in m.number m.tests ++ v) (ids_from (base + 1) ms)
-
-pub live_ids_are : (soc : SocValue) → live_ids soc ≡ flat_map (λ (m : ModuleValue). ids_in m.number m.tests) soc.modules
-live_ids_are soc = ids_from 0 soc.modules
+-- ---- by place
 
 pub flat_kept_at : {X Y : Type 0} (Q : Y → Type 0) (f : X → List Y) (xs : List X) (i : ℕ) (x : X) → slice_get xs i ≡ Some x → EachOf Q (flat_map f (take i xs)) → EachOf Q (f x) → EachOf Q (flat_map f (take (i + 1) xs))
 flat_kept_at Q f xs i x at a b = flat_kept Q f xs i x (slice_get_within xs i x at) (get_or_from_slice_get xs i x x at) a b
@@ -108,11 +90,6 @@ if_none (Some x) P e p = absurd (true≢false e)
 
 pub flat_more_at : {X Y : Type 0} (f : X → List Y) (xs : List X) (i : ℕ) (x : X) → slice_get xs i ≡ Some x → flat_map f (take (i + 1) xs) ≡ flat_map f (take i xs) ++ f x
 flat_more_at f xs i x at = flat_more f xs i x (slice_get_within xs i x at) (get_or_from_slice_get xs i x x at)
-
-pub flat_room : {X Y : Type 0} (f : X → List Y) (xs : List X) (i : ℕ) (x : X) → slice_get xs i ≡ Some x → length (flat_map f (take i xs)) + length (f x) ≤ length (flat_map f xs)
-flat_room f xs i x at =
-    let e = ap length (flat_split f xs i x (slice_get_within xs i x at) (get_or_from_slice_get xs i x x at)) in
-    omega (arith, simp (length-append) at e)
 
 -- ---- an item at a time
 

@@ -18,11 +18,11 @@ small_steps start end now (s ∷ steps) few small = elim (cases_lt (start + s.0)
   | inr past ↦ rw (le-ltb (start + s.0) end past) (small_steps start end now steps few (λ n t at. small (suc n) t at))
 ]
 
-pub small_events : (limits : LimitsValue) (jobs : List PlacedTest) → ((i : ℕ) (j : PlacedTest) → slice_get jobs i ≡ Some j → HasSmallSteps limits j) → All IsSmall (all_events limits jobs)
+pub small_events : (limits : LimitsValue) (placed : List PlacedTest) → ((i : ℕ) (j : PlacedTest) → slice_get placed i ≡ Some j → HasSmallSteps limits j) → All IsSmall (all_events limits placed)
 small_events limits [] has = All-nil IsSmall
-small_events limits (j ∷ jobs) has =
+small_events limits (j ∷ placed) has =
     let h : HasSmallSteps limits j = has 0 j refl in
-    All-append IsSmall (test_events limits j) (all_events limits jobs) (small_steps j.start j.end 0 (steps_of limits j) (omega arith) h.small) (small_events limits jobs (λ i k at. has (suc i) k at))
+    All-append IsSmall (test_events limits j) (all_events limits placed) (small_steps j.start j.end 0 (steps_of limits j) (omega arith) h.small) (small_events limits placed (λ i k at. has (suc i) k at))
 
 pub few_step_events : (start end now : ℕ) (steps : List (ℕ × ℕ)) → length (step_events start end now steps) ≤ length steps + 1
 few_step_events start end now [] = omega arith
@@ -34,12 +34,12 @@ few_step_events start end now (s ∷ steps) = elim (cases_lt (start + s.0) end) 
 pub few_test_events : (limits : LimitsValue) (j : PlacedTest) → HasSmallSteps limits j → length (test_events limits j) ≤ 17
 few_test_events limits j has = omega (arith, few_step_events j.start j.end 0 (steps_of limits j), has.few)
 
-pub few_events : (limits : LimitsValue) (jobs : List PlacedTest) → ((i : ℕ) (j : PlacedTest) → slice_get jobs i ≡ Some j → HasSmallSteps limits j) → length (all_events limits jobs) ≤ length jobs * 17
+pub few_events : (limits : LimitsValue) (placed : List PlacedTest) → ((i : ℕ) (j : PlacedTest) → slice_get placed i ≡ Some j → HasSmallSteps limits j) → length (all_events limits placed) ≤ length placed * 17
 few_events limits [] has = omega arith
-few_events limits (j ∷ jobs) has = omega (arith, length-append (test_events limits j) (all_events limits jobs), few_test_events limits j (has 0 j refl), few_events limits jobs (λ i k at. has (suc i) k at))
+few_events limits (j ∷ placed) has = omega (arith, length-append (test_events limits j) (all_events limits placed), few_test_events limits j (has 0 j refl), few_events limits placed (λ i k at. has (suc i) k at))
 
-pub more_events : (limits : LimitsValue) (jobs : List PlacedTest) (i : ℕ) (d : PlacedTest) → i < length jobs → all_events limits (take (i + 1) jobs) ≡ all_events limits (take i jobs) ++ test_events limits (get_or jobs i d)
-more_events limits jobs i d within = ap (all_events limits) (take_more jobs i d within) ∙ joined (take i jobs) (get_or jobs i d)
+pub more_events : (limits : LimitsValue) (placed : List PlacedTest) (i : ℕ) (d : PlacedTest) → i < length placed → all_events limits (take (i + 1) placed) ≡ all_events limits (take i placed) ++ test_events limits (get_or placed i d)
+more_events limits placed i d within = ap (all_events limits) (take_more placed i d within) ∙ joined (take i placed) (get_or placed i d)
   where
     joined : (js : List PlacedTest) (j : PlacedTest) → all_events limits (js ++ j ∷ []) ≡ all_events limits js ++ test_events limits j
     joined [] j = append-nil (test_events limits j)

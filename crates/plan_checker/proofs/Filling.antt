@@ -1,60 +1,91 @@
--- The jobs of a plan, module by module and test by test.
-use Rattle.std.proofs.Common.{◌≡◌, ℕ, zero, suc, ◌+◌, Some, List, [], ◌∷◌, ◌++◌, length, map, refl, ap, ◌∙◌, arith, inl, inr}
+-- The live tests of a plan, module by module and test by test.
+use Rattle.std.proofs.Common.{◌≡◌, ℕ, suc, ◌+◌, ◌≤◌, ◌<◌, Bool, true, false, Some, List, [], ◌∷◌, ◌++◌, length, map, take, drop, refl, ap, ◌∙◌, sym, arith, append-nil, append_assoc}
 use Rattle.std.specs.Prelude.{slice_get}
-use Rattle.std.specs.List.{flat_map, filter, enumerate_from}
+use Rattle.std.specs.List.{filter, flat_map, list_any}
+use Rattle.std.proofs.Math.Seq.{split_at, drop-cons}
 use Rattle.std.proofs.lemmas.Bool.{cases_Bool}
-use Rattle.std.proofs.lemmas.List.{map-append}
-use Rattle.soc_model.specs.declared.Test.{Test}
-use Rattle.soc_model.specs.Chips.{ModuleValue, SocValue, LiveTest, is_live, live_of, live_from, live_tests}
+use Rattle.std.proofs.lemmas.List.{length-append, length-map, length-take-le, map-append, take_all, take_more}
+use Rattle.std.proofs.lemmas.List.Elements.{filter-append}
+use Rattle.std.proofs.lemmas.Option.{slice_get_within, get_or_from_slice_get}
+use Rattle.soc_model.specs.declared.TestId.{TestId}
+use Rattle.soc_model.specs.Chips.{ModuleValue, SocValue, LiveTest, live_from, live_tests, same_test}
 use Rattle.plan_model.specs.Plans.{PlanValue, planned, planned_test}
+use Rattle.plan_model.proofs.Lists.{any_at, in_append_left}
+use Rattle.live_tests.specs.Names.{AllDiffer, names_in}
+use Rattle.live_tests.specs.Placed.{placed_in, placed_of, placed_tests}
 use Rattle.live_tests.specs.declared.placed.PlacedTest.{PlacedTest}
-use Rattle.plan_checker.specs.Listed.{jobs_in, all_jobs_in}
-use Rattle.live_tests.specs.Placed.{placed_of, placed_tests}
+use Rattle.live_tests.proofs.Placing.{module_more, modules_all, placed_live}
+use Rattle.plan_checker.proofs.Rooms.{same_test_is}
 
-abbrev job_at : PlanValue → LiveTest → PlacedTest
-job_at plan l = placed_of (planned_test plan l.place l.core l.test)
+-- ---- what passes at the front of a list
 
-abbrev the_test : ℕ → ModuleValue → Test → LiveTest
-the_test base m t = record { place = base; core = m; test = t }
+pub front_taken : {X Y : Type 0} (f : X → Y) (p : X → Bool) (xs : List X) (k : ℕ) (x : X) → slice_get xs k ≡ Some x → p x ≡ true → map f (filter p (take (k + 1) xs)) ≡ map f (filter p (take k xs)) ++ f x ∷ []
+front_taken f p xs k x at passes =
+    ap (λ l. map f (filter p l)) (take_more xs k x (slice_get_within xs k x at) ∙ ap (λ v. take k xs ++ v ∷ []) (get_or_from_slice_get xs k x x at))
+    ∙ ap (map f) (filter-append p (take k xs) (x ∷ [])) ∙ map-append f (filter p (take k xs)) (filter p (x ∷ [])) ∙ rw passes refl
 
-jobs_of_module : (plan : PlanValue) (base : ℕ) (m : ModuleValue) (tests : List Test) → map (job_at plan) (map (λ (t : Test). the_test base m t) (filter is_live tests)) ≡ jobs_in plan (base, m) tests
-jobs_of_module plan base m [] = refl
-jobs_of_module plan base m (t ∷ ts) = elim (cases_Bool (is_live t)) [
-  | inl yes' ↦ rw yes' (ap (λ v. placed_of (planned_test plan base m t) ∷ v) (jobs_of_module plan base m ts))
-  | inr no' ↦ rw no' (jobs_of_module plan base m ts)
-]
+pub front_left : {X Y : Type 0} (f : X → Y) (p : X → Bool) (xs : List X) (k : ℕ) (x : X) → slice_get xs k ≡ Some x → p x ≡ false → map f (filter p (take (k + 1) xs)) ≡ map f (filter p (take k xs))
+front_left f p xs k x at fails =
+    ap (λ l. map f (filter p l)) (take_more xs k x (slice_get_within xs k x at) ∙ ap (λ v. take k xs ++ v ∷ []) (get_or_from_slice_get xs k x x at))
+    ∙ ap (map f) (filter-append p (take k xs) (x ∷ [])) ∙ map-append f (filter p (take k xs)) (filter p (x ∷ [])) ∙ rw fails (append-nil (map f (filter p (take k xs))))
 
-jobs_of_modules : (plan : PlanValue) (base : ℕ) (ms : List ModuleValue) → map (job_at plan) (live_from base ms) ≡ flat_map (all_jobs_in plan) (enumerate_from base ms)
-unfolding live_from
-jobs_of_modules plan base [] = refl
-jobs_of_modules plan base (m ∷ ms) = map-append (job_at plan) (live_of base m) (live_from (base + 1) ms) ∙ ap (λ v. v ++ map (job_at plan) (live_from (base + 1) ms)) (jobs_of_module plan base m m.tests) ∙ ap (λ v. jobs_in plan (base, m) m.tests ++ v) (jobs_of_modules plan (base + 1) ms)
+-- what passes, cut around an item that does
+pub passing_split : {X Y : Type 0} (f : X → Y) (p : X → Bool) (xs : List X) (k : ℕ) (x : X) → slice_get xs k ≡ Some x → p x ≡ true → map f (filter p xs) ≡ map f (filter p (take k xs)) ++ f x ∷ map f (filter p (drop (suc k) xs))
+passing_split f p xs k x at passes =
+    ap (λ l. map f (filter p l)) (split_at xs k x (slice_get_within xs k x at) ∙ ap (λ v. take k xs ++ v ∷ drop (suc k) xs) (get_or_from_slice_get xs k x x at))
+    ∙ ap (map f) (filter-append p (take k xs) (x ∷ drop (suc k) xs)) ∙ map-append f (filter p (take k xs)) (filter p (x ∷ drop (suc k) xs)) ∙ rw passes refl
 
-map_twice : {X Y Z : Type 0} (f : X → Y) (g : Y → Z) (xs : List X) → map g (map f xs) ≡ map (λ x. g (f x)) xs
-map_twice f g [] = refl
-map_twice f g (x ∷ xs) = ap (λ v. g (f x) ∷ v) (map_twice f g xs)
+pub passing_room : {X Y : Type 0} (f : X → Y) (p : X → Bool) (xs : List X) (k : ℕ) (x : X) → slice_get xs k ≡ Some x → p x ≡ true → length (map f (filter p (take k xs))) + 1 ≤ length (map f (filter p xs))
+passing_room f p xs k x at passes =
+    let e = ap length (passing_split f p xs k x at passes) in
+    omega (arith, simp length-append at e)
 
-pub jobs_are : (soc : SocValue) (plan : PlanValue) → placed_tests soc plan ≡ flat_map (all_jobs_in plan) (enumerate_from 0 soc.modules)
-unfolding planned
-jobs_are soc plan = map_twice (λ (l : LiveTest). planned_test plan l.place l.core l.test) placed_of (live_tests soc) ∙ jobs_of_modules plan 0 soc.modules
+-- ---- names
 
-pub numbered_at : {X : Type 0} (base : ℕ) (xs : List X) (i : ℕ) (x : X) → slice_get xs i ≡ Some x → slice_get (enumerate_from base xs) i ≡ Some (base + i, x)
-numbered_at base [] i x e = absurd cc
-numbered_at base (y ∷ xs) zero x e =
-    let same : y ≡ x = cc in
-    let n : base + 0 ≡ base = omega arith in
-    rw (n, same) refl
-numbered_at base (y ∷ xs) (suc i) x e =
-    let n : base + suc i ≡ base + 1 + i = omega arith in
-    rw n (numbered_at (base + 1) xs i x e)
+differ_front : {X : Type 0} (xs ys : List X) → AllDiffer (xs ++ ys) → AllDiffer xs
+differ_front xs ys differ p q x at there = differ p q x (in_append_left xs ys p x at) (in_append_left xs ys q x there)
 
-pub numbered_length : {X : Type 0} (base : ℕ) (xs : List X) → length (enumerate_from base xs) ≡ length xs
-numbered_length base [] = refl
-numbered_length base (x ∷ xs) = ap suc (numbered_length (base + 1) xs)
-
-pub jobs_length : (soc : SocValue) (plan : PlanValue) → length (placed_tests soc plan) ≡ length (live_tests soc)
-unfolding planned
-jobs_length soc plan = long placed_of (map (λ (l : LiveTest). planned_test plan l.place l.core l.test) (live_tests soc)) ∙ long (λ (l : LiveTest). planned_test plan l.place l.core l.test) (live_tests soc)
+-- where names differ, the next one isn't among those before it
+pub name_new : (names rest all : List TestId) (id : TestId) → AllDiffer all → all ≡ names ++ id ∷ rest → list_any (same_test id) names ≡ false
+name_new names rest all id differ is = by (list_any (same_test id) names) refl
   where
-    long : {X Y : Type 0} (f : X → Y) (xs : List X) → length (map f xs) ≡ length xs
-    long f [] = refl
-    long f (x ∷ xs) = ap suc (long f xs)
+    here : (names : List TestId) → slice_get (names ++ id ∷ rest) (length names) ≡ Some id
+    here [] = refl
+    here (n ∷ names) = here names
+
+    by : (b : Bool) → list_any (same_test id) names ≡ b → b ≡ false
+    by false e = refl
+    by true e =
+        let r = any_at (same_test id) names e in
+        let same : id ≡ r.1 = same_test_is id r.1 r.3 in
+        let there : slice_get all r.0 ≡ Some id = ap (λ l. slice_get l r.0) is ∙ in_append_left names (id ∷ rest) r.0 r.1 r.2 ∙ ap Some (sym same) in
+        let one : r.0 ≡ length names = differ r.0 (length names) id there (ap (λ l. slice_get l (length names)) is ∙ here names) in
+        absurd (omega (arith, one, slice_get_within names r.0 r.1 r.2))
+
+-- the names of one module more
+pub names_step : (names ids : List TestId) (ms : List ModuleValue) (place next : ℕ) (m : ModuleValue) → next ≡ place + 1 → slice_get ms place ≡ Some m → names ++ flat_map names_in (drop place ms) ≡ ids → (names ++ names_in m) ++ flat_map names_in (drop next ms) ≡ ids
+names_step names ids ms place next m is at before =
+    let step : suc place ≡ next = omega (arith, is) in
+    let here : drop place ms ≡ m ∷ drop next ms = drop-cons ms place m (slice_get_within ms place m at) ∙ ap (λ v. v ∷ drop (suc place) ms) (get_or_from_slice_get ms place m m at) ∙ ap (λ n. m ∷ drop n ms) step in
+    append_assoc names (names_in m) (flat_map names_in (drop next ms)) ∙ ap (λ l. names ++ flat_map names_in l) (sym here) ∙ before
+
+pub names_apart : (names ids : List TestId) (ms : List ModuleValue) (place : ℕ) (m : ModuleValue) → AllDiffer ids → slice_get ms place ≡ Some m → names ++ flat_map names_in (drop place ms) ≡ ids → AllDiffer (names ++ names_in m)
+names_apart names ids ms place m differ at before =
+    differ_front (names ++ names_in m) (flat_map names_in (drop (suc place) ms)) (rw (names_step names ids ms place (suc place) m (omega arith) at before) differ)
+
+pub names_room : (names ids : List TestId) (ms : List ModuleValue) (place : ℕ) (m : ModuleValue) → slice_get ms place ≡ Some m → names ++ flat_map names_in (drop place ms) ≡ ids → length names + length (names_in m) ≤ length ids
+names_room names ids ms place m at before =
+    let e = ap length (names_step names ids ms place (suc place) m (omega arith) at before) in
+    omega (arith, simp length-append at e)
+
+-- ---- the tests that a plan places
+
+pub module_room : (plan : PlanValue) (old all : List PlacedTest) (place : ℕ) (ms : List ModuleValue) (m : ModuleValue) → slice_get ms place ≡ Some m → old ++ map (placed_live plan) (live_from place (drop place ms)) ≡ all
+    → length old + length (placed_in plan place m m.tests) ≤ length all
+module_room plan old all place ms m at before =
+    let e = ap length (module_more plan old (old ++ placed_in plan place m m.tests) all place (place + 1) ms m refl at refl before) in
+    omega (arith, simp length-append at e)
+
+pub placed_length : (soc : SocValue) (plan : PlanValue) → length (placed_tests soc plan) ≡ length (live_tests soc)
+unfolding planned
+placed_length soc plan = length-map (map (λ (l : LiveTest). planned_test plan l.place l.core l.test) (live_tests soc)) placed_of ∙ length-map (live_tests soc) (λ (l : LiveTest). planned_test plan l.place l.core l.test)

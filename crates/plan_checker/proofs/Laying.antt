@@ -1,4 +1,4 @@
--- The jobs of a plan whose buses have passed: where their ends are noted, and that parents come first.
+-- The placed tests of a plan whose buses have passed: where their ends are noted, and that parents come first.
 use Rattle.std.proofs.Common.{◌≡◌, ℕ, zero, suc, ◌+◌, ◌≤◌, ◌<◌, Bool, true, false, Some, List, [], ◌∷◌, length, get_or, take, ap, arith, inl, inr}
 use Rattle.std.specs.Prelude.{slice_index}
 use Rattle.std.specs.List.{sum_by}
@@ -91,8 +91,8 @@ parents_first soc plan parents are i j a b at at' same =
     let is : IsParent soc.modules p.q (u.0).place = p.is (omega arith) in
     planned_in_order soc plan i j t.0 u.0 t.1 u.1 (omega (arith, is.earlier))
 
-pub layout : (soc : SocValue) (limits : LimitsValue) (plan : PlanValue) (parents : List ℕ) (jobs : List PlacedTest) (begins : List Begin) (n : ℕ) → IsSoundLimits soc limits → KeptTo soc limits plan 7 → jobs ≡ placed_tests soc plan → AreParents soc parents → length parents ≡ length soc.modules → AreBegins jobs begins → n ≡ length parents + WIRES_MOST + 1 → IsLayout parents jobs begins n
-layout soc limits plan parents jobs begins n sound kept same are long begun room = record {
+pub layout : (soc : SocValue) (limits : LimitsValue) (plan : PlanValue) (parents : List ℕ) (placed : List PlacedTest) (begins : List Begin) (n : ℕ) → IsSoundLimits soc limits → KeptTo soc limits plan 7 → placed ≡ placed_tests soc plan → AreParents soc parents → length parents ≡ length soc.modules → AreBegins placed begins → n ≡ length parents + WIRES_MOST + 1 → IsLayout parents placed begins n
+layout soc limits plan parents placed begins n sound kept same are long begun room = record {
   slots = rw same (slots_are soc limits plan parents n sound kept are long room);
   begins_are = begun;
   parents_first = rw same (parents_first soc plan parents are);

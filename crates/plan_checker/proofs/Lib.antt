@@ -4,6 +4,7 @@ pub mod Rooms
 pub mod Breaking
 pub mod Listing
 pub mod Filling
+pub mod Starting
 pub mod LeastPairs
 pub mod Lifting
 pub mod Ordering

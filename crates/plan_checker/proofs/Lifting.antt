@@ -1,4 +1,4 @@
--- From pairs of jobs to pairs of the tests that a plan places.
+-- From pairs of placed tests to pairs of the tests that a plan places.
 use Rattle.std.proofs.Common.{◌≡◌, ℕ, ◌≤◌, ◌<◌, Bool, true, false, true≢false, Some, None, List, length, map, refl, ap, ◌∙◌, sym, arith, inl, inr, ◌⊎◌, eq-eqb}
 use Rattle.std.specs.Prelude.{slice_get, slice_index}
 use Rattle.std.proofs.lemmas.Bool.{cases_lt, cases_order, eqb-true}
@@ -20,7 +20,7 @@ use Rattle.live_tests.specs.Placed.{bus_over, placed_of, placed_tests}
 use Rattle.plan_checker.specs.Clashes.{keeps_apart, same_slot, Clash, IsBefore, IsLeast, IsBest, HasParentAt, AreParents, clash_fault, rule_for}
 use Rattle.plan_checker.proofs.Rooms.{map_at, at_map}
 
--- what the code asks of two jobs is what the rule asks of the two tests
+-- what the code asks of two placed tests is what the rule asks of the two tests
 pub record Agrees (r : PlacedTest → PlacedTest → Bool) (R : PlannedTest → PlannedTest → Type 0) (tests : List PlannedTest) : Type 0 where
   pub to : (i j : ℕ) (t u : PlannedTest) → IsAt tests i t → IsAt tests j u → R t u → r (placed_of t) (placed_of u) ≡ true
   pub from : (i j : ℕ) (t u : PlannedTest) → IsAt tests i t → IsAt tests j u → r (placed_of t) (placed_of u) ≡ true → R t u
@@ -55,13 +55,13 @@ clash_up r R tests agrees i j c k =
       clash = record { first = t.1; second = u.1; order = k.order; related = agrees.from i j t.0 u.0 t.1 u.1 both.related; meet = ((both.begun, both.active), (both.begun', both.active')) };
     }
 
-within_jobs : (r : PlacedTest → PlacedTest → Bool) (jobs : List PlacedTest) (i j c : ℕ) → Clash r jobs i j c → IsBefore i j (length jobs) 0
-within_jobs r jobs i j c k = inl (slice_get_within jobs i k.a k.at)
+within_placed : (r : PlacedTest → PlacedTest → Bool) (placed : List PlacedTest) (i j c : ℕ) → Clash r placed i j c → IsBefore i j (length placed) 0
+within_placed r placed i j c k = inl (slice_get_within placed i k.a k.at)
 
 pub none_clash : (r : PlacedTest → PlacedTest → Bool) (R : PlannedTest → PlannedTest → Type 0) (tests : List PlannedTest) → Agrees r R tests → IsBest r (map placed_of tests) (length (map placed_of tests)) 0 None → NoClash R tests
 none_clash r R tests agrees best i j c t u k =
     let d : Clash r (map placed_of tests) i j c = clash_down r R tests agrees i j c t u k in
-    best i j c (within_jobs r (map placed_of tests) i j c d) d
+    best i j c (within_placed r (map placed_of tests) i j c d) d
 
 -- not before a pair, so at it or behind it
 not_before : (i j x y : ℕ) → (IsBefore x y i j → ⊥) → (i < x) ⊎ ((i ≡ x) × (j ≤ y))
@@ -86,7 +86,7 @@ least_clash r R tests agrees f best x y at at' =
       b_is = ap (λ (j : PlacedTest). j.id) (sym (up.b_is ∙ some_is there));
       least_cycle = λ i j c t u k.
           let d : Clash r (map placed_of tests) i j c = clash_down r R tests agrees i j c t u k in
-          best.least i j c (within_jobs r (map placed_of tests) i j c d) d;
+          best.least i j c (within_placed r (map placed_of tests) i j c d) d;
       least_pair = λ i j t u k. not_before f.first f.second i j (λ before. best.first i j before (clash_down r R tests agrees i j f.cycle t u k));
     }
   where

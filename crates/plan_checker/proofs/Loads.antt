@@ -1,4 +1,4 @@
--- The jobs of a plan of a sound chip: their names, and that their powers leave room for sums.
+-- The placed tests of a plan of a sound chip: their names, and that their powers leave room for sums.
 use Rattle.std.proofs.Common.{◌≡◌, ℕ, zero, suc, ◌+◌, ◌≤◌, ◌^◌, Option, None, Some, List, [], ◌∷◌, length, refl, ap, ◌∙◌, sym, arith, inl, inr}
 use Rattle.std.specs.Prelude.{slice_get}
 use Rattle.std.specs.List.{flat_map, filter, sum_by}
@@ -13,6 +13,7 @@ use Rattle.soc_model.specs.SoundChips.{IsSoundChip}
 use Rattle.soc_model.proofs.Limits.{tests-le}
 use Rattle.plan_model.specs.Plans.{ProfileValue, LimitsValue, PlanValue, PlannedTest, planned, planned_test, step_power, power_of_id}
 use Rattle.plan_model.specs.declared.TheConstants.{STEPS_MOST}
+use Rattle.plan_model.specs.Rules.{live_ids}
 use Rattle.plan_model.specs.SoundLimits.{IsSoundLimits, IsSoundProfile, Grow}
 use Rattle.plan_model.proofs.PlannedTests.{Origin, origin}
 use Rattle.live_tests.specs.declared.placed.PlacedTest.{PlacedTest}
@@ -23,15 +24,19 @@ use Rattle.plan_checker.specs.Power.{AreProfiles, IsLoad, HasSmallSteps}
 use Rattle.power_events.specs.Events.{profile_place, steps_from, steps_of}
 use Rattle.plan_checker.proofs.Finding.{some_same}
 use Rattle.power_events.proofs.Balance.{test_power}
-use Rattle.plan_checker.proofs.Filling.{jobs_length}
+use Rattle.plan_checker.proofs.Filling.{placed_length}
 use Rattle.live_tests.proofs.LiveIds.{ids_differ}
 use Rattle.live_tests.proofs.Placing.{names_placed}
 use Rattle.plan_checker.proofs.Rooms.{at_map, length_values}
 
 -- ---- names
 
-pub jobs_apart : (soc : SocValue) (plan : PlanValue) (jobs : List PlacedTest) → IsSoundChip soc → jobs ≡ placed_tests soc plan → AllDiffer (names_of jobs)
-jobs_apart soc plan jobs sound same = rw (same, names_placed soc plan) (ids_differ soc sound)
+pub placed_apart : (soc : SocValue) (plan : PlanValue) (placed : List PlacedTest) → IsSoundChip soc → placed ≡ placed_tests soc plan → AllDiffer (names_of placed)
+placed_apart soc plan placed sound same = rw (same, names_placed soc plan) (ids_differ soc sound)
+
+-- the names of the live tests are theirs
+pub placed_named : (soc : SocValue) (plan : PlanValue) (placed : List PlacedTest) (names : List TestId) → names ≡ live_ids soc → placed ≡ placed_tests soc plan → names ≡ names_of placed
+placed_named soc plan placed names are same = are ∙ sym (names_placed soc plan) ∙ ap names_of (sym same)
 
 -- ---- how many
 
@@ -69,17 +74,17 @@ live_tests_are base (m ∷ ms) =
 
 -- ---- what they draw
 
--- the live test that a job is of
-record JobOrigin (soc : SocValue) (plan : PlanValue) (i : ℕ) (j : PlacedTest) : Type 0 where
+-- the live test that a placed test is of
+record PlacedOrigin (soc : SocValue) (plan : PlanValue) (i : ℕ) (j : PlacedTest) : Type 0 where
   l : LiveTest
   at : slice_get (live_tests soc) i ≡ Some l
   id_is : j.id ≡ id_of l
   power_is : j.power ≡ l.test.power
   ends_later : j.start ≤ j.end
 
-job_origin : (soc : SocValue) (plan : PlanValue) (i : ℕ) (j : PlacedTest) → slice_get (placed_tests soc plan) i ≡ Some j → JobOrigin soc plan i j
+placed_origin : (soc : SocValue) (plan : PlanValue) (i : ℕ) (j : PlacedTest) → slice_get (placed_tests soc plan) i ≡ Some j → PlacedOrigin soc plan i j
 unfolding planned_test
-job_origin soc plan i j at =
+placed_origin soc plan i j at =
     let t = at_map placed_of (planned soc plan) i j at in
     let o : Origin soc plan i t.0 = origin soc plan i t.0 t.1 in
     record {
@@ -127,9 +132,9 @@ own_weak limits j most weak none =
     let same : power_of_id limits j.id j.power 0 ≡ j.power = test_power limits j 0 ∙ ap (step_power 0 0) steps in
     omega (arith, same)
 
-job_steps : (soc : SocValue) (limits : LimitsValue) (plan : PlanValue) (most i : ℕ) (j : PlacedTest) → IsSoundLimits soc limits → limits.power ≡ Some most → slice_get (placed_tests soc plan) i ≡ Some j → HasSmallSteps limits j
-job_steps soc limits plan most i j sound limit at =
-    let o : JobOrigin soc plan i j = job_origin soc plan i j at in
+placed_steps : (soc : SocValue) (limits : LimitsValue) (plan : PlanValue) (most i : ℕ) (j : PlacedTest) → IsSoundLimits soc limits → limits.power ≡ Some most → slice_get (placed_tests soc plan) i ≡ Some j → HasSmallSteps limits j
+placed_steps soc limits plan most i j sound limit at =
+    let o : PlacedOrigin soc plan i j = placed_origin soc plan i j at in
     let within = rw limit at (sound.within i o.l o.at 0) in
     let few = rw limit at sound.power in
     let weak : power_of_id limits j.id j.power 0 ≤ most = as_weak limits j.id (id_of o.l) j.power o.l.test.power 0 most o.id_is o.power_is within in
@@ -140,10 +145,10 @@ job_steps soc limits plan most i j sound limit at =
       small = s.small;
     }
 
-pub load_is : (soc : SocValue) (limits : LimitsValue) (plan : PlanValue) (jobs : List PlacedTest) (profiles : List ℕ) (most : ℕ) → IsSoundChip soc → IsSoundLimits soc limits → jobs ≡ placed_tests soc plan → AreProfiles limits jobs profiles → limits.power ≡ Some most → IsLoad limits jobs profiles most
-load_is soc limits plan jobs profiles most sound sound_limits same places limit = record {
+pub load_is : (soc : SocValue) (limits : LimitsValue) (plan : PlanValue) (placed : List PlacedTest) (profiles : List ℕ) (most : ℕ) → IsSoundChip soc → IsSoundLimits soc limits → placed ≡ placed_tests soc plan → AreProfiles limits placed profiles → limits.power ≡ Some most → IsLoad limits placed profiles most
+load_is soc limits plan placed profiles most sound sound_limits same places limit = record {
   places = places;
-  few = omega (arith, ap length same, jobs_length soc plan, live_tests-le soc sound);
-  steps = λ i j at. job_steps soc limits plan most i j sound_limits limit (rw same at at);
+  few = omega (arith, ap length same, placed_length soc plan, live_tests-le soc sound);
+  steps = λ i j at. placed_steps soc limits plan most i j sound_limits limit (rw same at at);
   limit = rw limit at sound_limits.power;
 }

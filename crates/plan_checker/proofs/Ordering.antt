@@ -1,4 +1,4 @@
--- Precedences and the last end, from jobs to the tests that a plan places.
+-- Precedences and the last end, from placed tests to the tests that a plan places.
 use Rattle.std.proofs.Common.{◌≡◌, ℕ, ◌≤◌, List, [], ◌∷◌, take, map, refl, ap, ◌∙◌, sym, arith}
 use Rattle.soc_model.specs.declared.TestId.{TestId}
 use Rattle.soc_model.specs.Chips.{SocValue}

@@ -1,4 +1,4 @@
--- The profiles of tests by their places, and what the jobs draw with them.
+-- The profiles of tests by their places, and what the tests draw with them.
 use Rattle.std.proofs.Common.{◌≡◌, ℕ, zero, suc, ◌+◌, ◌-◌, ◌≤◌, ◌<◌, true, false, Some, None, List, [], ◌∷◌, length, get_or, map, drop, set, refl, ap, ◌∙◌, sym, subst, arith, inl, inr, ◌⊎◌, true≢false}
 use Rattle.std.specs.Prelude.{slice_get}
 use Rattle.std.specs.List.{position_or_len}
@@ -27,38 +27,38 @@ use Rattle.plan_checker.proofs.Rooms.{map_at, same_test_is, same_test_itself, se
 
 -- the profiles from `at` on are written
 abbrev pub AreProfilesFrom : LimitsValue → List PlacedTest → ℕ → List ℕ → Type 0
-AreProfilesFrom limits jobs at places = (i : ℕ) (j : PlacedTest) → slice_get jobs i ≡ Some j → slice_get places i ≡ Some (at + position_or_len (λ (p : ProfileValue). same_test p.test j.id) (drop at limits.profiles))
+AreProfilesFrom limits placed at places = (i : ℕ) (j : PlacedTest) → slice_get placed i ≡ Some j → slice_get places i ≡ Some (at + position_or_len (λ (p : ProfileValue). same_test p.test j.id) (drop at limits.profiles))
 
 drop_item : {X : Type 0} (xs : List X) (i : ℕ) (x : X) → slice_get xs i ≡ Some x → drop i xs ≡ x ∷ drop (suc i) xs
 drop_item [] i x e = absurd cc
 drop_item (y ∷ xs) zero x e = let same : y ≡ x = cc in rw same refl
 drop_item (y ∷ xs) (suc i) x e = drop_item xs i x e
 
--- one more profile, of a test that no job has
-pub profile_of_none : (limits : LimitsValue) (jobs : List PlacedTest) (n at : ℕ) (p : ProfileValue) (places : List ℕ) → n ≡ suc at → slice_get limits.profiles at ≡ Some p → ((i : ℕ) → slice_get (names_of jobs) i ≡ Some p.test → ⊥) → AreProfilesFrom limits jobs n places → AreProfilesFrom limits jobs at places
-profile_of_none limits jobs n at p places next there none are i j job_at =
+-- one more profile, of a test that is not placed
+pub profile_of_none : (limits : LimitsValue) (placed : List PlacedTest) (n at : ℕ) (p : ProfileValue) (places : List ℕ) → n ≡ suc at → slice_get limits.profiles at ≡ Some p → ((i : ℕ) → slice_get (names_of placed) i ≡ Some p.test → ⊥) → AreProfilesFrom limits placed n places → AreProfilesFrom limits placed at places
+profile_of_none limits placed n at p places next there none are i j test_at =
     other (drop_item limits.profiles at p there) (cases_Bool (same_test p.test j.id))
   where
     other : drop at limits.profiles ≡ p ∷ drop (suc at) limits.profiles → (same_test p.test j.id ≡ true) ⊎ (same_test p.test j.id ≡ false) → slice_get places i ≡ Some (at + position_or_len (λ (p : ProfileValue). same_test p.test j.id) (drop at limits.profiles))
-    other items (inl yes') = absurd (none i (map_at (λ (j : PlacedTest). j.id) jobs i j job_at ∙ ap Some (sym (same_test_is p.test j.id yes'))))
+    other items (inl yes') = absurd (none i (map_at (λ (j : PlacedTest). j.id) placed i j test_at ∙ ap Some (sym (same_test_is p.test j.id yes'))))
     other items (inr no') =
-        let here = rw next at (are i j job_at) in
+        let here = rw next at (are i j test_at) in
         let rest = position_or_len (λ (p : ProfileValue). same_test p.test j.id) (drop (suc at) limits.profiles) in
         let n : at + (1 + rest) ≡ suc at + rest = omega arith in
         rw (items, no') (here ∙ ap Some (sym n))
 
--- one more profile, of the job at a place
-pub profile_of_job : (limits : LimitsValue) (jobs : List PlacedTest) (n at : ℕ) (p : ProfileValue) (places : List ℕ) (q : ℕ) → n ≡ suc at → AllDiffer (names_of jobs) → length places ≡ length jobs → slice_get limits.profiles at ≡ Some p → slice_get (names_of jobs) q ≡ Some p.test → AreProfilesFrom limits jobs n places → AreProfilesFrom limits jobs at (set places q at)
-profile_of_job limits jobs n at p places q next apart long there named are i j job_at =
+-- one more profile, of the test at a place
+pub profile_of_test : (limits : LimitsValue) (placed : List PlacedTest) (n at : ℕ) (p : ProfileValue) (places : List ℕ) (q : ℕ) → n ≡ suc at → AllDiffer (names_of placed) → length places ≡ length placed → slice_get limits.profiles at ≡ Some p → slice_get (names_of placed) q ≡ Some p.test → AreProfilesFrom limits placed n places → AreProfilesFrom limits placed at (set places q at)
+profile_of_test limits placed n at p places q next apart long there named are i j test_at =
     go (drop_item limits.profiles at p there) (cases_Bool (same_test p.test j.id))
   where
     go : drop at limits.profiles ≡ p ∷ drop (suc at) limits.profiles → (same_test p.test j.id ≡ true) ⊎ (same_test p.test j.id ≡ false) → slice_get (set places q at) i ≡ Some (at + position_or_len (λ (p : ProfileValue). same_test p.test j.id) (drop at limits.profiles))
     go items (inl yes') =
-        let same : i ≡ q = apart i q p.test (map_at (λ (j : PlacedTest). j.id) jobs i j job_at ∙ ap Some (sym (same_test_is p.test j.id yes'))) named in
+        let same : i ≡ q = apart i q p.test (map_at (λ (j : PlacedTest). j.id) placed i j test_at ∙ ap Some (sym (same_test_is p.test j.id yes'))) named in
         let n : at + 0 ≡ at = omega arith in
-        rw (items, yes', n, same) (set_here places q at (omega (arith, long, slice_get_within jobs i j job_at)))
+        rw (items, yes', n, same) (set_here places q at (omega (arith, long, slice_get_within placed i j test_at)))
     go items (inr no') =
-        let here = rw next at (are i j job_at) in
+        let here = rw next at (are i j test_at) in
         let rest = position_or_len (λ (p : ProfileValue). same_test p.test j.id) (drop (suc at) limits.profiles) in
         let n : at + (1 + rest) ≡ suc at + rest = omega arith in
         let else' : i ≡ q → ⊥ = λ same. apart_name same no' in
@@ -69,8 +69,8 @@ profile_of_job limits jobs n at p places q next apart long there named are i j j
 
         apart_name : i ≡ q → same_test p.test j.id ≡ false → ⊥
         apart_name same no' =
-            let name : slice_get (names_of jobs) i ≡ Some j.id = map_at (λ (j : PlacedTest). j.id) jobs i j job_at in
-            let one : p.test ≡ j.id = some_is (sym named ∙ sym (ap (slice_get (names_of jobs)) same) ∙ name) in
+            let name : slice_get (names_of placed) i ≡ Some j.id = map_at (λ (j : PlacedTest). j.id) placed i j test_at in
+            let one : p.test ≡ j.id = some_is (sym named ∙ sym (ap (slice_get (names_of placed)) same) ∙ name) in
             true≢false (sym (same_test_itself j.id) ∙ subst (λ v. same_test v j.id ≡ false) one no')
 
 drop_all : {X : Type 0} (xs : List X) (n : ℕ) → n ≡ length xs → drop n xs ≡ []
@@ -80,17 +80,17 @@ drop_all (x ∷ xs) zero e = absurd (omega arith)
 drop_all (x ∷ xs) (suc n) e = drop_all xs n (omega arith)
 
 -- none is written yet
-pub no_profile_yet : (limits : LimitsValue) (jobs : List PlacedTest) (places : List ℕ) (n m : ℕ) → n ≡ length limits.profiles → m ≡ length jobs → ((i : ℕ) → i < m → slice_get places i ≡ Some n) → AreProfilesFrom limits jobs n places
-no_profile_yet limits jobs places n m all long are i j job_at =
+pub no_profile_yet : (limits : LimitsValue) (placed : List PlacedTest) (places : List ℕ) (n m : ℕ) → n ≡ length limits.profiles → m ≡ length placed → ((i : ℕ) → i < m → slice_get places i ≡ Some n) → AreProfilesFrom limits placed n places
+no_profile_yet limits placed places n m all long are i j test_at =
     let e : n + 0 ≡ n = omega arith in
-    rw (drop_all limits.profiles n all, e) (are i (omega (arith, long, slice_get_within jobs i j job_at)))
+    rw (drop_all limits.profiles n all, e) (are i (omega (arith, long, slice_get_within placed i j test_at)))
 
-pub all_profiles : (limits : LimitsValue) (jobs : List PlacedTest) (places : List ℕ) (n : ℕ) → n ≡ 0 → AreProfilesFrom limits jobs n places → AreProfiles limits jobs places
-all_profiles limits jobs places n none are i j at =
+pub all_profiles : (limits : LimitsValue) (placed : List PlacedTest) (places : List ℕ) (n : ℕ) → n ≡ 0 → AreProfilesFrom limits placed n places → AreProfiles limits placed places
+all_profiles limits placed places n none are i j at =
     let e : 0 + profile_place limits j.id ≡ profile_place limits j.id = omega arith in
     rw none at (are i j at) ∙ ap Some e
 
--- ---- what the jobs draw is what the planned tests draw
+-- ---- what the tests draw is what the planned tests draw
 
 pub power_is : (limits : LimitsValue) (tests : List PlannedTest) (c : ℕ) → drawn_by limits (map placed_of tests) c ≡ power_at limits tests c
 power_is limits tests c = sum_by-map (drawn limits c) placed_of tests ∙ sym (sum_by-filter (is_active c) (λ t. power_of limits t (c - t.start)) tests)
@@ -106,7 +106,7 @@ past_none [] n h = refl
 past_none (x ∷ xs) zero h = absurd (omega arith)
 past_none (x ∷ xs) (suc n) h = past_none xs n (omega arith)
 
--- the steps of a job whose profile stands at a place, and of one without a profile
+-- the steps of a test whose profile stands at a place, and of one without a profile
 pub steps_read : (limits : LimitsValue) (j : PlacedTest) (k : ℕ) (p : ProfileValue) → k ≡ profile_place limits j.id → slice_get limits.profiles k ≡ Some p → steps_of limits j ≡ p.steps
 steps_read limits j k p place at = let at' = rw place at at in ap (λ o. steps_from o j.power) at'
 

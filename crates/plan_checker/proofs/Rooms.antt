@@ -16,21 +16,6 @@ pub on_ok : {T E : Type 0} (r : Result T E) (P : Type 0) → IsOk r → OnOk r P
 on_ok (Ok x) P is p = p
 on_ok (Err e) P is p = absurd (true≢false (sym is))
 
--- whether a key is in a map
-pub some_any : {K V : Type 0} (test : K → Bool) (es : List (K × V)) → is_some (lookup test es) ≡ list_any (λ (e : K × V). test e.0) es
-some_any test [] = refl
-some_any test (e ∷ es) = elim (cases_Bool (test e.0)) [
-  | inl yes' ↦ rw yes' refl
-  | inr no' ↦ rw no' (some_any test es)
-]
-
-pub none_absent : {K V : Type 0} (test : K → Bool) (es : List (K × V)) → list_any (λ (e : K × V). test e.0) es ≡ false → lookup test es ≡ None
-none_absent test [] h = refl
-none_absent test (e ∷ es) h = elim (cases_Bool (test e.0)) [
-  | inl yes' ↦ let h' = rw yes' at h in absurd (true≢false h')
-  | inr no' ↦ let h' = rw no' at h in rw no' (none_absent test es h')
-]
-
 pub same_test_is : (a b : TestId) → same_test a b ≡ true → a ≡ b
 same_test_is a b h =
     let p = and_parts (eqb a.«module» b.«module») (eqb a.test b.test) h in
@@ -63,18 +48,6 @@ pub at_map : {X Y : Type 0} (f : X → Y) (xs : List X) (i : ℕ) (y : Y) → sl
 at_map f [] i y e = absurd cc
 at_map f (x ∷ xs) zero y e = (x, refl, cc)
 at_map f (x ∷ xs) (suc i) y e = at_map f xs i y e
-
-pub started : (id : TestId) (starts : List (TestId × ℕ)) → list_any (λ (s : TestId × ℕ). same_test id s.0) starts ≡ true → Contains (map (λ (e : TestId × ℕ). e.0) starts) id
-started id starts h =
-    let r = any_item (λ (s : TestId × ℕ). same_test id s.0) starts h in
-    let same : id ≡ (r.1).0 = same_test_is id (r.1).0 r.3 in
-    contains_from (map (λ (e : TestId × ℕ). e.0) starts) id r.0 (map_at (λ (e : TestId × ℕ). e.0) starts r.0 r.1 r.2 ∙ ap Some (sym same))
-
-pub not_started : (id : TestId) (starts : List (TestId × ℕ)) → list_any (λ (s : TestId × ℕ). same_test id s.0) starts ≡ false → Contains (map (λ (e : TestId × ℕ). e.0) starts) id → ⊥
-not_started id starts no' c =
-    let k = contains_at (map (λ (e : TestId × ℕ). e.0) starts) id c in
-    let s = at_map (λ (e : TestId × ℕ). e.0) starts k.0 id k.1 in
-    absurd (true≢false (sym (any_from (λ (s : TestId × ℕ). same_test id s.0) starts k.0 s.0 s.1 (rw s.2 (same_test_itself id))) ∙ no'))
 
 -- ---- place for one more
 

@@ -140,15 +140,15 @@ all_summed events most i begun ended all summed = λ d. summed.kept d (λ e at. 
 
 -- ---- from the events to what is drawn
 
-pub over_from_high : (limits : LimitsValue) (jobs : List PlacedTest) (events : List Event) (most : ℕ) → ((i : ℕ) (j : PlacedTest) → slice_get jobs i ≡ Some j → HasSmallSteps limits j) → IsPermutation (all_events limits jobs) events → (o : Option Excess) → IsFirstHigh events most o → IsFirstOver (drawn_by limits jobs) most o
-over_from_high limits jobs events most has moved None low = λ d. omega (arith, low d, level d) where
-  level : (d : ℕ) → drawn_by limits jobs d + ended_by events d ≡ begun_by events d
-  level d = omega (arith, balance limits d jobs (λ i j at. (has i j at).steps), sum_by-IsPermutation (upto d (λ (e : Event). e.begins)) (all_events limits jobs) events moved, sum_by-IsPermutation (upto d (λ (e : Event). e.ends)) (all_events limits jobs) events moved)
-over_from_high limits jobs events most has moved (Some x) high = record {
+pub over_from_high : (limits : LimitsValue) (placed : List PlacedTest) (events : List Event) (most : ℕ) → ((i : ℕ) (j : PlacedTest) → slice_get placed i ≡ Some j → HasSmallSteps limits j) → IsPermutation (all_events limits placed) events → (o : Option Excess) → IsFirstHigh events most o → IsFirstOver (drawn_by limits placed) most o
+over_from_high limits placed events most has moved None low = λ d. omega (arith, low d, level d) where
+  level : (d : ℕ) → drawn_by limits placed d + ended_by events d ≡ begun_by events d
+  level d = omega (arith, balance limits d placed (λ i j at. (has i j at).steps), sum_by-IsPermutation (upto d (λ (e : Event). e.begins)) (all_events limits placed) events moved, sum_by-IsPermutation (upto d (λ (e : Event). e.ends)) (all_events limits placed) events moved)
+over_from_high limits placed events most has moved (Some x) high = record {
   more = omega (arith, high.more, level x.cycle);
   sum_is = omega (arith, high.sum_is, level x.cycle);
   earlier = λ d before. omega (arith, high.earlier d before, level d);
 }
   where
-    level : (d : ℕ) → drawn_by limits jobs d + ended_by events d ≡ begun_by events d
-    level d = omega (arith, balance limits d jobs (λ i j at. (has i j at).steps), sum_by-IsPermutation (upto d (λ (e : Event). e.begins)) (all_events limits jobs) events moved, sum_by-IsPermutation (upto d (λ (e : Event). e.ends)) (all_events limits jobs) events moved)
+    level : (d : ℕ) → drawn_by limits placed d + ended_by events d ≡ begun_by events d
+    level d = omega (arith, balance limits d placed (λ i j at. (has i j at).steps), sum_by-IsPermutation (upto d (λ (e : Event). e.begins)) (all_events limits placed) events moved, sum_by-IsPermutation (upto d (λ (e : Event). e.ends)) (all_events limits placed) events moved)

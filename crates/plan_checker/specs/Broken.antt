@@ -17,13 +17,6 @@ pub record Breaks {X : Type 0} (Q : X → Type 0) (xs : List X) (x : X) : Type 0
   pub kept : EachOf Q before
   pub broken : Q x → ⊥
 
--- a key of a map
+-- one of the pairs has this key
 abbrev pub IsKey : {K V : Type 0} → List (K × V) → K → Type 0
 IsKey {K} {V} entries key = Contains (map (λ (e : K × V). e.0) entries) key
-
--- the live tests of a module, by its number
-abbrev pub id_if_live : ℕ → Test → List TestId
-id_if_live number t = if is_live t then record { «module» = number; test = t.number } ∷ [] else []
-
-abbrev pub ids_in : ℕ → List Test → List TestId
-ids_in number tests = flat_map (id_if_live number) tests

@@ -1,4 +1,4 @@
--- Pairs of jobs that may not meet and do.
+-- Pairs of placed tests that may not meet and do.
 use Rattle.std.specs.Prelude.{◌≡◌, ℕ, ◌<◌, ◌≤◌, ◌⊎◌, Bool, true, false, Option, Some, None, List, length, slice_get, slice_index, nat_eq}
 use Rattle.soc_model.specs.Chips.{SocValue, IsParent}
 use Rattle.soc_model.specs.declared.TestId.{TestId}
@@ -30,11 +30,11 @@ pub record BothAt (r : PlacedTest → PlacedTest → Bool) (a b : PlacedTest) (c
   pub active : c < a.end
   pub active' : c < b.end
 
-pub record Clash (r : PlacedTest → PlacedTest → Bool) (jobs : List PlacedTest) (i j c : ℕ) : Type 0 where
+pub record Clash (r : PlacedTest → PlacedTest → Bool) (placed : List PlacedTest) (i j c : ℕ) : Type 0 where
   pub a : PlacedTest
   pub b : PlacedTest
-  pub at : slice_get jobs i ≡ Some a
-  pub at' : slice_get jobs j ≡ Some b
+  pub at : slice_get placed i ≡ Some a
+  pub at' : slice_get placed j ≡ Some b
   pub order : i < j
   pub both : BothAt r a b c
 
@@ -43,42 +43,42 @@ abbrev pub IsBefore : (i j i' j' : ℕ) → Type 0
 IsBefore i j i' j' = (i < i') ⊎ ((i ≡ i') × (j < j'))
 
 -- the least cycle, and the least pair there, of the pairs that stand before `i`, `j`
-pub record IsLeast (r : PlacedTest → PlacedTest → Bool) (jobs : List PlacedTest) (i j : ℕ) (f : Found) : Type 0 where
-  pub clash : Clash r jobs f.first f.second f.cycle
-  pub least : (x y c : ℕ) → IsBefore x y i j → Clash r jobs x y c → f.cycle ≤ c
-  pub first : (x y : ℕ) → IsBefore x y f.first f.second → Clash r jobs x y f.cycle → ⊥
+pub record IsLeast (r : PlacedTest → PlacedTest → Bool) (placed : List PlacedTest) (i j : ℕ) (f : Found) : Type 0 where
+  pub clash : Clash r placed f.first f.second f.cycle
+  pub least : (x y c : ℕ) → IsBefore x y i j → Clash r placed x y c → f.cycle ≤ c
+  pub first : (x y : ℕ) → IsBefore x y f.first f.second → Clash r placed x y f.cycle → ⊥
 
 abbrev pub IsBest : (PlacedTest → PlacedTest → Bool) → List PlacedTest → ℕ → ℕ → Option Found → Type 0
-IsBest r jobs i j None = (x y c : ℕ) → IsBefore x y i j → Clash r jobs x y c → ⊥
-IsBest r jobs i j (Some f) = IsLeast r jobs i j f
+IsBest r placed i j None = (x y c : ℕ) → IsBefore x y i j → Clash r placed x y c → ⊥
+IsBest r placed i j (Some f) = IsLeast r placed i j f
 
 -- ---- the pairs at one cycle
 
 -- no test behind the one at a place meets it at the cycle
 abbrev pub HasNoPartner : (PlacedTest → PlacedTest → Bool) → List PlacedTest → (i c : ℕ) → Type 0
-HasNoPartner r jobs i c = (j : ℕ) → Clash r jobs i j c → ⊥
+HasNoPartner r placed i c = (j : ℕ) → Clash r placed i j c → ⊥
 
 -- the first test that does
-pub record IsFirstPartner (r : PlacedTest → PlacedTest → Bool) (jobs : List PlacedTest) (i c j : ℕ) : Type 0 where
-  pub clash : Clash r jobs i j c
-  pub first : (k : ℕ) → k < j → Clash r jobs i k c → ⊥
+pub record IsFirstPartner (r : PlacedTest → PlacedTest → Bool) (placed : List PlacedTest) (i c j : ℕ) : Type 0 where
+  pub clash : Clash r placed i j c
+  pub first : (k : ℕ) → k < j → Clash r placed i k c → ⊥
 
 -- the first pair at the cycle
-pub record IsFirstPair (r : PlacedTest → PlacedTest → Bool) (jobs : List PlacedTest) (c : ℕ) (f : Found) : Type 0 where
+pub record IsFirstPair (r : PlacedTest → PlacedTest → Bool) (placed : List PlacedTest) (c : ℕ) (f : Found) : Type 0 where
   pub cycle_is : f.cycle ≡ c
-  pub clash : Clash r jobs f.first f.second c
-  pub first : (x y : ℕ) → IsBefore x y f.first f.second → Clash r jobs x y c → ⊥
+  pub clash : Clash r placed f.first f.second c
+  pub first : (x y : ℕ) → IsBefore x y f.first f.second → Clash r placed x y c → ⊥
 
 -- the least cycle of a clash
-pub record IsLeastCycle (r : PlacedTest → PlacedTest → Bool) (jobs : List PlacedTest) (c : ℕ) : Type 0 where
+pub record IsLeastCycle (r : PlacedTest → PlacedTest → Bool) (placed : List PlacedTest) (c : ℕ) : Type 0 where
   pub i : ℕ
   pub j : ℕ
-  pub clash : Clash r jobs i j c
-  pub least : (x y d : ℕ) → Clash r jobs x y d → c ≤ d
+  pub clash : Clash r placed i j c
+  pub least : (x y d : ℕ) → Clash r placed x y d → c ≤ d
 
 abbrev pub IsFirstCycle : (PlacedTest → PlacedTest → Bool) → List PlacedTest → Option ℕ → Type 0
-IsFirstCycle r jobs None = (x y c : ℕ) → Clash r jobs x y c → ⊥
-IsFirstCycle r jobs (Some c) = IsLeastCycle r jobs c
+IsFirstCycle r placed None = (x y c : ℕ) → Clash r placed x y c → ⊥
+IsFirstCycle r placed (Some c) = IsLeastCycle r placed c
 
 -- for each module the place of its parent; where it has none, a number that is no place
 pub record HasParentAt (soc : SocValue) (parents : List ℕ) (p : ℕ) : Type 0 where
@@ -98,10 +98,10 @@ rule_for apart.ParentAndChild = Parents
 
 -- a test of a parent stands before each test of the child
 abbrev pub ParentsFirst : List ℕ → List PlacedTest → Type 0
-ParentsFirst parents jobs = (i j : ℕ) (a b : PlacedTest) → slice_get jobs i ≡ Some a → slice_get jobs j ≡ Some b → a.place ≡ slice_index parents b.place → i < j
+ParentsFirst parents placed = (i j : ℕ) (a b : PlacedTest) → slice_get placed i ≡ Some a → slice_get placed j ≡ Some b → a.place ≡ slice_index parents b.place → i < j
 
 abbrev pub PlacesWithin : ℕ → List PlacedTest → Type 0
-PlacesWithin n jobs = (i : ℕ) (j : PlacedTest) → slice_get jobs i ≡ Some j → j.place < n
+PlacesWithin n placed = (i : ℕ) (j : PlacedTest) → slice_get placed i ≡ Some j → j.place < n
 
 abbrev pub clash_fault : Apart → TestId → TestId → ℕ → PlanFault
 clash_fault apart.OneBus a b c = fault.Wire a b c

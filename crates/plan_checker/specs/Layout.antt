@@ -5,8 +5,8 @@ use Rattle.plan_checker.specs.declared.meetings.Begin.{Begin}
 use Rattle.plan_checker.specs.Clashes.{ParentsFirst}
 use Rattle.plan_checker.specs.Meetings.{AreSlots, AreBegins}
 
--- the jobs are found among `n` ends, begin as listed, and parents come first
-pub record IsLayout (parents : List ℕ) (jobs : List PlacedTest) (begins : List Begin) (n : ℕ) : Type 0 where
-  pub slots : AreSlots parents jobs n
-  pub begins_are : AreBegins jobs begins
-  pub parents_first : ParentsFirst parents jobs
+-- placed tests are found among `n` ends, begin as listed, and parents come first
+pub record IsLayout (parents : List ℕ) (placed : List PlacedTest) (begins : List Begin) (n : ℕ) : Type 0 where
+  pub slots : AreSlots parents placed n
+  pub begins_are : AreBegins placed begins
+  pub parents_first : ParentsFirst parents placed

@@ -5,7 +5,7 @@ use Rattle.plan_checker.specs.declared.check.PlacedRooms.{PlacedRooms}
 -- the lists are as long as before
 pub record AreAsLong (old new : PlacedRooms) : Type 0 where
   pub parents : length new.parents.items ≡ length old.parents.items
-  pub jobs : length new.jobs.items ≡ length old.jobs.items
+  pub tests : length new.tests.items ≡ length old.tests.items
   pub begins : length new.begins.items ≡ length old.begins.items
   pub ends : length new.ends.items ≡ length old.ends.items
   pub profiles : length new.profiles.items ≡ length old.profiles.items

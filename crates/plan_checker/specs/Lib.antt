@@ -2,6 +2,7 @@ pub mod FaultValues
 pub mod Broken
 pub mod Stages
 pub mod Listed
+pub mod Starting
 pub mod Placing
 pub mod Clashes
 pub mod Meetings

@@ -25,29 +25,29 @@ pub record HasSlots (parents : List ℕ) (n : ℕ) (j : PlacedTest) : Type 0 whe
   pub parent_in : slice_index parents j.place < n
 
 abbrev pub AreSlots : List ℕ → List PlacedTest → ℕ → Type 0
-AreSlots parents jobs n = (i : ℕ) (j : PlacedTest) → slice_get jobs i ≡ Some j → HasSlots parents n j
+AreSlots parents placed n = (i : ℕ) (j : PlacedTest) → slice_get placed i ≡ Some j → HasSlots parents n j
 
 -- ---- begins
 
 abbrev pub begin_of : ℕ → PlacedTest → Begin
 begin_of place j = record { start = j.start; place = place }
 
--- the begin of each job, in the order of the jobs
-pub record AreWritten (jobs : List PlacedTest) (begins : List Begin) : Type 0 where
-  pub long : length begins ≡ length jobs
-  pub at : (i : ℕ) (j : PlacedTest) → slice_get jobs i ≡ Some j → slice_get begins i ≡ Some (begin_of i j)
+-- the begin of each test, in the order of the tests
+pub record AreWritten (placed : List PlacedTest) (begins : List Begin) : Type 0 where
+  pub long : length begins ≡ length placed
+  pub at : (i : ℕ) (j : PlacedTest) → slice_get placed i ≡ Some j → slice_get begins i ≡ Some (begin_of i j)
 
--- the job that a begin is of
-pub record BeginsJob (jobs : List PlacedTest) (b : Begin) : Type 0 where
+-- the test that a begin is of
+pub record BeginsTest (placed : List PlacedTest) (b : Begin) : Type 0 where
   pub j : PlacedTest
-  pub at : slice_get jobs b.place ≡ Some j
+  pub at : slice_get placed b.place ≡ Some j
   pub start_is : b.start ≡ j.start
 
--- the begins of all jobs, each once, by their starts
-pub record AreBegins (jobs : List PlacedTest) (begins : List Begin) : Type 0 where
+-- the begins of all placed tests, each once, by their starts
+pub record AreBegins (placed : List PlacedTest) (begins : List Begin) : Type 0 where
   pub sorted : IsNonDecreasingBy (λ (b : Begin). b.start) begins
-  pub of : (p : ℕ) (b : Begin) → slice_get begins p ≡ Some b → BeginsJob jobs b
-  pub all : (i : ℕ) (j : PlacedTest) → slice_get jobs i ≡ Some j → (p : ℕ) × (b : Begin) × (slice_get begins p ≡ Some b) × (b.place ≡ i)
+  pub of : (p : ℕ) (b : Begin) → slice_get begins p ≡ Some b → BeginsTest placed b
+  pub all : (i : ℕ) (j : PlacedTest) → slice_get placed i ≡ Some j → (p : ℕ) × (b : Begin) × (slice_get begins p ≡ Some b) × (b.place ≡ i)
   pub once : (p q : ℕ) (a b : Begin) → slice_get begins p ≡ Some a → slice_get begins q ≡ Some b → a.place ≡ b.place → p ≡ q
 
 -- ---- ends
@@ -66,28 +66,28 @@ is_early j noted = nat_lt j.start j.end && nat_lt j.start noted
 -- ---- meetings
 
 -- two related tests that are active at a cycle, the first one before the other in the order of starts
-pub record Meeting (r : PlacedTest → PlacedTest → Bool) (jobs : List PlacedTest) (begins : List Begin) (p q c : ℕ) : Type 0 where
+pub record Meeting (r : PlacedTest → PlacedTest → Bool) (placed : List PlacedTest) (begins : List Begin) (p q c : ℕ) : Type 0 where
   pub a : Begin
   pub b : Begin
   pub x : PlacedTest
   pub y : PlacedTest
   pub at : slice_get begins p ≡ Some a
   pub at' : slice_get begins q ≡ Some b
-  pub job : slice_get jobs a.place ≡ Some x
-  pub job' : slice_get jobs b.place ≡ Some y
+  pub test : slice_get placed a.place ≡ Some x
+  pub test' : slice_get placed b.place ≡ Some y
   pub order : p < q
   pub both : BothAt r x y c
 
 -- the least cycle of a meeting
-pub record IsLeastMeeting (r : PlacedTest → PlacedTest → Bool) (jobs : List PlacedTest) (begins : List Begin) (c : ℕ) : Type 0 where
+pub record IsLeastMeeting (r : PlacedTest → PlacedTest → Bool) (placed : List PlacedTest) (begins : List Begin) (c : ℕ) : Type 0 where
   pub p : ℕ
   pub q : ℕ
-  pub meeting : Meeting r jobs begins p q c
-  pub least : (p q d : ℕ) → Meeting r jobs begins p q d → c ≤ d
+  pub meeting : Meeting r placed begins p q c
+  pub least : (p q d : ℕ) → Meeting r placed begins p q d → c ≤ d
 
 abbrev pub IsFirstMeeting : (PlacedTest → PlacedTest → Bool) → List PlacedTest → List Begin → Option ℕ → Type 0
-IsFirstMeeting r jobs begins None = (p q c : ℕ) → Meeting r jobs begins p q c → ⊥
-IsFirstMeeting r jobs begins (Some c) = IsLeastMeeting r jobs begins c
+IsFirstMeeting r placed begins None = (p q c : ℕ) → Meeting r placed begins p q c → ⊥
+IsFirstMeeting r placed begins (Some c) = IsLeastMeeting r placed begins c
 
 abbrev pub earlier_of : Option ℕ → Option ℕ → Option ℕ
 earlier_of None b = b

@@ -1,4 +1,4 @@
--- Precedences and the end, over jobs.
+-- Precedences and the end, over placed tests.
 use Rattle.std.specs.Prelude.{◌≡◌, ℕ, ◌≤◌, Some, List, map, slice_get}
 use Rattle.soc_model.specs.declared.TestId.{TestId}
 use Rattle.plan_model.specs.Plans.{greatest}
@@ -6,7 +6,7 @@ use Rattle.live_tests.specs.declared.placed.PlacedTest.{PlacedTest}
 
 -- the first has ended as the second starts
 abbrev pub AreInOrder : List PlacedTest → List (TestId × TestId) → TestId × TestId → Type 0
-AreInOrder jobs earlier p = (i j : ℕ) (a b : PlacedTest) → slice_get jobs i ≡ Some a → slice_get jobs j ≡ Some b → a.id ≡ p.0 → b.id ≡ p.1 → a.end ≤ b.start
+AreInOrder placed earlier p = (i j : ℕ) (a b : PlacedTest) → slice_get placed i ≡ Some a → slice_get placed j ≡ Some b → a.id ≡ p.0 → b.id ≡ p.1 → a.end ≤ b.start
 
 abbrev pub last_end : List PlacedTest → ℕ
-last_end jobs = greatest (map (λ (j : PlacedTest). j.end) jobs)
+last_end placed = greatest (map (λ (j : PlacedTest). j.end) placed)

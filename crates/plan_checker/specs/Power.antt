@@ -7,9 +7,9 @@ use Rattle.live_tests.specs.declared.placed.PlacedTest.{PlacedTest}
 use Rattle.power_events.specs.Events.{profile_place, steps_of, HasSteps}
 use Rattle.plan_checker.specs.declared.power.Load.{Load}
 
--- for each job the place of its profile
+-- for each test the place of its profile
 abbrev pub AreProfiles : LimitsValue → List PlacedTest → List ℕ → Type 0
-AreProfiles limits jobs places = (i : ℕ) (j : PlacedTest) → slice_get jobs i ≡ Some j → slice_get places i ≡ Some (profile_place limits j.id)
+AreProfiles limits placed places = (i : ℕ) (j : PlacedTest) → slice_get placed i ≡ Some j → slice_get places i ≡ Some (profile_place limits j.id)
 
 -- few steps with growing begins, and powers that leave room for sums
 pub record HasSmallSteps (limits : LimitsValue) (j : PlacedTest) : Type 0 where
@@ -17,13 +17,13 @@ pub record HasSmallSteps (limits : LimitsValue) (j : PlacedTest) : Type 0 where
   pub few : length (steps_of limits j) ≤ STEPS_MOST
   pub small : (n : ℕ) (s : ℕ × ℕ) → slice_get (steps_of limits j) n ≡ Some s → s.1 ≤ 10 ^ 9
 
--- The jobs with the places of their profiles: few, with steps of power, and a limit that leaves room for sums.
-pub record IsLoad (limits : LimitsValue) (jobs : List PlacedTest) (profiles : List ℕ) (most : ℕ) : Type 0 where
-  pub places : AreProfiles limits jobs profiles
-  pub few : length jobs ≤ 4096
-  pub steps : (i : ℕ) (j : PlacedTest) → slice_get jobs i ≡ Some j → HasSmallSteps limits j
+-- Placed tests with the places of their profiles: few, with steps of power, and a limit that leaves room for sums.
+pub record IsLoad (limits : LimitsValue) (placed : List PlacedTest) (profiles : List ℕ) (most : ℕ) : Type 0 where
+  pub places : AreProfiles limits placed profiles
+  pub few : length placed ≤ 4096
+  pub steps : (i : ℕ) (j : PlacedTest) → slice_get placed i ≡ Some j → HasSmallSteps limits j
   pub limit : most ≤ 10 ^ 9
 
 -- the same of the load that the code has
 abbrev pub IsSoundLoad : Load → Type 0
-IsSoundLoad load = IsLoad (limits_value load.limits.now) load.jobs.now load.profiles.now load.most
+IsSoundLoad load = IsLoad (limits_value load.limits.now) load.placed.now load.profiles.now load.most

@@ -12,7 +12,6 @@ ghost use Rattle.plan_model.specs.Right.{IsRight};
 ghost use Rattle.plan_model.specs.Rules.{IsBound};
 ghost use Rattle.plan_model.specs.Runs.{Content};
 ghost use Rattle.plan_model.specs.SoundLimits.{IsSoundLimits};
-ghost use Rattle.indexmap.specs.IndexMap.{index_map_len, spare as spare_places};
 ghost use Rattle.indexmap.specs.IndexSet.{keys, spare};
 ghost use Rattle.plan_checker.specs.FaultValues.{fault_value};
 ghost use Rattle.plan_checker.specs.Room.{HasRoom};
@@ -22,9 +21,10 @@ use crate::events::EVENTS_EACH;
 use crate::lookups::module_count;
 use crate::meetings::{Begin, NO_BEGIN};
 use crate::placed::NO_TEST;
+use crate::starts::NO_START;
 use crate::verdict::check_rules;
 use bound_certificate::{BoundScratch, check_bound};
-use indexmap::{IndexMap, IndexSet};
+use indexmap::IndexSet;
 use live_tests::PlacedTest;
 use outside::NoMemory;
 use plan_model::{Limits, Plan, WIRES_MOST, faults_are_exact, good_plans_run_right};
@@ -41,8 +41,10 @@ pub(crate) struct Rooms {
     pub(crate) marks: Vec<usize>,
     /// The pairs of a module and a mode that have a wrapper, in the order of the plan.
     pub(crate) wrappers: IndexSet<(u64, bool)>,
-    /// The start of each test, in the order of the plan.
-    pub(crate) starts: IndexMap<TestId, u64>,
+    /// The names of the live tests, in the order of the chip.
+    pub(crate) names: IndexSet<TestId>,
+    /// The start of each live test, in the same order.
+    pub(crate) starts: Vec<u64>,
     /// What the placed tests fill.
     pub(crate) placed: PlacedRooms,
 }
@@ -53,16 +55,14 @@ pub(crate) struct PlacedRooms {
     /// For each module the place of its parent.
     pub(crate) parents: Vec<usize>,
     /// The live tests as the plan places them, in the order of the chip.
-    pub(crate) jobs: Vec<PlacedTest>,
+    pub(crate) tests: Vec<PlacedTest>,
     /// Where they begin, by their starts.
     pub(crate) begins: Vec<Begin>,
     /// The latest ends of the tests that a pass over the begins has seen, for each bus or each module.
     pub(crate) ends: Vec<u64>,
-    /// The names of the jobs' tests, in the same order.
-    pub(crate) names: IndexSet<TestId>,
-    /// For each job the place of its test's profile in the limits.
+    /// For each test the place of its profile in the limits.
     pub(crate) profiles: Vec<usize>,
-    /// What the jobs begin and end to draw, by cycles.
+    /// What the tests begin and end to draw, by cycles.
     pub(crate) events: Vec<Event>,
 }
 
@@ -80,7 +80,6 @@ impl Model for Scratch {
     ghost use Rattle.std.specs.Prelude.{◌≡◌, ◌+◌, ◌*◌, ◌≤◌, length, vec_capacity};
     ghost use Rattle.plan_checker.specs.declared.events.TheConstants.{EVENTS_EACH};
     ghost use Rattle.plan_model.specs.declared.TheConstants.{WIRES_MOST};
-    ghost use Rattle.indexmap.specs.IndexMap.{index_map_len, spare as spare_places};
     ghost use Rattle.indexmap.specs.IndexSet.{keys, spare};
     ghost use Rattle.plan_checker.specs.Room.{RoomValue};
 
@@ -89,13 +88,13 @@ impl Model for Scratch {
     ghost view = { λ s. record {
       modules = length s.rooms.marks.items;
       pairs = length (keys s.rooms.wrappers) + spare s.rooms.wrappers;
-      tests = length s.rooms.placed.jobs.items;
+      tests = length s.rooms.placed.tests.items;
     } };
 
-    ghost invariant = { λ s. (length s.rooms.placed.parents.items ≡ length s.rooms.marks.items) × (length s.rooms.placed.profiles.items ≡ length s.rooms.placed.jobs.items)
-        × (length s.rooms.placed.begins.items ≡ length s.rooms.placed.jobs.items) × (length s.rooms.placed.ends.items ≡ length s.rooms.marks.items + WIRES_MOST + 1)
-        × (length s.rooms.placed.jobs.items * EVENTS_EACH ≤ vec_capacity s.rooms.placed.events)
-        × (length s.rooms.placed.jobs.items ≤ index_map_len s.rooms.starts + spare_places s.rooms.starts) × (length s.rooms.placed.jobs.items ≤ length (keys s.rooms.placed.names) + spare s.rooms.placed.names) };
+    ghost invariant = { λ s. (length s.rooms.placed.parents.items ≡ length s.rooms.marks.items) × (length s.rooms.placed.profiles.items ≡ length s.rooms.placed.tests.items)
+        × (length s.rooms.placed.begins.items ≡ length s.rooms.placed.tests.items) × (length s.rooms.placed.ends.items ≡ length s.rooms.marks.items + WIRES_MOST + 1)
+        × (length s.rooms.placed.tests.items * EVENTS_EACH ≤ vec_capacity s.rooms.placed.events)
+        × (length s.rooms.starts.items ≡ length s.rooms.placed.tests.items) × (length s.rooms.placed.tests.items ≤ length (keys s.rooms.names) + spare s.rooms.names) };
 }
 
 /// The number of live tests of a list.
@@ -143,16 +142,6 @@ fn name_room(alloc: Global, count: usize) -> Result<IndexSet<TestId>, NoMemory>
     }
 }
 
-/// Room for so many starts.
-fn start_room(alloc: Global, count: usize) -> Result<IndexMap<TestId, u64>, NoMemory>
-    ensures { IfOk result (λ room. count ≤ index_map_len room + spare_places room) }
-{
-    match IndexMap::with_capacity(alloc, count) {
-        Ok(room) => Ok(room),
-        Err(_) => Err(NoMemory),
-    }
-}
-
 /// Room for so many events.
 fn event_room(alloc: Global, count: usize) -> Result<Vec<Event>, NoMemory>
     ensures { IfOk result (λ room. count ≤ vec_capacity room) }
@@ -179,17 +168,17 @@ impl Scratch {
         };
         let placed = PlacedRooms {
             parents: filled_room(alloc, 0, modules)?,
-            jobs: filled_room(alloc, NO_TEST, tests)?,
+            tests: filled_room(alloc, NO_TEST, tests)?,
             begins: filled_room(alloc, NO_BEGIN, tests)?,
             ends: filled_room(alloc, 0, slots)?,
-            names: name_room(alloc, tests)?,
             profiles: filled_room(alloc, 0, tests)?,
             events: event_room(alloc, all_events)?,
         };
         let rooms = Rooms {
             marks: filled_room(alloc, 0, modules)?,
             wrappers: pair_room(alloc, pairs)?,
-            starts: start_room(alloc, tests)?,
+            names: name_room(alloc, tests)?,
+            starts: filled_room(alloc, NO_START, tests)?,
             placed,
         };
         Ok(Scratch { rooms, bound })

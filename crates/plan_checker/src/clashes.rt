@@ -22,7 +22,7 @@ pub enum Apart {
     ParentAndChild,
 }
 
-/// Two places in the list of jobs and a cycle.
+/// Two places in the list of placed tests and a cycle.
 #[derive(Clone, Copy, Drop)]
 pub struct Found {
     pub first: usize,
@@ -63,11 +63,11 @@ fn are_apart(parents: &[usize], apart: Apart, a: &PlacedTest, b: &PlacedTest) ->
     }
 }
 
-/// Whether the job is active at the cycle.
-fn is_active(job: &PlacedTest, cycle: u64) -> bool
-    ensures { result ≡ is_active cycle job.now }
+/// Whether the test is active at the cycle.
+fn is_active(test: &PlacedTest, cycle: u64) -> bool
+    ensures { result ≡ is_active cycle test.now }
 {
-    job.start <= cycle && cycle < job.end
+    test.start <= cycle && cycle < test.end
 }
 
 /// Whether the rule keeps the two tests apart and both are active at the cycle.
@@ -83,20 +83,20 @@ fn meet_at(parents: &[usize], apart: Apart, a: &PlacedTest, b: &PlacedTest, cycl
 fn first_partner(
     parents: &[usize],
     apart: Apart,
-    jobs: &[PlacedTest],
+    placed: &[PlacedTest],
     first: usize,
     cycle: u64,
 ) -> Option<usize>
-    requires slots { PlacesWithin (length parents.now) jobs.now }
-    requires within { first < length jobs.now }
-    ensures found { IfSome result (λ second. IsFirstPartner (keeps_apart parents.now apart) jobs.now first cycle second) }
-    ensures none { IfNone result (HasNoPartner (keeps_apart parents.now apart) jobs.now first cycle) }
+    requires slots { PlacesWithin (length parents.now) placed.now }
+    requires within { first < length placed.now }
+    ensures found { IfSome result (λ second. IsFirstPartner (keeps_apart parents.now apart) placed.now first cycle second) }
+    ensures none { IfNone result (HasNoPartner (keeps_apart parents.now apart) placed.now first cycle) }
 {
-    if !is_active(&jobs[first], cycle) {
+    if !is_active(&placed[first], cycle) {
         return None;
     }
-    for second in first + 1..jobs.len() {
-        if meet_at(parents, apart, &jobs[first], &jobs[second], cycle) {
+    for second in first + 1..placed.len() {
+        if meet_at(parents, apart, &placed[first], &placed[second], cycle) {
             return Some(second);
         }
     }
@@ -104,13 +104,13 @@ fn first_partner(
 }
 
 /// The least pair of tests that meet at the cycle, though the rule keeps them apart.
-fn first_pair(parents: &[usize], apart: Apart, jobs: &[PlacedTest], cycle: u64) -> Option<Found>
-    requires { PlacesWithin (length parents.now) jobs.now }
-    ensures found { IfSome result (λ f. IsFirstPair (keeps_apart parents.now apart) jobs.now cycle f) }
-    ensures none { IfNone result ((i : ℕ) → HasNoPartner (keeps_apart parents.now apart) jobs.now i cycle) }
+fn first_pair(parents: &[usize], apart: Apart, placed: &[PlacedTest], cycle: u64) -> Option<Found>
+    requires { PlacesWithin (length parents.now) placed.now }
+    ensures found { IfSome result (λ f. IsFirstPair (keeps_apart parents.now apart) placed.now cycle f) }
+    ensures none { IfNone result ((i : ℕ) → HasNoPartner (keeps_apart parents.now apart) placed.now i cycle) }
 {
-    for first in 0..jobs.len() {
-        if let Some(second) = first_partner(parents, apart, jobs, first, cycle) {
+    for first in 0..placed.len() {
+        if let Some(second) = first_partner(parents, apart, placed, first, cycle) {
             return Some(Found {
                 first,
                 second,
@@ -125,19 +125,26 @@ fn first_pair(parents: &[usize], apart: Apart, jobs: &[PlacedTest], cycle: u64) 
 fn least_cycle(
     parents: &[usize],
     apart: Apart,
-    jobs: &[PlacedTest],
+    placed: &[PlacedTest],
     begins: &[Begin],
     ends: &mut [u64],
 ) -> Option<u64>
-    requires { IsLayout parents.now jobs.now begins.now (length ends.old) }
-    ensures { IsFirstCycle (keeps_apart parents.now apart) jobs.now result }
+    requires { IsLayout parents.now placed.now begins.now (length ends.old) }
+    ensures { IsFirstCycle (keeps_apart parents.now apart) placed.now result }
 {
     match apart {
-        Apart::OneBus => first_meeting(parents, jobs, begins, Key::Bus, Key::Bus, ends),
-        Apart::OneModule => first_meeting(parents, jobs, begins, Key::Place, Key::Place, ends),
+        Apart::OneBus => first_meeting(parents, placed, begins, Key::Bus, Key::Bus, ends),
+        Apart::OneModule => first_meeting(parents, placed, begins, Key::Place, Key::Place, ends),
         Apart::ParentAndChild => {
-            let parent_first = first_meeting(parents, jobs, begins, Key::Place, Key::Parent, ends);
-            let child_first = first_meeting(parents, jobs, begins, Key::Parent, Key::Place, ends);
+            let parent_first = first_meeting(
+                parents,
+                placed,
+                begins,
+                Key::Place,
+                Key::Parent,
+                ends,
+            );
+            let child_first = first_meeting(parents, placed, begins, Key::Parent, Key::Place, ends);
             earlier(parent_first, child_first)
         }
     }
@@ -147,15 +154,15 @@ fn least_cycle(
 pub(crate) fn first_clash(
     parents: &[usize],
     apart: Apart,
-    jobs: &[PlacedTest],
+    placed: &[PlacedTest],
     begins: &[Begin],
     ends: &mut [u64],
 ) -> Option<Found>
-    requires { IsLayout parents.now jobs.now begins.now (length ends.old) }
-    ensures { IsBest (keeps_apart parents.now apart) jobs.now (length jobs.now) 0 result }
+    requires { IsLayout parents.now placed.now begins.now (length ends.old) }
+    ensures { IsBest (keeps_apart parents.now apart) placed.now (length placed.now) 0 result }
 {
-    match least_cycle(parents, apart, jobs, begins, ends) {
-        Some(cycle) => first_pair(parents, apart, jobs, cycle),
+    match least_cycle(parents, apart, placed, begins, ends) {
+        Some(cycle) => first_pair(parents, apart, placed, cycle),
         None => None,
     }
 }
@@ -171,22 +178,22 @@ fn fault_of(apart: Apart, a: TestId, b: TestId, cycle: u64) -> PlanFault
     }
 }
 
-/// Tests that may not meet, against the jobs of a plan and the parents of its chip.
+/// Tests that may not meet, against the placed tests of a plan and the parents of its chip.
 pub(crate) fn check_apart(
     parents: &[usize],
     apart: Apart,
-    jobs: &[PlacedTest],
+    placed: &[PlacedTest],
     begins: &[Begin],
     ends: &mut [u64],
 ) -> Option<PlanFault>
-    requires { IsLayout parents.now jobs.now begins.now (length ends.old) }
-    ensures { (soc : SocValue) (limits : LimitsValue) (plan : PlanValue) → jobs.now ≡ placed_tests soc plan → AreParents soc parents.now → IsStage soc limits plan (rule_for apart) result }
+    requires { IsLayout parents.now placed.now begins.now (length ends.old) }
+    ensures { (soc : SocValue) (limits : LimitsValue) (plan : PlanValue) → placed.now ≡ placed_tests soc plan → AreParents soc parents.now → IsStage soc limits plan (rule_for apart) result }
 {
-    match first_clash(parents, apart, jobs, begins, ends) {
+    match first_clash(parents, apart, placed, begins, ends) {
         Some(found) => Some(fault_of(
             apart,
-            jobs[found.first].id,
-            jobs[found.second].id,
+            placed[found.first].id,
+            placed[found.second].id,
             found.cycle,
         )),
         None => None,

@@ -1,16 +1,19 @@
-// The jobs by the names of their tests, so that a name is found without a walk.
+// The live tests by their names, so that a name is found without a walk.
 
 ghost use Rattle.std.specs.Prelude.{◌≡◌, ℕ, ◌+◌, ◌<◌, ◌≤◌, ◌∷◌, ◌++◌, [], length, false, Some, slice_get, IfSome, IfNone};
 ghost use Rattle.std.specs.List.{list_any};
 ghost use Rattle.indexmap.specs.IndexSet.{keys, spare};
-ghost use Rattle.soc_model.specs.Chips.{same_test};
+ghost use Rattle.soc_model.specs.Chips.{module_value, same_test, soc_value};
+ghost use Rattle.soc_model.specs.SoundChips.{IsSoundChip};
+ghost use Rattle.plan_model.specs.Rules.{live_ids};
 ghost use Rattle.live_tests.specs.declared.placed.PlacedTest.{PlacedTest};
-ghost use Rattle.live_tests.specs.Names.{AllDiffer};
+ghost use Rattle.live_tests.specs.Names.{AllDiffer, names_in};
 ghost use Rattle.plan_checker.specs.Named.{names_of};
 
+use crate::lookups::module_count;
 use indexmap::IndexSet;
 use live_tests::PlacedTest;
-use soc_model::TestId;
+use soc_model::{Module, Soc, TestId, module_at};
 
 /// Puts a name last.
 fn put_name(names: &mut IndexSet<TestId>, id: TestId)
@@ -22,20 +25,39 @@ fn put_name(names: &mut IndexSet<TestId>, id: TestId)
     let _ = names.insert(id);
 }
 
-/// Writes the names of the jobs, in their order.
-pub(crate) fn fill_names(jobs: &[PlacedTest], names: &mut IndexSet<TestId>)
-    requires apart { AllDiffer (names_of jobs.now) }
-    requires space { length jobs.now ≤ length (keys names.old) + spare names.old }
-    ensures filled { keys names.new ≡ names_of jobs.now }
+/// Puts the names of the live tests of a module last.
+fn put_names(module: &Module, names: &mut IndexSet<TestId>)
+    requires apart { AllDiffer (keys names.old ++ names_in (module_value «module».now)) }
+    requires space { length (names_in (module_value «module».now)) ≤ spare names.old }
+    ensures filled { keys names.new ≡ keys names.old ++ names_in (module_value «module».now) }
     ensures space_left { length (keys names.old) + spare names.old ≤ length (keys names.new) + spare names.new }
 {
-    names.clear();
-    for job in jobs {
-        put_name(names, job.id);
+    for test in &module.tests {
+        if test.patterns == 0 {
+            continue;
+        }
+        let id = TestId {
+            module: module.number,
+            test: test.number,
+        };
+        put_name(names, id);
     }
 }
 
-/// The place of the job of a name.
+/// Writes the names of the live tests, in the order of the chip.
+pub(crate) fn fill_names(soc: &Soc, names: &mut IndexSet<TestId>)
+    requires sound { IsSoundChip (soc_value soc.now) }
+    requires space { length (live_ids (soc_value soc.now)) ≤ length (keys names.old) + spare names.old }
+    ensures filled { keys names.new ≡ live_ids (soc_value soc.now) }
+    ensures space_left { length (keys names.old) + spare names.old ≤ length (keys names.new) + spare names.new }
+{
+    names.clear();
+    for place in 0..module_count(soc) {
+        put_names(module_at(soc, place), names);
+    }
+}
+
+/// The place of a name.
 pub(crate) fn place_named(names: &IndexSet<TestId>, id: TestId) -> Option<usize>
     ensures found { IfSome result (λ p. slice_get (keys names.now) p ≡ Some id) }
     ensures none { IfNone result ((p : ℕ) → slice_get (keys names.now) p ≡ Some id → ⊥) }
@@ -43,26 +65,37 @@ pub(crate) fn place_named(names: &IndexSet<TestId>, id: TestId) -> Option<usize>
     names.get_index_of(&id)
 }
 
-/// The job at a place.
-pub(crate) fn job_at(jobs: &[PlacedTest], place: usize) -> PlacedTest
-    requires { place < length jobs.now }
-    ensures { slice_get jobs.now place ≡ Some result }
+/// The name at a place.
+pub(crate) fn name_at(names: &IndexSet<TestId>, place: usize) -> TestId
+    requires { place < length (keys names.now) }
+    ensures { slice_get (keys names.now) place ≡ Some result }
 {
-    jobs[place]
+    match names.get_index(place) {
+        Some(id) => *id,
+        None => unreachable!(),
+    }
 }
 
-/// The job of a name.
-pub(crate) fn job_named(
-    jobs: &[PlacedTest],
+/// The test at a place.
+pub(crate) fn test_at(placed: &[PlacedTest], place: usize) -> PlacedTest
+    requires { place < length placed.now }
+    ensures { slice_get placed.now place ≡ Some result }
+{
+    placed[place]
+}
+
+/// The test of a name.
+pub(crate) fn test_named(
+    placed: &[PlacedTest],
     names: &IndexSet<TestId>,
     id: TestId,
 ) -> Option<PlacedTest>
-    requires { keys names.now ≡ names_of jobs.now }
-    ensures found { IfSome result (λ j. (p : ℕ) × (slice_get jobs.now p ≡ Some j) × (j.id ≡ id)) }
-    ensures none { IfNone result ((p : ℕ) (j : PlacedTest) → slice_get jobs.now p ≡ Some j → j.id ≡ id → ⊥) }
+    requires { keys names.now ≡ names_of placed.now }
+    ensures found { IfSome result (λ t. (p : ℕ) × (slice_get placed.now p ≡ Some t) × (t.id ≡ id)) }
+    ensures none { IfNone result ((p : ℕ) (t : PlacedTest) → slice_get placed.now p ≡ Some t → t.id ≡ id → ⊥) }
 {
     match place_named(names, id) {
-        Some(place) => Some(job_at(jobs, place)),
+        Some(place) => Some(test_at(placed, place)),
         None => None,
     }
 }

@@ -2,18 +2,19 @@
 // memory is taken, so what the rules before have noted of it in lent rooms stands in for an index of the plan.
 
 ghost use Rattle.std.specs.Prelude.{◌≡◌, ℕ, ◌++◌, take, ◌+◌, ◌^◌, ◌<◌, ◌≤◌, length, Some, slice_get, slice_index};
-ghost use Rattle.indexmap.specs.IndexSet.{keys};
+ghost use Rattle.std.specs.List.{Contains};
 ghost use Rattle.soc_model.specs.declared.TestId.{TestId};
 ghost use Rattle.soc_model.specs.Chips.{module_value, same_test, soc_value};
 ghost use Rattle.plan_model.specs.Views.{plan_value};
 ghost use Rattle.plan_model.specs.Plans.{of_first, planned_test};
-ghost use Rattle.live_tests.specs.Placed.{placed_of, placed_tests};
+ghost use Rattle.plan_model.specs.Rules.{live_ids};
+ghost use Rattle.live_tests.specs.Placed.{placed_in, placed_of, placed_tests};
 ghost use Rattle.live_tests.specs.Wrapped.{AreModeWrappers, MayBeWrapper};
-ghost use Rattle.plan_checker.specs.Listed.{StartEarly, jobs_in};
 ghost use Rattle.plan_checker.specs.Placing.{IsPlacing};
 
 use crate::lookups::module_count;
-use indexmap::{IndexMap, IndexSet};
+use crate::named::place_named;
+use indexmap::IndexSet;
 use live_tests::{ModeWrapper, ModeWrappers, PlacedTest, placed_test, walked};
 use plan_model::Plan;
 use soc_model::{Module, Soc, Test, TestId, module_at};
@@ -28,28 +29,20 @@ pub(crate) const NO_TEST: PlacedTest = PlacedTest {
     power: 0,
 };
 
-/// The start that the room has for a test, 0 where it has none.
-fn start_of(room: &IndexMap<TestId, u64>, id: TestId) -> u64
-    requires { StartEarly room.now.entries }
-    ensures start { result ≡ of_first (λ (s : TestId × ℕ). same_test s.0 id) (λ s. s.1) 0 room.now.entries }
-    ensures early { result ≤ 10 ^ 18 }
-{
-    room.get(&id).copied().unwrap_or(0)
-}
-
 /// What the plan and the rooms that were filled from it say of a module.
 #[derive(Clone, Copy, Drop)]
 pub(crate) struct Placing<'a> {
     pub(crate) soc: &'a Soc,
     pub(crate) plan: &'a Plan,
-    pub(crate) starts: &'a IndexMap<TestId, u64>,
+    pub(crate) names: &'a IndexSet<TestId>,
+    pub(crate) starts: &'a [u64],
     pub(crate) wrappers: &'a IndexSet<(u64, bool)>,
     pub(crate) buses: &'a [usize],
 }
 
 /// The module's wrapper in a mode. None comes exactly where the plan has none.
 fn wrapper_in(from: &Placing<'_>, place: usize, module: &Module, scan: bool) -> Option<ModeWrapper>
-    requires placing { IsPlacing from.now.soc.now from.now.plan.now from.now.starts.now.entries (keys from.now.wrappers.now) from.now.buses.now }
+    requires placing { IsPlacing from.now }
     requires there { slice_get (soc_value from.now.soc.now).modules place ≡ Some (module_value «module».now) }
     ensures { MayBeWrapper (plan_value from.now.plan.now) (module_value «module».now) scan result }
 {
@@ -61,7 +54,7 @@ fn wrapper_in(from: &Placing<'_>, place: usize, module: &Module, scan: bool) -> 
 
 /// The module's wrappers, each walked once.
 fn mode_wrappers(from: &Placing<'_>, place: usize, module: &Module) -> ModeWrappers
-    requires placing { IsPlacing from.now.soc.now from.now.plan.now from.now.starts.now.entries (keys from.now.wrappers.now) from.now.buses.now }
+    requires placing { IsPlacing from.now }
     requires there { slice_get (soc_value from.now.soc.now).modules place ≡ Some (module_value «module».now) }
     ensures { AreModeWrappers (plan_value from.now.plan.now) (module_value «module».now) result }
 {
@@ -79,6 +72,27 @@ pub(crate) fn bus_at(buses: &[usize], place: usize) -> usize
     buses[place]
 }
 
+/// The start at a place.
+fn start_at(starts: &[u64], place: usize) -> u64
+    requires { place < length starts.now }
+    ensures { result ≡ slice_index starts.now place }
+{
+    starts[place]
+}
+
+/// The start of a live test.
+fn start_of(from: &Placing<'_>, id: TestId) -> u64
+    requires placing { IsPlacing from.now }
+    requires live { Contains (live_ids (soc_value from.now.soc.now)) id }
+    ensures start { result ≡ of_first (λ (s : TestId × ℕ). same_test s.0 id) (λ s. s.1) 0 from.now.plan.now.starts.items }
+    ensures early { result ≤ 10 ^ 18 }
+{
+    match place_named(from.names, id) {
+        Some(place) => start_at(from.starts, place),
+        None => unreachable!(),
+    }
+}
+
 /// A live test of the module as the plan places it.
 fn placed_of(
     from: &Placing<'_>,
@@ -87,7 +101,7 @@ fn placed_of(
     wrappers: &ModeWrappers,
     test: &Test,
 ) -> PlacedTest
-    requires placing { IsPlacing from.now.soc.now from.now.plan.now from.now.starts.now.entries (keys from.now.wrappers.now) from.now.buses.now }
+    requires placing { IsPlacing from.now }
     requires there { slice_get (soc_value from.now.soc.now).modules place ≡ Some (module_value «module».now) }
     requires of_module { (i : ℕ) × (slice_get «module».now.tests.items i ≡ Some test.now) }
     requires live { 1 ≤ test.now.patterns }
@@ -99,48 +113,45 @@ fn placed_of(
         test: test.number,
     };
     let bus = bus_at(from.buses, place);
-    let start = start_of(from.starts, id);
+    let start = start_of(from, id);
     let length = wrappers.cycles(module, test);
     placed_test(id, place, test, bus, start, length)
 }
 
-/// Writes the tests of the module at a place from `done` on, and answers the place behind them.
+/// Writes the live tests of the module at a place from `done` on, and answers the place behind them.
 fn fill_module(
     from: &Placing<'_>,
     place: usize,
     module: &Module,
-    tests: &[Test],
-    jobs: &mut [PlacedTest],
+    placed: &mut [PlacedTest],
     done: usize,
 ) -> usize
-    requires placing { IsPlacing from.now.soc.now from.now.plan.now from.now.starts.now.entries (keys from.now.wrappers.now) from.now.buses.now }
+    requires placing { IsPlacing from.now }
     requires there { slice_get (soc_value from.now.soc.now).modules place ≡ Some (module_value «module».now) }
-    requires tests_are { tests.now ≡ «module».now.tests.items }
-    requires room { done + length (jobs_in (plan_value from.now.plan.now) (place, module_value «module».now) tests.now) ≤ length jobs.old }
-    ensures filled { take result jobs.new ≡ take done jobs.old ++ jobs_in (plan_value from.now.plan.now) (place, module_value «module».now) tests.now }
-    ensures count { result ≡ done + length (jobs_in (plan_value from.now.plan.now) (place, module_value «module».now) tests.now) }
+    requires room { done + length (placed_in (plan_value from.now.plan.now) place (module_value «module».now) «module».now.tests.items) ≤ length placed.old }
+    ensures filled { take result placed.new ≡ take done placed.old ++ placed_in (plan_value from.now.plan.now) place (module_value «module».now) «module».now.tests.items }
+    ensures count { result ≡ done + length (placed_in (plan_value from.now.plan.now) place (module_value «module».now) «module».now.tests.items) }
 {
     let wrappers = mode_wrappers(from, place, module);
     let mut next = done;
-    for test in tests {
+    for test in &module.tests {
         if test.patterns == 0 {
             continue;
         }
-        jobs[next] = placed_of(from, place, module, &wrappers, test);
+        placed[next] = placed_of(from, place, module, &wrappers, test);
         next += 1;
     }
     next
 }
 
 /// Writes all live tests.
-pub(crate) fn fill_jobs(from: &Placing<'_>, jobs: &mut [PlacedTest])
-    requires placing { IsPlacing from.now.soc.now from.now.plan.now from.now.starts.now.entries (keys from.now.wrappers.now) from.now.buses.now }
-    requires room { length jobs.old ≡ length (placed_tests (soc_value from.now.soc.now) (plan_value from.now.plan.now)) }
-    ensures { jobs.new ≡ placed_tests (soc_value from.now.soc.now) (plan_value from.now.plan.now) }
+pub(crate) fn fill_tests(from: &Placing<'_>, placed: &mut [PlacedTest])
+    requires placing { IsPlacing from.now }
+    requires room { length placed.old ≡ length (placed_tests (soc_value from.now.soc.now) (plan_value from.now.plan.now)) }
+    ensures { placed.new ≡ placed_tests (soc_value from.now.soc.now) (plan_value from.now.plan.now) }
 {
     let mut next = 0;
     for place in 0..module_count(from.soc) {
-        let module = module_at(from.soc, place);
-        next = fill_module(from, place, module, &module.tests, jobs, next);
+        next = fill_module(from, place, module_at(from.soc, place), placed, next);
     }
 }

@@ -2,7 +2,6 @@
 
 ghost use Rattle.std.specs.Prelude.{◌≡◌, ℕ, ◌+◌, ◌*◌, ◌≤◌, length, map, vec_capacity, IfSome, IfNone, Some};
 ghost use Rattle.std.specs.List.{Contains};
-ghost use Rattle.indexmap.specs.IndexMap.{index_map_len, spare as spare_places};
 ghost use Rattle.plan_model.specs.declared.Wrapper.{Wrapper};
 ghost use Rattle.plan_checker.specs.Broken.{EachOf};
 ghost use Rattle.indexmap.specs.IndexSet.{keys, spare};
@@ -19,6 +18,7 @@ ghost use Rattle.live_tests.specs.Placed.{placed_tests};
 ghost use Rattle.plan_model.specs.SoundLimits.{IsSoundLimits};
 ghost use Rattle.live_tests.specs.Names.{AllDiffer};
 ghost use Rattle.plan_checker.specs.Named.{names_of};
+ghost use Rattle.plan_checker.specs.Starting.{AreStarts};
 ghost use Rattle.plan_checker.specs.Power.{IsLoad};
 ghost use Rattle.plan_checker.specs.Placing.{IsPlacing};
 ghost use Rattle.plan_checker.specs.Stages.{KeptTo, IsVerdict};
@@ -34,16 +34,15 @@ use crate::clashes::{Apart, check_apart};
 use crate::events::EVENTS_EACH;
 use crate::known::{check_cells, check_known};
 use crate::meetings::{Begin, fill_begins};
-use crate::named::fill_names;
 use crate::order::{check_before, check_cycles};
 use crate::parents::fill_parents;
-use crate::placed::{Placing, fill_jobs};
+use crate::placed::{Placing, fill_tests};
 use crate::places::check_places;
 use crate::power::{check_power, fill_profiles};
 use crate::starts::check_starts;
 use crate::widths::check_widths;
 use crate::wrappers::check_wrappers;
-use indexmap::{IndexMap, IndexSet};
+use indexmap::IndexSet;
 use live_tests::PlacedTest;
 use plan_model::{Limits, Plan, WIRES_MOST};
 use power_events::Event;
@@ -68,18 +67,18 @@ fn check_buses(soc: &Soc, limits: &Limits, plan: &Plan, marks: &mut [usize]) -> 
 /// Tests that may not meet: on one bus, of one module, of a module and its parent.
 fn check_meetings(
     parents: &[usize],
-    jobs: &[PlacedTest],
+    placed: &[PlacedTest],
     begins: &[Begin],
     ends: &mut [u64],
 ) -> Option<PlanFault>
-    requires { IsLayout parents.now jobs.now begins.now (length ends.old) }
-    ensures { (soc : SocValue) (limits : LimitsValue) (plan : PlanValue) → jobs.now ≡ placed_tests soc plan → AreParents soc parents.now → KeptTo soc limits plan 7 → IsVerdict soc limits plan 10 result }
+    requires { IsLayout parents.now placed.now begins.now (length ends.old) }
+    ensures { (soc : SocValue) (limits : LimitsValue) (plan : PlanValue) → placed.now ≡ placed_tests soc plan → AreParents soc parents.now → KeptTo soc limits plan 7 → IsVerdict soc limits plan 10 result }
 {
-    match check_apart(parents, Apart::OneBus, jobs, begins, ends) {
+    match check_apart(parents, Apart::OneBus, placed, begins, ends) {
         Some(fault) => Some(fault),
-        None => match check_apart(parents, Apart::OneModule, jobs, begins, ends) {
+        None => match check_apart(parents, Apart::OneModule, placed, begins, ends) {
             Some(fault) => Some(fault),
-            None => check_apart(parents, Apart::ParentAndChild, jobs, begins, ends),
+            None => check_apart(parents, Apart::ParentAndChild, placed, begins, ends),
         },
     }
 }
@@ -91,25 +90,29 @@ fn check_tests(
     plan: &Plan,
     marks: &[usize],
     wrappers: &mut IndexSet<(u64, bool)>,
-    starts: &mut IndexMap<TestId, u64>,
+    names: &mut IndexSet<TestId>,
+    starts: &mut [u64],
 ) -> Option<PlanFault>
     requires sound { IsSoundChip (soc_value soc.now) }
     requires kept { KeptTo (soc_value soc.now) (limits_value limits.now) (plan_value plan.now) 4 }
     requires known { EachOf (Contains (numbers (soc_value soc.now))) (map (λ (w : Wrapper). w.«module») plan.now.wrappers.items) }
     requires marked { AreBusesBy (numbers (soc_value soc.now)) (plan_value plan.now).buses marks.now }
     requires pairs_fit { length (used_pairs (soc_value soc.now)) ≤ length (keys wrappers.old) + spare wrappers.old }
-    requires starts_fit { length (live_ids (soc_value soc.now)) ≤ index_map_len starts.old + spare_places starts.old }
+    requires early { StartEarly plan.now.starts.items }
+    requires names_fit { length (live_ids (soc_value soc.now)) ≤ length (keys names.old) + spare names.old }
+    requires starts_fit { length starts.old ≡ length (live_ids (soc_value soc.now)) }
     ensures verdict { IsVerdict (soc_value soc.now) (limits_value limits.now) (plan_value plan.now) 7 result }
     ensures paired { IfNone result (keys wrappers.new ≡ map pair_of (plan_value plan.now).wrappers) }
-    ensures started { IfNone result (starts.new.entries ≡ plan.now.starts.items) }
+    ensures named { IfNone result (keys names.new ≡ live_ids (soc_value soc.now)) }
+    ensures started { IfNone result (AreStarts (live_ids (soc_value soc.now)) plan.now.starts.items starts.new) }
     ensures pairs_left { length (used_pairs (soc_value soc.now)) ≤ length (keys wrappers.new) + spare wrappers.new }
-    ensures starts_left { length (live_ids (soc_value soc.now)) ≤ index_map_len starts.new + spare_places starts.new }
+    ensures names_left { length (keys names.old) + spare names.old ≤ length (keys names.new) + spare names.new }
 {
     match check_wrappers(soc, plan, marks, wrappers) {
         Some(fault) => Some(fault),
         None => match check_cells(soc, plan) {
             Some(fault) => Some(fault),
-            None => check_starts(soc, plan, starts),
+            None => check_starts(soc, plan, names, starts),
         },
     }
 }
@@ -118,60 +121,57 @@ fn check_tests(
 fn check_ends(
     limits: &Limits,
     plan: &Plan,
-    jobs: &[PlacedTest],
+    placed: &[PlacedTest],
     names: &IndexSet<TestId>,
     profiles: &[usize],
     events: &mut Vec<Event>,
 ) -> Option<PlanFault>
-    requires named { keys names.now ≡ names_of jobs.now }
-    requires apart { AllDiffer (names_of jobs.now) }
-    requires load { (most : ℕ) → limits.now.power ≡ Some most → IsLoad (limits_value limits.now) jobs.now profiles.now most }
-    requires space { length jobs.now * EVENTS_EACH ≤ vec_capacity events.old }
-    ensures verdict { (soc : SocValue) → jobs.now ≡ placed_tests soc (plan_value plan.now) → KeptTo soc (limits_value limits.now) (plan_value plan.now) 10 → IsVerdict soc (limits_value limits.now) (plan_value plan.now) 13 result }
+    requires named { keys names.now ≡ names_of placed.now }
+    requires apart { AllDiffer (names_of placed.now) }
+    requires load { (most : ℕ) → limits.now.power ≡ Some most → IsLoad (limits_value limits.now) placed.now profiles.now most }
+    requires space { length placed.now * EVENTS_EACH ≤ vec_capacity events.old }
+    ensures verdict { (soc : SocValue) → placed.now ≡ placed_tests soc (plan_value plan.now) → KeptTo soc (limits_value limits.now) (plan_value plan.now) 10 → IsVerdict soc (limits_value limits.now) (plan_value plan.now) 13 result }
     ensures room { vec_capacity events.old ≤ vec_capacity events.new }
 {
-    match check_before(&limits.before, jobs, names) {
+    match check_before(&limits.before, placed, names) {
         Some(fault) => Some(fault),
-        None => match check_power(limits, jobs, profiles, events) {
+        None => match check_power(limits, placed, profiles, events) {
             Some(fault) => Some(fault),
-            None => check_cycles(plan.cycles, jobs),
+            None => check_cycles(plan.cycles, placed),
         },
     }
 }
 
 /// The tests as the plan places them, once its buses, wrappers and starts have passed.
 fn check_placed(limits: &Limits, from: &Placing<'_>, rooms: &mut PlacedRooms) -> Option<PlanFault>
-    requires placing { IsPlacing from.now.soc.now from.now.plan.now from.now.starts.now.entries (keys from.now.wrappers.now) from.now.buses.now }
+    requires placing { IsPlacing from.now }
     requires kept { KeptTo (soc_value from.now.soc.now) (limits_value limits.now) (plan_value from.now.plan.now) 7 }
     requires limits { IsSoundLimits (soc_value from.now.soc.now) (limits_value limits.now) }
     requires parents_fit { length rooms.old.parents.items ≡ length (soc_value from.now.soc.now).modules }
-    requires jobs_fit { length rooms.old.jobs.items ≡ length (placed_tests (soc_value from.now.soc.now) (plan_value from.now.plan.now)) }
-    requires begins_fit { length rooms.old.begins.items ≡ length rooms.old.jobs.items }
+    requires tests_fit { length rooms.old.tests.items ≡ length (placed_tests (soc_value from.now.soc.now) (plan_value from.now.plan.now)) }
+    requires begins_fit { length rooms.old.begins.items ≡ length rooms.old.tests.items }
     requires ends_fit { length rooms.old.ends.items ≡ length rooms.old.parents.items + WIRES_MOST + 1 }
-    requires names_fit { length rooms.old.jobs.items ≤ length (keys rooms.old.names) + spare rooms.old.names }
-    requires profiles_fit { length rooms.old.profiles.items ≡ length rooms.old.jobs.items }
-    requires events_fit { length rooms.old.jobs.items * EVENTS_EACH ≤ vec_capacity rooms.old.events }
+    requires profiles_fit { length rooms.old.profiles.items ≡ length rooms.old.tests.items }
+    requires events_fit { length rooms.old.tests.items * EVENTS_EACH ≤ vec_capacity rooms.old.events }
     ensures verdict { IsVerdict (soc_value from.now.soc.now) (limits_value limits.now) (plan_value from.now.plan.now) 13 result }
     ensures long { AreAsLong rooms.old rooms.new }
-    ensures names_left { length rooms.old.jobs.items ≤ length (keys rooms.new.names) + spare rooms.new.names }
     ensures events_left { vec_capacity rooms.old.events ≤ vec_capacity rooms.new.events }
 {
     let parents: &mut [usize] = &mut rooms.parents;
-    let jobs: &mut [PlacedTest] = &mut rooms.jobs;
+    let placed: &mut [PlacedTest] = &mut rooms.tests;
     let begins: &mut [Begin] = &mut rooms.begins;
     let profiles: &mut [usize] = &mut rooms.profiles;
     fill_parents(from.soc, parents);
-    fill_jobs(from, jobs);
-    fill_begins(jobs, begins);
-    fill_names(jobs, &mut rooms.names);
-    fill_profiles(limits, jobs, &rooms.names, profiles);
-    match check_meetings(parents, jobs, begins, &mut rooms.ends) {
+    fill_tests(from, placed);
+    fill_begins(placed, begins);
+    fill_profiles(limits, placed, from.names, profiles);
+    match check_meetings(parents, placed, begins, &mut rooms.ends) {
         Some(fault) => Some(fault),
         None => check_ends(
             limits,
             from.plan,
-            jobs,
-            &rooms.names,
+            placed,
+            from.names,
             profiles,
             &mut rooms.events,
         ),
@@ -191,23 +191,24 @@ pub(crate) fn check_rules(
     requires marks_fit { length rooms.old.marks.items ≡ length (soc_value soc.now).modules }
     requires parents_fit { length rooms.old.placed.parents.items ≡ length (soc_value soc.now).modules }
     requires pairs_fit { length (used_pairs (soc_value soc.now)) ≤ length (keys rooms.old.wrappers) + spare rooms.old.wrappers }
-    requires starts_fit { length (live_ids (soc_value soc.now)) ≤ index_map_len rooms.old.starts + spare_places rooms.old.starts }
-    requires jobs_fit { length rooms.old.placed.jobs.items ≡ length (placed_tests (soc_value soc.now) (plan_value plan.now)) }
-    requires begins_fit { length rooms.old.placed.begins.items ≡ length rooms.old.placed.jobs.items }
+    requires names_fit { length (live_ids (soc_value soc.now)) ≤ length (keys rooms.old.names) + spare rooms.old.names }
+    requires starts_fit { length rooms.old.starts.items ≡ length (live_ids (soc_value soc.now)) }
+    requires tests_fit { length rooms.old.placed.tests.items ≡ length (placed_tests (soc_value soc.now) (plan_value plan.now)) }
+    requires begins_fit { length rooms.old.placed.begins.items ≡ length rooms.old.placed.tests.items }
     requires ends_fit { length rooms.old.placed.ends.items ≡ length rooms.old.marks.items + WIRES_MOST + 1 }
-    requires names_fit { length rooms.old.placed.jobs.items ≤ length (keys rooms.old.placed.names) + spare rooms.old.placed.names }
-    requires profiles_fit { length rooms.old.placed.profiles.items ≡ length rooms.old.placed.jobs.items }
-    requires events_fit { length rooms.old.placed.jobs.items * EVENTS_EACH ≤ vec_capacity rooms.old.placed.events }
+    requires profiles_fit { length rooms.old.placed.profiles.items ≡ length rooms.old.placed.tests.items }
+    requires events_fit { length rooms.old.placed.tests.items * EVENTS_EACH ≤ vec_capacity rooms.old.placed.events }
     ensures good { IfNone result (IsGood (soc_value soc.now) (limits_value limits.now) (plan_value plan.now)) }
     ensures fault { IfSome result (λ f. IsFault (soc_value soc.now) (limits_value limits.now) (plan_value plan.now) (fault_value f)) }
     ensures pairs_left { length (used_pairs (soc_value soc.now)) ≤ length (keys rooms.new.wrappers) + spare rooms.new.wrappers }
-    ensures starts_left { length (live_ids (soc_value soc.now)) ≤ index_map_len rooms.new.starts + spare_places rooms.new.starts }
-    ensures names_left { length rooms.old.placed.jobs.items ≤ length (keys rooms.new.placed.names) + spare rooms.new.placed.names }
-    ensures events_left { length rooms.old.placed.jobs.items * EVENTS_EACH ≤ vec_capacity rooms.new.placed.events }
+    ensures names_left { length (keys rooms.old.names) + spare rooms.old.names ≤ length (keys rooms.new.names) + spare rooms.new.names }
+    ensures starts_long { length rooms.new.starts.items ≡ length rooms.old.starts.items }
+    ensures events_left { length rooms.old.placed.tests.items * EVENTS_EACH ≤ vec_capacity rooms.new.placed.events }
     ensures marks_long { length rooms.new.marks.items ≡ length rooms.old.marks.items }
     ensures long { AreAsLong rooms.old.placed rooms.new.placed }
 {
     let marks: &mut [usize] = &mut rooms.marks;
+    let starts: &mut [u64] = &mut rooms.starts;
     match check_buses(soc, limits, plan, marks) {
         Some(fault) => Some(fault),
         None => match check_tests(
@@ -216,14 +217,16 @@ pub(crate) fn check_rules(
             plan,
             marks,
             &mut rooms.wrappers,
-            &mut rooms.starts,
+            &mut rooms.names,
+            starts,
         ) {
             Some(fault) => Some(fault),
             None => {
                 let from = Placing {
                     soc,
                     plan,
-                    starts: &rooms.starts,
+                    names: &rooms.names,
+                    starts,
                     wrappers: &rooms.wrappers,
                     buses: marks,
                 };

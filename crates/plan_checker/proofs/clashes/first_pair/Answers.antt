@@ -9,7 +9,7 @@ pub returns-in-Some-clause-found : goal.returns-in-Some-clause-found
 returns-in-Some-clause-found c = record {
   cycle_is = refl;
   clash = c.in-Some.ensures.found.clash;
-  first = first_of_rows (keeps_apart c.args.parents.now c.args.apart) c.args.jobs.now c.loop-first.first c.in-Some.second c.args.cycle c.loop-first.invariant c.in-Some.ensures.found;
+  first = first_of_rows (keeps_apart c.args.parents.now c.args.apart) c.args.placed.now c.loop-first.first c.in-Some.second c.args.cycle c.loop-first.invariant c.in-Some.ensures.found;
 }
 
 pub loop-first-preserved : goal.loop-first-preserved
@@ -19,4 +19,4 @@ loop-first-preserved c = λ k before. elim (cases_eq k c.loop-first.first) [
 ]
 
 pub returns-clause-none : goal.returns-clause-none
-returns-clause-none c = λ i j clash. c.loop-first.invariant i (omega (arith, c.loop-first-test.false, slice_get_within c.args.jobs.now i clash.a clash.at)) j clash
+returns-clause-none c = λ i j clash. c.loop-first.invariant i (omega (arith, c.loop-first-test.false, slice_get_within c.args.placed.now i clash.a clash.at)) j clash

@@ -8,10 +8,10 @@ use Rattle.plan_checker.proofs.clashes.first_partner.Goals as goal
 pub loop-second-preserved : goal.loop-second-preserved
 loop-second-preserved c = λ k before clash. elim (cases_eq k c.loop-second.second) [
   | inl same ↦
-      let here = subst (λ v. Clash (keeps_apart c.args.parents.now c.args.apart) c.args.jobs.now c.args.first v c.args.cycle) same clash in
-      c.meet_at.ensures.differ c.if-meet_at.false (clash_gives (keeps_apart c.args.parents.now c.args.apart) c.args.jobs.now c.args.first c.loop-second.second c.args.cycle _ _ here)
+      let here = subst (λ v. Clash (keeps_apart c.args.parents.now c.args.apart) c.args.placed.now c.args.first v c.args.cycle) same clash in
+      c.meet_at.ensures.differ c.if-meet_at.false (clash_gives (keeps_apart c.args.parents.now c.args.apart) c.args.placed.now c.args.first c.loop-second.second c.args.cycle _ _ here)
   | inr other ↦ c.loop-second.invariant k (omega (arith, before, other)) clash
 ]
 
 pub returns-clause-none : goal.returns-clause-none
-returns-clause-none c = λ j clash. c.loop-second.invariant j (omega (arith, c.loop-second-test.false, slice_get_within c.args.jobs.now j clash.b clash.at')) clash
+returns-clause-none c = λ j clash. c.loop-second.invariant j (omega (arith, c.loop-second-test.false, slice_get_within c.args.placed.now j clash.b clash.at')) clash

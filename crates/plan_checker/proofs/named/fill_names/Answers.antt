@@ -1,34 +1,41 @@
-use Rattle.std.proofs.Common.{length, take, ap, ◌∙◌, sym, arith, None}
-use Rattle.std.proofs.lemmas.List.{take_all, length-append, length-take-le}
-use Rattle.std.proofs.lemmas.Option.{slice_get-get_or}
-use Rattle.live_tests.specs.declared.placed.PlacedTest.{PlacedTest}
-use Rattle.plan_checker.specs.Named.{names_of}
-use Rattle.plan_checker.proofs.NamesApart.{name_new, names_more}
-use Rattle.plan_checker.proofs.Rooms.{length_values}
+use Rattle.std.proofs.Common.{◌≡◌, ◌+◌, ◌++◌, List, [], drop, sym, ap, ◌∙◌, append-nil, arith, rules, refl}
+use Rattle.std.specs.List.{flat_map}
+use Rattle.std.proofs.lemmas.List.{drop_all}
+use Rattle.indexmap.specs.IndexSet.{keys}
+use Rattle.soc_model.specs.Chips.{soc_value, module_value}
+use Rattle.plan_model.specs.Rules.{live_ids}
+use Rattle.live_tests.specs.Names.{names_in}
+use Rattle.live_tests.proofs.Indexing.{names_are}
+use Rattle.live_tests.proofs.LiveIds.{ids_differ}
+use Rattle.plan_checker.proofs.Filling.{names_apart, names_step, names_room}
 use Rattle.plan_checker.proofs.named.fill_names.Goals as goal
 
-none : PlacedTest
-none = record { id = record { «module» = 0; test = 0 }; place = 0; bus = None; start = 0; end = 0; power = 0 }
+none_before : {X : Type 0} (none a b : List X) → none ≡ [] → a ≡ b → none ++ a ≡ b
+none_before none a b e f = ap (λ l. l ++ a) e ∙ f
 
-pub put_name-requires-clause-new : goal.put_name-requires-clause-new
-unfolding none
-put_name-requires-clause-new c =
-    let at = slice_get-get_or c.args.jobs.now c.loop-job.job-index none (omega arith) in
-    rw c.loop-job.invariant.filled (name_new c.args.jobs.now c.loop-job.job-index _ c.requires.apart at)
+pub loop-place-init : goal.loop-place-init
+loop-place-init c = record { filled = none_before _ _ _ (search rules) (names_are (soc_value c.args.soc.now)); space = omega arith }
 
-pub put_name-requires-clause-space : goal.put_name-requires-clause-space
-put_name-requires-clause-space c =
-    let long = ap length c.loop-job.invariant.filled ∙ length_values (λ (j : PlacedTest). j.id) (take c.loop-job.job-index c.args.jobs.now) ∙ length-take-le c.loop-job.job-index c.args.jobs.now (omega arith) in
-    omega (arith, long, c.loop-job.invariant.space, c.requires.space)
+pub put_names-requires-clause-apart : goal.put_names-requires-clause-apart
+put_names-requires-clause-apart c =
+    let soc = soc_value c.args.soc.now in
+    names_apart (keys c.loop-place.names) (live_ids soc) soc.modules c.loop-place.place (module_value c.module_at.result.now) (ids_differ soc c.requires.sound) c.module_at.ensures c.loop-place.invariant.filled
 
-pub loop-job-preserved : goal.loop-job-preserved
-unfolding none
-loop-job-preserved c =
-    let at = slice_get-get_or c.args.jobs.now c.loop-job.job-index none (omega arith) in
+pub put_names-requires-clause-space : goal.put_names-requires-clause-space
+put_names-requires-clause-space c =
+    let soc = soc_value c.args.soc.now in
+    omega (arith, names_room (keys c.loop-place.names) (live_ids soc) soc.modules c.loop-place.place (module_value c.module_at.result.now) c.module_at.ensures c.loop-place.invariant.filled, c.loop-place.invariant.space, c.requires.space)
+
+pub loop-place-preserved : goal.loop-place-preserved
+loop-place-preserved c =
+    let soc = soc_value c.args.soc.now in
+    let m = module_value c.module_at.result.now in
     record {
-      filled = c.put_name.ensures.filled ∙ rw c.loop-job.invariant.filled (sym (names_more c.args.jobs.now c.loop-job.job-index _ at));
-      space = omega (arith, c.loop-job.invariant.space, c.put_name.ensures.space_left, simp length-append at (ap length c.put_name.ensures.filled));
+      filled = ap (λ l. l ++ flat_map names_in (drop (c.loop-place.place + 1) soc.modules)) c.put_names.ensures.filled ∙ names_step (keys c.loop-place.names) (live_ids soc) soc.modules c.loop-place.place (c.loop-place.place + 1) m refl c.module_at.ensures c.loop-place.invariant.filled;
+      space = omega (arith, c.loop-place.invariant.space, c.put_names.ensures.space_left);
     }
 
 pub returns-clause-filled : goal.returns-clause-filled
-returns-clause-filled c = c.loop-job.invariant.filled ∙ ap names_of (take_all c.loop-job.job-index c.args.jobs.now (omega arith))
+returns-clause-filled c =
+    let modules = (soc_value c.args.soc.now).modules in
+    sym (append-nil (keys c.loop-place.names)) ∙ ap (λ l. keys c.loop-place.names ++ flat_map names_in l) (sym (drop_all c.loop-place.place modules (omega arith))) ∙ c.loop-place.invariant.filled

@@ -13,15 +13,15 @@ none = (record { «module» = 0; test = 0 }, record { «module» = 0; test = 0 }
 
 pub returns-then-not-in_order : goal.returns-then-not-in_order
 unfolding none
-returns-then-not-in_order c = λ soc limits plan jobs before.
+returns-then-not-in_order c = λ soc limits plan placed before.
     let at = slice_get-get_or c.args.before.now c.loop-a.a-index none (omega arith) in
-    let each = order_each (planned soc plan) c.args.before.now c.loop-a.a-index (rw jobs at c.loop-a.invariant) in
-    let not = rw jobs at (c.if-not-in_order.ensures.broken refl) in
+    let each = order_each (planned soc plan) c.args.before.now c.loop-a.a-index (rw placed at c.loop-a.invariant) in
+    let not = rw placed at (c.if-not-in_order.ensures.broken refl) in
     ((c.loop-a.a-index, rw (← before) (first_here (InOrder (planned soc plan)) c.args.before.now c.loop-a.a-index (get_or c.args.before.now c.loop-a.a-index none) each at (λ h. not (order_down (planned soc plan) (take c.loop-a.a-index c.args.before.now) [] (get_or c.args.before.now c.loop-a.a-index none) h)))), refl)
 
 pub loop-a-preserved : goal.loop-a-preserved
 unfolding none
-loop-a-preserved c = each_more (AreInOrder c.args.jobs.now) c.args.before.now c.loop-a.a-index (get_or c.args.before.now c.loop-a.a-index none) c.loop-a.invariant (slice_get-get_or c.args.before.now c.loop-a.a-index none (omega arith)) (c.if-not-in_order.ensures.kept refl)
+loop-a-preserved c = each_more (AreInOrder c.args.placed.now) c.args.before.now c.loop-a.a-index (get_or c.args.before.now c.loop-a.a-index none) c.loop-a.invariant (slice_get-get_or c.args.before.now c.loop-a.a-index none (omega arith)) (c.if-not-in_order.ensures.kept refl)
 
 pub returns : goal.returns
-returns c = λ soc limits plan jobs before. rw (← before) (each_all (InOrder (planned soc plan)) c.args.before.now c.loop-a.a-index (omega arith) (order_each (planned soc plan) c.args.before.now c.loop-a.a-index (rw jobs at c.loop-a.invariant)))
+returns c = λ soc limits plan placed before. rw (← before) (each_all (InOrder (planned soc plan)) c.args.before.now c.loop-a.a-index (omega arith) (order_each (planned soc plan) c.args.before.now c.loop-a.a-index (rw placed at c.loop-a.invariant)))

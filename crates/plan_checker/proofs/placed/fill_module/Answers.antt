@@ -1,14 +1,14 @@
-use Rattle.std.proofs.Common.{◌≡◌, ◌+◌, ◌∷◌, [], ◌≤◌, true, false, Some, length, get_or, take, ap, ◌∙◌, append_assoc, arith}
+use Rattle.std.proofs.Common.{◌≡◌, ◌+◌, ◌++◌, List, ◌∷◌, [], ◌≤◌, true, false, Some, length, get_or, take, sym, ap, ◌∙◌, append_assoc, arith}
 use Rattle.std.specs.Prelude.{slice_get}
 use Rattle.std.proofs.lemmas.Bool.{lt-ltb}
 use Rattle.std.proofs.lemmas.List.{take_more_set, length-append}
 use Rattle.std.proofs.lemmas.Option.{slice_get-get_or}
 use Rattle.soc_model.specs.declared.Test.{Test}
-use Rattle.soc_model.specs.Chips.{is_live}
+use Rattle.soc_model.specs.Chips.{is_live, module_value}
+use Rattle.plan_model.specs.Plans.{planned_test}
 use Rattle.plan_model.specs.Views.{plan_value}
-use Rattle.soc_model.specs.Chips.{module_value}
-use Rattle.plan_checker.specs.Listed.{job_if_live, jobs_in}
-use Rattle.plan_checker.proofs.Breaking.{flat_more_at, flat_room}
+use Rattle.live_tests.specs.Placed.{placed_in, placed_of}
+use Rattle.plan_checker.proofs.Filling.{front_taken, passing_room}
 use Rattle.plan_checker.proofs.placed.fill_module.Goals as goal
 
 none : Test
@@ -16,25 +16,30 @@ none = record { number = 0; scan = false; tam = false; patterns = 0; power = 0 }
 
 pub placed_of-requires-clause-of_module : goal.placed_of-requires-clause-of_module
 unfolding none
-placed_of-requires-clause-of_module c = (c.loop-test.test-index, rw (← c.requires.tests_are) (slice_get-get_or c.args.tests.now c.loop-test.test-index none (omega arith)))
+placed_of-requires-clause-of_module c = (c.loop-test.test-index, ap (λ (l : List Test). slice_get l c.loop-test.test-index) (sym c.deref-test-items.ensures.value) ∙ slice_get-get_or c.deref-test-items.result.now c.loop-test.test-index none (omega arith))
 
-pub bounds-jobs-next : goal.bounds-jobs-next
+pub bounds-placed-next : goal.bounds-placed-next
 unfolding none
-bounds-jobs-next c =
-    let at : slice_get c.args.tests.now c.loop-test.test-index ≡ Some (get_or c.args.tests.now c.loop-test.test-index none) = slice_get-get_or c.args.tests.now c.loop-test.test-index none (omega arith) in
-    let live : is_live (get_or c.args.tests.now c.loop-test.test-index none) ≡ true = lt-ltb 0 _ (omega arith) in
-    let room = rw live at (flat_room (job_if_live (plan_value c.args.from.now.plan.now) c.args.place (module_value c.args.«module».now)) c.args.tests.now c.loop-test.test-index (get_or c.args.tests.now c.loop-test.test-index none) at) in
-    omega (arith, room, c.requires.room, c.loop-test.invariant.count, c.loop-test.auto.jobs)
+bounds-placed-next c =
+    let m = module_value c.args.«module».now in
+    let t = get_or c.deref-test-items.result.now c.loop-test.test-index none in
+    let at : slice_get m.tests c.loop-test.test-index ≡ Some t = ap (λ (l : List Test). slice_get l c.loop-test.test-index) (sym c.deref-test-items.ensures.value) ∙ slice_get-get_or c.deref-test-items.result.now c.loop-test.test-index none (omega arith) in
+    let live : is_live t ≡ true = lt-ltb 0 _ (omega arith) in
+    let room = passing_room (λ (t : Test). placed_of (planned_test (plan_value c.args.from.now.plan.now) c.args.place m t)) is_live m.tests c.loop-test.test-index _ at live in
+    omega (arith, room, c.requires.room, c.loop-test.invariant.count, c.loop-test.auto.placed)
 
 pub loop-test-preserved : goal.loop-test-preserved
 unfolding none
 loop-test-preserved c =
-    let at : slice_get c.args.tests.now c.loop-test.test-index ≡ Some (get_or c.args.tests.now c.loop-test.test-index none) = slice_get-get_or c.args.tests.now c.loop-test.test-index none (omega arith) in
-    let live : is_live (get_or c.args.tests.now c.loop-test.test-index none) ≡ true = lt-ltb 0 _ (omega arith) in
-    let room = rw live at (flat_room (job_if_live (plan_value c.args.from.now.plan.now) c.args.place (module_value c.args.«module».now)) c.args.tests.now c.loop-test.test-index (get_or c.args.tests.now c.loop-test.test-index none) at) in
-    let within : c.loop-test.next + 1 ≤ length c.loop-test.jobs = omega (arith, room, c.requires.room, c.loop-test.invariant.count, c.loop-test.auto.jobs) in
-    let more = rw (live, ← c.placed_of.ensures) at (flat_more_at (job_if_live (plan_value c.args.from.now.plan.now) c.args.place (module_value c.args.«module».now)) c.args.tests.now c.loop-test.test-index (get_or c.args.tests.now c.loop-test.test-index none) at) in
+    let m = module_value c.args.«module».now in
+    let plan = plan_value c.args.from.now.plan.now in
+    let t = get_or c.deref-test-items.result.now c.loop-test.test-index none in
+    let at : slice_get m.tests c.loop-test.test-index ≡ Some t = ap (λ (l : List Test). slice_get l c.loop-test.test-index) (sym c.deref-test-items.ensures.value) ∙ slice_get-get_or c.deref-test-items.result.now c.loop-test.test-index none (omega arith) in
+    let live : is_live t ≡ true = lt-ltb 0 _ (omega arith) in
+    let room = passing_room (λ (t : Test). placed_of (planned_test plan c.args.place m t)) is_live m.tests c.loop-test.test-index _ at live in
+    let within : c.loop-test.next + 1 ≤ length c.loop-test.placed = omega (arith, room, c.requires.room, c.loop-test.invariant.count, c.loop-test.auto.placed) in
+    let more : placed_in plan c.args.place m (take (c.loop-test.test-index + 1) m.tests) ≡ placed_in plan c.args.place m (take c.loop-test.test-index m.tests) ++ c.placed_of.result ∷ [] = front_taken (λ (t : Test). placed_of (planned_test plan c.args.place m t)) is_live m.tests c.loop-test.test-index t at live ∙ ap (λ p. placed_in plan c.args.place m (take c.loop-test.test-index m.tests) ++ p ∷ []) (sym c.placed_of.ensures) in
     record {
       count = omega (arith, c.loop-test.invariant.count, simp length-append at (ap length more));
-      filled = take_more_set c.loop-test.jobs c.loop-test.next c.placed_of.result (omega arith) ∙ rw (c.loop-test.invariant.filled, more) (append_assoc (take c.args.done c.args.jobs.now) (jobs_in (plan_value c.args.from.now.plan.now) (c.args.place, module_value c.args.«module».now) (take c.loop-test.test-index c.args.tests.now)) (c.placed_of.result ∷ []));
+      filled = take_more_set c.loop-test.placed c.loop-test.next c.placed_of.result (omega arith) ∙ rw (c.loop-test.invariant.filled, more) (append_assoc (take c.args.done c.args.placed.now) (placed_in plan c.args.place m (take c.loop-test.test-index m.tests)) (c.placed_of.result ∷ []));
     }

@@ -13,13 +13,13 @@ none = record { id = record { «module» = 0; test = 0 }; place = 0; bus = None;
 pub loop-place-preserved : goal.loop-place-preserved
 loop-place-preserved c =
     let limits = limits_value c.args.load.now.limits.now in
-    let jobs = c.args.load.now.jobs.now in
+    let placed = c.args.load.now.placed.now in
     let i = c.loop-place.place in
-    let there = slice_get-get_or jobs i none c.loop-place-test.true in
-    let put = c.put_job.ensures.put (get_or jobs i none) there in
-    let few = few_test_events limits (get_or jobs i none) (c.requires.load.steps i (get_or jobs i none) there) in
+    let there = slice_get-get_or placed i none c.loop-place-test.true in
+    let put = c.put_test.ensures.put (get_or placed i none) there in
+    let few = few_test_events limits (get_or placed i none) (c.requires.load.steps i (get_or placed i none) there) in
     record {
-      filled = put ∙ ap (λ v. v ++ test_events limits (get_or jobs i none)) c.loop-place.invariant.filled ∙ sym (more_events limits jobs i none c.loop-place-test.true);
-      few = omega (arith, ap length put, length-append c.loop-place.events.items (test_events limits (get_or jobs i none)), few, c.loop-place.invariant.few);
-      room = omega (arith, c.put_job.ensures.room, c.loop-place.invariant.room);
+      filled = put ∙ ap (λ v. v ++ test_events limits (get_or placed i none)) c.loop-place.invariant.filled ∙ sym (more_events limits placed i none c.loop-place-test.true);
+      few = omega (arith, ap length put, length-append c.loop-place.events.items (test_events limits (get_or placed i none)), few, c.loop-place.invariant.few);
+      room = omega (arith, c.put_test.ensures.room, c.loop-place.invariant.room);
     }

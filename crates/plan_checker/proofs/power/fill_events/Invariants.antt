@@ -7,7 +7,7 @@ use Rattle.plan_checker.proofs.power.fill_events.Given as goal
 
 abbrev pub invariant-loop-place : goal.invariant-loop-place
 invariant-loop-place l = record {
-  filled : l.events.items ≡ all_events (limits_value l.load.limits.now) (take l.place l.load.jobs.now);
+  filled : l.events.items ≡ all_events (limits_value l.load.limits.now) (take l.place l.load.placed.now);
   few : length l.events.items ≤ l.place * EVENTS_EACH;
   room : vec_capacity l.fn.events ≤ vec_capacity l.events;
 }

@@ -10,8 +10,8 @@ none = record { id = record { «module» = 0; test = 0 }; place = 0; bus = None;
 
 pub bounds-load-place : goal.bounds-load-place
 bounds-load-place c =
-    let j = get_or c.args.load.now.jobs.now c.args.place none in
-    slice_get_within c.args.load.now.profiles.now c.args.place (profile_place (limits_value c.args.load.now.limits.now) j.id) (c.requires.load.places c.args.place j (slice_get-get_or c.args.load.now.jobs.now c.args.place none c.requires.within))
+    let j = get_or c.args.load.now.placed.now c.args.place none in
+    slice_get_within c.args.load.now.profiles.now c.args.place (profile_place (limits_value c.args.load.now.limits.now) j.id) (c.requires.load.places c.args.place j (slice_get-get_or c.args.load.now.placed.now c.args.place none c.requires.within))
 
 pub returns : goal.returns
 returns c = λ j at. get_or_from_slice_get c.args.load.now.profiles.now c.args.place (profile_place (limits_value c.args.load.now.limits.now) j.id) 0 (c.requires.load.places c.args.place j at)

@@ -1,47 +1,40 @@
-use Rattle.std.proofs.Common.{◌≡◌, ℕ, ◌+◌, ◌≤◌, Some, length, get_or, refl, sym, ap, ◌∙◌, arith}
+use Rattle.std.proofs.Common.{◌≡◌, ℕ, Some, List, get_or, take, refl, sym, ◌∙◌, subst, arith, true≢false}
 use Rattle.std.specs.Prelude.{slice_get}
-use Rattle.std.proofs.lemmas.List.{length-append, take_more, length-take-le}
+use Rattle.std.proofs.lemmas.List.{take_all}
 use Rattle.std.proofs.lemmas.Option.{slice_get-get_or}
+use Rattle.indexmap.specs.IndexSet.{keys}
 use Rattle.soc_model.specs.declared.TestId.{TestId}
-use Rattle.soc_model.specs.Chips.{soc_value}
-use Rattle.plan_model.specs.Rules.{StartsOnce, live_ids}
-use Rattle.plan_checker.proofs.Firsts.{EachTo, each_more, each_all, first_here}
-use Rattle.plan_checker.proofs.Rooms.{started, not_started, new_fit}
+use Rattle.plan_checker.specs.Starting.{AreStarts, IsOnce}
+use Rattle.plan_checker.proofs.Firsts.{each_more, each_all, first_here}
+use Rattle.plan_checker.proofs.Finding.{contains_from}
+use Rattle.plan_checker.proofs.Starting.{is_key, no_key, key_has, starts_more, front_early}
 use Rattle.plan_checker.proofs.starts.take_starts.Goals as goal
 
 none : TestId × ℕ
 none = (record { «module» = 0; test = 0 }, 0)
 
-pub returns-then-has_start-clause-first : goal.returns-then-has_start-clause-first
+pub returns-then-room-place-lt-NO_START-clause-first : goal.returns-then-room-place-lt-NO_START-clause-first
 unfolding none
-returns-then-has_start-clause-first c =
-    let any = rw c.loop-id.invariant.filled at (sym c.if-has_start.ensures) in (
-      c.loop-id.id-index,
-      get_or c.args.starts.now c.loop-id.id-index none,
-      first_here (StartsOnce (soc_value c.args.soc.now)) c.args.starts.now c.loop-id.id-index _ c.loop-id.invariant.each (slice_get-get_or c.args.starts.now c.loop-id.id-index none (omega arith)) (λ once. once.1 (started _ _ any)),
-      refl,
-    )
-
-pub put_start-requires-clause-space : goal.put_start-requires-clause-space
-unfolding none
-put_start-requires-clause-space c =
-    let any = rw c.loop-id.invariant.filled at (sym c.if-has_start.ensures) in
-    let at : slice_get c.args.starts.now c.loop-id.id-index ≡ Some (get_or c.args.starts.now c.loop-id.id-index none) = slice_get-get_or c.args.starts.now c.loop-id.id-index none (omega arith) in
-    let each : EachTo (StartsOnce (soc_value c.args.soc.now)) c.args.starts.now (c.loop-id.id-index + 1) = each_more (StartsOnce (soc_value c.args.soc.now)) c.args.starts.now c.loop-id.id-index (get_or c.args.starts.now c.loop-id.id-index none) c.loop-id.invariant.each at (c.if-not-is_live_test.ensures.live refl, not_started _ _ any) in
-    let fit : c.loop-id.id-index + 1 ≤ length (live_ids (soc_value c.args.soc.now)) = new_fit (λ (s : TestId × ℕ). s.0) c.args.starts.now (live_ids (soc_value c.args.soc.now)) (c.loop-id.id-index + 1) none (omega arith) (λ m x less at. (each m x less at).1) (λ m x less at. (each m x less at).0) in
-    let long : length c.loop-id.room.entries ≡ c.loop-id.id-index = ap length c.loop-id.invariant.filled ∙ length-take-le c.loop-id.id-index c.args.starts.now (omega arith) in
-    omega (arith, c.loop-id.invariant.space)
+returns-then-room-place-lt-NO_START-clause-first c =
+    let k = c.loop-id.id-index in
+    let key = is_key (keys c.args.names.now) (take k c.args.starts.now) c.loop-id.room c.in-Some.place 0 (get_or c.args.starts.now k none).0 c.loop-id.invariant.filled (front_early c.args.starts.now k c.requires.early) c.in-Some.ensures.found c.if-room-place-lt-NO_START.true in
+    (k, get_or c.args.starts.now k none, first_here (IsOnce (keys c.args.names.now)) c.args.starts.now k (get_or c.args.starts.now k none) c.loop-id.invariant.each (slice_get-get_or c.args.starts.now k none (omega arith)) (λ once. once.1 key), refl)
 
 pub loop-id-preserved : goal.loop-id-preserved
 unfolding none
 loop-id-preserved c =
-    let any = rw c.loop-id.invariant.filled at (sym c.if-has_start.ensures) in
-    let at : slice_get c.args.starts.now c.loop-id.id-index ≡ Some (get_or c.args.starts.now c.loop-id.id-index none) = slice_get-get_or c.args.starts.now c.loop-id.id-index none (omega arith) in
+    let k = c.loop-id.id-index in
+    let ids = keys c.args.names.now in
+    let s : TestId × ℕ = get_or c.args.starts.now k none in
+    let at : slice_get c.args.starts.now k ≡ Some s = slice_get-get_or c.args.starts.now k none (omega arith) in
+    let fresh = no_key ids (take k c.args.starts.now) c.loop-id.room c.in-Some.place 0 s.0 c.loop-id.invariant.filled (front_early c.args.starts.now k c.requires.early) c.in-Some.ensures.found (omega (arith, c.if-room-place-lt-NO_START.false)) in
     record {
-      each = each_more (StartsOnce (soc_value c.args.soc.now)) c.args.starts.now c.loop-id.id-index (get_or c.args.starts.now c.loop-id.id-index none) c.loop-id.invariant.each at (c.if-not-is_live_test.ensures.live refl, not_started _ _ any);
-      filled = c.put_start.ensures.entries ∙ rw c.loop-id.invariant.filled (sym (take_more c.args.starts.now c.loop-id.id-index none (omega arith)));
-      space = omega (arith, c.loop-id.invariant.space, c.put_start.ensures.space_left, simp length-append at (ap length c.put_start.ensures.entries));
+      each = each_more (IsOnce ids) c.args.starts.now k s c.loop-id.invariant.each at (contains_from ids s.0 c.in-Some.place c.in-Some.ensures.found, λ key. true≢false (sym (key_has s.0 (take k c.args.starts.now) key) ∙ fresh));
+      filled = starts_more ids c.args.starts.now c.loop-id.room k c.in-Some.place none s c.requires.apart c.loop-id.invariant.filled (omega arith) refl c.in-Some.ensures.found fresh;
     }
 
 pub returns-clause-kept : goal.returns-clause-kept
-returns-clause-kept c = each_all (StartsOnce (soc_value c.args.soc.now)) c.args.starts.now c.loop-id.id-index (omega arith) c.loop-id.invariant.each
+returns-clause-kept c = each_all (IsOnce (keys c.args.names.now)) c.args.starts.now c.loop-id.id-index (omega arith) c.loop-id.invariant.each
+
+pub returns-clause-filled : goal.returns-clause-filled
+returns-clause-filled c = subst (λ (l : List (TestId × ℕ)). AreStarts (keys c.args.names.now) l c.loop-id.room) (take_all c.loop-id.id-index c.args.starts.now (omega arith)) c.loop-id.invariant.filled

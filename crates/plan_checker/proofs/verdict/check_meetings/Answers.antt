@@ -3,12 +3,12 @@ use Rattle.plan_checker.proofs.Stepping.{kept_more, fault_here, last_stage}
 use Rattle.plan_checker.proofs.verdict.check_meetings.Goals as goal
 
 pub returns-in-Some : goal.returns-in-Some
-returns-in-Some c = λ soc limits plan jobs parents kept. fault_here soc limits plan Wires c.in-Some.fault kept (c.in-Some.ensures soc limits plan jobs parents)
+returns-in-Some c = λ soc limits plan placed parents kept. fault_here soc limits plan Wires c.in-Some.fault kept (c.in-Some.ensures soc limits plan placed parents)
 
 pub returns-in-Some-check_apart : goal.returns-in-Some-check_apart
-returns-in-Some-check_apart c = λ soc limits plan jobs parents kept.
-    fault_here soc limits plan Busy c.in-Some-check_apart.fault (kept_more soc limits plan Wires kept (c.in-None.ensures soc limits plan jobs parents)) (c.in-Some-check_apart.ensures soc limits plan jobs parents)
+returns-in-Some-check_apart c = λ soc limits plan placed parents kept.
+    fault_here soc limits plan Busy c.in-Some-check_apart.fault (kept_more soc limits plan Wires kept (c.in-None.ensures soc limits plan placed parents)) (c.in-Some-check_apart.ensures soc limits plan placed parents)
 
 pub returns-in-None-check_apart : goal.returns-in-None-check_apart
-returns-in-None-check_apart c = λ soc limits plan jobs parents kept.
-    last_stage soc limits plan Parents c.check_apart-in-None-check_apart.result (kept_more soc limits plan Busy (kept_more soc limits plan Wires kept (c.in-None.ensures soc limits plan jobs parents)) (c.in-None-check_apart.ensures soc limits plan jobs parents)) (c.check_apart-in-None-check_apart.ensures soc limits plan jobs parents)
+returns-in-None-check_apart c = λ soc limits plan placed parents kept.
+    last_stage soc limits plan Parents c.check_apart-in-None-check_apart.result (kept_more soc limits plan Busy (kept_more soc limits plan Wires kept (c.in-None.ensures soc limits plan placed parents)) (c.in-None-check_apart.ensures soc limits plan placed parents)) (c.check_apart-in-None-check_apart.ensures soc limits plan placed parents)

@@ -1,29 +1,33 @@
 use Rattle.std.proofs.Common.{◌≡◌, ◌∙◌, ap, length, arith}
+use Rattle.indexmap.specs.IndexSet.{keys}
 use Rattle.soc_model.specs.Chips.{soc_value}
 use Rattle.plan_model.specs.Views.{limits_value, plan_value}
 use Rattle.plan_checker.proofs.Laying.{layout}
-use Rattle.plan_checker.proofs.Loads.{jobs_apart, load_is}
+use Rattle.plan_checker.proofs.Loads.{placed_apart, placed_named, load_is}
 use Rattle.plan_checker.proofs.verdict.check_placed.Goals as goal
 
-pub fill_names-requires-clause-apart : goal.fill_names-requires-clause-apart
-fill_names-requires-clause-apart c = jobs_apart (soc_value c.args.from.now.soc.now) (plan_value c.args.from.now.plan.now) c.fill_jobs.new.jobs c.requires.placing.sound c.fill_jobs.ensures
+pub fill_profiles-requires-clause-named : goal.fill_profiles-requires-clause-named
+fill_profiles-requires-clause-named c = placed_named (soc_value c.args.from.now.soc.now) (plan_value c.args.from.now.plan.now) c.fill_tests.new.placed (keys c.args.from.now.names.now) c.requires.placing.names_are c.fill_tests.ensures
+
+pub check_ends-requires-clause-named : goal.check_ends-requires-clause-named
+check_ends-requires-clause-named c = placed_named (soc_value c.args.from.now.soc.now) (plan_value c.args.from.now.plan.now) c.fill_tests.new.placed (keys c.args.from.now.names.now) c.requires.placing.names_are c.fill_tests.ensures
 
 pub check_meetings-requires : goal.check_meetings-requires
 check_meetings-requires c =
     let parents : length c.fill_parents.new.parents ≡ length c.args.rooms.now.parents.items = c.fill_parents.auto.parents ∙ ap length c.deref_mut-parents.ensures.value in
-    layout (soc_value c.args.from.now.soc.now) (limits_value c.args.limits.now) (plan_value c.args.from.now.plan.now) c.fill_parents.new.parents c.fill_jobs.new.jobs c.fill_begins.new.begins (length c.deref_mut.result.now) c.requires.limits c.requires.kept c.fill_jobs.ensures c.fill_parents.ensures (parents ∙ c.requires.parents_fit) c.fill_begins.ensures (omega (arith, parents, ap length c.deref_mut.ensures.value, c.requires.ends_fit))
+    layout (soc_value c.args.from.now.soc.now) (limits_value c.args.limits.now) (plan_value c.args.from.now.plan.now) c.fill_parents.new.parents c.fill_tests.new.placed c.fill_begins.new.begins (length c.deref_mut.result.now) c.requires.limits c.requires.kept c.fill_tests.ensures c.fill_parents.ensures (parents ∙ c.requires.parents_fit) c.fill_begins.ensures (omega (arith, parents, ap length c.deref_mut.ensures.value, c.requires.ends_fit))
 
 pub check_ends-requires-clause-load : goal.check_ends-requires-clause-load
-check_ends-requires-clause-load c = λ most limit. load_is (soc_value c.args.from.now.soc.now) (limits_value c.args.limits.now) (plan_value c.args.from.now.plan.now) c.fill_jobs.new.jobs c.fill_profiles.new.profiles most c.requires.placing.sound c.requires.limits c.fill_jobs.ensures c.fill_profiles.ensures limit
+check_ends-requires-clause-load c = λ most limit. load_is (soc_value c.args.from.now.soc.now) (limits_value c.args.limits.now) (plan_value c.args.from.now.plan.now) c.fill_tests.new.placed c.fill_profiles.new.profiles most c.requires.placing.sound c.requires.limits c.fill_tests.ensures c.fill_profiles.ensures limit
 
 pub returns-in-Some-clause-verdict : goal.returns-in-Some-clause-verdict
-returns-in-Some-clause-verdict c = c.in-Some.ensures (soc_value c.args.from.now.soc.now) (limits_value c.args.limits.now) (plan_value c.args.from.now.plan.now) c.fill_jobs.ensures c.fill_parents.ensures c.requires.kept
+returns-in-Some-clause-verdict c = c.in-Some.ensures (soc_value c.args.from.now.soc.now) (limits_value c.args.limits.now) (plan_value c.args.from.now.plan.now) c.fill_tests.ensures c.fill_parents.ensures c.requires.kept
 
 pub returns-in-None-clause-verdict : goal.returns-in-None-clause-verdict
-returns-in-None-clause-verdict c = c.check_ends.ensures.verdict (soc_value c.args.from.now.soc.now) c.fill_jobs.ensures (c.in-None.ensures (soc_value c.args.from.now.soc.now) (limits_value c.args.limits.now) (plan_value c.args.from.now.plan.now) c.fill_jobs.ensures c.fill_parents.ensures c.requires.kept)
+returns-in-None-clause-verdict c = c.check_ends.ensures.verdict (soc_value c.args.from.now.soc.now) c.fill_tests.ensures (c.in-None.ensures (soc_value c.args.from.now.soc.now) (limits_value c.args.limits.now) (plan_value c.args.from.now.plan.now) c.fill_tests.ensures c.fill_parents.ensures c.requires.kept)
 
 pub fill_profiles-requires-clause-apart : goal.fill_profiles-requires-clause-apart
-fill_profiles-requires-clause-apart c = jobs_apart (soc_value c.args.from.now.soc.now) (plan_value c.args.from.now.plan.now) c.fill_jobs.new.jobs c.requires.placing.sound c.fill_jobs.ensures
+fill_profiles-requires-clause-apart c = placed_apart (soc_value c.args.from.now.soc.now) (plan_value c.args.from.now.plan.now) c.fill_tests.new.placed c.requires.placing.sound c.fill_tests.ensures
 
 pub check_ends-requires-clause-apart : goal.check_ends-requires-clause-apart
-check_ends-requires-clause-apart c = jobs_apart (soc_value c.args.from.now.soc.now) (plan_value c.args.from.now.plan.now) c.fill_jobs.new.jobs c.requires.placing.sound c.fill_jobs.ensures
+check_ends-requires-clause-apart c = placed_apart (soc_value c.args.from.now.soc.now) (plan_value c.args.from.now.plan.now) c.fill_tests.new.placed c.requires.placing.sound c.fill_tests.ensures

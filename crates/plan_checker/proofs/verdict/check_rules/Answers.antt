@@ -1,6 +1,6 @@
 use Rattle.std.proofs.Common.{arith}
 use Rattle.soc_model.specs.Chips.{soc_value}
-use Rattle.plan_model.specs.Rules.{Known, Wrappers, Proper}
+use Rattle.plan_model.specs.Rules.{Known, Wrappers, Proper, Starts}
 use Rattle.plan_checker.proofs.Finding.{number_at}
 use Rattle.plan_checker.proofs.Naming.{known_wrapped}
 use Rattle.plan_checker.proofs.verdict.check_rules.Goals as goal
@@ -13,8 +13,10 @@ check_placed-requires-clause-placing c = record {
   sound = c.requires.sound;
   wrapped = (c.in-None-check_tests.ensures.verdict Wrappers (omega arith)).1;
   proper = c.in-None-check_tests.ensures.verdict Proper (omega arith);
+  early = c.requires.early;
+  names_are = c.in-None-check_tests.ensures.named;
+  started = (c.in-None-check_tests.ensures.verdict Starts (omega arith)).1;
   starts_are = c.in-None-check_tests.ensures.started;
-  early = rw c.in-None-check_tests.ensures.started c.requires.early;
   pairs_are = c.in-None-check_tests.ensures.paired;
   buses_are = λ p m at. c.in-None.ensures.marked p m.number (number_at (soc_value c.args.soc.now).modules p m at);
 }
