@@ -32,13 +32,16 @@ fn lower_at(points: &mut Vec<Point>, place: usize, power: u64)
 }
 
 /// Adds a draw to the loads of the points at which it is taken. They are sought from a near place; a place near to the end of the
-/// draw is answered.
+/// draw is answered. A draw that is over as it begins is taken nowhere, and isn't looked for.
 fn raise(points: &mut Vec<Point>, near: usize, draw: &Draw) -> usize
     requires ordered { IsNonDecreasingBy (λ (p : Point). p.cycle) points.old.items }
     requires fits { All (λ (p : Point). p.load + taken_by p.cycle draw.now < 2 ^ 64) points.old.items }
     ensures items { points.new.items ≡ map (raised_by draw.now) points.old.items }
     ensures capacity { vec_capacity points.new ≡ vec_capacity points.old }
 {
+    if draw.to <= draw.from {
+        return near;
+    }
     let first = places_before_near(points, near, draw.from);
     for place in first..points.len() {
         if points[place].cycle >= draw.to {
@@ -50,13 +53,16 @@ fn raise(points: &mut Vec<Point>, near: usize, draw: &Draw) -> usize
 }
 
 /// Takes a draw from the loads of the points at which it is taken. They are sought from a near place, and the place of the first
-/// one is answered.
+/// one is answered. A draw that is over as it begins is taken nowhere, and isn't looked for.
 fn lower(points: &mut Vec<Point>, near: usize, draw: &Draw) -> usize
     requires ordered { IsNonDecreasingBy (λ (p : Point). p.cycle) points.old.items }
     requires covers { All (λ (p : Point). taken_by p.cycle draw.now ≤ p.load) points.old.items }
     ensures items { points.old.items ≡ map (raised_by draw.now) points.new.items }
     ensures capacity { vec_capacity points.new ≡ vec_capacity points.old }
 {
+    if draw.to <= draw.from {
+        return near;
+    }
     let first = places_before_near(points, near, draw.from);
     for place in first..points.len() {
         if points[place].cycle >= draw.to {
