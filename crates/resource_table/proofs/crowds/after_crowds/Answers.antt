@@ -43,11 +43,11 @@ returns-in_default-clause-free c =
     let to = c.places_before_near-to.result in
     let far = max c.crowds.calm to in
     let swept = swept_free c.args.points.now c.args.free c.args.from c.args.width c.args.last c.crowds.start (far - c.crowds.place) c.crowds.place far c.requires.profile c.requires.some (omega (arith, order)) (let e = c.places_before_near-to.ensures.bound in omega (arith, bound, e)) c.crowds.invariant.behind
-        (λ k low less. elim (cases_lt k c.crowds.calm) [
-          | inl before ↦ c.crowds.invariant.calm k low before
-          | inr behind ↦ c.in_default.ensures.none k behind (omega (arith, less, behind))
-        ])
-        (subst (IsSwept c.args.points.now c.args.free c.args.from c.args.width c.args.last c.crowds.place c.crowds.start) c.if-crowded.false c.crowds.invariant.swept) in
+    (λ k low less. elim (cases_lt k c.crowds.calm) [
+      | inl before ↦ c.crowds.invariant.calm k low before
+      | inr behind ↦ c.in_default.ensures.none k behind (omega (arith, less, behind))
+    ])
+    (subst (IsSwept c.args.points.now c.args.free c.args.from c.args.width c.args.last c.crowds.place c.crowds.start) c.if-crowded.false c.crowds.invariant.swept) in
     (swept_through c.args.points.now c.args.free c.args.from c.args.width c.args.last far c.crowds.start swept (λ inside. c.places_before_near-to.ensures.parts.1 far no_point (omega arith) inside)).0
 
 pub crowds-preserved : goal.crowds-preserved
