@@ -1,4 +1,4 @@
-use Rattle.std.proofs.Common.{◌∙◌, ◌<◌, ◌≤◌, ◌-◌, ◌+◌, length, get_or, false, inl, inr, max, arith, sym, ap, subst}
+use Rattle.std.proofs.Common.{◌∙◌, ◌<◌, ◌-◌, length, inl, inr, max, arith, sym, ap, subst}
 use Rattle.std.specs.Prelude.{nat_lt}
 use Rattle.std.proofs.lemmas.Bool.{cases_lt}
 use Rattle.resource_table.specs.Profiles.{no_point}

@@ -1,4 +1,4 @@
-use Rattle.std.proofs.Common.{ℕ, ◌-◌, ◌<◌, get_or, arith, subst}
+use Rattle.std.proofs.Common.{ℕ, ◌<◌, get_or, arith, subst}
 use Rattle.resource_table.specs.Profiles.{no_point}
 use Rattle.resource_table.proofs.Near.{parts_near}
 use Rattle.resource_table.proofs.points.places_before_near.Goals as goal

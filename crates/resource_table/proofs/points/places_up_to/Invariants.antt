@@ -1,4 +1,4 @@
-use Rattle.std.proofs.Common.{◌-◌, ◌<◌, ◌≤◌, length, get_or}
+use Rattle.std.proofs.Common.{◌<◌, ◌≤◌, length, get_or}
 use Rattle.resource_table.specs.Profiles.{no_point}
 use Rattle.resource_table.proofs.points.places_up_to.Given as goal
 
