@@ -243,6 +243,12 @@ few_used (p ∷ points) = elim (cases_Bool (nat_eq p.uses 0)) [
 raised_none : (d : Draw) (p : Point) → taken_by p.cycle d ≡ 0 → raised_by d p ≡ p
 raised_none d p none = ap (λ (n : ℕ). (let q : Point = record { cycle = p.cycle; load = n; uses = p.uses } in q)) (let e : p.load + taken_by p.cycle d ≡ p.load = omega (arith, none) in e)
 
+-- a draw that is over as it begins is taken at no point
+pub raised_nowhere : (d : Draw) (points : List Point) → d.to ≤ d.from → points ≡ map (raised_by d) points
+raised_nowhere d [] over = refl
+raised_nowhere d (p ∷ points) over =
+    ap (λ (q : Point). q ∷ points) (sym (raised_none d p (never_taken d p.cycle over))) ∙ ap (λ (qs : List Point). raised_by d p ∷ qs) (raised_nowhere d points over)
+
 -- the points up to a place have a draw more than those of another list, and those from there on are the same
 pub record AreRaised (d : Draw) (low high : List Point) (place : ℕ) : Type 0 where
   pub long : length low ≡ length high

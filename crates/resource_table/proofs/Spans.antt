@@ -1,5 +1,5 @@
 -- Times in the order of their starts, and timelines of them, with one time more or less.
-use Rattle.std.proofs.Common.{◌≡◌, ℕ, zero, suc, ◌+◌, ◌<◌, ◌≤◌, inl, inr, Option, None, Some, List, [], ◌∷◌, length, get_or, set, arith, refl, sym, ap, ◌∙◌, subst}
+use Rattle.std.proofs.Common.{◌≡◌, ℕ, zero, suc, ◌+◌, ◌-◌, ◌<◌, ◌≤◌, inl, inr, Option, None, Some, List, [], ◌∷◌, length, get_or, set, arith, refl, sym, ap, ◌∙◌, subst}
 use Rattle.std.specs.Prelude.{slice_get, vec_capacity}
 use Rattle.std.specs.List.{All, AllWithin, remove}
 use Rattle.std.specs.List.Sorted.{IsNonDecreasingBy}
@@ -44,6 +44,10 @@ same_line lines place at k line other is there is' there' =
     let both : (let a : Option Timeline = Some other in a) ≡ Some line = sym there' ∙ here in
     let one : other ≡ line = cc in
     ap (λ (v : Timeline). v.spans.items) one
+
+-- the last of an ordered list is no less than each
+pub last_most : {X : Type 0} (n : X → ℕ) (xs : List X) (k : ℕ) (d e : X) → IsNonDecreasingBy n xs → k < length xs → n (get_or xs k d) ≤ n (get_or xs (length xs - 1) e)
+last_most {X} n xs k d e up lt = subst (λ (x : X). n x ≤ n (get_or xs (length xs - 1) e)) (same_item xs k e d lt) (up k (length xs - 1) e (omega (arith, lt)) (omega (arith, lt)))
 
 -- ---- one timeline of a list changes
 

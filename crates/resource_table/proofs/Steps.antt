@@ -5,7 +5,7 @@ use Rattle.std.proofs.lemmas.List.Sums.{sum_by-cons}
 use Rattle.plan_model.specs.Plans.{step_power}
 use Rattle.plan_model.specs.SoundLimits.{Grow}
 use Rattle.resource_table.specs.declared.power.Draw.{Draw}
-use Rattle.resource_table.specs.Resources.{taken_by, load_of, step_end, draws_from, StepsFit}
+use Rattle.resource_table.specs.Resources.{taken_by, load_of, step_end, draws_from, StepsFit, StepFits}
 
 -- before the first step nothing changes
 pub step_late : (from r now : ℕ) (steps : List (ℕ × ℕ)) → Grow from steps → r < from → step_power r now steps ≡ now
@@ -136,3 +136,10 @@ steps_fit_end load limit start length' zero [] le = tt
 steps_fit_end load limit start length' (suc at) [] le = tt
 steps_fit_end load limit start length' zero (s ∷ steps) le = absurd (omega arith)
 steps_fit_end load limit start length' (suc at) (s ∷ steps) le = steps_fit_end load limit start length' at steps (omega arith)
+
+-- the steps from a place on fit where each of them does
+pub steps_fit_all : (load : ℕ → ℕ) (limit start length' n at : ℕ) (steps : List (ℕ × ℕ)) → at + n ≡ length steps → ((k : ℕ) → at ≤ k → k < length steps → StepFits load limit start length' k steps) → StepsFit load limit start length' (drop at steps)
+steps_fit_all load limit start length' zero at steps ends each = steps_fit_end load limit start length' at steps (omega (arith, ends))
+steps_fit_all load limit start length' (suc n) at steps ends each =
+    steps_fit_more load limit start length' at steps (omega (arith, ends)) (each at (omega arith) (omega (arith, ends)))
+    (steps_fit_all load limit start length' n (at + 1) steps (omega (arith, ends)) (λ k low lt. each k (omega (arith, low)) lt))

@@ -152,17 +152,22 @@ swept_free points free from width last start (suc n) place r witness some ends l
     swept_free points free from width last start n (place + 1) r witness some (omega (arith, ends)) le (λ k low inside. behind k (omega (arith, low)) inside) (λ k low less. low' k (omega (arith, low)) less)
     (stays_free points free from width last place start witness some (omega (arith, ends, le)) (behind place (omega arith) (omega (arith, ends, le))) swept (low' place (omega arith) (omega (arith, ends))))
 
--- where the sweep is through, enough is free from the start on
-pub swept_through : (points : List Point) (free from width last place start : ℕ) → IsSwept points free from width last place start false → start + width ≤ (get_or points place no_point).cycle →
+-- where nothing crowded is left before the cycles are over, enough is free from the start on
+pub swept_through : (points : List Point) (free from width last place start : ℕ) → IsSwept points free from width last place start false → (place < length points → start + width ≤ (get_or points place no_point).cycle) →
     ((load : ℕ → ℕ) → IsEndedProfile load points last → IsFreeFor load free width start) × ((load : ℕ → ℕ) → IsEndedProfile load points last → (other : ℕ) → from ≤ other → IsFreeFor load free width other → start ≤ other)
 swept_through points free from width last place start swept late =
-    ((λ load ended c low high. swept.clear refl load ended c low (λ _. omega (arith, late, high))), swept.low refl)
+    ((λ load ended c low high. swept.clear refl load ended c low (λ inside. (let over = late inside in omega (arith, over, high)))), swept.low refl)
 
--- and where it is over
-pub swept_over : (points : List Point) (free from width last place start : ℕ) → length points ≤ place → IsSwept points free from width last place start false →
-    ((load : ℕ → ℕ) → IsEndedProfile load points last → IsFreeFor load free width start) × ((load : ℕ → ℕ) → IsEndedProfile load points last → (other : ℕ) → from ≤ other → IsFreeFor load free width other → start ≤ other)
-swept_over points free from width last place start over swept =
-    ((λ load ended c low high. swept.clear refl load ended c low (λ inside. absurd (omega (arith, over, inside)))), swept.low refl)
+-- a crowd that each of the starts that are left meets, wherever it stands behind the place
+pub crowd_met : (points : List Point) (free from width last place start crowd : ℕ) → 1 ≤ width → IsSwept points free from width last place start false → crowd < length points → (get_or points crowd no_point).cycle < start + width →
+    free < (get_or points crowd no_point).load → IsSwept points free from width last (crowd + 1) start true
+crowd_met points free from width last place start crowd some swept lt early more = record {
+  from' = swept.from';
+  most = swept.most;
+  clear = λ (no' : true ≡ false). absurd cc;
+  low = λ (no' : true ≡ false). absurd cc;
+  high = λ _ load ended other later good. (let least = swept.low refl load ended other later good in crowd_goes_on load points free width crowd other ended.profile some lt more (omega (arith, early, least)) good);
+}
 
 -- no crowd is left then
 pub none_crowded : {P : Type 0} (points : List Point) (free from width last place start : ℕ) → (load : ℕ → ℕ) × IsEndedProfile load points last → length points ≤ place → IsSwept points free from width last place start true → P

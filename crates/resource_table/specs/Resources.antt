@@ -1,5 +1,5 @@
 -- What a table keeps of its placed tests, as it would be built from the list of them.
-use Rattle.std.specs.Prelude.{ℕ, ◌+◌, ◌<◌, ◌≤◌, ◌&&◌, min, nat_eq, nat_lt, nat_le, Option, None, Some, List, [], ◌∷◌, map, if◌then◌else◌}
+use Rattle.std.specs.Prelude.{ℕ, ◌+◌, ◌<◌, ◌≤◌, ◌&&◌, min, nat_eq, nat_lt, nat_le, Option, None, Some, List, [], ◌∷◌, map, drop, slice_index_or, if◌then◌else◌}
 use Rattle.std.specs.List.{sum_by}
 use Rattle.resource_table.specs.declared.Placement.{Placement}
 use Rattle.resource_table.specs.declared.power.Draw.{Draw}
@@ -40,6 +40,11 @@ abbrev pub StepsFit : (load : ℕ → ℕ) (most start length : ℕ) → List (�
 StepsFit load most start length [] = Unit {0}
 StepsFit load most start length (s ∷ next) =
     ((c : ℕ) → start + s.0 ≤ c → c < start + step_end length next → load c + s.1 ≤ most) × StepsFit load most start length next
+
+-- beside a load, the step at a place stays within a limit at each of its cycles, if its test starts there
+abbrev pub StepFits : (load : ℕ → ℕ) (most start length place : ℕ) → List (ℕ × ℕ) → Type 0
+StepFits load most start length place steps =
+    (c : ℕ) → start + (slice_index_or steps place (0, 0)).0 ≤ c → c < start + step_end length (drop (place + 1) steps) → load c + (slice_index_or steps place (0, 0)).1 ≤ most
 
 -- ---- ends
 

@@ -1,5 +1,5 @@
 // Where a profile of power leaves enough free for a step of a test, and for long enough.
-ghost use Rattle.std.specs.Prelude.{◌≡◌, ℕ, ◌+◌, ◌^◌, ◌<◌, ◌≤◌, ◌⊎◌, nat_lt, length, slice_index_or};
+ghost use Rattle.std.specs.Prelude.{◌≡◌, ℕ, ◌+◌, ◌^◌, ◌<◌, ◌≤◌, ◌⊎◌, nat_lt, length, slice_index_or, IfSome, IfNone};
 ghost use Rattle.resource_table.specs.Profiles.{no_point, IsEndedProfile, IsFreeFor};
 
 use crate::points::{Point, load_before, places_before_near};
@@ -27,29 +27,30 @@ fn crowd_end(points: &[Point], from: usize, free: u64) -> usize
     points.len()
 }
 
-/// The place, from one on, of the first point from which on more is drawn than is free, or that doesn't stand before a cycle; the
-/// end where there is none.
-fn free_end(points: &[Point], from: usize, free: u64, cycle: u64) -> usize
-    requires { from ≤ length points.now }
-    ensures from { from ≤ result }
-    ensures bound { result ≤ length points.now }
-    ensures free { (k : ℕ) → from ≤ k → k < result → (slice_index_or points.now k no_point).load ≤ free }
-    ensures end { result < length points.now → (slice_index_or points.now result no_point).cycle < cycle → free < (slice_index_or points.now result no_point).load }
+/// The place, from one on and before another, of the last point from which on more is drawn than is free. It is looked for from
+/// the last one back.
+fn last_crowd(points: &[Point], from: usize, to: usize, free: u64) -> Option<usize>
+    requires { to ≤ length points.now }
+    ensures from { IfSome result (λ crowd. from ≤ crowd) }
+    ensures to { IfSome result (λ crowd. crowd < to) }
+    ensures crowded { IfSome result (λ crowd. free < (slice_index_or points.now crowd no_point).load) }
+    ensures behind { IfSome result (λ crowd. (k : ℕ) → crowd < k → k < to → (slice_index_or points.now k no_point).load ≤ free) }
+    ensures none { IfNone result ((k : ℕ) → from ≤ k → k < to → (slice_index_or points.now k no_point).load ≤ free) }
 {
-    for place in from..points.len() {
-        let point = points[place];
-        if point.load > free {
-            return place;
-        }
-        if point.cycle >= cycle {
-            return place;
+    let mut place = to;
+    while place > from {
+        place -= 1;
+        if points[place].load > free {
+            return Some(place);
         }
     }
-    points.len()
+    None
 }
 
-/// The least cycle from `from` on from which no more than so much is drawn for so many cycles. It is found by one sweep over
-/// the points, from crowd to crowd, from the one that tells the load at `from` on, which is sought from a near place.
+/// The least cycle from `from` on from which no more than so much is drawn for so many cycles. The point that tells the load at
+/// `from` is sought from a near place. From each start the last crowd that it meets is looked for, from the last of its cycles back,
+/// and where that crowd ends is the next start: no earlier one is free of it. So each point is looked at once at most, and what
+/// stands before the last crowd isn't looked at.
 pub fn after_crowds(
     points: &[Point],
     near: usize,
@@ -68,6 +69,7 @@ pub fn after_crowds(
     ensures least { (load : ℕ → ℕ) → IsEndedProfile load points.now last → (other : ℕ) → from ≤ other → IsFreeFor load free width other → result ≤ other }
 {
     let mut place = places_before_near(points, near, from + 1);
+    let mut calm = place;
     let mut start = from;
     let mut crowded = is_crowded(load_before(points, place), free);
     'crowds: loop {
@@ -78,17 +80,16 @@ pub fn after_crowds(
             }
             start = points[end].cycle;
             place = end + 1;
+            calm = calm.max(place);
             crowded = false;
             continue 'crowds;
         }
-        let end = free_end(points, place, free, start + width);
-        if end == points.len() {
+        let to = places_before_near(points, calm, start + width);
+        let Some(crowd) = last_crowd(points, calm, to, free) else {
             return start;
-        }
-        if start + width <= points[end].cycle {
-            return start;
-        }
-        place = end + 1;
+        };
+        place = crowd + 1;
+        calm = to;
         crowded = true;
     }
 }

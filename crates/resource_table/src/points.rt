@@ -1,5 +1,5 @@
 // Points of a profile of the power that is drawn, in the order of their cycles.
-ghost use Rattle.std.specs.Prelude.{◌≡◌, ℕ, ◌+◌, ◌-◌, ◌^◌, ◌<◌, ◌≤◌, true, false, nat_lt, nat_eq, not, length, slice_index_or, slice_set, vec_capacity};
+ghost use Rattle.std.specs.Prelude.{◌≡◌, ℕ, ◌+◌, ◌-◌, ◌^◌, ◌<◌, ◌≤◌, true, false, nat_eq, not, length, slice_index_or, slice_set, vec_capacity};
 ghost use Rattle.std.specs.List.{filter, insert};
 ghost use Rattle.std.specs.List.Sorted.{IsNonDecreasingBy, IsPartitionPoint};
 ghost use Rattle.resource_table.specs.declared.points.Point.{Point};
@@ -16,25 +16,9 @@ pub struct Point {
     pub uses: usize,
 }
 
-/// How many points stand before a cycle.
-pub fn places_before(points: &[Point], cycle: u64) -> usize
-    requires { IsNonDecreasingBy (λ (p : Point). p.cycle) points.now }
-    ensures bound { result ≤ length points.now }
-    ensures parts { IsPartitionPoint (λ (p : Point). p.cycle < cycle) (λ (p : Point). cycle ≤ p.cycle) points.now result }
-{
-    points.partition_point(
-        |p: &Point| -> bool
-            ensures { result ≡ nat_lt p.now.cycle cycle }
-        { p.cycle < cycle },
-    )
-}
-
-/// How far a search goes from a place that is near, before it looks at all points.
-const NEAR: usize = 32;
-
 /// Whether the point at a place is there and stands before a cycle.
 fn is_early(points: &[Point], place: usize, cycle: u64) -> bool
-    ensures early { result ≡ true → place < length points.now }
+    ensures early { result ≡ true → (place < length points.now) × ((slice_index_or points.now place no_point).cycle < cycle) }
     ensures late { result ≡ false → place < length points.now → cycle ≤ (slice_index_or points.now place no_point).cycle }
 {
     place < points.len() && points[place].cycle < cycle
@@ -43,30 +27,91 @@ fn is_early(points: &[Point], place: usize, cycle: u64) -> bool
 /// Whether the point before a place is there and doesn't stand before a cycle.
 fn is_passed(points: &[Point], place: usize, cycle: u64) -> bool
     requires { place ≤ length points.now }
-    ensures passed { result ≡ true → 0 < place }
+    ensures passed { result ≡ true → (0 < place) × (cycle ≤ (slice_index_or points.now (place - 1) no_point).cycle) }
     ensures ahead { result ≡ false → 0 < place → (slice_index_or points.now (place - 1) no_point).cycle < cycle }
 {
     place > 0 && points[place - 1].cycle >= cycle
 }
 
-/// How many points stand before a cycle. It is found sooner where it is near to some number.
+/// How many points stand before a cycle, where these are so many at least and fewer than so many more.
+fn places_between(points: &[Point], from: usize, to: usize, cycle: u64) -> usize
+    requires order { from ≤ to }
+    requires bound { to ≤ length points.now }
+    requires ahead { 0 < from → (slice_index_or points.now (from - 1) no_point).cycle < cycle }
+    requires late { to < length points.now → cycle ≤ (slice_index_or points.now to no_point).cycle }
+    ensures bound { result ≤ length points.now }
+    ensures ahead { 0 < result → (slice_index_or points.now (result - 1) no_point).cycle < cycle }
+    ensures late { result < length points.now → cycle ≤ (slice_index_or points.now result no_point).cycle }
+{
+    let mut low = from;
+    let mut high = to;
+    while low < high {
+        let middle = low + (high - low) / 2;
+        if points[middle].cycle < cycle {
+            low = middle + 1;
+        } else {
+            high = middle;
+        }
+    }
+    low
+}
+
+/// How many points stand before a cycle, where these are so many at least. They are looked for in steps that double.
+fn places_from(points: &[Point], from: usize, cycle: u64) -> usize
+    requires bound { from ≤ length points.now }
+    requires ahead { 0 < from → (slice_index_or points.now (from - 1) no_point).cycle < cycle }
+    ensures bound { result ≤ length points.now }
+    ensures ahead { 0 < result → (slice_index_or points.now (result - 1) no_point).cycle < cycle }
+    ensures late { result < length points.now → cycle ≤ (slice_index_or points.now result no_point).cycle }
+{
+    let mut low = from;
+    let mut far: usize = 1;
+    while points.len() - low > far {
+        let high = low + far;
+        if points[high].cycle >= cycle {
+            return places_between(points, low, high, cycle);
+        }
+        low = high + 1;
+        far = far.saturating_mul(2);
+    }
+    places_between(points, low, points.len(), cycle)
+}
+
+/// How many points stand before a cycle, where these are so many at most. They are looked for in steps that double.
+fn places_up_to(points: &[Point], to: usize, cycle: u64) -> usize
+    requires bound { to ≤ length points.now }
+    requires late { to < length points.now → cycle ≤ (slice_index_or points.now to no_point).cycle }
+    ensures bound { result ≤ length points.now }
+    ensures ahead { 0 < result → (slice_index_or points.now (result - 1) no_point).cycle < cycle }
+    ensures late { result < length points.now → cycle ≤ (slice_index_or points.now result no_point).cycle }
+{
+    let mut high = to;
+    let mut far: usize = 1;
+    while high > far {
+        let low = high - far;
+        if points[low - 1].cycle < cycle {
+            return places_between(points, low, high, cycle);
+        }
+        high = low - 1;
+        far = far.saturating_mul(2);
+    }
+    places_between(points, 0, high, cycle)
+}
+
+/// How many points stand before a cycle. It is found the sooner, the nearer it is to some number.
 pub fn places_before_near(points: &[Point], near: usize, cycle: u64) -> usize
     requires { IsNonDecreasingBy (λ (p : Point). p.cycle) points.now }
     ensures bound { result ≤ length points.now }
     ensures parts { IsPartitionPoint (λ (p : Point). p.cycle < cycle) (λ (p : Point). cycle ≤ p.cycle) points.now result }
 {
-    let mut place = near.min(points.len());
-    for _ in 0..NEAR {
-        if is_early(points, place, cycle) {
-            place += 1;
-            continue;
-        }
-        if !is_passed(points, place, cycle) {
-            return place;
-        }
-        place -= 1;
+    let place = near.min(points.len());
+    if is_early(points, place, cycle) {
+        return places_from(points, place + 1, cycle);
     }
-    places_before(points, cycle)
+    if is_passed(points, place, cycle) {
+        return places_up_to(points, place - 1, cycle);
+    }
+    place
 }
 
 /// The load just before the point at a place, 0 before the first.

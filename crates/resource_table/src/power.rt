@@ -1,8 +1,9 @@
 // What tests draw, step by step.
 ghost use Rattle.std.specs.Prelude.{◌≡◌, ℕ, ◌+◌, ◌^◌, ◌<◌, ◌≤◌, ◌++◌, ◌∷◌, [], true, drop, length as length_of, slice_index_or, vec_len, vec_capacity};
 ghost use Rattle.std.specs.List.{All};
+ghost use Rattle.std.specs.List.Sorted.{IsNonDecreasingBy};
 ghost use Rattle.soc_model.specs.declared.TheConstants.{POWER_MOST, NUMBER_WORD_MOST};
-ghost use Rattle.resource_table.specs.Resources.{step_end as step_end_of, draws_from, StepsFit};
+ghost use Rattle.resource_table.specs.Resources.{step_end as step_end_of, draws_from, StepsFit, StepFits};
 ghost use Rattle.resource_table.specs.Profiles.{IsEndedProfile};
 
 use crate::crowds::after_crowds;
@@ -74,35 +75,64 @@ fn after_step(
     after_crowds(points, near, free, start + offset, end - offset, last) - offset
 }
 
-/// A start from `start` on before which a test of these steps doesn't stay within the limit beside what the points tell.
-/// It is `start` where the test does. Each step in turn is looked at from the start that the ones before it leave. The point
-/// at the start is sought from a near place.
-fn next_within(
+/// Where a look at steps ended.
+#[derive(Clone, Copy)]
+struct Look {
+    /// The place of the step that moved the start, or where the look was to end.
+    place: usize,
+    /// The start that was left.
+    start: u64,
+}
+
+/// A place near to the point at which a step begins, from a near one; that one where the step is over as it begins. The step is from so
+/// many cycles after a start on up to so many after it.
+fn near_step(points: &[Point], near: usize, offset: u64, end: u64, start: u64) -> usize
+    requires { IsNonDecreasingBy (λ (p : Point). p.cycle) points.now }
+{
+    if end <= offset {
+        return near;
+    }
+    places_before_near(points, near, start.saturating_add(offset))
+}
+
+/// Looks at the steps of a test from a place on and before another, until one doesn't stay within the limit from `start` on beside
+/// what the points tell. Its place is answered, with the least start from which on it does; else the other place, with `start`. The
+/// point at the start is sought from a near place.
+fn looked_at(
     points: &[Point],
     first: usize,
     limit: u64,
     steps: &[(u64, u64)],
     length: u64,
+    from: usize,
+    to: usize,
     start: u64,
     last: u64,
-) -> u64
+) -> Look
     requires start { start ≤ last }
     requires last { last + length < 2 ^ 63 }
     requires profile { (load : ℕ → ℕ) × IsEndedProfile load points.now last }
     requires within { All (λ (s : ℕ × ℕ). s.1 ≤ limit) steps.now }
-    ensures from { start ≤ result }
-    ensures most { result ≤ last }
-    ensures fits { (load : ℕ → ℕ) → IsEndedProfile load points.now last → result ≡ start → StepsFit load limit start length steps.now }
-    ensures least { (load : ℕ → ℕ) → IsEndedProfile load points.now last → (other : ℕ) → start ≤ other → StepsFit load limit other length steps.now → result ≤ other }
+    requires to { to ≤ length_of steps.now }
+    ensures place { from ≤ to → result.place ≤ to }
+    ensures from { start ≤ result.start }
+    ensures most { result.start ≤ last }
+    ensures moved { result.place < to → start < result.start }
+    ensures there { result.place < to → (load : ℕ → ℕ) → IsEndedProfile load points.now last → StepFits load limit result.start length result.place steps.now }
+    ensures before { (load : ℕ → ℕ) → IsEndedProfile load points.now last → (k : ℕ) → from ≤ k → k < result.place → StepFits load limit start length k steps.now }
+    ensures least { (load : ℕ → ℕ) → IsEndedProfile load points.now last → (other : ℕ) → start ≤ other → StepsFit load limit other length steps.now → result.start ≤ other }
 {
     let mut near = first;
-    let mut found = start;
-    for (at, step) in steps.iter().enumerate() {
-        let end = step_end(steps, at, length);
-        near = places_before_near(points, near, found.saturating_add(step.0));
-        found = after_step(points, near, limit - step.1, step.0, end, found, last);
+    for place in from..to {
+        let (offset, power) = steps[place];
+        let end = step_end(steps, place, length);
+        near = near_step(points, near, offset, end, start);
+        let next = after_step(points, near, limit - power, offset, end, start, last);
+        if next != start {
+            return Look { place, start: next };
+        }
     }
-    found
+    Look { place: to, start }
 }
 
 /// The least start from `start` on at which a test of one step stays within the limit beside what the points tell.
@@ -136,7 +166,8 @@ fn after_only(
 }
 
 /// The least start from `start` on at which a test of these steps stays within the limit beside what the points tell. They
-/// are looked at again and again, until none moves it.
+/// are looked at in turn, the first one behind the last, until each of them has left the start where it is: the one that moved it
+/// last, and those behind and before it.
 fn after_steps(
     points: &[Point],
     limit: u64,
@@ -156,13 +187,31 @@ fn after_steps(
 {
     let mut near = points.len();
     let mut found = start;
+    let mut at = steps.len();
     'starts: loop {
         near = places_before_near(points, near, found);
-        let next = next_within(points, near, limit, steps, length, found, last);
-        if next == found {
+        let behind = looked_at(
+            points,
+            near,
+            limit,
+            steps,
+            length,
+            at + 1,
+            steps.len(),
+            found,
+            last,
+        );
+        if behind.place < steps.len() {
+            at = behind.place;
+            found = behind.start;
+            continue 'starts;
+        }
+        let before = looked_at(points, near, limit, steps, length, 0, at, found, last);
+        if before.place == at {
             return found;
         }
-        found = next;
+        at = before.place;
+        found = before.start;
     }
 }
 

@@ -1,6 +1,6 @@
 // A profile of the power that is drawn: the load at the cycles where a draw begins or ends, in the order of cycles. From
 // each of them on the load stays the same up to the next.
-ghost use Rattle.std.specs.Prelude.{◌≡◌, ℕ, ◌+◌, ◌-◌, ◌^◌, ◌<◌, ◌≤◌, ◌++◌, List, map, take, drop, length, slice_index_or, slice_set, vec_capacity, IfSome};
+ghost use Rattle.std.specs.Prelude.{◌≡◌, ℕ, ◌+◌, ◌-◌, ◌^◌, ◌<◌, ◌≤◌, ◌++◌, true, false, List, map, take, drop, length, slice_index_or, slice_set, vec_capacity, IfSome};
 ghost use Rattle.std.specs.List.{All};
 ghost use Rattle.std.specs.List.Sorted.{IsNonDecreasingBy};
 ghost use Rattle.resource_table.specs.declared.points.Point.{Point};
@@ -31,14 +31,25 @@ fn lower_at(points: &mut Vec<Point>, place: usize, power: u64)
     points[place].load -= power;
 }
 
+/// Whether a draw is over as it begins, so that it is taken at no cycle.
+fn is_over(draw: &Draw) -> bool
+    ensures over { result ≡ true → draw.now.to ≤ draw.now.from }
+    ensures taken { result ≡ false → draw.now.from < draw.now.to }
+{
+    draw.to <= draw.from
+}
+
 /// Adds a draw to the loads of the points at which it is taken. They are sought from a near place; a place near to the end of the
-/// draw is answered.
+/// draw is answered. A draw that is over as it begins is taken at none.
 fn raise(points: &mut Vec<Point>, near: usize, draw: &Draw) -> usize
     requires ordered { IsNonDecreasingBy (λ (p : Point). p.cycle) points.old.items }
     requires fits { All (λ (p : Point). p.load + taken_by p.cycle draw.now < 2 ^ 64) points.old.items }
     ensures items { points.new.items ≡ map (raised_by draw.now) points.old.items }
     ensures capacity { vec_capacity points.new ≡ vec_capacity points.old }
 {
+    if is_over(draw) {
+        return near;
+    }
     let first = places_before_near(points, near, draw.from);
     for place in first..points.len() {
         if points[place].cycle >= draw.to {
@@ -50,13 +61,16 @@ fn raise(points: &mut Vec<Point>, near: usize, draw: &Draw) -> usize
 }
 
 /// Takes a draw from the loads of the points at which it is taken. They are sought from a near place, and the place of the first
-/// one is answered.
+/// one is answered. A draw that is over as it begins is taken at none.
 fn lower(points: &mut Vec<Point>, near: usize, draw: &Draw) -> usize
     requires ordered { IsNonDecreasingBy (λ (p : Point). p.cycle) points.old.items }
     requires covers { All (λ (p : Point). taken_by p.cycle draw.now ≤ p.load) points.old.items }
     ensures items { points.old.items ≡ map (raised_by draw.now) points.new.items }
     ensures capacity { vec_capacity points.new ≡ vec_capacity points.old }
 {
+    if is_over(draw) {
+        return near;
+    }
     let first = places_before_near(points, near, draw.from);
     for place in first..points.len() {
         if points[place].cycle >= draw.to {

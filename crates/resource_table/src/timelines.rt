@@ -1,5 +1,5 @@
 // Busy times, kept apart by what they take: a bus, a module, or the children of a module.
-ghost use Rattle.std.specs.Prelude.{◌≡◌, ℕ, ◌+◌, ◌^◌, ◌<◌, ◌≤◌, Option, None, Some, List, length as length_of, map, nat_lt, nat_le, slice_get, slice_index_or, vec_len, vec_capacity, IfOk};
+ghost use Rattle.std.specs.Prelude.{◌≡◌, ℕ, ◌+◌, ◌^◌, ◌<◌, ◌≤◌, Option, None, Some, true, List, length as length_of, map, nat_lt, nat_le, slice_get, slice_index_or, vec_len, vec_capacity, IfOk};
 ghost use Rattle.std.specs.List.{All, AllWithin};
 ghost use Rattle.std.specs.List.Sorted.{IsNonDecreasingBy, IsPartitionPoint};
 ghost use Rattle.resource_table.specs.declared.timelines.Span.{Span};
@@ -47,12 +47,45 @@ pub struct Timelines {
     pub children: Vec<Timeline>,
 }
 
-/// How many times start before a cycle.
+/// Whether all times start before a cycle. The last of them tells.
+fn all_start_before(spans: &[Span], cycle: u64) -> bool
+    requires { IsNonDecreasingBy (λ (s : Span). s.from) spans.now }
+    ensures { result ≡ true → All (λ (s : Span). s.from < cycle) spans.now }
+{
+    let count = spans.len();
+    if count == 0 {
+        return true;
+    }
+    if spans[count - 1].from >= cycle {
+        return false;
+    }
+    true
+}
+
+/// Whether all times have ended by a cycle, where they end in the order of their starts. The last of them tells.
+fn all_end_by(spans: &[Span], cycle: u64) -> bool
+    requires { IsNonDecreasingBy (λ (s : Span). s.to) spans.now }
+    ensures { result ≡ true → All (λ (s : Span). s.to ≤ cycle) spans.now }
+{
+    let count = spans.len();
+    if count == 0 {
+        return true;
+    }
+    if spans[count - 1].to > cycle {
+        return false;
+    }
+    true
+}
+
+/// How many times start before a cycle: often all of them.
 fn starts_before(spans: &[Span], cycle: u64) -> usize
     requires { IsNonDecreasingBy (λ (s : Span). s.from) spans.now }
     ensures bound { result ≤ length_of spans.now }
     ensures parts { IsPartitionPoint (λ (s : Span). s.from < cycle) (λ (s : Span). cycle ≤ s.from) spans.now result }
 {
+    if all_start_before(spans, cycle) {
+        return spans.len();
+    }
     spans.partition_point(
         |s: &Span| -> bool
             ensures { result ≡ nat_lt s.now.from cycle }
@@ -145,8 +178,12 @@ fn after_alone(lines: &[Timeline], place: Option<usize>, length: u64, start: u64
     let Some(line) = lines.get(at) else {
         return start;
     };
-    let first = ended_by(&line.spans, start);
-    after_spans(&line.spans, first, length, start, last)
+    let spans = line.spans.as_slice();
+    if all_end_by(spans, start) {
+        return start;
+    }
+    let first = ended_by(spans, start);
+    after_spans(spans, first, length, start, last)
 }
 
 /// The least start from `start` on at which a test of so many cycles meets nothing of the timeline at a place, where there

@@ -5,8 +5,10 @@ use Rattle.resource_table.proofs.crowds.after_crowds.Given as goal
 
 abbrev pub invariant-crowds : goal.invariant-crowds
 invariant-crowds l = record {
-  bound : l.place ≤ length l.points;
+  order : l.place ≤ l.calm;
+  bound : l.calm ≤ length l.points;
   behind : (k : ℕ) → l.place ≤ k → k < length l.points → l.from < (get_or l.points k no_point).cycle;
+  calm : (k : ℕ) → l.place ≤ k → k < l.calm → (get_or l.points k no_point).load ≤ l.free;
   swept : IsSwept l.points l.free l.from l.width l.last l.place l.start l.crowded;
 }
 

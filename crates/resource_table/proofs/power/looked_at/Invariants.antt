@@ -1,0 +1,10 @@
+use Rattle.std.proofs.Common.{◌<◌, ◌≤◌, ℕ}
+use Rattle.resource_table.specs.Resources.{StepFits}
+use Rattle.resource_table.specs.Profiles.{IsEndedProfile}
+use Rattle.resource_table.proofs.power.looked_at.Given as goal
+
+-- the steps before fit
+abbrev pub invariant-loop-place : goal.invariant-loop-place
+invariant-loop-place l = record {
+  before : (load : ℕ → ℕ) → IsEndedProfile load l.points l.last → (k : ℕ) → l.from ≤ k → k < l.place → StepFits load l.limit l.start l.length k l.steps;
+}
