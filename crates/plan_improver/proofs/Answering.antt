@@ -1,5 +1,5 @@
 -- How what is asked for is answered: there is one answer to each file, and the plan that is written is what it should be.
-use Rattle.std.proofs.Common.{◌≡◌, ℕ, List, Option, None, Some, true, false, refl, sym, subst}
+use Rattle.std.proofs.Common.{◌≡◌, ℕ, List, Option, None, Some, false, subst}
 use Rattle.std.specs.FinMap.{get}
 use Rattle.outside.specs.Held.{Files, Appended}
 use Rattle.soc_model.specs.Chips.{SocValue}
@@ -9,7 +9,7 @@ use Rattle.plan_text.specs.Answers.{SaysPlan}
 use Rattle.commands.specs.declared.FileKind.TheVariants.{Plan}
 use Rattle.commands.specs.declared.Status.{Status}
 use Rattle.commands.specs.declared.Status.TheVariants.{Done}
-use Rattle.commands.specs.Readings.{IsRead, SaysAccepted, RefusesPlan}
+use Rattle.commands.specs.Readings.{SaysAccepted, RefusesPlan}
 use Rattle.commands.specs.Procedures.{asked, done_with_any, with_accepted}
 use Rattle.commands.specs.Answers.{Answers}
 use Rattle.commands.specs.Settled.{IsSettled, FilesSayOneThing}

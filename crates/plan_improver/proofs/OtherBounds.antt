@@ -1,5 +1,5 @@
 -- The rules of good plans don't look at the bound, and those of wrappers look at buses and wrappers alone.
-use Rattle.std.proofs.Common.{◌≡◌, ℕ, ◌≤◌, List, map, refl, sym, ap, subst}
+use Rattle.std.proofs.Common.{◌≡◌, List, map, refl, sym, subst}
 use Rattle.std.specs.List.{Contains}
 use Rattle.soc_model.specs.Chips.{SocValue}
 use Rattle.plan_model.specs.Plans.{LimitsValue, BoundValue, PlanValue, WrapperValue, BusValue, planned, planned_test}

@@ -1,9 +1,7 @@
 -- A plan with the greater bound is an improved one.
-use Rattle.std.proofs.Common.{◌≡◌, ℕ, ◌<◌, ◌≤◌, arith, sym, ap, subst}
+use Rattle.std.proofs.Common.{◌≡◌, ℕ, ◌<◌, arith, sym, ap, subst}
 use Rattle.soc_model.specs.Chips.{SocValue}
 use Rattle.plan_model.specs.Plans.{LimitsValue, BoundValue, PlanValue}
-use Rattle.plan_model.specs.Rules.{IsGood}
-use Rattle.plan_model.specs.Certificates.{IsAccepted}
 use Rattle.plan_improver.specs.Improved.{IsGreaterBound, IsRaised, IsImproved}
 
 pub better : (soc : SocValue) (limits : LimitsValue) (tries : ℕ) (given plan new : PlanValue) → IsRaised soc limits plan given.bound new → plan.cycles < given.cycles → (tries ≡ 0 → ⊥) → IsImproved soc limits tries given new

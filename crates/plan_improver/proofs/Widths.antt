@@ -1,6 +1,6 @@
 -- Modules with tests over the wires, each on a bus that is no wider than the wires.
-use Rattle.std.proofs.Common.{◌≡◌, ℕ, suc, ◌+◌, ◌<◌, ◌≤◌, ◌⊎◌, inl, inr, Bool, true, false, Some, List, map, arith, refl, sym, ap, ◌∙◌, subst, length}
-use Rattle.std.specs.Prelude.{slice_get, IsTrue}
+use Rattle.std.proofs.Common.{◌≡◌, ℕ, ◌+◌, ◌<◌, ◌≤◌, ◌⊎◌, inl, inr, true, false, Some, List, arith, sym, ap, ◌∙◌}
+use Rattle.std.specs.Prelude.{slice_get}
 use Rattle.std.proofs.lemmas.Option.{slice_get_within}
 use Rattle.soc_model.specs.Chips.{ModuleValue}
 use Rattle.soc_model.specs.Modes.{has_tam}
@@ -8,7 +8,7 @@ use Rattle.plan_model.specs.Plans.{BusValue}
 use Rattle.plan_model.specs.Certificates.{passes, has_tam_at}
 use Rattle.width_table.specs.Tables.{TableValue, places_of}
 use Rattle.planner.specs.Wrapping.{bus_width, HaveWidths}
-use Rattle.plan_improver.specs.Widths.{HasWidth, HaveWidthsBelow}
+use Rattle.plan_improver.specs.Widths.{HaveWidthsBelow}
 
 pub none_yet : (table : TableValue) (buses : List BusValue) → HaveWidthsBelow table buses 0
 none_yet table buses place m below at tam = absurd (omega (arith, below))

@@ -2,3 +2,4 @@ pub mod Improved
 pub mod Requests
 pub mod Headlines
 pub mod Widths
+pub mod Told

@@ -12,6 +12,7 @@ ghost use Rattle.commands.specs.Decides.{Follows, Decides};
 ghost use Rattle.plan_improver.specs.declared.progress.TheConstants.{TOLD_FROM};
 ghost use Rattle.plan_improver.specs.Improved.{IsImproved};
 ghost use Rattle.plan_improver.specs.Requests.{request_value, request_of, procedure_of, IsQuiet};
+ghost use Rattle.plan_improver.specs.Told.{MayTell, MayTellOf};
 
 use crate::Request;
 use crate::improving::improved;
@@ -39,6 +40,7 @@ fn text_of<T: Sink>(
     ensures text { IfOk result (λ text. (value : PlanValue) × IsImproved (soc_value soc.now) (limits_value limits.now) tries (plan_value plan) value × (text.items ≡ plan_text value)) }
     ensures faults_never_fall { T.faults told.old ≤ T.faults told.new }
     ensures quiet { tries < TOLD_FROM → told.new ≡ told.old }
+    ensures told { MayTell tries (T.written told.old) (T.written told.new) }
 {
     let better = improved(alloc, soc, limits, plan, tries, seed, told)?;
     print_plan(alloc, &better)
@@ -56,6 +58,7 @@ fn decide_request<H: Shelf, T: Sink>(
     ensures told_faults_never_fall { T.faults told.old ≤ T.faults told.new }
     ensures follows { Follows (procedure_of (request_value request.now)) (H.held shelf.old) (H.faults shelf.old) (H.faults shelf.new) result }
     ensures quiet { request.now.tries < TOLD_FROM → told.new ≡ told.old }
+    ensures told { MayTell request.now.tries (T.written told.old) (T.written told.new) }
 {
     match load_all(alloc, request.soc, request.limits, request.plan, shelf) {
         Ok(all) => {
@@ -90,6 +93,7 @@ pub(crate) fn decide<H: Shelf, T: Sink>(
     ensures decides { Decides (asked procedure_of (request_of (map string_bytes words.now))) (H.held shelf.old) (H.faults shelf.old) (H.faults shelf.new) result }
     ensures untouched { request_of (map string_bytes words.now) ≡ None → shelf.new ≡ shelf.old }
     ensures quiet { IsQuiet (request_of (map string_bytes words.now)) → told.new ≡ told.old }
+    ensures told { MayTellOf (request_of (map string_bytes words.now)) (T.written told.old) (T.written told.new) }
 {
     match asked_for(words) {
         Some(request) => decide_request(alloc, &request, shelf, told),

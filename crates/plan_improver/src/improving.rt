@@ -12,6 +12,7 @@ ghost use Rattle.plan_model.specs.Right.{IsRight};
 ghost use Rattle.plan_model.specs.Views.{limits_value, plan_value, bound_value};
 ghost use Rattle.plan_improver.specs.declared.progress.TheConstants.{TOLD_FROM};
 ghost use Rattle.plan_improver.specs.Improved.{IsGreaterBound, IsRaised, IsImproved};
+ghost use Rattle.plan_improver.specs.Told.{MayTell};
 
 use crate::candidate::{better_plan, no_bound};
 use crate::progress::{line_room, run_told};
@@ -115,6 +116,7 @@ fn searched<T: Sink>(
     ensures fewer { IfOk result (λ plan. IfSome plan (λ p. p.cycles < given.now.cycles)) }
     ensures faults_never_fall { T.faults told.old ≤ T.faults told.new }
     ensures quiet { tries < TOLD_FROM → told.new ≡ told.old }
+    ensures told { MayTell tries (T.written told.old) (T.written told.new) }
     ensures untried { tries ≡ 0 → IfOk result (λ plan. plan ≡ None) }
 {
     if tries == 0 {
@@ -151,6 +153,7 @@ pub fn improved<T: Sink>(
     ensures right { IfOk result (λ plan. (content : Content) → IsRight (soc_value soc.now) (limits_value limits.now) (plan_value plan) content) }
     ensures faults_never_fall { T.faults told.old ≤ T.faults told.new }
     ensures quiet { tries < TOLD_FROM → told.new ≡ told.old }
+    ensures told { MayTell tries (T.written told.old) (T.written told.new) }
 {
     good_plans_run_right();
     let found = searched(alloc, soc, limits, &given, tries, seed, told)?;

@@ -1,9 +1,10 @@
 // How far a search is, told as it goes.
-ghost use Rattle.std.specs.Prelude.{◌≡◌, ◌<◌, ◌≤◌};
+ghost use Rattle.std.specs.Prelude.{◌≡◌, ◌<◌, ◌≤◌, OnOk};
 ghost use Rattle.plan_improver.specs.declared.progress.TheConstants.{TOLD_FROM};
+ghost use Rattle.plan_improver.specs.Told.{MayAdd, MayTell, told_line};
 
 use arch_search::Search;
-use outside::{NoMemory, Sink, extend, push_number, put_all};
+use outside::{NoMemory, Sink, WriteFault, extend, push_number, put_all};
 use std::alloc::Global;
 
 /// From so many tries on it is told how far they are.
@@ -19,7 +20,10 @@ pub(crate) fn line_room(alloc: Global) -> Result<Vec<u8>, NoMemory> {
 }
 
 /// Writes the line of so many tries, with the best cycles so far.
-fn write_line(line: &mut Vec<u8>, tries: u64, cycles: u64) -> Result<(), NoMemory> {
+#[tactic(auto, unfolding(crate::specs::Told::told_line))]
+fn write_line(line: &mut Vec<u8>, tries: u64, cycles: u64) -> Result<(), NoMemory>
+    ensures { OnOk result (line.new.items ≡ told_line tries cycles) }
+{
     line.clear();
     extend(line, b"tries ")?;
     push_number(line, u128::from(tries))?;
@@ -28,12 +32,20 @@ fn write_line(line: &mut Vec<u8>, tries: u64, cycles: u64) -> Result<(), NoMemor
     extend(line, b"\n")
 }
 
-/// Tells the tries and the best cycles so far. Where that fails, nothing comes of it.
+/// Tells the tries and the best cycles so far: a front of their line, or nothing where there is no room for it. Where that
+/// fails, nothing comes of it.
+#[tactic(auto, using(crate::proofs::Telling::all_is_front))]
 fn tell<T: Sink>(told: &mut T, line: &mut Vec<u8>, tries: u64, cycles: u64)
-    ensures { T.faults told.old ≤ T.faults told.new }
+    ensures faults { T.faults told.old ≤ T.faults told.new }
+    ensures told { MayAdd (told_line tries cycles) (T.written told.old) (T.written told.new) }
 {
-    if write_line(line, tries, cycles).is_ok() {
-        let _written = put_all(told, line);
+    match write_line(line, tries, cycles) {
+        Ok(()) => {}
+        Err(NoMemory) => return,
+    }
+    match put_all(told, line) {
+        Ok(()) => {}
+        Err(WriteFault) => {}
     }
 }
 
@@ -47,6 +59,7 @@ pub(crate) fn run_told<T: Sink>(
     ensures never_worse { search.new ≤ search.old }
     ensures faults_never_fall { T.faults told.old ≤ T.faults told.new }
     ensures quiet { tries < TOLD_FROM → told.new ≡ told.old }
+    ensures told { MayTell tries (T.written told.old) (T.written told.new) }
 {
     if tries < TOLD_FROM {
         search.run(tries);

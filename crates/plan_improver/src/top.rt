@@ -5,6 +5,7 @@ ghost use Rattle.commands.specs.Procedures.{asked};
 ghost use Rattle.commands.specs.Ends.{MayAnswer, Ends, OneLine, EndsByWords, Complete, Finishes, SaysBadWords};
 ghost use Rattle.plan_improver.specs.Requests.{request_of, procedure_of, IsQuiet};
 ghost use Rattle.plan_improver.specs.Headlines.{Headline};
+ghost use Rattle.plan_improver.specs.Told.{MayTellOf};
 
 use crate::deciding::decide;
 use commands::{Status, files_say_one_thing, write_verdict};
@@ -34,6 +35,7 @@ pub fn improve<H: Shelf, K: Sink, T: Sink>(
     ensures by_words { EndsByWords (asked procedure_of (request_of (map string_bytes words.now))) (Rose (K.faults out.old) (K.faults out.new)) result }
     ensures untouched { request_of (map string_bytes words.now) ≡ None → shelf.new ≡ shelf.old }
     ensures quiet { IsQuiet (request_of (map string_bytes words.now)) → told.new ≡ told.old }
+    ensures told { MayTellOf (request_of (map string_bytes words.now)) (T.written told.old) (T.written told.new) }
 
     // Where the files give an answer and nothing fails, one comes, but for want of memory. The plan is any improved one.
     ensures complete { Complete false (asked procedure_of (request_of (map string_bytes words.now))) (H.held shelf.old) (Rose (H.faults shelf.old) (H.faults shelf.new)) (Rose (K.faults out.old) (K.faults out.new)) (K.written out.old) result (K.written out.new) }

@@ -1,5 +1,5 @@
-use Rattle.std.proofs.Common.{◌≡◌, ◌∙◌, ℕ, map, sym, ap, arith}
-use Rattle.std.specs.Prelude.{slice_get, Some}
+use Rattle.std.proofs.Common.{◌∙◌, map, sym, ap, arith}
+use Rattle.std.specs.Prelude.{slice_get}
 use Rattle.soc_model.specs.Chips.{SocValue, module_value}
 use Rattle.plan_model.specs.Views.{bus_value}
 use Rattle.plan_improver.proofs.Widths.{without_tests, with_bus}

@@ -1,4 +1,4 @@
-use Rattle.std.proofs.Common.{◌≡◌, ℕ, ◌<◌, ◌≤◌, true, map}
+use Rattle.std.proofs.Common.{map}
 use Rattle.plan_model.specs.Views.{bus_value}
 use Rattle.plan_improver.specs.Widths.{HaveWidthsBelow}
 use Rattle.plan_improver.proofs.candidate.have_widths.Given as goal

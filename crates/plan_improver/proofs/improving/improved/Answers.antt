@@ -1,9 +1,8 @@
-use Rattle.std.proofs.Common.{◌≡◌, ◌<◌, ℕ, Option, None, Some, sym, ap, ◌∙◌, subst}
+use Rattle.std.proofs.Common.{◌≡◌, ◌<◌, ℕ, Option, None, Some, sym, ◌∙◌, subst}
 use Rattle.std.specs.Prelude.{IfSome}
 use Rattle.soc_model.specs.Chips.{soc_value}
 use Rattle.plan_model.specs.declared.Bound.{Bound}
 use Rattle.plan_model.specs.declared.Plan.{Plan}
-use Rattle.plan_model.specs.Certificates.{IsAccepted}
 use Rattle.plan_model.specs.Rules.{IsGood}
 use Rattle.plan_model.specs.Views.{bound_value, limits_value, plan_value}
 use Rattle.plan_improver.specs.Improved.{IsRaised}

@@ -1,6 +1,6 @@
-use Rattle.std.proofs.Common.{◌≡◌, ◌∙◌, map, length, ap}
+use Rattle.std.proofs.Common.{◌∙◌, map, length, ap}
 use Rattle.std.proofs.lemmas.List.{length-map}
-use Rattle.soc_model.specs.Chips.{LiveTest, soc_value, live_tests}
+use Rattle.soc_model.specs.Chips.{soc_value, live_tests}
 use Rattle.plan_model.specs.Views.{bus_value, wrapper_value, limits_value, plan_value}
 use Rattle.resource_table.specs.Jobs.{JobValue}
 use Rattle.planner.specs.Jobs.{settled_parts, test_of}
