@@ -10,7 +10,7 @@ use Rattle.std.proofs.lemmas.List.Elements.{All-contains}
 use Rattle.plan_model.proofs.Lists.{at_contains}
 use Rattle.soc_model.specs.declared.Test.{Test}
 use Rattle.soc_model.specs.Chips.{ModuleValue, LiveTest, live_of, live_from, is_live}
-use Rattle.resource_table.specs.declared.earlier.Before.{Before}
+use Rattle.live_tests.specs.declared.neighbours.Neighbours.{Neighbours}
 use Rattle.resource_table.specs.Befores.{listed, tests_before, AreListed}
 use Rattle.resource_table.specs.Jobs.{JobValue, Precedes, IsSoundJob}
 use Rattle.resource_table.proofs.Befores.{before_from, before_has}
@@ -54,14 +54,14 @@ from_contains : (P : ℕ → Type 0) (xs : List ℕ) → ((x : ℕ) → Contains
 from_contains P xs each i d within = each (get_or xs i d) (at_contains xs i (get_or xs i d) (slice_get-get_or xs i d within))
 
 -- those before a test are tests of the job
-pub before_inside : (job : JobValue) (lists : List Before) (tests : List ℕ) (test : ℕ) → IsSoundJob job → AreListed job (map listed lists) → test < length job.tests → tests ≡ get_or (map listed lists) test [] → All (λ t. t < length job.tests) tests
+pub before_inside : (job : JobValue) (lists : List Neighbours) (tests : List ℕ) (test : ℕ) → IsSoundJob job → AreListed job (map listed lists) → test < length job.tests → tests ≡ get_or (map listed lists) test [] → All (λ t. t < length job.tests) tests
 before_inside job lists tests test sound before within is =
     let e : tests ≡ tests_before test job.before = is ∙ before.are test within in
     subst (λ (l : List ℕ). All (λ t. t < length job.tests) l) (sym e)
     (from_contains (λ t. t < length job.tests) (tests_before test job.before) (λ t there. (All-contains (λ (p : ℕ × ℕ). (p.0 < length job.tests) × (p.1 < length job.tests)) job.before (t, test) sound.in_range (before_from job.before t test there)).0))
 
 -- where all those are placed, so is each that precedes it
-pub all_before_placed : (job : JobValue) (P : ℕ → Type 0) (lists : List Before) (tests : List ℕ) (test : ℕ) → AreListed job (map listed lists) → test < length job.tests → tests ≡ get_or (map listed lists) test [] → All P tests → (earlier : ℕ) → Precedes job earlier test → P earlier
+pub all_before_placed : (job : JobValue) (P : ℕ → Type 0) (lists : List Neighbours) (tests : List ℕ) (test : ℕ) → AreListed job (map listed lists) → test < length job.tests → tests ≡ get_or (map listed lists) test [] → All P tests → (earlier : ℕ) → Precedes job earlier test → P earlier
 all_before_placed job P lists tests test before within is all earlier precedes =
     let e : tests ≡ tests_before test job.before = is ∙ before.are test within in
     All-contains P (tests_before test job.before) earlier (subst (λ (l : List ℕ). All P l) e all) (before_has job.before earlier test precedes)

@@ -1,7 +1,7 @@
 -- What is known of a problem, once its tests are sent over other buses.
 use Rattle.std.proofs.Common.{◌≡◌, ℕ, ◌<◌, Option, List, length, map, sym, ◌∙◌, subst}
 use Rattle.std.specs.List.{All}
-use Rattle.resource_table.specs.declared.earlier.Before.{Before}
+use Rattle.live_tests.specs.declared.neighbours.Neighbours.{Neighbours}
 use Rattle.resource_table.specs.Befores.{listed, AreListed}
 use Rattle.resource_table.specs.Jobs.{JobValue, job_over}
 use Rattle.resource_table.proofs.Restarts.{length-tests_over}
@@ -26,8 +26,8 @@ order_in job p s order problem state is =
     subst (λ (l : List ℕ). All (λ test. test < length job.tests) l) (sym is)
     (subst (λ (n : ℕ). All (λ test. test < n) s.order.items) problem.tests state.within)
 
-pub before_in : (job : JobValue) (p : Problem) (before : List Before) → IsProblem job p → before ≡ p.before.items → AreListed job (map listed before)
-before_in job p before problem is = subst (λ (l : List Before). AreListed job (map listed l)) (sym is) problem.before
+pub before_in : (job : JobValue) (p : Problem) (before : List Neighbours) → IsProblem job p → before ≡ p.before.items → AreListed job (map listed before)
+before_in job p before problem is = subst (λ (l : List Neighbours). AreListed job (map listed l)) (sym is) problem.before
 
 pub room_in : (job : JobValue) (p : Problem) (r : Room) → IsProblem job p → HasRoomFor p r → HasRoom (length job.tests) p.wires r
 room_in job p r problem room = subst (λ (n : ℕ). HasRoom n p.wires r) problem.tests room

@@ -9,8 +9,9 @@ use crate::buses::Buses;
 use crate::draws::{below, coin};
 use crate::problem::Problem;
 use crate::state::State;
+use live_tests::Neighbours;
 use rand_xoshiro::Xoshiro256PlusPlus;
-use resource_table::{Before, earlier_than};
+use resource_table::earlier_than;
 
 /// What is changed. Two modules are drawn for it, a first one and a second one.
 #[derive(Clone, Copy, PartialEq, Eq, Debug)]
@@ -45,7 +46,7 @@ fn kind_of(number: usize) -> Kind {
 const KINDS: usize = 6;
 
 /// Whether a test stands among those that precede another.
-fn precedes(before: &[Before], earlier: usize, later: usize) -> bool
+fn precedes(before: &[Neighbours], earlier: usize, later: usize) -> bool
     requires { later < length before.now }
 {
     earlier_than(before, later).contains(&earlier)
@@ -53,7 +54,7 @@ fn precedes(before: &[Before], earlier: usize, later: usize) -> bool
 
 /// Whether the tests at two places of an order can change places: the first precedes none from behind it up to the
 /// second, and the second is preceded by none from the first on.
-fn may_exchange(before: &[Before], order: &[usize], first: usize, second: usize) -> bool
+fn may_exchange(before: &[Neighbours], order: &[usize], first: usize, second: usize) -> bool
     requires within { second < length order.now }
     requires order { All (λ test. test < length before.now) order.now }
 {
@@ -70,7 +71,7 @@ fn may_exchange(before: &[Before], order: &[usize], first: usize, second: usize)
 
 /// Lets the tests at two places of an order change places, where each test still comes behind those that precede it.
 /// Whether anything changed.
-fn exchange(before: &[Before], order: &mut Vec<usize>, one: usize, other: usize) -> bool
+fn exchange(before: &[Neighbours], order: &mut Vec<usize>, one: usize, other: usize) -> bool
     requires one { one < length order.old.items }
     requires other { other < length order.old.items }
     requires order { All (λ test. test < length before.now) order.old.items }
@@ -89,7 +90,7 @@ fn exchange(before: &[Before], order: &mut Vec<usize>, one: usize, other: usize)
 }
 
 /// Changes the order of the tests at two places that are drawn. Whether anything changed.
-fn change_order(before: &[Before], order: &mut Vec<usize>, rng: &mut Xoshiro256PlusPlus) -> bool
+fn change_order(before: &[Neighbours], order: &mut Vec<usize>, rng: &mut Xoshiro256PlusPlus) -> bool
     requires order { All (λ test. test < length before.now) order.old.items }
     ensures order { All (λ test. test < length before.now) order.new.items }
     ensures long { length order.new.items ≡ length order.old.items }

@@ -5,9 +5,10 @@ ghost use Rattle.soc_model.specs.Chips.{soc_value, module_value, is_live, live_t
 ghost use Rattle.resource_table.specs.Jobs.{job_value, IsSoundJob};
 ghost use Rattle.arch_search.specs.Problems.{IsTimed, IsProblem};
 
+use live_tests::Neighbours;
 use outside::{NoMemory, push};
 use plan_model::tam_duration;
-use resource_table::{Before, Job, all_before};
+use resource_table::{Job, all_before};
 use soc_model::{Module, Soc, Test, TestId, live, module_at};
 use std::alloc::Global;
 use width_table::WidthTable;
@@ -33,7 +34,7 @@ pub struct Problem {
     /// The live tests, in the order of the chip.
     pub tests: Vec<TestTimes>,
     /// For each test those that precede it.
-    pub before: Vec<Before>,
+    pub before: Vec<Neighbours>,
 }
 
 /// The cycles of a self test, which are the same on each width.

@@ -12,9 +12,10 @@ ghost use Rattle.arch_search.specs.Rooms.{IsSlot, HasRoom, HasRoomFor, AreShort,
 use crate::buses::Buses;
 use crate::problem::{Problem, TestTimes};
 use crate::state::State;
+use live_tests::Neighbours;
 use outside::NoMemory;
 use plan_model::START_MOST;
-use resource_table::{Before, TableOf, earlier_than, list_schedules_are_short};
+use resource_table::{TableOf, earlier_than, list_schedules_are_short};
 use std::alloc::Global;
 
 /// Room for what a schedule is made from, and for its starts.
@@ -214,7 +215,7 @@ fn all_placed<J>(table: &TableOf<J>, tests: &[usize]) -> bool
 }
 
 /// Whether a test may be placed: it isn't yet, and all that precede it are.
-fn is_next<J>(table: &TableOf<J>, before: &[Before], test: usize) -> bool
+fn is_next<J>(table: &TableOf<J>, before: &[Neighbours], test: usize) -> bool
     requires in_job { test < length table.now.job.tests }
     requires before { AreListed table.now.job (map listed before.now) }
     ensures new { result ≡ true → is_placed_in table.now.placed test ≡ false }
@@ -239,7 +240,7 @@ fn place_at<J>(table: &mut TableOf<J>, test: usize, start: u64)
 /// precedes it, or ends after `most` cycles.
 fn place_next<J>(
     table: &mut TableOf<J>,
-    before: &[Before],
+    before: &[Neighbours],
     test: usize,
     cycles: u64,
     most: u64,
@@ -270,7 +271,7 @@ fn place_next<J>(
 /// before a test that precedes it, or ends after `most` cycles.
 fn place_all<J>(
     table: &mut TableOf<J>,
-    before: &[Before],
+    before: &[Neighbours],
     order: &[usize],
     room: &mut Room,
     most: u64,

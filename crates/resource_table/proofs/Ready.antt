@@ -15,7 +15,7 @@ use Rattle.resource_table.specs.Jobs.{JobValue, Precedes}
 use Rattle.resource_table.specs.Schedules.{end_of, last_end, precedes, ready_at, ComesAfter}
 use Rattle.resource_table.specs.Resources.{end_in}
 use Rattle.resource_table.specs.Kept.{IsKept}
-use Rattle.resource_table.specs.declared.earlier.Before.{Before}
+use Rattle.live_tests.specs.declared.neighbours.Neighbours.{Neighbours}
 use Rattle.resource_table.specs.Befores.{tests_before, listed, AreListed}
 use Rattle.resource_table.proofs.Places.{all_from}
 use Rattle.resource_table.proofs.Befores.{before_from, before_has}
@@ -109,5 +109,5 @@ module _ (job : JobValue) (trail : SmallVec Placement) (ends : Vec (Option ℕ))
     read_most is = kept_most (subst (λ (v : List ℕ). (result ≡ 0) ⊎ ((earlier : ℕ) × Contains v earlier × (result ≡ unwrap_or (slice_index_or ends.items earlier None) 0))) tests_is (subst (λ (v : List (Option ℕ)). (result ≡ 0) ⊎ ((earlier : ℕ) × Contains tests earlier × (result ≡ unwrap_or (slice_index_or v earlier None) 0))) es_is is))
 
 -- the list that is kept for a test
-pub kept_before : (job : JobValue) (lists lists' : List Before) (test : ℕ) (tests : List ℕ) → AreListed job (map listed lists) → lists' ≡ lists → test < length job.tests → tests ≡ slice_index_or (map listed lists') test [] → tests ≡ tests_before test job.before
-kept_before job lists lists' test tests all same inside is = is ∙ ap (λ (v : List Before). slice_index_or (map listed v) test []) same ∙ all.are test inside
+pub kept_before : (job : JobValue) (lists lists' : List Neighbours) (test : ℕ) (tests : List ℕ) → AreListed job (map listed lists) → lists' ≡ lists → test < length job.tests → tests ≡ slice_index_or (map listed lists') test [] → tests ≡ tests_before test job.before
+kept_before job lists lists' test tests all same inside is = is ∙ ap (λ (v : List Neighbours). slice_index_or (map listed v) test []) same ∙ all.are test inside

@@ -1,7 +1,7 @@
 -- The tests that precede each test, as lists.
 use Rattle.std.specs.Prelude.{◌≡◌, ℕ, ◌<◌, List, [], length, map, nat_eq, slice_index_or}
 use Rattle.std.specs.List.{filter}
-use Rattle.resource_table.specs.declared.earlier.Before.{Before}
+use Rattle.live_tests.specs.declared.neighbours.Neighbours.{Neighbours}
 use Rattle.resource_table.specs.Jobs.{JobValue}
 
 -- the tests that precede a test by these precedences
@@ -9,7 +9,7 @@ abbrev pub tests_before : ℕ → List (ℕ × ℕ) → List ℕ
 tests_before test before = map (λ (p : ℕ × ℕ). p.0) (filter (λ (p : ℕ × ℕ). nat_eq p.1 test) before)
 
 -- the tests of such a list
-abbrev pub listed : Before → List ℕ
+abbrev pub listed : Neighbours → List ℕ
 listed b = b.tests.items
 
 -- for each test of a job, those that precede it

@@ -18,7 +18,7 @@ mod profile;
 mod table;
 mod timelines;
 
-pub use earlier::{Before, all_before, earlier_than};
+pub use earlier::{all_before, earlier_than};
 pub use frame::{Frame, FrameOf};
 pub use laws::{list_schedules_are_short, sound_tables_keep_the_rules, starts_only_rise};
 use soc_model::TestId;

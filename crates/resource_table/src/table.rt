@@ -10,7 +10,7 @@ ghost use Rattle.resource_table.specs.Schedules.{TableValue, at_start, end_of, l
 
 use crate::copies::copy_job;
 use crate::crowds::calm_end;
-use crate::earlier::{Before, all_before, earlier_than};
+use crate::earlier::{all_before, earlier_than};
 use crate::empty_times::empty_times;
 use crate::history::{History, Note, back, forget, mark, new_history, renew};
 use crate::points::Point;
@@ -18,6 +18,7 @@ use crate::power::{Draw, after_power, are_low, push_draws};
 use crate::profile::{add_drawn, take_drawn};
 use crate::timelines::{Span, Timelines, add_time, after_busy, remove_time};
 use crate::{Job, JobTest, Placement};
+use live_tests::Neighbours;
 use outside::NoMemory;
 use smallvec::SmallVec;
 use std::alloc::Global;
@@ -46,7 +47,7 @@ pub struct TableOf<J> {
     /// Under a limit on power, the profile of the power that they take together.
     points: Vec<Point>,
     /// For each test of the job those that precede it.
-    before: Vec<Before>,
+    before: Vec<Neighbours>,
 }
 
 /// How many notes there is room for, for each test of the job.

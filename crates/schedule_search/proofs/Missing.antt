@@ -1,15 +1,17 @@
 -- How many precedences of a test come from outside a prefix.
-use Rattle.std.proofs.Common.{◌≡◌, inl, inr, ℕ, ◌+◌, ◌<◌, ◌≤◌, ◌^◌, Bool, true, false, not, true≢false, Some, List, [], ◌∷◌, ◌++◌, length, get_or, set, take, map, refl, sym, ◌∙◌, ap, subst, arith, length-take}
-use Rattle.std.specs.Prelude.{slice_get, slice_index_or, nat_eq, ◌||◌, ◌&&◌, if◌then◌else◌}
-use Rattle.std.specs.List.{All, Contains, list_all, sum_by}
+use Rattle.std.proofs.Common.{◌≡◌, inl, inr, ℕ, ◌+◌, ◌<◌, ◌≤◌, ◌^◌, Bool, true, false, cond, not, true≢false, List, [], ◌∷◌, ◌++◌, length, get_or, set, take, map, refl, sym, ◌∙◌, ap, subst, arith, length-take}
+use Rattle.std.specs.Prelude.{slice_index_or, nat_eq, ◌||◌, ◌&&◌, if◌then◌else◌}
+use Rattle.std.specs.List.{All, Contains, filter, list_all, sum_by}
+use Rattle.std.proofs.lemmas.List.{length-map}
 use Rattle.std.proofs.lemmas.Bool.{cases_Bool, cases_eq, eqb-true, eq-eqb, ne_eqb, and_from}
 use Rattle.std.proofs.lemmas.List.Sums.{sum_by-cons, sum_by_more, sum_by-take-le, list_all-from_AllPass}
 use Rattle.std.proofs.lemmas.List.Elements.{All-contains}
-use Rattle.std.proofs.lemmas.Option.{slice_get-get_or}
 use Rattle.plan_model.proofs.Lists.{at_contains, contains_at, from_map}
 use Rattle.resource_table.specs.Jobs.{JobValue, Precedes}
-use Rattle.resource_table.specs.Befores.{tests_before}
-use Rattle.resource_table.proofs.Befores.{before_from, set_at, set_other, set_length}
+use Rattle.live_tests.specs.declared.neighbours.Neighbours.{Neighbours}
+use Rattle.live_tests.specs.Neighbours.{after}
+use Rattle.resource_table.specs.Befores.{listed, tests_before}
+use Rattle.resource_table.proofs.Befores.{eqb_sym, before_from, set_at, set_other, set_length}
 use Rattle.schedule_search.specs.Walks.{is_in, may_follow}
 use Rattle.schedule_search.specs.Prefixes.{turned, tests_after, one_missing, missing_of, times_in, AreInRange, AreFollowers, AreMissing, AreLess}
 use Rattle.schedule_search.proofs.Predecessors.{at_place}
@@ -239,16 +241,29 @@ small_missing job lists path missing x n after followers are inside new is withi
     let four = few path n job.before in
     omega (arith, one, two, three, four, small)
 
--- ---- the precedences, turned, and counted
+-- ---- the precedences as they are listed and counted
 
-pub turned_range : (job : JobValue) (pairs : List (ℕ × ℕ)) (count : ℕ) → AreInRange job → pairs ≡ map turned job.before → count ≡ length job.tests → All (λ (p : ℕ × ℕ). (p.0 < count) × (p.1 < count)) pairs
-turned_range job pairs count in_range is long k d less =
-    let at : slice_get (map turned job.before) k ≡ Some (get_or pairs k d) = ap (λ (l : List (ℕ × ℕ)). slice_get l k) (sym is) ∙ slice_get-get_or pairs k d less in
-    let f = from_map turned job.before k (get_or pairs k d) at in
-    let range = All-contains (λ (p : ℕ × ℕ). (p.0 < length job.tests) × (p.1 < length job.tests)) job.before f.0 in_range (at_contains job.before k f.0 f.1) in
-    let first : (f.0).1 ≡ (get_or pairs k d).0 = ap (λ (p : ℕ × ℕ). p.0) f.2 in
-    let second : (f.0).0 ≡ (get_or pairs k d).1 = ap (λ (p : ℕ × ℕ). p.1) f.2 in
-    (omega (arith, range.1, first, long), omega (arith, range.0, second, long))
+pub range_is : (job : JobValue) (pairs : List (ℕ × ℕ)) (count : ℕ) → AreInRange job → pairs ≡ job.before → count ≡ length job.tests → All (λ (p : ℕ × ℕ). (p.0 < count) × (p.1 < count)) pairs
+range_is job pairs count in_range is long k d less =
+    let range = subst (λ (l : List (ℕ × ℕ)). All (λ (p : ℕ × ℕ). (p.0 < length job.tests) × (p.1 < length job.tests)) l) (sym is) in_range k d less in
+    (omega (arith, range.0, long), omega (arith, range.1, long))
+
+-- what is listed beside the live tests are the tests that one precedes
+after_is : (i : ℕ) (pairs : List (ℕ × ℕ)) → after i pairs ≡ tests_after i pairs
+after_is i [] = refl
+after_is i (p ∷ pairs) = by (nat_eq i p.0) (nat_eq p.0 i) (eqb_sym i p.0) (after_is i pairs)
+  where
+    by : (b c : Bool) → b ≡ c → after i pairs ≡ tests_after i pairs → cond b (p.1 ∷ after i pairs) (after i pairs) ≡ map (λ (q : ℕ × ℕ). q.0) (cond c (turned p ∷ filter (λ (q : ℕ × ℕ). nat_eq q.1 i) (map turned pairs)) (filter (λ (q : ℕ × ℕ). nat_eq q.1 i) (map turned pairs)))
+    by true true e rest = ap (λ (l : List ℕ). p.1 ∷ l) rest
+    by true false e rest = absurd cc
+    by false true e rest = absurd cc
+    by false false e rest = rest
+
+pub followers_are : (job : JobValue) (lists : List Neighbours) (count : ℕ) (pairs : List (ℕ × ℕ)) → count ≡ length job.tests → pairs ≡ job.before → length lists ≡ count → ((i : ℕ) → i < count → slice_index_or (map listed lists) i [] ≡ after i pairs) → AreFollowers job (map listed lists)
+followers_are job lists count pairs count_is pairs_is long are = record {
+  long = length-map lists listed ∙ long ∙ count_is;
+  are = (λ test less. are test (omega (arith, less, count_is)) ∙ after_is test pairs ∙ ap (tests_after test) pairs_is);
+}
 
 -- so many precedences are counted
 pub record AreCounted (tests : ℕ) (pairs : List (ℕ × ℕ)) (missing : List ℕ) : Type 0 where

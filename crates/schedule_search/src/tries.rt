@@ -3,13 +3,14 @@ ghost use Rattle.std.specs.Prelude.{◌≡◌, ◌≤◌, [], map, IfOk};
 ghost use Rattle.resource_table.specs.Jobs.{job_value, IsSoundJob};
 ghost use Rattle.resource_table.specs.Befores.{listed};
 ghost use Rattle.schedule_search.specs.Walks.{by_length as by_length_of};
-ghost use Rattle.schedule_search.specs.Prefixes.{turned as turned_of, AreFollowers, AreMissing};
+ghost use Rattle.schedule_search.specs.Prefixes.{AreFollowers, AreMissing};
 ghost use Rattle.schedule_search.specs.Progress.{AreTries};
 ghost use Rattle.schedule_search.specs.declared.tries.Turn.{Turn};
 
 use crate::order::cycles_at;
+use live_tests::{Neighbours, all_after};
 use outside::{NoMemory, push};
-use resource_table::{Before, Job, JobTest, all_before};
+use resource_table::{Job, JobTest};
 use std::alloc::Global;
 use std::cmp::Reverse;
 
@@ -19,7 +20,7 @@ pub(crate) struct Tries {
     /// All tests, the longest first; of those that take the same cycles the one that stands first in the job.
     pub(crate) tests: Vec<usize>,
     /// For each test those that it precedes.
-    pub(crate) after: Vec<Before>,
+    pub(crate) after: Vec<Neighbours>,
     /// For each test how many precedences it has.
     pub(crate) missing: Vec<usize>,
     /// The greatest power of a step of a test.
@@ -69,26 +70,13 @@ fn by_length(alloc: Global, job: &Job) -> Result<Vec<usize>, NoMemory>
     places_of(alloc, &turns)
 }
 
-/// Pairs with their parts in each other's place.
-fn turned(alloc: Global, pairs: &[(usize, usize)]) -> Result<Vec<(usize, usize)>, NoMemory>
-    ensures { IfOk result (λ list. list.items ≡ map turned_of pairs.now) }
-{
-    let mut list = Vec::new(alloc);
-    for (first, second) in pairs {
-        if list.push((*second, *first)).is_err() {
-            return Err(NoMemory);
-        }
-    }
-    Ok(list)
-}
-
 /// For each test of a job those that it precedes.
-fn all_after(alloc: Global, job: &Job) -> Result<Vec<Before>, NoMemory>
+fn followers(alloc: Global, job: &Job) -> Result<Vec<Neighbours>, NoMemory>
     requires { IsSoundJob (job_value job.now) }
     ensures { IfOk result (λ lists. AreFollowers (job_value job.now) (map listed lists.items)) }
 {
-    let pairs = turned(alloc, &job.before)?;
-    all_before(alloc, job.tests.len(), &pairs)
+    let lists = all_after(alloc, job.tests.len(), &job.before)?;
+    Ok(lists)
 }
 
 /// For each test of a job how many precedences it has.
@@ -131,7 +119,7 @@ pub(crate) fn tries_of(alloc: Global, job: &Job, budget: u64) -> Result<Tries, N
 {
     Ok(Tries {
         tests: by_length(alloc, job)?,
-        after: all_after(alloc, job)?,
+        after: followers(alloc, job)?,
         missing: count_before(alloc, job)?,
         most: most_power(&job.tests),
         budget,
