@@ -1,4 +1,4 @@
--- The wrapper that is found for a module in a mode of a good plan, with its longest paths.
+-- The wrapper that is found for a module in a mode, with its longest paths.
 use Rattle.std.proofs.Common.{◌≡◌, ℕ, ◌+◌, ◌≤◌, Bool, Some, List, [], ◌∷◌, get_or, map, position, refl, sym, ap, subst, ◌∙◌, inl, inr}
 use Rattle.std.specs.Prelude.{slice_get}
 use Rattle.std.specs.List.{position_or_len}
@@ -21,12 +21,11 @@ position-map {X} f p xs = rw (first_of xs, length-map xs f) refl where
   first_of [] = refl
   first_of (x ∷ xs) = elim (cases_Bool (p (f x))) [ inl yes' ↦ rw yes' refl | inr no' ↦ rw no' (ap (λ v. 1 + v) (first_of xs)) ]
 
-pub wrapper_found : (plan : PlanValue) (m : ModuleValue) (scan : Bool) (ws : List Wrapper) (k : ℕ) (w : Wrapper) → map wrapper_value ws ≡ plan.wrappers → position (wraps m.number scan) plan.wrappers ≡ Some k → w ≡ get_or ws k w → IsFound m scan ws k w
-wrapper_found plan m scan ws k w are found is = found_at m scan ws k w w (sym (position-map wrapper_value (wraps m.number scan) ws) ∙ ap (position (wraps m.number scan)) are ∙ found) is
+pub wrapper_found : (m : ModuleValue) (scan : Bool) (ws : List Wrapper) (k : ℕ) (w : Wrapper) → position (wraps m.number scan) (map wrapper_value ws) ≡ Some k → w ≡ get_or ws k w → IsFound m scan ws k w
+wrapper_found m scan ws k w found is = found_at m scan ws k w w (sym (position-map wrapper_value (wraps m.number scan) ws) ∙ found) is
 
-pub wrapper_proper : (soc : SocValue) (plan : PlanValue) → Each (HasProperCells soc) plan.wrappers → (p : ℕ) (m : ModuleValue) → slice_get soc.modules p ≡ Some m → (scan : Bool) (ws : List Wrapper) (k : ℕ) (w : Wrapper) → map wrapper_value ws ≡ plan.wrappers → IsFound m scan ws k w
-    → IsProper m w.scan (map chain_value w.chains.items)
-wrapper_proper soc plan proper p m at scan ws k w are found = proper k (wrapper_value w) (ap (λ (vs : List WrapperValue). slice_get vs k) (sym are) ∙ found.at) p m at (sym found.module_is)
+pub wrapper_proper : (soc : SocValue) → (p : ℕ) (m : ModuleValue) → slice_get soc.modules p ≡ Some m → (scan : Bool) (ws : List Wrapper) (k : ℕ) (w : Wrapper) → Each (HasProperCells soc) (map wrapper_value ws) → IsFound m scan ws k w → IsProper m w.scan (map chain_value w.chains.items)
+wrapper_proper soc p m at scan ws k w proper found = proper k (wrapper_value w) found.at p m at (sym found.module_is)
 
 pub mode_wrapper : (plan : PlanValue) (m : ModuleValue) (scan : Bool) (ws : List Wrapper) (k : ℕ) (w : Wrapper) (r : ModeWrapper) → map wrapper_value ws ≡ plan.wrappers → IsFound m scan ws k w → IsProper m w.scan (map chain_value w.chains.items)
     → r.place ≡ k → r.si ≡ si_of (chain_cells m w.scan (map chain_value w.chains.items)) → r.so ≡ so_of (chain_cells m w.scan (map chain_value w.chains.items)) → 1 + r.si + r.so ≤ module_size m → IsModeWrapper plan m scan r

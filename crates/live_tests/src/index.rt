@@ -5,9 +5,9 @@ ghost use Rattle.std.specs.Map.{lookup};
 ghost use Rattle.soc_model.specs.declared.TestId.{TestId};
 ghost use Rattle.soc_model.specs.Chips.{same_test};
 ghost use Rattle.plan_model.specs.declared.Wrapper.{Wrapper};
-ghost use Rattle.plan_model.specs.Plans.{WrapperValue, bus_place, of_first, wraps};
+ghost use Rattle.plan_model.specs.Plans.{WrapperValue, bus_place as the_bus_place, of_first, wraps};
 ghost use Rattle.plan_model.specs.Views.{bus_value, plan_value, wrapper_value};
-ghost use Rattle.live_tests.specs.Index.{is_pair};
+ghost use Rattle.live_tests.specs.Index.{AreBusPlaces, is_pair};
 
 use indexmap::IndexMap;
 use outside::NoMemory;
@@ -59,12 +59,9 @@ impl<'a> PlanIndex<'a> {
 
     /// The place of the first bus that lists a module, the number of buses where none does.
     pub fn bus(&self, module: u64) -> usize
-        ensures { result ≡ bus_place «module» 0 self.now.buses }
+        ensures { result ≡ the_bus_place «module» 0 self.now.buses }
     {
-        match self.buses.get(&module) {
-            Some(place) => *place,
-            None => self.plan.buses.len(),
-        }
+        bus_place(&self.plan.buses, &self.buses, module)
     }
 
     /// The place of the first wrapper of a module in a mode. None comes exactly where there is none.
@@ -96,9 +93,9 @@ fn note_modules(
     Ok(())
 }
 
-/// The bus of each module that is on one; of more than one the first.
-fn buses_by_module(alloc: Global, buses: &[Bus]) -> Result<IndexMap<u64, usize>, NoMemory>
-    ensures { IfOk result (λ named. (m : ℕ) → unwrap_or (lookup (nat_eq m) named.entries) (length buses.now) ≡ bus_place m 0 (map bus_value buses.now)) }
+/// The place of the bus of each module that is on one, by the module's number; of more than one the first.
+pub fn buses_by_module(alloc: Global, buses: &[Bus]) -> Result<IndexMap<u64, usize>, NoMemory>
+    ensures { IfOk result (λ named. AreBusPlaces named.entries (map bus_value buses.now)) }
 {
     let mut named = IndexMap::new(alloc);
     for place in (0..buses.len()).rev() {
@@ -107,8 +104,20 @@ fn buses_by_module(alloc: Global, buses: &[Bus]) -> Result<IndexMap<u64, usize>,
     Ok(named)
 }
 
-/// The wrapper of each module and mode that has one; of more than one the first.
-fn wrappers_by_mode(
+/// The place of the first bus that lists a module, found by those of all modules; the number of buses where none does.
+pub fn bus_place(buses: &[Bus], places: &IndexMap<u64, usize>, module: u64) -> usize
+    requires { AreBusPlaces places.now.entries (map bus_value buses.now) }
+    ensures { result ≡ the_bus_place «module» 0 (map bus_value buses.now) }
+{
+    match places.get(&module) {
+        Some(place) => *place,
+        None => buses.len(),
+    }
+}
+
+/// The place of the wrapper of each module and mode that has one, by the module's number and whether the mode is `scan`; of
+/// more than one the first.
+pub fn wrappers_by_mode(
     alloc: Global,
     wrappers: &[Wrapper],
 ) -> Result<IndexMap<(u64, bool), usize>, NoMemory>

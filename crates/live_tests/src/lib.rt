@@ -18,11 +18,11 @@ mod placed;
 mod profiles;
 mod wrapped;
 
-pub use index::PlanIndex;
+pub use index::{PlanIndex, bus_place, buses_by_module, wrappers_by_mode};
 use indexmap::IndexMap;
 pub use neighbours::{Neighbours, all_after, all_before};
 use outside::{NoMemory, push};
-pub use placed::{PlacedTest, PlacedTests, PlannedChip, first_wire, placed_test};
+pub use placed::{PlacedTest, PlacedTests, PlannedChip, bus_over, first_wire, placed_test};
 pub use profiles::{profile_place, profile_places};
 use soc_model::{Module, Soc, TestId, live};
 use std::alloc::Global;

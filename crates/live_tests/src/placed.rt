@@ -94,8 +94,8 @@ pub fn first_wire(buses: &[Bus], bus: usize) -> usize
     wires
 }
 
-/// The bus of a test over the wires; a self test has none.
-fn bus_over(tam: bool, bus: usize) -> Option<usize>
+/// The bus of a test over the wires, given that of its module; a self test has none.
+pub fn bus_over(tam: bool, bus: usize) -> Option<usize>
     ensures { result ≡ the_bus_over tam bus }
 {
     if tam { Some(bus) } else { None }

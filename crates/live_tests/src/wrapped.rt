@@ -1,12 +1,12 @@
 // The wrappers of a module in a plan, with their longest paths.
-ghost use Rattle.std.specs.Prelude.{◌≡◌, ℕ, Bool, ◌+◌, ◌^◌, ◌≤◌, length, map, position, slice_get, Some, IsTrue};
+ghost use Rattle.std.specs.Prelude.{◌≡◌, ℕ, Bool, true, false, ◌+◌, ◌^◌, ◌≤◌, length, map, position, slice_get, Some, IsTrue};
 ghost use Rattle.soc_model.specs.Chips.{ModuleValue, is_live, module_value, soc_value};
 ghost use Rattle.soc_model.specs.SoundChips.{IsSoundChip};
 ghost use Rattle.plan_model.specs.Cells.{IsProper, chain_cells};
 ghost use Rattle.plan_model.specs.Listing.{module_size};
 ghost use Rattle.plan_model.specs.Plans.{PlanValue, chains_of, operations_of, si_of, so_of, wraps};
-ghost use Rattle.plan_model.specs.Rules.{IsGoodAlone};
-ghost use Rattle.plan_model.specs.Views.{chain_value};
+ghost use Rattle.plan_model.specs.Rules.{Each, HasProperCells, IsGoodAlone};
+ghost use Rattle.plan_model.specs.Views.{chain_value, wrapper_value};
 ghost use Rattle.live_tests.specs.Wrapped.{AreModeWrappers, IsWrappedTest, MayBeWrapper};
 
 use crate::PlanIndex;
@@ -46,26 +46,51 @@ pub fn walked(module: &Module, wrapper: &Wrapper, place: usize) -> ModeWrapper
     ModeWrapper { place, si, so }
 }
 
-/// The wrapper of a module in a mode. None comes exactly where the plan has none.
-fn wrapper_in(
+/// The wrapper at the place that was found for a mode of the module, walked once; none where none was found.
+fn wrapper_at(
     soc: &Soc,
-    index: &PlanIndex<'_>,
+    wrappers: &[Wrapper],
     place: usize,
     module: &Module,
     scan: bool,
+    found: Option<usize>,
 ) -> Option<ModeWrapper>
     requires sound { IsSoundChip (soc_value soc.now) }
-    requires good { IsGoodAlone (soc_value soc.now) index.now }
+    requires proper { Each (HasProperCells (soc_value soc.now)) (map wrapper_value wrappers.now) }
     requires there { slice_get (soc_value soc.now).modules place ≡ Some (module_value «module».now) }
-    ensures { MayBeWrapper index.now (module_value «module».now) scan result }
+    requires found { found ≡ position (wraps «module».now.number scan) (map wrapper_value wrappers.now) }
+    ensures { (plan : PlanValue) → plan.wrappers ≡ map wrapper_value wrappers.now → MayBeWrapper plan (module_value «module».now) scan result }
 {
-    match index.wrapper(module.number, scan) {
-        Some(found) => Some(walked(module, &index.plan().wrappers[found], found)),
+    match found {
+        Some(at) => Some(walked(module, &wrappers[at], at)),
         None => None,
     }
 }
 
 impl ModeWrappers {
+    /// The wrappers at the places that were found for the two modes of the module at a place of the chip. Each is walked
+    /// once.
+    pub fn found(
+        soc: &Soc,
+        wrappers: &[Wrapper],
+        place: usize,
+        module: &Module,
+        scan: Option<usize>,
+        terminals: Option<usize>,
+    ) -> ModeWrappers
+        requires sound { IsSoundChip (soc_value soc.now) }
+        requires proper { Each (HasProperCells (soc_value soc.now)) (map wrapper_value wrappers.now) }
+        requires there { slice_get (soc_value soc.now).modules place ≡ Some (module_value «module».now) }
+        requires scan { scan ≡ position (wraps «module».now.number true) (map wrapper_value wrappers.now) }
+        requires terminals { terminals ≡ position (wraps «module».now.number false) (map wrapper_value wrappers.now) }
+        ensures { (plan : PlanValue) → plan.wrappers ≡ map wrapper_value wrappers.now → AreModeWrappers plan (module_value «module».now) result }
+    {
+        ModeWrappers {
+            scan: wrapper_at(soc, wrappers, place, module, true, scan),
+            terminals: wrapper_at(soc, wrappers, place, module, false, terminals),
+        }
+    }
+
     /// The wrappers of the module at a place of the chip in a good plan. Each is walked once.
     pub fn new(soc: &Soc, index: &PlanIndex<'_>, place: usize, module: &Module) -> ModeWrappers
         requires sound { IsSoundChip (soc_value soc.now) }
@@ -73,10 +98,10 @@ impl ModeWrappers {
         requires there { slice_get (soc_value soc.now).modules place ≡ Some (module_value «module».now) }
         ensures { AreModeWrappers index.now (module_value «module».now) result }
     {
-        ModeWrappers {
-            scan: wrapper_in(soc, index, place, module, true),
-            terminals: wrapper_in(soc, index, place, module, false),
-        }
+        let scan = index.wrapper(module.number, true);
+        let terminals = index.wrapper(module.number, false);
+        let wrappers = &index.plan().wrappers;
+        ModeWrappers::found(soc, wrappers, place, module, scan, terminals)
     }
 
     /// The cycles of a live test of the module that has these wrappers.

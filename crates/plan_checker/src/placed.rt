@@ -9,13 +9,13 @@ ghost use Rattle.plan_model.specs.Views.{plan_value};
 ghost use Rattle.plan_model.specs.Plans.{of_first, planned_test};
 ghost use Rattle.plan_model.specs.Rules.{live_ids};
 ghost use Rattle.live_tests.specs.Placed.{placed_in, placed_of, placed_tests};
-ghost use Rattle.live_tests.specs.Wrapped.{AreModeWrappers, MayBeWrapper};
+ghost use Rattle.live_tests.specs.Wrapped.{AreModeWrappers};
 ghost use Rattle.plan_checker.specs.Placing.{IsPlacing};
 
 use crate::lookups::module_count;
 use crate::named::place_named;
 use indexmap::IndexSet;
-use live_tests::{ModeWrapper, ModeWrappers, PlacedTest, placed_test, walked};
+use live_tests::{ModeWrappers, PlacedTest, placed_test};
 use plan_model::Plan;
 use soc_model::{Module, Soc, Test, TestId, module_at};
 
@@ -40,28 +40,22 @@ pub(crate) struct Placing<'a> {
     pub(crate) buses: &'a [usize],
 }
 
-/// The module's wrapper in a mode. None comes exactly where the plan has none.
-fn wrapper_in(from: &Placing<'_>, place: usize, module: &Module, scan: bool) -> Option<ModeWrapper>
-    requires placing { IsPlacing from.now }
-    requires there { slice_get (soc_value from.now.soc.now).modules place ≡ Some (module_value «module».now) }
-    ensures { MayBeWrapper (plan_value from.now.plan.now) (module_value «module».now) scan result }
-{
-    match from.wrappers.get_index_of(&(module.number, scan)) {
-        Some(found) => Some(walked(module, &from.plan.wrappers[found], found)),
-        None => None,
-    }
-}
-
 /// The module's wrappers, each walked once.
 fn mode_wrappers(from: &Placing<'_>, place: usize, module: &Module) -> ModeWrappers
     requires placing { IsPlacing from.now }
     requires there { slice_get (soc_value from.now.soc.now).modules place ≡ Some (module_value «module».now) }
     ensures { AreModeWrappers (plan_value from.now.plan.now) (module_value «module».now) result }
 {
-    ModeWrappers {
-        scan: wrapper_in(from, place, module, true),
-        terminals: wrapper_in(from, place, module, false),
-    }
+    let scan = from.wrappers.get_index_of(&(module.number, true));
+    let terminals = from.wrappers.get_index_of(&(module.number, false));
+    ModeWrappers::found(
+        from.soc,
+        &from.plan.wrappers,
+        place,
+        module,
+        scan,
+        terminals,
+    )
 }
 
 /// The bus of the module at a place.

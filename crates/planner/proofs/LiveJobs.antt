@@ -1,22 +1,14 @@
 -- The live tests are added module by module.
-use Rattle.std.proofs.Common.{◌≡◌, ℕ, zero, suc, ◌+◌, ◌<◌, Bool, true, false, cond, Some, List, [], ◌∷◌, ◌++◌, length, get_or, map, take, drop, position, Option, refl, sym, ap, ◌∙◌, append_assoc, append-nil, ◌≤◌, arith}
+use Rattle.std.proofs.Common.{◌≡◌, ℕ, zero, suc, ◌+◌, Some, List, [], ◌∷◌, ◌++◌, length, map, drop, Option, refl, sym, ap, ◌∙◌, append_assoc, append-nil, ◌≤◌, arith}
 use Rattle.std.specs.Prelude.{slice_get}
-use Rattle.std.specs.List.{filter, flat_map, list_any}
-use Rattle.std.proofs.lemmas.List.{map-append, take_more, length-take}
-use Rattle.std.proofs.lemmas.Option.{slice_get-map, slice_get-get_or, slice_get_within, get_or_from_slice_get}
+use Rattle.std.specs.List.{filter}
+use Rattle.std.proofs.lemmas.List.{map-append}
 use Rattle.soc_model.specs.declared.Test.{Test}
-use Rattle.soc_model.specs.declared.TestId.{TestId}
-use Rattle.soc_model.specs.Chips.{ModuleValue, SocValue, LiveTest, is_live, live_of, live_from, live_tests, same_test}
-use Rattle.plan_model.specs.Plans.{PlanValue, LimitsValue}
-use Rattle.plan_model.specs.Rules.{live_ids}
-use Rattle.plan_model.proofs.CertificatesAreBounds.{same_test_is}
-use Rattle.plan_model.proofs.Lists.{any_at}
-use Rattle.resource_table.specs.declared.JobTest.{JobTest}
-use Rattle.resource_table.specs.Jobs.{TestValue, JobValue, test_value}
-use Rattle.live_tests.specs.Names.{AllDiffer}
-use Rattle.bound_certificate.proofs.Considered.{flat_map-push}
-use Rattle.planner.specs.Jobs.{test_of}
-use Rattle.live_tests.specs.Names.{both_places, places_of}
+use Rattle.soc_model.specs.Chips.{ModuleValue, SocValue, LiveTest, is_live, live_of, live_from, parent_place}
+use Rattle.plan_model.specs.Plans.{PlanValue, LimitsValue, bus_place, chains_of, operations_of}
+use Rattle.resource_table.specs.Jobs.{TestValue, JobValue}
+use Rattle.live_tests.specs.Placed.{bus_over}
+use Rattle.planner.specs.Jobs.{steps_of, test_in}
 
 pub drop_at : {X : Type 0} (xs : List X) (k : ℕ) (x : X) → slice_get xs k ≡ Some x → drop k xs ≡ x ∷ drop (suc k) xs
 drop_at [] k x at = absurd cc
@@ -68,3 +60,9 @@ job_same tests tests' before before' power a b =
   where
     the_job : List TestValue → List (ℕ × ℕ) → JobValue
     the_job v w = record { tests = v; before = w; power = power }
+
+-- ---- a test of the job
+
+pub test_same : (soc : SocValue) (limits : LimitsValue) (plan : PlanValue) (place : ℕ) (m : ModuleValue) (t : Test) (parent over : Option ℕ) (bus cycles : ℕ) (steps : List (ℕ × ℕ)) → parent ≡ parent_place soc.modules place → over ≡ bus_over t.tam bus → bus ≡ bus_place m.number 0 plan.buses → cycles ≡ length (operations_of m t (chains_of plan m t))
+    → steps ≡ steps_of limits (record { «module» = m.number; test = t.number }) t.power → (let v : TestValue = record { id = record { «module» = m.number; test = t.number }; place = place; parent = parent; bus = over; cycles = cycles; steps = steps } in v) ≡ test_in soc limits plan place m t
+test_same soc limits plan place m t parent over bus cycles steps a b c d e = rw (a, b, c, d, e) refl

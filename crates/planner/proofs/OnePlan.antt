@@ -1,7 +1,7 @@
 -- Where the search isn't cut off by its budget, one plan alone is one of the planner.
-use Rattle.std.proofs.Common.{◌≡◌, ◌⊎◌, inl, inr, ℕ, zero, suc, ◌<◌, ◌≤◌, Bool, true, false, Option, None, Some, List, [], ◌∷◌, length, map, reverse, get_or, arith, refl, sym, ap, ◌∙◌, subst}
+use Rattle.std.proofs.Common.{◌≡◌, inl, inr, ℕ, Bool, true, false, Option, None, Some, List, [], ◌∷◌, map, reverse, arith, refl, sym, ap, ◌∙◌, subst}
 use Rattle.std.specs.Prelude.{slice_get, nat_lt}
-use Rattle.std.specs.List.{All, Contains}
+use Rattle.std.specs.List.{All}
 use Rattle.std.proofs.lemmas.Bool.{cases_lt, cases_Bool, ltb-true}
 use Rattle.std.proofs.lemmas.List.Elements.{All-head, All-tail}
 use Rattle.std.proofs.lemmas.Option.{slice_get-map}
@@ -10,7 +10,7 @@ use Rattle.soc_model.specs.Chips.{ModuleValue, SocValue, numbers}
 use Rattle.soc_model.specs.SoundChips.{IsSoundChip}
 use Rattle.plan_model.specs.Plans.{BusValue, WrapperValue, PlanValue, LimitsValue, BoundValue}
 use Rattle.plan_model.specs.Cells.{ChainValue}
-use Rattle.plan_model.specs.Rules.{Each, IsFirstBreach, pair_of, live_ids}
+use Rattle.plan_model.specs.Rules.{pair_of, live_ids}
 use Rattle.plan_model.proofs.Lists.{at_contains}
 use Rattle.bound_certificate.specs.Best.{IsFirstGreatest, IsBefore, HasBefore, GoesBack, IsPrintedChain, IsForcedPart, IsBestBound, IsBestWith, by_need, up_to, winning, forced_or}
 use Rattle.bound_certificate.specs.Breaches.{IsBreachPlace}
@@ -18,15 +18,14 @@ use Rattle.plan_model.specs.Certificates.{IsForcedItem}
 use Rattle.wrapper_design.specs.Design.{mode_of, design}
 use Rattle.width_table.specs.Times.{mode_time}
 use Rattle.width_table.proofs.LeastWidths.{chosen_unique}
-use Rattle.resource_table.specs.declared.Placement.{Placement}
 use Rattle.resource_table.specs.Jobs.{JobValue}
 use Rattle.schedule_search.specs.Walks.{HasMoreOpen}
 use Rattle.schedule_search.specs.Found.{IsFound}
 use Rattle.schedule_search.proofs.Agreeing.{same_cycles, same_order}
 use Rattle.schedule_search.proofs.CycleCounts.{same_placed}
 use Rattle.planner.specs.Jobs.{job_of}
-use Rattle.planner.specs.Wrapping.{bus_width, IsTableWrapper, IsWrapperOnBus, AreTableWrappers}
-use Rattle.planner.specs.Schedules.{start_of, IsSchedule, IsFoundSchedule}
+use Rattle.planner.specs.Wrapping.{bus_width, IsTableWrapper, IsWrapperOnBus}
+use Rattle.planner.specs.Schedules.{start_of, IsSchedule}
 use Rattle.planner.specs.Plans.{IsPlanned}
 
 -- ---- wrappers

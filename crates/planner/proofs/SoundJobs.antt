@@ -1,9 +1,8 @@
 -- The job of a sound chip under sound limits is sound.
-use Rattle.std.proofs.Common.{◌≡◌, inl, inr, ℕ, zero, suc, ◌+◌, ◌*◌, ◌≤◌, ◌^◌, max, min, true, false, Some, None, Option, List, [], ◌∷◌, length, get_or, map, refl, sym, ◌∙◌, ap, subst, arith}
+use Rattle.std.proofs.Common.{◌≡◌, inl, inr, ℕ, zero, suc, ◌+◌, ◌≤◌, ◌^◌, true, Some, None, Option, List, [], ◌∷◌, length, get_or, map, refl, subst, arith}
 use Rattle.std.specs.Prelude.{slice_get, IfSome, nat_le, slice_index_or}
-use Rattle.std.specs.List.{All, sum, sum_by}
+use Rattle.std.specs.List.{All, sum_by}
 use Rattle.std.proofs.lemmas.Bool.{cases_Bool, le-leb}
-use Rattle.std.proofs.lemmas.List.{length-replicate}
 use Rattle.std.proofs.lemmas.List.Sums.{sum_by-cons}
 use Rattle.std.proofs.lemmas.List.Elements.{All-nil, All-cons, All-contains}
 use Rattle.std.proofs.lemmas.Option.{slice_get-get_or}
@@ -16,12 +15,10 @@ use Rattle.soc_model.specs.SoundChips.{IsSoundChip}
 use Rattle.soc_model.proofs.Limits.{work-le, powers-le}
 use Rattle.plan_model.specs.declared.Wrapper.{Wrapper}
 use Rattle.plan_model.specs.declared.TheConstants.{STEPS_MOST}
-use Rattle.plan_model.specs.Cells.{Cell, IsProper, in_length, out_length, chain_cells}
-use Rattle.plan_model.specs.Operations.{SelfTest, ops_of}
-use Rattle.plan_model.specs.Plans.{BusValue, WrapperValue, PlanValue, ProfileValue, LimitsValue, greatest, chains_of, operations_of, planned_test, step_power, power_of_id, of_first}
+use Rattle.plan_model.specs.Plans.{BusValue, PlanValue, ProfileValue, LimitsValue, chains_of, operations_of, planned_test, step_power, power_of_id, of_first}
 use Rattle.plan_model.specs.Rules.{Each, HasWrapper, HasProperCells, used_pairs, live_ids}
 use Rattle.plan_model.specs.SoundLimits.{Grow, IsSoundProfile, IsSoundLimits}
-use Rattle.plan_model.specs.Views.{wrapper_value, chain_value}
+use Rattle.plan_model.specs.Views.{wrapper_value}
 use Rattle.plan_model.proofs.GoodPlansRunRight.{planned_some}
 use Rattle.plan_model.proofs.Lists.{from_map, from_filter, in_flat_map, at_contains}
 use Rattle.plan_model.proofs.PlannedTests.{IsLive, live_at}

@@ -6,16 +6,22 @@ ghost use Rattle.soc_model.specs.declared.TestId.{TestId};
 ghost use Rattle.soc_model.specs.Chips.{soc_value, module_value, is_live, same_test, live_tests};
 ghost use Rattle.soc_model.specs.SoundChips.{IsSoundChip};
 ghost use Rattle.plan_model.specs.SoundLimits.{IsSoundLimits};
-ghost use Rattle.plan_model.specs.Plans.{wraps, bus_place, operations_of, chains_of};
 ghost use Rattle.plan_model.specs.Rules.{Keeps, Wrappers, Proper, live_ids};
 ghost use Rattle.plan_model.specs.Views.{wrapper_value, bus_value, profile_value, limits_value};
+ghost use Rattle.live_tests.specs.Index.{IsIndex};
+ghost use Rattle.live_tests.specs.Profiles.{AreProfilePlaces};
 ghost use Rattle.resource_table.specs.declared.JobTest.{JobTest};
 ghost use Rattle.resource_table.specs.Jobs.{test_value, job_value, IsSoundJob};
-ghost use Rattle.planner.specs.Jobs.{settled_parts, steps_of as the_steps, bus_of as the_bus, test_of as the_test, test_in, job_of as the_job};
+ghost use Rattle.planner.specs.Jobs.{settled_parts, steps_of as the_steps, test_of as the_test, test_in, job_of as the_job};
+ghost use Rattle.planner.specs.Sharing.{IsShared};
 
-use live_tests::LiveTests;
+use indexmap::IndexMap;
+use live_tests::{
+    LiveTests, ModeWrappers, bus_over, bus_place, buses_by_module, profile_place, profile_places,
+    wrappers_by_mode,
+};
 use outside::{NoMemory, push};
-use plan_model::{Bus, Limits, Wrapper, bus_of as bus_place_of, profile_of, test_cycles};
+use plan_model::{Bus, Limits, Wrapper};
 use resource_table::{Job, JobTest};
 use soc_model::{Module, Soc, Test, TestId, live, module_at, parent};
 use std::alloc::Global;
@@ -50,72 +56,107 @@ fn one_step(alloc: Global, power: u64) -> Result<Vec<(u64, u64)>, NoMemory>
     vec![in alloc; (0, power)].map_err(|_| NoMemory)
 }
 
-/// The power of a test in steps: those of its profile, or its own power at every cycle.
+/// The power of a test in steps: those of its profile, found by those of all tests, or its own power at every cycle.
 fn steps_of(
     alloc: Global,
     limits: &Limits,
+    profiles: &IndexMap<TestId, usize>,
     id: TestId,
     own: u64,
 ) -> Result<Vec<(u64, u64)>, NoMemory>
+    requires { AreProfilePlaces profiles.now limits.now.profiles.items }
     ensures { IfOk result (λ steps. steps.items ≡ the_steps (limits_value limits.now) id own) }
 {
-    match profile_of(&limits.profiles, id) {
+    match profile_place(&limits.profiles, profiles, id) {
         Some(place) => copy_steps(alloc, &limits.profiles[place].steps),
         None => one_step(alloc, own),
     }
 }
 
-/// The cycles of a live test.
-fn cycles_of(parts: &JobParts<'_>, module: &Module, test: &Test) -> u64
-    requires sound { IsSoundChip (soc_value parts.now.soc.now) }
-    requires wrapped { Keeps (soc_value parts.now.soc.now) (limits_value parts.now.limits.now) (settled_parts (map bus_value parts.now.buses.now) (map wrapper_value parts.now.wrappers.now)) Wrappers }
-    requires proper { Keeps (soc_value parts.now.soc.now) (limits_value parts.now.limits.now) (settled_parts (map bus_value parts.now.buses.now) (map wrapper_value parts.now.wrappers.now)) Proper }
-    requires module_there { (p : ℕ) × (slice_get (soc_value parts.now.soc.now).modules p ≡ Some (module_value «module».now)) }
-    requires test_there { (k : ℕ) × (slice_get «module».now.tests.items k ≡ Some test.now) }
-    requires is_live { is_live test.now ≡ true }
-    ensures { result ≡ length (operations_of (module_value «module».now) test.now (chains_of (settled_parts (map bus_value parts.now.buses.now) (map wrapper_value parts.now.wrappers.now)) (module_value «module».now) test.now)) }
-{
-    test_cycles(parts.wrappers, module, test)
+/// Where the bus and the wrappers of each module stand, and the profile of each test.
+#[derive(Drop)]
+struct PartPlaces {
+    buses: IndexMap<u64, usize>,
+    wrappers: IndexMap<(u64, bool), usize>,
+    profiles: IndexMap<TestId, usize>,
 }
 
-/// The bus of a test; a self test has none.
-fn bus_of(buses: &[Bus], module: &Module, test: &Test) -> Option<usize>
-    ensures { result ≡ the_bus (settled_parts (map bus_value buses.now) []) (module_value «module».now) test.now }
+/// The places of all parts.
+fn part_places(alloc: Global, parts: &JobParts<'_>) -> Result<PartPlaces, NoMemory>
+    ensures parts { IfOk result (λ places. IsIndex (settled_parts (map bus_value parts.now.buses.now) (map wrapper_value parts.now.wrappers.now)) places.buses.entries places.wrappers.entries []) }
+    ensures profiles { IfOk result (λ places. AreProfilePlaces places.profiles parts.now.limits.now.profiles.items) }
 {
-    if test.tam {
-        Some(bus_place_of(buses, module.number))
-    } else {
-        None
+    let buses = buses_by_module(alloc, parts.buses)?;
+    let wrappers = wrappers_by_mode(alloc, parts.wrappers)?;
+    let profiles = profile_places(alloc, &parts.limits.profiles)?;
+    Ok(PartPlaces {
+        buses,
+        wrappers,
+        profiles,
+    })
+}
+
+/// What the tests of a module share.
+#[derive(Clone, Copy, Drop)]
+struct Shared {
+    /// The place of the module in the chip.
+    place: usize,
+    /// The place of its parent.
+    parent: Option<usize>,
+    /// The place of its bus; how many buses there are where it has none.
+    bus: usize,
+    /// Its wrappers.
+    wrappers: ModeWrappers,
+}
+
+/// What the tests of the module at a place share.
+fn shared_of(parts: &JobParts<'_>, places: &PartPlaces, place: usize, module: &Module) -> Shared
+    requires sound { IsSoundChip (soc_value parts.now.soc.now) }
+    requires proper { Keeps (soc_value parts.now.soc.now) (limits_value parts.now.limits.now) (settled_parts (map bus_value parts.now.buses.now) (map wrapper_value parts.now.wrappers.now)) Proper }
+    requires places { IsIndex (settled_parts (map bus_value parts.now.buses.now) (map wrapper_value parts.now.wrappers.now)) places.now.buses.entries places.now.wrappers.entries [] }
+    requires module_there { slice_get (soc_value parts.now.soc.now).modules place ≡ Some (module_value «module».now) }
+    ensures place { result.place ≡ place }
+    ensures shared { IsShared (soc_value parts.now.soc.now) (settled_parts (map bus_value parts.now.buses.now) (map wrapper_value parts.now.wrappers.now)) (module_value «module».now) result }
+{
+    let scan = places.wrappers.get(&(module.number, true)).copied();
+    let terminals = places.wrappers.get(&(module.number, false)).copied();
+    let wrappers = ModeWrappers::found(parts.soc, parts.wrappers, place, module, scan, terminals);
+    Shared {
+        place,
+        parent: parent(parts.soc, place),
+        bus: bus_place(parts.buses, &places.buses, module.number),
+        wrappers,
     }
 }
 
-/// A live test of the module at a place.
+/// A live test of a module.
 fn test_of(
     alloc: Global,
     parts: &JobParts<'_>,
-    place: usize,
+    places: &PartPlaces,
+    shared: &Shared,
     module: &Module,
     test: &Test,
 ) -> Result<JobTest, NoMemory>
     requires sound { IsSoundChip (soc_value parts.now.soc.now) }
     requires wrapped { Keeps (soc_value parts.now.soc.now) (limits_value parts.now.limits.now) (settled_parts (map bus_value parts.now.buses.now) (map wrapper_value parts.now.wrappers.now)) Wrappers }
-    requires proper { Keeps (soc_value parts.now.soc.now) (limits_value parts.now.limits.now) (settled_parts (map bus_value parts.now.buses.now) (map wrapper_value parts.now.wrappers.now)) Proper }
-    requires module_there { slice_get (soc_value parts.now.soc.now).modules place ≡ Some (module_value «module».now) }
+    requires profiles { AreProfilePlaces places.now.profiles parts.now.limits.now.profiles.items }
+    requires shared { IsShared (soc_value parts.now.soc.now) (settled_parts (map bus_value parts.now.buses.now) (map wrapper_value parts.now.wrappers.now)) (module_value «module».now) shared.now }
     requires test_there { (k : ℕ) × (slice_get «module».now.tests.items k ≡ Some test.now) }
     requires is_live { is_live test.now ≡ true }
-    ensures { IfOk result (λ t. test_value t ≡ test_in (soc_value parts.now.soc.now) (limits_value parts.now.limits.now) (settled_parts (map bus_value parts.now.buses.now) (map wrapper_value parts.now.wrappers.now)) place (module_value «module».now) test.now) }
+    ensures { IfOk result (λ t. test_value t ≡ test_in (soc_value parts.now.soc.now) (limits_value parts.now.limits.now) (settled_parts (map bus_value parts.now.buses.now) (map wrapper_value parts.now.wrappers.now)) shared.now.place (module_value «module».now) test.now) }
 {
     let id = TestId {
         module: module.number,
         test: test.number,
     };
-    let power = steps_of(alloc, parts.limits, id, test.power)?;
+    let power = steps_of(alloc, parts.limits, &places.profiles, id, test.power)?;
     Ok(JobTest {
         id,
-        place,
-        parent: parent(parts.soc, place),
-        bus: bus_of(parts.buses, module, test),
-        length: cycles_of(parts, module, test),
+        place: shared.place,
+        parent: shared.parent,
+        bus: bus_over(test.tam, shared.bus),
+        length: shared.wrappers.cycles(module, test),
         power,
     })
 }
@@ -125,18 +166,22 @@ fn push_live(
     alloc: Global,
     tests: &mut Vec<JobTest>,
     parts: &JobParts<'_>,
+    places: &PartPlaces,
     place: usize,
     module: &Module,
 ) -> Result<(), NoMemory>
     requires sound { IsSoundChip (soc_value parts.now.soc.now) }
     requires wrapped { Keeps (soc_value parts.now.soc.now) (limits_value parts.now.limits.now) (settled_parts (map bus_value parts.now.buses.now) (map wrapper_value parts.now.wrappers.now)) Wrappers }
     requires proper { Keeps (soc_value parts.now.soc.now) (limits_value parts.now.limits.now) (settled_parts (map bus_value parts.now.buses.now) (map wrapper_value parts.now.wrappers.now)) Proper }
+    requires places { IsIndex (settled_parts (map bus_value parts.now.buses.now) (map wrapper_value parts.now.wrappers.now)) places.now.buses.entries places.now.wrappers.entries [] }
+    requires profiles { AreProfilePlaces places.now.profiles parts.now.limits.now.profiles.items }
     requires module_there { slice_get (soc_value parts.now.soc.now).modules place ≡ Some (module_value «module».now) }
     ensures { OnOk result (map test_value tests.new.items ≡ map test_value tests.old.items ++ map (test_in (soc_value parts.now.soc.now) (limits_value parts.now.limits.now) (settled_parts (map bus_value parts.now.buses.now) (map wrapper_value parts.now.wrappers.now)) place (module_value «module».now)) (filter is_live «module».now.tests.items)) }
 {
+    let shared = shared_of(parts, places, place, module);
     for test in &module.tests {
         if live(test) {
-            let entry = test_of(alloc, parts, place, module, test)?;
+            let entry = test_of(alloc, parts, places, &shared, module, test)?;
             push(tests, entry)?;
         }
     }
@@ -150,9 +195,17 @@ fn tests_of(alloc: Global, parts: &JobParts<'_>) -> Result<Vec<JobTest>, NoMemor
     requires proper { Keeps (soc_value parts.now.soc.now) (limits_value parts.now.limits.now) (settled_parts (map bus_value parts.now.buses.now) (map wrapper_value parts.now.wrappers.now)) Proper }
     ensures { IfOk result (λ tests. map test_value tests.items ≡ map (the_test (soc_value parts.now.soc.now) (limits_value parts.now.limits.now) (settled_parts (map bus_value parts.now.buses.now) (map wrapper_value parts.now.wrappers.now))) (live_tests (soc_value parts.now.soc.now))) }
 {
+    let places = part_places(alloc, parts)?;
     let mut tests = Vec::new(alloc);
     for place in 0..module_count(parts.soc) {
-        push_live(alloc, &mut tests, parts, place, module_at(parts.soc, place))?;
+        push_live(
+            alloc,
+            &mut tests,
+            parts,
+            &places,
+            place,
+            module_at(parts.soc, place),
+        )?;
     }
     Ok(tests)
 }

@@ -2,7 +2,7 @@
 use Rattle.std.proofs.Common.{◌≡◌, ℕ, zero, suc, ◌+◌, ◌-◌, ◌^◌, ◌≤◌, ◌<◌, Some, List, [], ◌∷◌, ◌++◌, length, replicate, refl, ap, ◌∙◌, sym, arith, inl, inr, ◌⊎◌}
 use Rattle.std.specs.Prelude.{slice_get}
 use Rattle.std.proofs.lemmas.Bool.{cases_lt, cases_eq}
-use Rattle.std.proofs.lemmas.List.{length_push, length-replicate}
+use Rattle.std.proofs.lemmas.List.{length-append, length-replicate}
 use Rattle.plan_model.specs.Bounds.{least_from_one}
 use Rattle.plan_model.proofs.FirstAndLeast.{least-le, least-ge}
 use Rattle.width_table.specs.Times.{IsChosen}
@@ -72,25 +72,55 @@ get_push [] x (suc k) y at = absurd cc
 get_push (z ∷ zs) x zero y at = inr at
 get_push (z ∷ zs) x (suc k) y at = elim (get_push zs x k y at) [ inl h ↦ inl (ap suc h.0, h.1) | inr h ↦ inr h ]
 
-pub push_choice : (f : ℕ → ℕ) (w n : ℕ) (cs : List Choice) (c : Choice) → n ≡ w + 1 → AreChoices f w cs → IsChoice f n c → c.cycles ≤ 10 ^ 18 → AreChoices f n (cs ++ c ∷ [])
-push_choice f w n cs c e h now small = record {
-  size = length_push cs c ∙ omega (arith, h.size);
-  each = λ k d at. elim (get_push cs c k d at) [
-    | inl new ↦ let s : n ≡ k + 1 = omega (arith, h.size, new.0) in rw (← s, ← new.1) now
-    | inr old ↦ h.each k d old
-  ];
-  fits = λ k d at. elim (get_push cs c k d at) [
-    | inl new ↦ rw (← new.1) small
-    | inr old ↦ h.fits k d old
-  ];
-}
-
--- where nothing takes any time, the first width is chosen
 get_replicate : {X : Type 0} (n : ℕ) (x : X) (k : ℕ) (y : X) → slice_get (replicate n x) k ≡ Some y → x ≡ y
 get_replicate zero x k y at = absurd cc
 get_replicate (suc n) x zero y at = cc
 get_replicate (suc n) x (suc k) y at = get_replicate n x k y at
 
+-- the same choice at each width up to another one, over which the time stays
+get_behind : {X : Type 0} (xs ys : List X) (k : ℕ) (y : X) → slice_get (xs ++ ys) k ≡ Some y → ((length xs ≤ k) × (slice_get ys (k - length xs) ≡ Some y)) ⊎ (slice_get xs k ≡ Some y)
+get_behind [] ys k y at = let e : k - 0 ≡ k = omega arith in inl (omega arith, rw e at)
+get_behind (x ∷ xs) ys zero y at = inr at
+get_behind (x ∷ xs) ys (suc k) y at = elim (get_behind xs ys k y at) [
+  | inl h ↦ let e : suc k - suc (length xs) ≡ k - length xs = omega arith in inl (omega (arith, h.0), rw e h.1)
+  | inr h ↦ inr h
+]
+
+-- a choice stays one as long as the time does
+pub choice_stays : (f : ℕ → ℕ) (w v : ℕ) (c : Choice) → w ≤ v → ((u : ℕ) → w ≤ u → u ≤ v → f u ≡ f w) → IsChoice f w c → IsChoice f v c
+choice_stays f w v c le same now = record {
+  chosen = record {
+    some = now.chosen.some;
+    within = omega (arith, now.chosen.within);
+    least = λ u a b. elim (cases_lt u w) [
+      | inl less ↦ now.chosen.least u a (omega (arith, less))
+      | inr no' ↦
+          let here : f u ≡ f w = same u (omega (arith, no')) b in
+          let least : f c.width ≤ f w = now.chosen.least w (omega (arith, now.chosen.some, now.chosen.within)) (omega arith) in
+          omega (arith, here, least)
+    ];
+    first = now.chosen.first;
+  };
+  cycles = now.cycles;
+}
+
+pub fill_choices : (f : ℕ → ℕ) (before w last : ℕ) (cs ds : List Choice) (c : Choice) → w ≡ before + 1 → w ≤ last → AreChoices f before cs → IsChoice f w c → c.cycles ≤ 10 ^ 18 → ((u : ℕ) → w ≤ u → u ≤ last → f u ≡ f w) → ds ≡ cs ++ replicate (last - before) c → AreChoices f last ds
+fill_choices f before w last cs ds c e le h now small same is = rw is (record {
+  size = length-append cs (replicate (last - before) c) ∙ omega (arith, h.size, length-replicate (last - before) c);
+  each = λ k d at. elim (get_behind cs (replicate (last - before) c) k d at) [
+    | inl new ↦
+        let same_choice : c ≡ d = get_replicate (last - before) c (k - length cs) d new.1 in
+        let below : k - length cs < last - before = omega (arith, slice_get_within (replicate (last - before) c) (k - length cs) d new.1, length-replicate (last - before) c) in
+        rw (← same_choice) (choice_stays f w (k + 1) c (omega (arith, new.0, h.size)) (λ u a b. same u a (omega (arith, b, below, new.0, h.size))) now)
+    | inr old ↦ h.each k d old
+  ];
+  fits = λ k d at. elim (get_behind cs (replicate (last - before) c) k d at) [
+    | inl new ↦ let same_choice : c ≡ d = get_replicate (last - before) c (k - length cs) d new.1 in rw (← same_choice) small
+    | inr old ↦ h.fits k d old
+  ];
+})
+
+-- where nothing takes any time, the first width is chosen
 pub idle_choices : (f : ℕ → ℕ) (w : ℕ) → ((u : ℕ) → f u ≡ 0) → AreChoices f w (replicate w (record { cycles = 0; width = 1 }))
 idle_choices f w none = record {
   size = length-replicate w (record { cycles = 0; width = 1 });

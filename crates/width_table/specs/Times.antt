@@ -1,8 +1,8 @@
 -- The time of a module's tests over the wires, by width.
-use Rattle.std.specs.Prelude.{ℕ, ◌+◌, ◌<◌, ◌≤◌, ◌&&◌, Bool, true, false, List, length}
+use Rattle.std.specs.Prelude.{ℕ, ◌+◌, ◌<◌, ◌≤◌, Bool, true, false, List, length}
 use Rattle.std.specs.List.{sum_by, filter}
 use Rattle.soc_model.specs.declared.Test.{Test}
-use Rattle.soc_model.specs.Chips.{ModuleValue, is_live}
+use Rattle.soc_model.specs.Chips.{ModuleValue}
 use Rattle.soc_model.specs.Modes.{is_of_mode}
 use Rattle.plan_model.specs.Cells.{ChainValue, chain_cells}
 use Rattle.plan_model.specs.Plans.{operations_of}

@@ -91,13 +91,17 @@ pub fn choices(
         cycles: u64::MAX,
         width: 1,
     };
-    for width in 1..wires + 1 {
+    let mut width: u64 = 1;
+    while width <= wires {
         let (si, so) = paths.at(width)?;
         let cycles = cycles_of(module.setup, totals, si, so);
         if cycles < best.cycles {
             best = Choice { cycles, width };
         }
-        choices.push(best)?;
+        // where the paths stay as they are, so does the choice
+        let last = paths.same_to(width, si, so, wires);
+        choices.resize(last as usize, best)?;
+        width = last + 1;
     }
     Ok(choices)
 }

@@ -8,4 +8,5 @@ pub mod Alone
 pub mod Chains
 pub mod Limits
 pub mod Shortest
+mod Steady
 pub mod Rows

@@ -1,7 +1,8 @@
 // The longest scan-in and scan-out paths of the designs of one mode, at any width, without the wrappers.
-ghost use Rattle.std.specs.Prelude.{◌≡◌, ◌+◌, ◌^◌, ◌≤◌, IfOk};
+ghost use Rattle.std.specs.Prelude.{◌≡◌, ℕ, ◌+◌, ◌^◌, ◌≤◌, max, IfOk};
 ghost use Rattle.std.specs.List.{sum};
 ghost use Rattle.soc_model.specs.Chips.{module_value};
+ghost use Rattle.plan_model.specs.Bounds.{quotient_up};
 ghost use Rattle.plan_model.specs.Listing.{module_size};
 ghost use Rattle.wrapper_design.specs.Design.{mode_of, design, longest_part};
 ghost use Rattle.wrapper_design.specs.Balance.{in_length_of, out_length_of};
@@ -35,6 +36,22 @@ impl<'a> Model for PathLengths<'a> {
     ghost view = { λ d. record { lengths = d.lengths.now; ins = d.ins; outs = d.outs } };
 
     ghost invariant = { λ d. IsPrepared d.lengths.now d.order.items d.longest_chain d.flops d.ins d.outs };
+}
+
+/// A width up to `most` up to which chains are filled as at a width: a share of `cells` reaches the same level, or none is
+/// longer than the longest scan length.
+fn level_to(longest: u64, cells: u64, reached: u64, width: u64, most: u64) -> u64
+    requires some { 1 ≤ width }
+    requires within { width ≤ most }
+    requires reached { reached ≡ max longest (quotient_up cells width) }
+    ensures least { width ≤ result }
+    ensures most { result ≤ most }
+    ensures same { (v : ℕ) → width ≤ v → v ≤ result → max longest (quotient_up cells v) ≡ reached }
+{
+    if reached <= longest.max(1) {
+        return most;
+    }
+    ((cells - 1) / (reached - 1)).min(most)
 }
 
 impl<'a> PathLengths<'a> {
@@ -90,5 +107,24 @@ impl<'a> PathLengths<'a> {
         let si = level(longest, self.ins, self.flops, width);
         let so = level(longest, self.outs, self.flops, width);
         Ok((si, so))
+    }
+
+    /// A width up to `most` up to which the lengths stay as they are at a width, `si` and `so`. It takes no memory.
+    pub fn same_to(&self, width: u64, si: u64, so: u64, most: u64) -> u64
+        requires some_wire { 1 ≤ width }
+        requires within { width ≤ most }
+        requires si { si ≡ in_length_of self.now (design self.now width) }
+        requires so { so ≡ out_length_of self.now (design self.now width) }
+        ensures least { width ≤ result }
+        ensures most { result ≤ most }
+        ensures si { (v : ℕ) → width ≤ v → v ≤ result → in_length_of self.now (design self.now v) ≡ si }
+        ensures so { (v : ℕ) → width ≤ v → v ≤ result → out_length_of self.now (design self.now v) ≡ so }
+    {
+        if self.order.len() > width as usize {
+            return width;
+        }
+        let ins = level_to(self.longest_chain, self.ins + self.flops, si, width, most);
+        let outs = level_to(self.longest_chain, self.outs + self.flops, so, width, most);
+        ins.min(outs)
     }
 }

@@ -1,11 +1,10 @@
-use Rattle.std.proofs.Common.{◌≡◌, ◌∙◌, ap, sym, subst, map, List}
+use Rattle.std.proofs.Common.{◌∙◌, ap, sym, subst, map, List}
 use Rattle.std.specs.List.{flat_map}
 use Rattle.soc_model.specs.declared.TestId.{TestId}
 use Rattle.soc_model.specs.Chips.{soc_value}
-use Rattle.plan_model.specs.Views.{wrapper_value, bus_value, limits_value}
-use Rattle.resource_table.specs.Jobs.{IsSoundJob, job_value}
+use Rattle.plan_model.specs.Views.{bus_value, limits_value}
+use Rattle.resource_table.specs.Jobs.{IsSoundJob}
 use Rattle.live_tests.specs.Names.{places_of}
-use Rattle.planner.specs.Jobs.{settled_parts, job_of}
 use Rattle.planner.proofs.LiveJobs.{job_same}
 use Rattle.planner.proofs.SoundJobs.{job_sound}
 use Rattle.planner.proofs.job.job_of.Goals as goal

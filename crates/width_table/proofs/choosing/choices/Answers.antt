@@ -1,5 +1,7 @@
-use Rattle.std.proofs.Common.{◌≡◌, ℕ, ◌+◌, ◌-◌, ◌*◌, ◌^◌, ◌≤◌, ◌<◌, ◌∙◌, Bool, max, min, ap, sym, subst, arith, length, inl, inr, ◌⊎◌}
+use Rattle.std.proofs.Common.{refl, ◌≡◌, ℕ, ◌++◌, take, replicate, ◌+◌, ◌-◌, ◌*◌, ◌^◌, ◌≤◌, ◌<◌, ◌∙◌, Bool, max, min, ap, sym, subst, arith, length, inl, inr, ◌⊎◌}
+use Rattle.std.specs.Vec.{vec_len}
 use Rattle.std.specs.List.{sum_by, sum, filter}
+use Rattle.std.proofs.lemmas.List.{take_all}
 use Rattle.soc_model.specs.Chips.{ModuleValue, is_live}
 use Rattle.soc_model.specs.Modes.{scan_lengths}
 use Rattle.soc_model.specs.Chips.{module_value}
@@ -8,7 +10,7 @@ use Rattle.wrapper_design.specs.Balance.{in_length_of, out_length_of}
 use Rattle.soc_model.specs.Sizes.{test_work}
 use Rattle.width_table.specs.Times.{mode_time, mode_tests}
 use Rattle.width_table.proofs.Work.{patterns_of, tests_few, idle_time, time_is, time_small}
-use Rattle.width_table.proofs.LeastWidths.{idle_choices, choose, chosen_fits, push_choice}
+use Rattle.width_table.proofs.LeastWidths.{idle_choices, choose, chosen_fits, choice_stays, fill_choices}
 use Rattle.width_table.proofs.choosing.choices.Goals as goal
 use Rattle.width_table.proofs.choosing.choices.Goals.{then-cycles-best, else-cycles-best}
 
@@ -59,11 +61,21 @@ loop-width-preserved c =
       | else-cycles-best b ↦ inr (b.if-cycles-best.false, b.best-is)
     ] in
     let r = choose f w c.cycles_of-cycles.result c.loop-width.best c.if-cycles-best.best (omega arith) is fits i.best i.cycles i.start how in
-    let e : c.loop-width.width + 1 - 1 ≡ c.loop-width.width = omega arith in
+    let stays : (u : ℕ) → c.loop-width.width ≤ u → u ≤ c.same_to-last.result → f u ≡ f w = λ u le within.
+    sym (whole (module_value c.args.«module».now) c.args.scan u _ c.in_ok-si.si c.in_ok-si.so c.totals-totals.result.tests c.totals-totals.result.patterns c.cycles_of-cycles.result
+    (c.in_ok-si.ensures.kept ∙ i.mode) (sym (c.same_to-last.ensures.si u le within)) (sym (c.same_to-last.ensures.so u le within)) c.totals-totals.ensures.tests c.totals-totals.ensures.patterns c.cycles_of-cycles.ensures)
+    ∙ is in
+    let e : c.same_to-last.result + 1 - 1 ≡ c.same_to-last.result = omega arith in
+    let all : take c.same_to-last.result c.loop-width.choices.items ≡ c.loop-width.choices.items = take_all c.same_to-last.result c.loop-width.choices.items (omega (arith, i.choices.size, c.same_to-last.ensures.least)) in
+    let long : vec_len c.loop-width.choices ≡ w - 1 = omega (arith, c.loop-width.choices.ok.0, i.choices.size) in
+    let items : c.resize.new.self.items ≡ c.loop-width.choices.items ++ replicate (c.same_to-last.result - (w - 1)) c.if-cycles-best.best =
+    c.in_ok-resize.ensures.items ∙ rw (all, long) refl in
     record {
+      some = omega arith;
+      within = omega (arith, c.same_to-last.ensures.most);
       mode = c.in_ok-si.ensures.kept ∙ i.mode;
-      choices = rw (e, c.in_ok-push.ensures.items) (push_choice f (w - 1) w c.loop-width.choices.items c.if-cycles-best.best (omega arith) i.choices (record { chosen = r.0; cycles = r.1 }) (chosen_fits w c.cycles_of-cycles.result c.loop-width.best c.if-cycles-best.best fits how));
-      best = λ h. rw e r.0;
+      choices = rw e (fill_choices f (w - 1) w c.same_to-last.result c.loop-width.choices.items c.resize.new.self.items c.if-cycles-best.best (omega (arith, i.some)) c.same_to-last.ensures.least i.choices (record { chosen = r.0; cycles = r.1 }) (chosen_fits w c.cycles_of-cycles.result c.loop-width.best c.if-cycles-best.best fits how) stays items);
+      best = λ h. rw e (choice_stays f w c.same_to-last.result c.if-cycles-best.best c.same_to-last.ensures.least stays (record { chosen = r.0; cycles = r.1 })).chosen;
       cycles = λ h. r.1;
       start = λ h. absurd (omega arith);
     }
