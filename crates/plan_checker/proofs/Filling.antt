@@ -1,10 +1,9 @@
 -- The live tests of a plan, module by module and test by test.
-use Rattle.std.proofs.Common.{◌≡◌, ℕ, suc, ◌+◌, ◌≤◌, ◌<◌, Bool, true, false, Some, List, [], ◌∷◌, ◌++◌, length, map, take, drop, refl, ap, ◌∙◌, sym, arith, append-nil, append_assoc}
+use Rattle.std.proofs.Common.{◌≡◌, ℕ, suc, ◌+◌, ◌≤◌, Bool, true, false, Some, List, [], ◌∷◌, ◌++◌, length, map, take, drop, refl, ap, ◌∙◌, sym, arith, append-nil, append_assoc}
 use Rattle.std.specs.Prelude.{slice_get}
 use Rattle.std.specs.List.{filter, flat_map, list_any}
 use Rattle.std.proofs.Math.Seq.{split_at, drop-cons}
-use Rattle.std.proofs.lemmas.Bool.{cases_Bool}
-use Rattle.std.proofs.lemmas.List.{length-append, length-map, length-take-le, map-append, take_all, take_more}
+use Rattle.std.proofs.lemmas.List.{length-append, length-map, map-append, take_more}
 use Rattle.std.proofs.lemmas.List.Elements.{filter-append}
 use Rattle.std.proofs.lemmas.Option.{slice_get_within, get_or_from_slice_get}
 use Rattle.soc_model.specs.declared.TestId.{TestId}
@@ -14,7 +13,7 @@ use Rattle.plan_model.proofs.Lists.{any_at, in_append_left}
 use Rattle.live_tests.specs.Names.{AllDiffer, names_in}
 use Rattle.live_tests.specs.Placed.{placed_in, placed_of, placed_tests}
 use Rattle.live_tests.specs.declared.placed.PlacedTest.{PlacedTest}
-use Rattle.live_tests.proofs.Placing.{module_more, modules_all, placed_live}
+use Rattle.live_tests.proofs.Placing.{module_more, placed_live}
 use Rattle.plan_checker.proofs.Rooms.{same_test_is}
 
 -- ---- what passes at the front of a list

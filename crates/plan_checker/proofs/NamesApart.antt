@@ -1,17 +1,14 @@
 -- The names of placed tests: no two have one, and each is found at its place.
-use Rattle.std.proofs.Common.{◌≡◌, ℕ, zero, suc, ◌+◌, ◌<◌, false, Some, None, Option, List, [], ◌∷◌, ◌++◌, take, ap, ◌∙◌, sym, arith, inl, inr, true≢false}
+use Rattle.std.proofs.Common.{◌≡◌, ℕ, Some, None, Option, List, ap, ◌∙◌, sym, true≢false}
 use Rattle.std.specs.Prelude.{slice_get, IfSome, IfNone}
-use Rattle.std.specs.List.{list_any, position}
-use Rattle.std.proofs.lemmas.Bool.{cases_Bool}
-use Rattle.std.proofs.lemmas.List.{take_more, map-append}
-use Rattle.std.proofs.lemmas.Option.{slice_get_within, get_or_from_slice_get}
+use Rattle.std.specs.List.{position}
 use Rattle.soc_model.specs.declared.TestId.{TestId}
 use Rattle.soc_model.specs.Chips.{same_test}
 use Rattle.live_tests.specs.Names.{AllDiffer}
 use Rattle.live_tests.specs.declared.placed.PlacedTest.{PlacedTest}
 use Rattle.plan_checker.specs.Named.{names_of}
 use Rattle.plan_checker.proofs.Finding.{position_finds, position_fails, some_same}
-use Rattle.plan_checker.proofs.Rooms.{any_item, same_test_is, same_test_itself, map_at, at_map}
+use Rattle.plan_checker.proofs.Rooms.{same_test_is, same_test_itself, map_at}
 
 pub name_found : (id : TestId) (names : List TestId) (r : Option ℕ) → r ≡ position (same_test id) names → IfSome r (λ p. slice_get names p ≡ Some id)
 name_found id names None e = tt

@@ -1,14 +1,13 @@
 -- What the rooms of the checker hold, and that they have place for it.
-use Rattle.std.proofs.Common.{◌≡◌, ℕ, zero, suc, ◌≤◌, ◌<◌, Bool, true, false, eqb, Some, None, Result, Ok, Err, List, [], ◌∷◌, length, get_or, map, set, take, is_some, refl, ap, ◌∙◌, sym, arith, inl, inr, eq-eqb, true≢false}
+use Rattle.std.proofs.Common.{◌≡◌, ℕ, zero, suc, ◌≤◌, ◌<◌, Bool, true, eqb, Some, Result, Ok, Err, List, [], ◌∷◌, length, get_or, map, set, take, refl, ap, ◌∙◌, sym, arith, inl, inr, eq-eqb, true≢false}
 use Rattle.std.specs.Prelude.{slice_get, IsOk, OnOk}
 use Rattle.std.specs.List.{list_any, Contains}
-use Rattle.std.specs.Map.{lookup}
 use Rattle.std.proofs.lemmas.Bool.{cases_Bool, and_parts, eqb-true}
 use Rattle.std.proofs.lemmas.Option.{slice_get-get_or}
 use Rattle.soc_model.specs.declared.TestId.{TestId}
 use Rattle.soc_model.specs.Chips.{same_test}
 use Rattle.plan_model.specs.Rules.{IsNew}
-use Rattle.plan_model.proofs.Lists.{contains_at, any_from}
+use Rattle.plan_model.proofs.Lists.{contains_at}
 use Rattle.plan_checker.proofs.Firsts.{EachTo, pigeon}
 use Rattle.plan_checker.proofs.Finding.{contains_from}
 

@@ -1,9 +1,6 @@
 -- The first item of a list that breaks a rule which doesn't look at the items before it.
-use Rattle.std.specs.Prelude.{◌≡◌, ℕ, Some, List, [], ◌∷◌, ◌++◌, slice_get, map, if◌then◌else◌}
-use Rattle.std.specs.List.{flat_map, Contains}
-use Rattle.soc_model.specs.declared.Test.{Test}
-use Rattle.soc_model.specs.declared.TestId.{TestId}
-use Rattle.soc_model.specs.Chips.{is_live}
+use Rattle.std.specs.Prelude.{◌≡◌, ℕ, Some, List, ◌∷◌, ◌++◌, slice_get, map}
+use Rattle.std.specs.List.{Contains}
 
 -- each item keeps the rule
 abbrev pub EachOf : {X : Type 0} → (X → Type 0) → List X → Type 0

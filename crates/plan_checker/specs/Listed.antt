@@ -1,12 +1,8 @@
 -- What the checker has noted of the buses and the starts of a plan.
-use Rattle.std.specs.Prelude.{◌≡◌, ℕ, ◌≤◌, ◌^◌, Some, List, [], ◌∷◌, if◌then◌else◌, slice_get}
-use Rattle.std.specs.List.{flat_map}
-use Rattle.soc_model.specs.declared.Test.{Test}
+use Rattle.std.specs.Prelude.{◌≡◌, ℕ, ◌≤◌, ◌^◌, Some, List, slice_get}
 use Rattle.soc_model.specs.declared.TestId.{TestId}
-use Rattle.soc_model.specs.Chips.{ModuleValue, SocValue, is_live}
-use Rattle.plan_model.specs.Plans.{PlanValue, planned_test, bus_place}
-use Rattle.live_tests.specs.Placed.{placed_of}
-use Rattle.live_tests.specs.declared.placed.PlacedTest.{PlacedTest}
+use Rattle.soc_model.specs.Chips.{ModuleValue, SocValue}
+use Rattle.plan_model.specs.Plans.{PlanValue, bus_place}
 
 -- for each module its bus by its place, the number of buses where it is on none
 abbrev pub AreBuses : SocValue → PlanValue → List ℕ → Type 0
