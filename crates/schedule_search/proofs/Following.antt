@@ -1,10 +1,9 @@
 -- Whether a test may follow a prefix, and whether it is ready.
-use Rattle.std.proofs.Common.{◌≡◌, inl, inr, ℕ, zero, suc, ◌+◌, ◌<◌, Bool, true, false, not, true≢false, Some, List, [], ◌∷◌, length, get_or, take, map, refl, sym, ◌∙◌, ap, subst}
+use Rattle.std.proofs.Common.{◌≡◌, inl, inr, ℕ, zero, suc, ◌<◌, Bool, true, false, not, true≢false, Some, List, [], ◌∷◌, length, get_or, take, map, refl, sym, ◌∙◌, ap}
 use Rattle.std.specs.Prelude.{slice_get, nat_eq, ◌||◌}
-use Rattle.std.specs.List.{All, Contains, list_all}
+use Rattle.std.specs.List.{Contains, list_all}
 use Rattle.std.proofs.lemmas.Bool.{cases_Bool, eqb-true, eq-eqb, and_parts, and_from}
-use Rattle.std.proofs.lemmas.List.{take_more}
-use Rattle.std.proofs.lemmas.List.Elements.{All-append, All-nil, All-cons, All-contains}
+use Rattle.std.proofs.lemmas.List.Elements.{All-contains}
 use Rattle.std.proofs.lemmas.List.Sums.{AllPass-from_list_all, list_all-from_AllPass}
 use Rattle.plan_model.proofs.Lists.{contains_at, at_contains, any_from, any_at}
 use Rattle.resource_table.specs.declared.Placement.{Placement}

@@ -11,7 +11,7 @@ use Rattle.resource_table.proofs.Befores.{set_other}
 use Rattle.resource_table.proofs.Placed.{each_front, each_last}
 use Rattle.schedule_search.specs.Orders.{IsReady}
 use Rattle.schedule_search.specs.Walks.{by_length, is_in, may_follow}
-use Rattle.schedule_search.specs.Prefixes.{outside, followers, tests_after, missing_of, times_in, waits_for_none, all_free, AreApart, AreMissing, AreSorted, IsWithout}
+use Rattle.schedule_search.specs.Prefixes.{outside, followers, tests_after, missing_of, times_in, waits_for_none, all_free, AreApart, AreMissing, IsWithout}
 use Rattle.schedule_search.proofs.Comparing.{first_in_order}
 use Rattle.schedule_search.proofs.Following.{in_to, not_in, in_front}
 use Rattle.schedule_search.proofs.Missing.{one_of, follows_from, follows_not, missing_less, missing_ready, times_more, one_here}
