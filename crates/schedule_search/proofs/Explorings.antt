@@ -15,8 +15,7 @@ use Rattle.schedule_search.specs.OrderCycles.{Takes, HasPlaced}
 use Rattle.schedule_search.specs.Walks.{may_follow, walk_from, IsShut, IsOpen}
 use Rattle.schedule_search.specs.Late.{IsLateAt, AreInTime}
 use Rattle.schedule_search.specs.Progress.{Stand, stand_of, AtMostFirst, IsBest, NoneBefore, IsKeptOrFewer, Explored}
-use Rattle.schedule_search.specs.declared.prefix.Prefix.{Prefix}
-use Rattle.schedule_search.specs.Prefixes.{followers, IsAt}
+use Rattle.schedule_search.specs.Prefixes.{followers}
 use Rattle.schedule_search.proofs.PlacedOrders.{placed_has, placed_not}
 use Rattle.schedule_search.proofs.Following.{ready_from}
 use Rattle.schedule_search.proofs.Comparing.{AreInOrder}
@@ -115,11 +114,8 @@ followed job budget tests path pushed test a b is explored =
     let more : tests - length pushed ≡ tests - length path - 1 = omega (arith, ap length is, length-append path (test ∷ [])) in
     subst (λ (n : ℕ). Explored job budget (walk_from job n (path ++ test ∷ [])) a b) more (subst (λ (l : List ℕ). Explored job budget (walk_from job (tests - length pushed) l) a b) is explored)
 
-pub child_of : (job : JobValue) (budget : ℕ) (path : List ℕ) (p : Prefix) (place : ℕ) (a b : Stand) → IsAt job path p
-    → Explored job budget (walk_from job (length job.tests - length p.tests.items - 1) (p.tests.items ++ get_or p.free.items place 0 ∷ [])) a b → Explored job budget (walk_from job (length job.tests - length path - 1) (path ++ get_or (followers job path) place 0 ∷ [])) a b
-child_of job budget path p place a b at explored =
-    subst (λ (l : List ℕ). Explored job budget (walk_from job (length job.tests - length path - 1) (path ++ get_or l place 0 ∷ [])) a b) at.free_are
-    (subst (λ (l : List ℕ). Explored job budget (walk_from job (length job.tests - length l - 1) (l ++ get_or p.free.items place 0 ∷ [])) a b) at.tests_are explored)
+pub child_of : (job : JobValue) (budget : ℕ) (path now : List ℕ) (test : ℕ) (a b : Stand) → now ≡ path → Explored job budget (walk_from job (length job.tests - length now - 1) (now ++ test ∷ [])) a b → Explored job budget (walk_from job (length job.tests - length path - 1) (path ++ test ∷ [])) a b
+child_of job budget path now test a b same explored = subst (λ (l : List ℕ). Explored job budget (walk_from job (length job.tests - length l - 1) (l ++ test ∷ [])) a b) same explored
 
 pub walk_stopped : (job : JobValue) (budget more : ℕ) (path : List ℕ) (place : ℕ) (a b : Stand) → 0 < more → b.refused ≡ true → Explored job budget (tried job (more - 1) path place) a b → Explored job budget (walk_from job more path) a b
 walk_stopped job budget more path place a b some refused one =

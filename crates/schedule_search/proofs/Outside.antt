@@ -1,5 +1,5 @@
 -- The tests outside a prefix, in the order in which they are tried.
-use Rattle.std.proofs.Common.{◌≡◌, inl, inr, ℕ, zero, suc, ◌+◌, ◌<◌, ◌≤◌, Bool, true, false, not, true≢false, cond, Some, List, [], ◌∷◌, ◌++◌, length, get_or, take, drop, map, refl, sym, ◌∙◌, ap, subst, arith, length-append}
+use Rattle.std.proofs.Common.{◌≡◌, inl, inr, ℕ, zero, suc, ◌+◌, ◌<◌, ◌≤◌, Bool, true, false, not, true≢false, cond, Some, List, [], ◌∷◌, ◌++◌, length, get_or, take, drop, map, refl, sym, ◌∙◌, ap, subst, arith, length-append, set}
 use Rattle.std.specs.Prelude.{slice_get, nat_eq, ◌||◌, ◌&&◌}
 use Rattle.std.specs.List.{All, filter, insert, remove}
 use Rattle.std.proofs.lemmas.Bool.{cases_Bool, eq-eqb, ne_eqb}
@@ -22,6 +22,19 @@ use Rattle.schedule_search.proofs.Following.{in_placed, not_true}
 
 some_is : (x y : ℕ) → Some x ≡ Some y → x ≡ y
 some_is x y e = cc
+
+pub remove_next : (xs : List ℕ) (k d : ℕ) → suc k < length xs → set (remove xs k) k (get_or xs k d) ≡ remove xs (suc k)
+remove_next [] k d within = absurd (omega (arith, within))
+remove_next (x ∷ []) k d within = absurd (omega (arith, within))
+remove_next (x ∷ y ∷ xs) zero d within = refl
+remove_next (x ∷ y ∷ xs) (suc k) d within = ap (λ l. x ∷ l) (remove_next (y ∷ xs) k d (omega (arith, within)))
+
+-- the last one
+pub last_item : (xs : List ℕ) (x place : ℕ) → place ≡ length xs → (remove (xs ++ x ∷ []) place ≡ xs) × (get_or (xs ++ x ∷ []) place x ≡ x)
+last_item [] x zero is = (refl, refl)
+last_item [] x (suc place) is = absurd (omega (arith, is))
+last_item (y ∷ xs) x zero is = absurd (omega (arith, is))
+last_item (y ∷ xs) x (suc place) is = let rest = last_item xs x place (omega (arith, is)) in (ap (λ l. y ∷ l) rest.0, rest.1)
 
 pub insert_removed : (xs : List ℕ) (k x : ℕ) → slice_get xs k ≡ Some x → insert (remove xs k) k x ≡ xs
 insert_removed [] k x at = absurd cc

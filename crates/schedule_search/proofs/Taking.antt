@@ -9,10 +9,10 @@ use Rattle.resource_table.proofs.Placed.{each_push}
 use Rattle.schedule_search.specs.declared.prefix.Prefix.{Prefix}
 use Rattle.schedule_search.specs.Orders.{GoesFirst, IsLongest, IsFirstOrder}
 use Rattle.schedule_search.specs.Walks.{goes_before, is_in, may_follow}
-use Rattle.schedule_search.specs.Prefixes.{followers, IsAt}
+use Rattle.schedule_search.specs.Prefixes.{outside, followers, IsAt}
 use Rattle.schedule_search.proofs.Comparing.{goes_to, in_order_at}
 use Rattle.schedule_search.proofs.Following.{ready_from, ready_to, in_to}
-use Rattle.schedule_search.proofs.Outside.{passing_has, passing_order}
+use Rattle.schedule_search.proofs.Outside.{outside_at, outside_has, passing_has, passing_order}
 use Rattle.schedule_search.proofs.Waiting.{followers_at}
 use Rattle.schedule_search.proofs.WalkOrders.{ready_below}
 
@@ -44,16 +44,25 @@ longest_more job p q at longest some is =
     let here : slice_get (followers job p.tests.items) 0 ≡ Some x = ap (λ (l : List ℕ). slice_get l 0) (sym at.free_are) ∙ slice_get-get_or p.free.items 0 0 some in
     subst (Each (IsLongest job)) (sym is) (each_push (IsLongest job) p.tests.items x longest (longest_here job p.tests.items x here))
 
--- where none is free, none is left
+-- where some are left, one is free
+pub some_free : (job : JobValue) (path : List ℕ) → IsSoundJob job → 0 < length (outside job path) → 0 < length (followers job path)
+some_free job path sound some =
+    let x : ℕ = get_or (outside job path) 0 0 in
+    let out = outside_at job path 0 x (slice_get-get_or (outside job path) 0 0 some) in
+    let next = ready_below job path sound sound.acyclic.0 sound.acyclic.1 (suc (sound.acyclic.0 x)) x (omega arith) out.0 out.1 in
+    let there = passing_has job (may_follow job path) next.0 next.1.in_job (ready_to job path next.0 next.1) in
+    let less : there.0 < length (followers job path) = slice_get_within (followers job path) there.0 next.0 there.1 in
+    omega (arith, less)
+
+-- where none is free, all are taken
 pub all_taken : (job : JobValue) (p : Prefix) → IsSoundJob job → IsAt job p.tests.items p → Each (IsLongest job) p.tests.items → length p.free.items ≡ 0 → IsFirstOrder job p.tests.items
 all_taken job p sound at longest none = record {
   longest = longest;
   whole = λ test inside. elim (cases_Bool (is_in p.tests.items test)) [
     | inl yes' ↦ in_to p.tests.items test yes'
-    | inr out ↦ absurd (
-        let next = ready_below job p.tests.items sound sound.acyclic.0 sound.acyclic.1 (suc (sound.acyclic.0 test)) test (omega arith) inside out in
-        let there = passing_has job (may_follow job p.tests.items) next.0 next.1.in_job (ready_to job p.tests.items next.0 next.1) in
-        let less : there.0 < length (followers job p.tests.items) = slice_get_within (followers job p.tests.items) there.0 next.0 there.1 in
-        omega (arith, less, ap length at.free_are, none))
+    | inr new ↦ absurd (
+        let there = outside_has job p.tests.items test inside new in
+        let some : 0 < length (outside job p.tests.items) = omega (arith, slice_get_within (outside job p.tests.items) there.0 test there.1) in
+        omega (arith, some_free job p.tests.items sound some, ap length at.free_are, none))
   ];
 }

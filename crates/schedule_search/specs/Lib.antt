@@ -13,3 +13,4 @@ pub mod Noted
 pub mod Begun
 pub mod Kept
 pub mod Exchanges
+pub mod Taken

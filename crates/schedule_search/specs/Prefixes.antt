@@ -1,5 +1,5 @@
 -- A prefix of an order, with the tests outside it and how many tests each waits for.
-use Rattle.std.specs.Prelude.{◌≡◌, ℕ, ◌+◌, ◌<◌, ◌≤◌, Bool, true, false, not, ◌&&◌, nat_eq, Some, List, [], ◌∷◌, ◌++◌, length, map, slice_get, slice_index_or, vec_capacity, if◌then◌else◌}
+use Rattle.std.specs.Prelude.{◌≡◌, ℕ, ◌+◌, ◌<◌, ◌≤◌, Bool, true, false, not, ◌&&◌, nat_eq, List, [], ◌∷◌, ◌++◌, length, map, slice_index_or, vec_capacity, if◌then◌else◌}
 use Rattle.std.specs.List.{All, filter, sum_by}
 use Rattle.plan_model.specs.Rules.{Each}
 use Rattle.resource_table.specs.Jobs.{JobValue}
@@ -98,10 +98,12 @@ pub record IsAt (job : JobValue) (path : List ℕ) (p : Prefix) : Type 0 where
   pub missing_are : AreMissing job path p.missing.items
   pub has_room : HasPrefixRoom (length job.tests) p
 
--- the last test of a prefix was taken from these places among the tests that may follow the others, and among those outside
-pub record IsTaken (job : JobValue) (prefix : List ℕ) (place left : ℕ) : Type 0 where
-  pub front : List ℕ
-  pub test : ℕ
-  pub is : prefix ≡ front ++ test ∷ []
-  pub free_at : slice_get (followers job front) place ≡ Some test
-  pub left_at : slice_get (outside job front) left ≡ Some test
+-- It has these tests, which are in order with one more behind them, and this one is in none of its lists.
+pub record IsOut (job : JobValue) (path : List ℕ) (test : ℕ) (p : Prefix) : Type 0 where
+  pub tests_are : p.tests.items ≡ path
+  pub ready : Each (IsReady job) (path ++ test ∷ [])
+  pub left : length (outside job (path ++ test ∷ [])) + length path + 1 ≡ length job.tests
+  pub rest_are : p.rest.items ≡ outside job (path ++ test ∷ [])
+  pub free_are : p.free.items ≡ all_free job (path ++ test ∷ []) p.missing.items
+  pub missing_are : AreMissing job path p.missing.items
+  pub has_room : HasPrefixRoom (length job.tests) p

@@ -28,7 +28,7 @@ pub(crate) fn first_by(alloc: Global, job: &Job, tries: &Tries) -> Result<Vec<us
     let mut prefix = Prefix::new(alloc, job.tests.len())?;
     prefix.begin(job, tries);
     while !prefix.free.is_empty() {
-        prefix.take(job, tries, 0);
+        prefix.take_first(job, tries);
     }
     Ok(prefix.tests)
 }

@@ -1,12 +1,13 @@
 // A prefix of an order, as a walk over the orders goes on from it and comes back to it.
-ghost use Rattle.std.specs.Prelude.{◌≡◌, ℕ, ◌+◌, ◌-◌, ◌^◌, ◌<◌, ◌≤◌, ◌++◌, ◌∷◌, [], List, Some, false, nat_eq, length, slice_get, slice_index_or, slice_set, vec_capacity, IfOk};
-ghost use Rattle.std.specs.List.{All, filter};
+ghost use Rattle.std.specs.Prelude.{◌≡◌, ℕ, ◌+◌, ◌-◌, ◌^◌, ◌<◌, ◌≤◌, ◌++◌, ◌∷◌, [], List, Some, true, false, nat_eq, length, slice_get, slice_index_or, slice_set, vec_capacity, IfOk};
+ghost use Rattle.std.specs.List.{All, filter, remove};
 ghost use Rattle.resource_table.specs.Jobs.{job_value};
 ghost use Rattle.schedule_search.specs.Walks.{is_in};
-ghost use Rattle.schedule_search.specs.Prefixes.{all_free, times_in, AreApart, AreLess, AreInRange, AreSorted, HasPrefixRoom, IsAt, IsTaken};
+ghost use Rattle.schedule_search.specs.Prefixes.{outside, followers, all_free, times_in, AreApart, AreLess, AreInRange, AreSorted, HasPrefixRoom, IsAt, IsOut};
+ghost use Rattle.schedule_search.specs.Taken.{IsTurn};
 ghost use Rattle.schedule_search.specs.Progress.{AreTries};
 
-use crate::lists::{copy_to, put_at, room_for};
+use crate::lists::{copy_to, put_at, put_for, room_for, take_at};
 use crate::sorted::{place_of, put_in, take_out};
 use crate::tries::Tries;
 use outside::NoMemory;
@@ -24,6 +25,15 @@ pub(crate) struct Prefix {
     pub(crate) free: Vec<usize>,
     /// For each test of the job how many of its precedences come from tests outside.
     pub(crate) missing: Vec<usize>,
+}
+
+/// A test that is out of the lists of a prefix, and its place among the tests that are left.
+#[derive(Clone, Copy, Drop)]
+pub(crate) struct Taken {
+    /// The test.
+    pub(crate) test: usize,
+    /// Its place.
+    pub(crate) left: usize,
 }
 
 /// Counts one precedence less of a test outside a prefix. Where none is left, it is put among the free tests.
@@ -109,6 +119,13 @@ fn fill_free(free: &mut Vec<usize>, tests: &[usize], missing: &[usize])
     }
 }
 
+/// Whether a test stands at a place among some tests.
+fn stands_at(tests: &[usize], place: usize, test: usize) -> bool
+    ensures { result ≡ true → (place < length tests.now) × (slice_index_or tests.now place 0 ≡ test) }
+{
+    place < tests.len() && tests[place] == test
+}
+
 /// The place of a test among those that are left. Where none that is tried before it waits, it stands at the same place as among
 /// the free ones, and is found there at once.
 fn place_left(job: &Job, rest: &[usize], near: usize, test: usize) -> usize
@@ -116,14 +133,31 @@ fn place_left(job: &Job, rest: &[usize], near: usize, test: usize) -> usize
     requires there { (k : ℕ) × (slice_get rest.now k ≡ Some test) }
     ensures { slice_get rest.now result ≡ Some test }
 {
-    if near < rest.len() {
-        if rest[near] == test {
-            return near;
-        }
+    if stands_at(rest, near, test) {
+        return near;
     }
     place_of(job, rest, test)
 }
 
+/// Puts a test back to its place among those that are left, and takes another one out. Where none between them waits, that stands
+/// next to it, and nothing has to move. Answers its place.
+fn pass_left(job: &Job, rest: &mut Vec<usize>, left: usize, test: usize, next: usize) -> usize
+    requires out { (path : List ℕ) × (rest.old.items ≡ remove (outside (job_value job.now) path) left) × (slice_get (outside (job_value job.now) path) left ≡ Some test) × (k : ℕ) × (slice_get (outside (job_value job.now) path) k ≡ Some next) }
+    requires room { length rest.old.items < vec_capacity rest.old }
+    ensures out { (path : List ℕ) → rest.old.items ≡ remove (outside (job_value job.now) path) left → slice_get (outside (job_value job.now) path) left ≡ Some test → (k : ℕ) × (slice_get (outside (job_value job.now) path) k ≡ Some next) → (rest.new.items ≡ remove (outside (job_value job.now) path) result) × (slice_get (outside (job_value job.now) path) result ≡ Some next) }
+    ensures room { vec_capacity rest.new ≡ vec_capacity rest.old }
+{
+    if stands_at(rest, left, next) {
+        put_for(rest, left, test);
+        return left + 1;
+    }
+    put_at(rest, left, test);
+    let place = place_of(job, rest, next);
+    take_at(rest, place);
+    place
+}
+
+// Where a call takes the job and doesn't read it, its contract speaks of it.
 impl Prefix {
     /// Room for the prefixes of so many tests.
     pub(crate) fn new(alloc: Global, tests: usize) -> Result<Prefix, NoMemory>
@@ -150,18 +184,26 @@ impl Prefix {
         copy_to(&mut self.missing, &tries.missing);
     }
 
-    /// Appends the test at a place of the free ones. Answers its place among those that were left.
-    pub(crate) fn take(&mut self, job: &Job, tries: &Tries, place: usize) -> usize
-        requires tries { AreTries (job_value job.now) tries.now }
-        requires in_range { AreInRange (job_value job.now) }
+    /// Takes the test at a place of the free ones out. It isn't appended yet.
+    pub(crate) fn take_out(&mut self, job: &Job, place: usize) -> Taken
         requires at { IsAt (job_value job.now) self.old.tests.items self.old }
         requires within { place < length self.old.free.items }
-        ensures at { IsAt (job_value job.now) (self.old.tests.items ++ slice_index_or self.old.free.items place 0 ∷ []) self.new }
-        ensures left { slice_get self.old.rest.items result ≡ Some (slice_index_or self.old.free.items place 0) }
+        ensures out { IsOut (job_value job.now) self.old.tests.items result.test self.new }
+        ensures turn { IsTurn (job_value job.now) self.old.tests.items place result }
     {
-        let test = self.free.remove(place);
+        let test = take_at(&mut self.free, place);
         let left = place_left(job, &self.rest, place, test);
-        self.rest.remove(left);
+        take_at(&mut self.rest, left);
+        Taken { test, left }
+    }
+
+    /// Appends a test that was taken out.
+    pub(crate) fn append(&mut self, job: &Job, tries: &Tries, test: usize)
+        requires tries { AreTries (job_value job.now) tries.now }
+        requires in_range { AreInRange (job_value job.now) }
+        requires out { IsOut (job_value job.now) self.old.tests.items test self.old }
+        ensures { IsAt (job_value job.now) (self.old.tests.items ++ test ∷ []) self.new }
+    {
         self.tests.push_reserved(test);
         count_down(
             job,
@@ -169,16 +211,27 @@ impl Prefix {
             &mut self.free,
             earlier_than(&tries.after, test),
         );
-        left
     }
 
-    /// Takes the last test back to its place among the free ones and to its place among those that are left.
-    pub(crate) fn take_back(&mut self, job: &Job, tries: &Tries, place: usize, left: usize)
+    /// Appends the first of the free tests.
+    pub(crate) fn take_first(&mut self, job: &Job, tries: &Tries)
         requires tries { AreTries (job_value job.now) tries.now }
         requires in_range { AreInRange (job_value job.now) }
         requires at { IsAt (job_value job.now) self.old.tests.items self.old }
-        requires taken { IsTaken (job_value job.now) self.old.tests.items place left }
-        ensures { (path : List ℕ) (test : ℕ) → self.old.tests.items ≡ path ++ test ∷ [] → IsAt (job_value job.now) path self.new }
+        requires some { 0 < length self.old.free.items }
+        ensures { IsAt (job_value job.now) (self.old.tests.items ++ slice_index_or self.old.free.items 0 0 ∷ []) self.new }
+    {
+        let taken = self.take_out(job, 0);
+        self.append(job, tries, taken.test);
+    }
+
+    /// Takes the last test back. It is still out.
+    pub(crate) fn go_back(&mut self, job: &Job, tries: &Tries)
+        requires tries { AreTries (job_value job.now) tries.now }
+        requires in_range { AreInRange (job_value job.now) }
+        requires at { IsAt (job_value job.now) self.old.tests.items self.old }
+        requires some { 0 < length self.old.tests.items }
+        ensures { (path : List ℕ) (test : ℕ) → self.old.tests.items ≡ path ++ test ∷ [] → IsOut (job_value job.now) path test self.new }
     {
         let test = self.tests.take_last();
         count_up(
@@ -187,7 +240,43 @@ impl Prefix {
             &mut self.free,
             earlier_than(&tries.after, test),
         );
-        put_at(&mut self.free, place, test);
-        put_at(&mut self.rest, left, test);
+    }
+
+    /// Puts the test that is out back to its place among the free ones, and takes the one behind it out.
+    fn exchange(&mut self, job: &Job, place: usize, taken: Taken) -> Taken
+        requires out { IsOut (job_value job.now) self.old.tests.items taken.test self.old }
+        requires turn { IsTurn (job_value job.now) self.old.tests.items place taken }
+        requires more { place < length self.old.free.items }
+        ensures out { IsOut (job_value job.now) self.old.tests.items result.test self.new }
+        ensures turn { IsTurn (job_value job.now) self.old.tests.items (place + 1) result }
+    {
+        let test = put_for(&mut self.free, place, taken.test);
+        let left = pass_left(job, &mut self.rest, taken.left, taken.test, test);
+        Taken { test, left }
+    }
+
+    /// Puts the test that is out back to its place among the free ones.
+    fn put_back(&mut self, job: &Job, place: usize, taken: Taken)
+        requires out { IsOut (job_value job.now) self.old.tests.items taken.test self.old }
+        requires turn { IsTurn (job_value job.now) self.old.tests.items place taken }
+        ensures { IsAt (job_value job.now) self.old.tests.items self.new }
+    {
+        put_at(&mut self.free, place, taken.test);
+        put_at(&mut self.rest, taken.left, taken.test);
+    }
+
+    /// Puts the test that is out back to its place among the free ones. Where there is one behind it, that is taken out.
+    pub(crate) fn pass(&mut self, job: &Job, place: usize, taken: Taken) -> Taken
+        requires out { IsOut (job_value job.now) self.old.tests.items taken.test self.old }
+        requires turn { IsTurn (job_value job.now) self.old.tests.items place taken }
+        ensures out { place + 1 < length (followers (job_value job.now) self.old.tests.items) → IsOut (job_value job.now) self.old.tests.items result.test self.new }
+        ensures turn { place + 1 < length (followers (job_value job.now) self.old.tests.items) → IsTurn (job_value job.now) self.old.tests.items (place + 1) result }
+        ensures back { place + 1 ≡ length (followers (job_value job.now) self.old.tests.items) → IsAt (job_value job.now) self.old.tests.items self.new }
+    {
+        if place < self.free.len() {
+            return self.exchange(job, place, taken);
+        }
+        self.put_back(job, place, taken);
+        taken
     }
 }

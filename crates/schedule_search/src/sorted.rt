@@ -5,7 +5,7 @@ ghost use Rattle.resource_table.specs.Jobs.{job_value};
 ghost use Rattle.schedule_search.specs.Walks.{by_length, goes_before as goes_before_of};
 ghost use Rattle.schedule_search.specs.Prefixes.{AreSorted, IsPlaceOf, IsWithout};
 
-use crate::lists::put_at;
+use crate::lists::{put_at, take_at};
 use crate::order::cycles_at;
 use resource_table::Job;
 
@@ -59,5 +59,5 @@ pub(crate) fn take_out(job: &Job, tests: &mut Vec<usize>, test: usize)
     ensures room { vec_capacity tests.new ≡ vec_capacity tests.old }
 {
     let place = place_of(job, tests, test);
-    tests.remove(place);
+    take_at(tests, place);
 }

@@ -1,12 +1,12 @@
 // The walk over the orders of a job, depth first, within a budget of prefixes that are entered.
-ghost use Rattle.std.specs.Prelude.{◌≡◌, ℕ, ◌+◌, ◌-◌, ◌<◌, ◌≤◌, ◌++◌, ◌∷◌, [], true, false, length, slice_index_or, vec_capacity, IfSome};
+ghost use Rattle.std.specs.Prelude.{◌≡◌, ℕ, ◌+◌, ◌-◌, ◌<◌, ◌≤◌, ◌++◌, ◌∷◌, [], true, false, length, vec_capacity, IfSome};
 ghost use Rattle.resource_table.specs.Jobs.{job_value, cycles_of};
 ghost use Rattle.resource_table.specs.Schedules.{last_end, ready_at, IsEarliest, IsSoundTable};
 ghost use Rattle.resource_table.specs.Calm.{IsCalm};
 ghost use Rattle.schedule_search.specs.Estimates.{CanAsk};
 ghost use Rattle.schedule_search.specs.OrderCycles.{HasPlaced};
 ghost use Rattle.schedule_search.specs.Walks.{walk_from, IsOpen};
-ghost use Rattle.schedule_search.specs.Prefixes.{HasPrefixRoom, IsAt};
+ghost use Rattle.schedule_search.specs.Prefixes.{HasPrefixRoom, IsAt, IsOut};
 ghost use Rattle.schedule_search.specs.Progress.{AreTries, stand_of, IsBest, NoneBefore, Explored};
 ghost use Rattle.schedule_search.specs.Late.{IsLateAt, AreInTime, AreUnplaced};
 
@@ -271,8 +271,8 @@ fn is_over<J, E: Estimate<J>>(
     false
 }
 
-/// Goes on with all orders that begin with the placed tests and then with one more, which stands at a place of the free ones.
-/// Its start is noted: the orders that go on from here with other tests ask for it and place it again and again.
+/// Goes on with all orders that begin with the placed tests and then with one more, which is taken out. Its start is noted:
+/// the orders that go on from here with other tests ask for it and place it again and again.
 #[cycle(explore)]
 fn go_on<J, E: Estimate<J>>(
     job: &Job,
@@ -282,39 +282,37 @@ fn go_on<J, E: Estimate<J>>(
     prefix: &mut Prefix,
     progress: &mut Progress,
     end: u64,
-    place: usize,
+    test: usize,
 )
     requires job { table.old.job ≡ job_value job.now }
     requires sound { IsSoundTable table.old }
     requires tries { AreTries (job_value job.now) tries.now }
     requires estimates { E.estimates ahead.now }
     requires placed { HasPlaced table.old prefix.old.tests.items end }
-    requires at { IsAt (job_value job.now) prefix.old.tests.items prefix.old }
-    requires within_free { place < length prefix.old.free.items }
+    requires out { IsOut (job_value job.now) prefix.old.tests.items test prefix.old }
     requires best_room { length (job_value job.now).tests ≤ vec_capacity progress.old.best }
     requires going { progress.old.refused ≡ false }
     requires within { progress.old.entered ≤ tries.now.budget }
-    requires opened { IsOpen (job_value job.now) (prefix.old.tests.items ++ slice_index_or prefix.old.free.items place 0 ∷ []) }
+    requires opened { IsOpen (job_value job.now) (prefix.old.tests.items ++ test ∷ []) }
     requires best { IsBest (job_value job.now) (stand_of progress.old) }
-    requires none_before { NoneBefore (job_value job.now) (prefix.old.tests.items ++ slice_index_or prefix.old.free.items place 0 ∷ []) progress.old.best.items }
+    requires none_before { NoneBefore (job_value job.now) (prefix.old.tests.items ++ test ∷ []) progress.old.best.items }
     ensures table { table.new ≡ table.old }
-    ensures at { progress.new.refused ≡ false → IsAt (job_value job.now) prefix.old.tests.items prefix.new }
+    ensures out { progress.new.refused ≡ false → IsOut (job_value job.now) prefix.old.tests.items test prefix.new }
     ensures room { HasPrefixRoom (length (job_value job.now).tests) prefix.new }
     ensures best_room { vec_capacity progress.new.best ≡ vec_capacity progress.old.best }
     ensures within { progress.new.entered ≤ tries.now.budget }
     ensures best { IsBest (job_value job.now) (stand_of progress.new) }
-    ensures explored { Explored (job_value job.now) tries.now.budget (walk_from (job_value job.now) (length (job_value job.now).tests - length prefix.old.tests.items - 1) (prefix.old.tests.items ++ slice_index_or prefix.old.free.items place 0 ∷ [])) (stand_of progress.old) (stand_of progress.new) }
+    ensures explored { Explored (job_value job.now) tries.now.budget (walk_from (job_value job.now) (length (job_value job.now).tests - length prefix.old.tests.items - 1) (prefix.old.tests.items ++ test ∷ [])) (stand_of progress.old) (stand_of progress.new) }
 {
     list_schedules_are_short();
-    let test = prefix.free[place];
     let start = table.noted_start(test);
     let next_end = end.max(start + cycles_at(job, test));
-    let left = prefix.take(job, tries, place);
+    prefix.append(job, tries, test);
     let mut frame = table.place(test, start);
     explore(job, tries, ahead, frame.table(), prefix, progress, next_end);
     frame.undo();
     if !progress.refused {
-        prefix.take_back(job, tries, place, left);
+        prefix.go_back(job, tries);
     }
 }
 
@@ -370,10 +368,14 @@ pub(crate) fn explore<J, E: Estimate<J>>(
         return;
     }
     let count = prefix.free.len();
-    for place in 0..count {
-        go_on(job, tries, ahead, table, prefix, progress, end, place);
+    let mut taken = prefix.take_out(job, 0);
+    let mut place = 0;
+    while place < count {
+        go_on(job, tries, ahead, table, prefix, progress, end, taken.test);
         if progress.refused {
             return;
         }
+        taken = prefix.pass(job, place, taken);
+        place += 1;
     }
 }

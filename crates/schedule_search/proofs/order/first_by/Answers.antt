@@ -11,8 +11,8 @@ loop-prefix-preserved c =
     let p = c.loop-prefix.prefix in
     let some : 0 < length p.free.items = subst (λ (n : ℕ). 0 < n) p.free.ok.0 (some_left p.free.len c.is_empty.result c.is_empty.ensures c.loop-prefix-test.true) in
     record {
-      at = at_own job (p.tests.items ++ get_or p.free.items 0 0 ∷ []) c.take.new.self c.take.ensures.at;
-      longest = longest_more job p c.take.new.self c.loop-prefix.invariant.at c.loop-prefix.invariant.longest some c.take.ensures.at.tests_are;
+      at = at_own job (p.tests.items ++ get_or p.free.items 0 0 ∷ []) c.take_first.new.self c.take_first.ensures;
+      longest = longest_more job p c.take_first.new.self c.loop-prefix.invariant.at c.loop-prefix.invariant.longest some c.take_first.ensures.tests_are;
     }
 
 pub returns : goal.returns

@@ -1,20 +1,21 @@
-use Rattle.std.proofs.Common.{◌≡◌, ◌∙◌, ℕ, ◌+◌, ◌-◌, ◌*◌, ◌^◌, ◌<◌, ◌≤◌, ◌++◌, ◌∷◌, [], List, false, Some, length, length-append, get_or, max, vec_capacity, refl, sym, ap, subst, arith, rules}
-use Rattle.std.specs.Prelude.{slice_get}
-use Rattle.resource_table.specs.Jobs.{JobValue, job_value, cycles_of}
+use Rattle.std.proofs.Common.{◌≡◌, ◌∙◌, ℕ, ◌+◌, ◌-◌, ◌*◌, ◌^◌, ◌<◌, ◌≤◌, ◌++◌, ◌∷◌, [], List, false, length, length-append, get_or, max, vec_capacity, refl, sym, ap, subst, arith, rules}
+use Rattle.std.proofs.lemmas.Option.{get_or_from_slice_get}
+use Rattle.resource_table.specs.Jobs.{JobValue, job_value, cycles_of, IsSoundJob}
 use Rattle.resource_table.specs.Schedules.{TableValue, at_start, is_placed, MayPlace, IsSoundTable}
 use Rattle.schedule_search.specs.declared.walk.Progress.{Progress}
 use Rattle.schedule_search.specs.OrderCycles.{HasPlaced, Takes}
-use Rattle.schedule_search.specs.Orders.{IsTopological}
+use Rattle.schedule_search.specs.Orders.{IsReady, IsTopological}
 use Rattle.schedule_search.specs.Walks.{may_follow, IsOpen}
-use Rattle.schedule_search.specs.Prefixes.{outside, followers, IsAt}
+use Rattle.schedule_search.specs.Prefixes.{outside, followers, IsAt, IsOut}
+use Rattle.schedule_search.specs.Taken.{IsTurn}
 use Rattle.schedule_search.specs.Progress.{stand_of, AtMostFirst, NoneBefore}
+use Rattle.resource_table.proofs.Placed.{each_last}
 use Rattle.schedule_search.proofs.PlacedOrders.{takes_placed}
-use Rattle.schedule_search.proofs.Following.{ready_from, not_in, unplaced_in}
+use Rattle.schedule_search.proofs.Following.{ready_to, not_in, unplaced_in}
 use Rattle.schedule_search.proofs.Outside.{few_follow, passing_order, unplaced_outside}
-use Rattle.schedule_search.proofs.Predecessors.{any_default}
 use Rattle.schedule_search.proofs.Bests.{none_before_more}
-use Rattle.schedule_search.proofs.Stepping.{at_own, free_at}
-use Rattle.schedule_search.proofs.Waiting.{followers_at}
+use Rattle.schedule_search.proofs.Stepping.{at_own, out_own}
+use Rattle.schedule_search.proofs.Taking.{some_free}
 use Rattle.schedule_search.proofs.Explorings.{best_refused, best_entered, best_offered, path_topological, explored_refused, explored_whole, explored_left, explored_entered, turn, followed, child_of, walk_stopped, walk_ended, may_place, one_placed, open_below, none_before_rest, taken_back, none_left, some_left}
 use Rattle.schedule_search.proofs.walk.+explore.Goals as goal
 
@@ -64,6 +65,14 @@ explore-returns-then-is_over-clause-explored g t c =
     explored_left c.args.table.now (job_value c.args.job.now) c.args.tries.now.budget (length (job_value c.args.job.now).tests - length path) path c.args.end c.args.progress.now c.enter.new.progress
     c.requires.job c.requires.sound c.requires.placed (c.is_over.ensures.late c.if-is_over.true) (c.enter.ensures.entered c.if-not-enter.false).1 c.requires.opened c.requires.going c.requires.none_before
 
+pub explore-take_out-taken-requires-clause-within : goal.explore-take_out-taken-requires-clause-within
+explore-take_out-taken-requires-clause-within g t c =
+    let job = job_value c.args.job.now in
+    let path : List ℕ = c.args.prefix.now.tests.items in
+    let some : 0 < length c.args.prefix.now.rest.items = subst (λ (n : ℕ). 0 < n) c.args.prefix.now.rest.ok.0 (some_left c.args.prefix.now.rest.len c.is_empty.result c.is_empty.ensures c.if-is_empty.false) in
+    let free = some_free job path (subst IsSoundJob c.requires.job c.requires.sound.job) (omega (arith, some, ap length c.requires.at.rest_are)) in
+    omega (arith, free, ap length c.requires.at.free_are)
+
 pub explore-loop-place-init : goal.explore-loop-place-init
 explore-loop-place-init g t c =
     let job = job_value c.args.job.now in
@@ -72,9 +81,13 @@ explore-loop-place-init g t c =
     let same : c.enter.new.progress.best.items ≡ c.args.progress.now.best.items = ap (λ (x : Progress). x.best.items) entered.1 in
     let some : 0 < length c.args.prefix.now.rest.items = subst (λ (n : ℕ). 0 < n) c.args.prefix.now.rest.ok.0 (some_left c.args.prefix.now.rest.len c.is_empty.result c.is_empty.ensures c.if-is_empty.false) in
     let short : length path ≡ length job.tests → ⊥ = λ long. omega (arith, long, some, ap length c.requires.at.rest_are, c.requires.at.left) in
+    let free = some_free job path (subst IsSoundJob c.requires.job c.requires.sound.job) (omega (arith, some, ap length c.requires.at.rest_are)) in
     record {
       table = c.is_over.ensures.same;
-      at = c.requires.at;
+      few = omega arith;
+      out = λ _. c.take_out-taken.ensures.out;
+      turn = λ _. c.take_out-taken.ensures.turn;
+      back = λ none. absurd (omega (arith, none, free));
       best_room = refl;
       going = ap (λ (x : Progress). x.refused) entered.1 ∙ c.requires.going;
       within = (let less = entered.0 in let is : c.enter.new.progress.entered ≡ c.args.progress.now.entered + 1 = ap (λ (x : Progress). x.entered) entered.1 in omega (arith, less, is));
@@ -89,23 +102,22 @@ explore-go_on-requires g t c κs within_measure =
     let path : List ℕ = c.args.prefix.now.tests.items in
     let inv = c.loop-place.invariant in
     let place : ℕ = c.loop-place.place in
+    let test : ℕ = c.loop-place.taken.test in
     let now : List ℕ = c.loop-place.prefix.tests.items in
-    let now_is : now ≡ path = inv.at.tests_are in
-    let free_is : c.loop-place.prefix.free.items ≡ followers job path = inv.at.free_are in
-    let test : ℕ = get_or c.loop-place.prefix.free.items place 0 in
-    let test_is : test ≡ get_or (followers job path) place 0 = ap (λ (l : List ℕ). get_or l place 0) free_is in
     let entered = c.enter.ensures.entered c.if-not-enter.false in
     let within' : place < length (followers job path) = omega (arith, c.loop-place-test.true, c.len-count.ensures, c.args.prefix.now.free.ok.0, ap length c.requires.at.free_are) in
-    let within_free : place < length c.loop-place.prefix.free.items = omega (arith, within', ap length free_is) in
+    let has = inv.out within' in
+    let now_is : now ≡ path = has.tests_are in
+    let test_is : get_or (followers job path) place 0 ≡ test = get_or_from_slice_get (followers job path) place test 0 (inv.turn within').free_at in
     let job_is : c.loop-place.table.job ≡ job = ap (λ (v : TableValue). v.job) inv.table ∙ c.requires.job in
     let sound : IsSoundTable c.loop-place.table = subst IsSoundTable (sym inv.table) c.requires.sound in
     let placed : HasPlaced c.loop-place.table now c.args.end = subst (λ (l : List ℕ). HasPlaced c.loop-place.table l c.args.end) (sym now_is) (subst (λ (v : TableValue). HasPlaced v path c.args.end) (sym inv.table) c.requires.placed) in
-    let at : IsAt job now c.loop-place.prefix = at_own job path c.loop-place.prefix inv.at in
+    let out : IsOut job now test c.loop-place.prefix = out_own job path test c.loop-place.prefix has in
     let best_room : length job.tests ≤ vec_capacity c.loop-place.progress.best = omega (arith, c.requires.best_room, inv.best_room, ap (λ (p : Progress). vec_capacity p.best) entered.1) in
     let cycles_same : c.enter.new.progress.cycles ≡ c.args.progress.now.cycles = ap (λ (p : Progress). p.cycles) entered.1 in
     let most : AtMostFirst job c.enter.new.progress.cycles = subst (AtMostFirst job) (sym cycles_same) c.requires.best.at_most_first in
     let opened : IsOpen job (now ++ test ∷ []) = open_below c.args.table.now job path (now ++ test ∷ []) c.args.end c.enter.new.progress.cycles test c.requires.job c.requires.placed (c.is_over.ensures.in_time c.if-is_over.false) most c.requires.opened (ap (λ (l : List ℕ). l ++ test ∷ []) now_is) in
-    let none_before : NoneBefore job (now ++ test ∷ []) c.loop-place.progress.best.items = subst (λ (l : List ℕ). NoneBefore job (l ++ test ∷ []) c.loop-place.progress.best.items) (sym now_is) (subst (λ (n : ℕ). NoneBefore job (path ++ n ∷ []) c.loop-place.progress.best.items) (sym test_is) (inv.none_before place (omega arith) within')) in
+    let none_before : NoneBefore job (now ++ test ∷ []) c.loop-place.progress.best.items = subst (λ (l : List ℕ). NoneBefore job (l ++ test ∷ []) c.loop-place.progress.best.items) (sym now_is) (subst (λ (n : ℕ). NoneBefore job (path ++ n ∷ []) c.loop-place.progress.best.items) test_is (inv.none_before place (omega arith) within')) in
     let measure : (length job.tests - length now) * 2 < (length job.tests - length path) * 2 + 1 = omega (arith, ap length now_is) in
     let going = inv.going in
     let within = inv.within in
@@ -118,12 +130,29 @@ explore-returns-then-progress-clause-explored g t c =
     let path : List ℕ = c.args.prefix.now.tests.items in
     let inv = c.loop-place.invariant in
     let place : ℕ = c.loop-place.place in
+    let test : ℕ = c.loop-place.taken.test in
     let more : ℕ = length job.tests - length path - 1 in
     let within' : place < length (followers job path) = omega (arith, c.loop-place-test.true, c.len-count.ensures, c.args.prefix.now.free.ok.0, ap length c.requires.at.free_are) in
-    let child = child_of job c.args.tries.now.budget path c.loop-place.prefix place (stand_of c.loop-place.progress) (stand_of c.go_on.new.progress) inv.at c.go_on.ensures.explored in
-    let done = turn job c.args.tries.now.budget more path place (get_or (followers job path) place 0) (stand_of c.args.progress.now) (stand_of c.loop-place.progress) (stand_of c.go_on.new.progress) within' refl inv.going inv.explored child in
+    let test_is : get_or (followers job path) place 0 ≡ test = get_or_from_slice_get (followers job path) place test 0 (inv.turn within').free_at in
+    let child = child_of job c.args.tries.now.budget path c.loop-place.prefix.tests.items test (stand_of c.loop-place.progress) (stand_of c.go_on.new.progress) (inv.out within').tests_are c.go_on.ensures.explored in
+    let done = turn job c.args.tries.now.budget more path place test (stand_of c.args.progress.now) (stand_of c.loop-place.progress) (stand_of c.go_on.new.progress) within' (sym test_is) inv.going inv.explored child in
     let some : 0 < length job.tests - length path = omega (arith, within', few_follow job path, c.requires.at.left) in
     walk_stopped job c.args.tries.now.budget (length job.tests - length path) path (place + 1) (stand_of c.args.progress.now) (stand_of c.go_on.new.progress) some c.if-progress.true done
+
+pub explore-pass-taken-requires : goal.explore-pass-taken-requires
+explore-pass-taken-requires g t c =
+    let job = job_value c.args.job.now in
+    let path : List ℕ = c.args.prefix.now.tests.items in
+    let inv = c.loop-place.invariant in
+    let place : ℕ = c.loop-place.place in
+    let test : ℕ = c.loop-place.taken.test in
+    let within' : place < length (followers job path) = omega (arith, c.loop-place-test.true, c.len-count.ensures, c.args.prefix.now.free.ok.0, ap length c.requires.at.free_are) in
+    let out = c.go_on.ensures.out c.if-progress.false in
+    let own : c.go_on.new.prefix.tests.items ≡ path = out.tests_are ∙ (inv.out within').tests_are in
+    record {
+      out = out_own job c.loop-place.prefix.tests.items test c.go_on.new.prefix out;
+      turn = subst (λ (l : List ℕ). IsTurn job l place c.loop-place.taken) (sym own) (inv.turn within');
+    }
 
 pub explore-loop-place-preserved : goal.explore-loop-place-preserved
 explore-loop-place-preserved g t c =
@@ -131,55 +160,74 @@ explore-loop-place-preserved g t c =
     let path : List ℕ = c.args.prefix.now.tests.items in
     let inv = c.loop-place.invariant in
     let place : ℕ = c.loop-place.place in
+    let test : ℕ = c.loop-place.taken.test in
     let more : ℕ = length job.tests - length path - 1 in
-    let test : ℕ = get_or (followers job path) place 0 in
     let within' : place < length (followers job path) = omega (arith, c.loop-place-test.true, c.len-count.ensures, c.args.prefix.now.free.ok.0, ap length c.requires.at.free_are) in
-    let child = child_of job c.args.tries.now.budget path c.loop-place.prefix place (stand_of c.loop-place.progress) (stand_of c.go_on.new.progress) inv.at c.go_on.ensures.explored in
-    let others = none_before_rest job more path (followers job path) place test (stand_of c.loop-place.progress) (stand_of c.go_on.new.progress) (passing_order job (may_follow job path)) refl inv.none_before child.best in
+    let test_is : get_or (followers job path) place 0 ≡ test = get_or_from_slice_get (followers job path) place test 0 (inv.turn within').free_at in
+    let out = c.go_on.ensures.out c.if-progress.false in
+    let own : c.go_on.new.prefix.tests.items ≡ path = out.tests_are ∙ (inv.out within').tests_are in
+    let long : length (followers job c.go_on.new.prefix.tests.items) ≡ length (followers job path) = ap (λ (l : List ℕ). length (followers job l)) own in
+    let child = child_of job c.args.tries.now.budget path c.loop-place.prefix.tests.items test (stand_of c.loop-place.progress) (stand_of c.go_on.new.progress) (inv.out within').tests_are c.go_on.ensures.explored in
+    let others = none_before_rest job more path (followers job path) place test (stand_of c.loop-place.progress) (stand_of c.go_on.new.progress) (passing_order job (may_follow job path)) (sym test_is) inv.none_before child.best in
     record {
       table = c.go_on.ensures.table ∙ inv.table;
-      at = subst (λ (l : List ℕ). IsAt job l c.go_on.new.prefix) inv.at.tests_are (c.go_on.ensures.at c.if-progress.false);
+      few = omega (arith, within');
+      out = λ less. subst (λ (l : List ℕ). IsOut job l c.pass-taken.result.test c.pass-taken.new.self) own (c.pass-taken.ensures.out (omega (arith, less, long)));
+      turn = λ less. subst (λ (l : List ℕ). IsTurn job l (place + 1) c.pass-taken.result) own (c.pass-taken.ensures.turn (omega (arith, less, long)));
+      back = λ all. subst (λ (l : List ℕ). IsAt job l c.pass-taken.new.self) own (c.pass-taken.ensures.back (omega (arith, all, long)));
       best_room = c.go_on.ensures.best_room ∙ inv.best_room;
       going = c.if-progress.false;
       within = c.go_on.ensures.within;
       best = c.go_on.ensures.best;
       none_before = λ later from inside. others later (omega (arith, from)) inside;
-      explored = turn job c.args.tries.now.budget more path place test (stand_of c.args.progress.now) (stand_of c.loop-place.progress) (stand_of c.go_on.new.progress) within' refl inv.going inv.explored child;
+      explored = turn job c.args.tries.now.budget more path place test (stand_of c.args.progress.now) (stand_of c.loop-place.progress) (stand_of c.go_on.new.progress) within' (sym test_is) inv.going inv.explored child;
     }
+
+pub explore-loop-place-smaller : goal.explore-loop-place-smaller
+explore-loop-place-smaller g t c =
+    let job = job_value c.args.job.now in
+    let path : List ℕ = c.args.prefix.now.tests.items in
+    let within' : c.loop-place.place < length (followers job path) = omega (arith, c.loop-place-test.true, c.len-count.ensures, c.args.prefix.now.free.ok.0, ap length c.requires.at.free_are) in
+    omega (arith, within')
+
+pub explore-returns-clause-at : goal.explore-returns-clause-at
+explore-returns-clause-at g t c = λ going.
+    let job = job_value c.args.job.now in
+    let path : List ℕ = c.args.prefix.now.tests.items in
+    c.loop-place.invariant.back (omega (arith, c.loop-place-test.false, c.loop-place.invariant.few, c.len-count.ensures, c.args.prefix.now.free.ok.0, ap length c.requires.at.free_are))
+
+pub explore-returns-clause-room : goal.explore-returns-clause-room
+explore-returns-clause-room g t c =
+    (c.loop-place.invariant.back (omega (arith, c.loop-place-test.false, c.loop-place.invariant.few, c.len-count.ensures, c.args.prefix.now.free.ok.0, ap length c.requires.at.free_are))).has_room
 
 pub explore-returns-clause-explored : goal.explore-returns-clause-explored
 explore-returns-clause-explored g t c =
     let job = job_value c.args.job.now in
     let path : List ℕ = c.args.prefix.now.tests.items in
     let some : 0 < length c.args.prefix.now.rest.items = subst (λ (n : ℕ). 0 < n) c.args.prefix.now.rest.ok.0 (some_left c.args.prefix.now.rest.len c.is_empty.result c.is_empty.ensures c.if-is_empty.false) in
-    let all : c.loop-place.place ≡ length (followers job path) = omega (arith, c.loop-place-test.false, c.len-count.ensures, c.args.prefix.now.free.ok.0, ap length c.requires.at.free_are) in
+    let all : c.loop-place.place ≡ length (followers job path) = omega (arith, c.loop-place-test.false, c.loop-place.invariant.few, c.len-count.ensures, c.args.prefix.now.free.ok.0, ap length c.requires.at.free_are) in
     walk_ended job c.args.tries.now.budget (length job.tests - length path) path c.loop-place.place (stand_of c.args.progress.now) (stand_of c.loop-place.progress) (omega (arith, some, ap length c.requires.at.rest_are, c.requires.at.left)) all c.loop-place.invariant.explored
 
 -- ---- go_on
 
 pub go_on-noted_start-start-requires : goal.go_on-noted_start-start-requires
 go_on-noted_start-start-requires g t c =
-    let job = job_value c.args.job.now in
-    let path : List ℕ = c.args.prefix.now.tests.items in
-    let test : ℕ = c.index-test.result.now in
-    let may = followers_at job path c.args.place test (free_at job path c.args.prefix.now c.args.place test test c.requires.at c.requires.within_free c.index-test.ensures) in
-    record { in_job = subst (λ (j : JobValue). test < length j.tests) (sym c.requires.job) may.0 }
+    let test : ℕ = c.args.test in
+    let last = each_last (IsReady (job_value c.args.job.now)) c.args.prefix.now.tests.items test c.requires.out.ready in
+    record { in_job = subst (λ (j : JobValue). test < length j.tests) (sym c.requires.job) last.in_job }
 
 pub go_on-cycles_at-requires : goal.go_on-cycles_at-requires
-go_on-cycles_at-requires g t c =
-    let path : List ℕ = c.args.prefix.now.tests.items in
-    let test : ℕ = c.index-test.result.now in
-    (followers_at (job_value c.args.job.now) path c.args.place test (free_at (job_value c.args.job.now) path c.args.prefix.now c.args.place test test c.requires.at c.requires.within_free c.index-test.ensures)).0
+go_on-cycles_at-requires g t c = (each_last (IsReady (job_value c.args.job.now)) c.args.prefix.now.tests.items c.args.test c.requires.out.ready).in_job
 
 pub go_on-place-frame-requires : goal.go_on-place-frame-requires
 go_on-place-frame-requires g t c =
     let job = job_value c.args.job.now in
     let path : List ℕ = c.args.prefix.now.tests.items in
-    let test : ℕ = c.index-test.result.now in
-    let may = followers_at job path c.args.place test (free_at job path c.args.prefix.now c.args.place test test c.requires.at c.requires.within_free c.index-test.ensures) in
-    let free = may_place c.args.table.now job path c.args.end test c.noted_start-start.result c.requires.job c.requires.sound c.requires.placed may.0 may.1 c.noted_start-start.ensures.earliest in
-    let inside : test < length c.args.table.now.job.tests = subst (λ (j : JobValue). test < length j.tests) (sym c.requires.job) may.0 in
-    let new : is_placed c.args.table.now.placed test ≡ false = unplaced_in c.args.table.now.placed path test c.requires.placed.in_order (not_in path test (ready_from job path test may.0 may.1).new) in
+    let test : ℕ = c.args.test in
+    let last = each_last (IsReady job) path test c.requires.out.ready in
+    let free = may_place c.args.table.now job path c.args.end test c.noted_start-start.result c.requires.job c.requires.sound c.requires.placed last.in_job (ready_to job path test last) c.noted_start-start.ensures.earliest in
+    let inside : test < length c.args.table.now.job.tests = subst (λ (j : JobValue). test < length j.tests) (sym c.requires.job) last.in_job in
+    let new : is_placed c.args.table.now.placed test ≡ false = unplaced_in c.args.table.now.placed path test c.requires.placed.in_order (not_in path test last.new) in
     let placed : MayPlace c.args.table.now.job c.args.table.now.placed test c.noted_start-start.result = free (c.list_schedules_are_short.ensures.fits c.args.table.now test c.noted_start-start.result c.requires.sound c.requires.placed.list inside new c.noted_start-start.ensures.earliest) in
     subst (λ (t : TableValue). MayPlace t.job t.placed test c.noted_start-start.result) (sym c.noted_start-start.ensures.same) placed
 
@@ -187,10 +235,10 @@ pub go_on-overflow_add-start : goal.go_on-overflow_add-start
 go_on-overflow_add-start g t c =
     let job = job_value c.args.job.now in
     let path : List ℕ = c.args.prefix.now.tests.items in
-    let test : ℕ = c.index-test.result.now in
-    let may = followers_at job path c.args.place test (free_at job path c.args.prefix.now c.args.place test test c.requires.at c.requires.within_free c.index-test.ensures) in
-    let inside : test < length c.args.table.now.job.tests = subst (λ (j : JobValue). test < length j.tests) (sym c.requires.job) may.0 in
-    let new : is_placed c.args.table.now.placed test ≡ false = unplaced_in c.args.table.now.placed path test c.requires.placed.in_order (not_in path test (ready_from job path test may.0 may.1).new) in
+    let test : ℕ = c.args.test in
+    let last = each_last (IsReady job) path test c.requires.out.ready in
+    let inside : test < length c.args.table.now.job.tests = subst (λ (j : JobValue). test < length j.tests) (sym c.requires.job) last.in_job in
+    let new : is_placed c.args.table.now.placed test ≡ false = unplaced_in c.args.table.now.placed path test c.requires.placed.in_order (not_in path test last.new) in
     let most : c.noted_start-start.result + cycles_of c.args.table.now.job test ≤ 10 ^ 18 = c.list_schedules_are_short.ensures.fits c.args.table.now test c.noted_start-start.result c.requires.sound c.requires.placed.list inside new c.noted_start-start.ensures.earliest in
     let cycles : c.cycles_at.result ≡ cycles_of c.args.table.now.job test = c.cycles_at.ensures ∙ ap (λ (j : JobValue). cycles_of j test) (sym c.requires.job) in
     let small : c.noted_start-start.result + c.cycles_at.result ≤ 10 ^ 18 = omega (arith, most, cycles) in
@@ -200,62 +248,54 @@ pub go_on-explore-requires : goal.go_on-explore-requires
 go_on-explore-requires g t c κs within_measure =
     let job = job_value c.args.job.now in
     let path : List ℕ = c.args.prefix.now.tests.items in
-    let test : ℕ = c.index-test.result.now in
-    let first : ℕ = get_or c.args.prefix.now.free.items c.args.place 0 in
-    let test_is : first ≡ test = sym (c.index-test.ensures ∙ any_default c.args.prefix.now.free.items c.args.place test 0 c.requires.within_free) in
-    let more : List ℕ = c.take-left.new.self.tests.items in
-    let first_is : more ≡ path ++ first ∷ [] = c.take-left.ensures.at.tests_are in
-    let more_is : more ≡ path ++ test ∷ [] = first_is ∙ ap (λ (n : ℕ). path ++ n ∷ []) test_is in
+    let test : ℕ = c.args.test in
+    let more : List ℕ = c.append.new.self.tests.items in
+    let more_is : more ≡ path ++ test ∷ [] = c.append.ensures.tests_are in
     let grown : c.table.result.now ≡ record c.args.table.now { placed = c.args.table.now.placed ++ at_start test c.noted_start-start.result ∷ [] } = c.table.ensures.value ∙ c.place-frame.ensures.table ∙ ap (λ (t : TableValue). record t { placed = t.placed ++ at_start test c.noted_start-start.result ∷ [] }) c.noted_start-start.ensures.same in
     let job_is : c.table.result.now.job ≡ job = ap (λ (v : TableValue). v.job) grown ∙ c.requires.job in
     let sound : IsSoundTable c.table.result.now = c.table.ensures.sound in
     let cycles : c.cycles_at.result ≡ cycles_of c.args.table.now.job test = c.cycles_at.ensures ∙ ap (λ (j : JobValue). cycles_of j test) (sym c.requires.job) in
     let end' : c.max-next_end.result ≡ max c.args.end (c.noted_start-start.result + cycles_of c.args.table.now.job test) = omega (arith, c.max-next_end.ensures, cycles) in
     let placed : HasPlaced c.table.result.now more c.max-next_end.result = one_placed c.args.table.now c.table.result.now path more c.args.end c.max-next_end.result test c.noted_start-start.result c.requires.placed c.noted_start-start.ensures.earliest grown more_is end' in
-    let at : IsAt job more c.take-left.new.self = at_own job (path ++ first ∷ []) c.take-left.new.self c.take-left.ensures.at in
+    let at : IsAt job more c.append.new.self = at_own job (path ++ test ∷ []) c.append.new.self c.append.ensures in
     let long : length more ≡ length path + 1 = omega (arith, ap length more_is, length-append path (test ∷ [])) in
-    let opened : IsOpen job more = subst (IsOpen job) (sym first_is) c.requires.opened in
-    let none_before : NoneBefore job more c.args.progress.now.best.items = subst (λ (l : List ℕ). NoneBefore job l c.args.progress.now.best.items) (sym first_is) c.requires.none_before in
+    let opened : IsOpen job more = subst (IsOpen job) (sym more_is) c.requires.opened in
+    let none_before : NoneBefore job more c.args.progress.now.best.items = subst (λ (l : List ℕ). NoneBefore job l c.args.progress.now.best.items) (sym more_is) c.requires.none_before in
     let measure : (length job.tests - length more) * 2 + 1 < (length job.tests - length path) * 2 = omega (arith, long, at.left) in
     search rules
 
-pub go_on-take_back-requires-clause-at : goal.go_on-take_back-requires-clause-at
-go_on-take_back-requires-clause-at g t c = at_own (job_value c.args.job.now) c.take-left.new.self.tests.items c.explore.new.prefix (c.explore.ensures.at c.if-not-progress.true)
+pub go_on-go_back-requires-clause-at : goal.go_on-go_back-requires-clause-at
+go_on-go_back-requires-clause-at g t c = at_own (job_value c.args.job.now) c.append.new.self.tests.items c.explore.new.prefix (c.explore.ensures.at c.if-not-progress.true)
 
-pub go_on-take_back-requires-clause-taken : goal.go_on-take_back-requires-clause-taken
-go_on-take_back-requires-clause-taken g t c =
-    let job = job_value c.args.job.now in
+pub go_on-go_back-requires-clause-some : goal.go_on-go_back-requires-clause-some
+go_on-go_back-requires-clause-some g t c =
     let path : List ℕ = c.args.prefix.now.tests.items in
-    let first : ℕ = get_or c.args.prefix.now.free.items c.args.place 0 in
-    let is : c.explore.new.prefix.tests.items ≡ path ++ first ∷ [] = (c.explore.ensures.at c.if-not-progress.true).tests_are ∙ c.take-left.ensures.at.tests_are in
-    let here : slice_get (followers job path) c.args.place ≡ Some first = free_at job path c.args.prefix.now c.args.place first 0 c.requires.at c.requires.within_free refl in
-    let there : slice_get (outside job path) c.take-left.result ≡ Some first = ap (λ (l : List ℕ). slice_get l c.take-left.result) (sym c.requires.at.rest_are) ∙ c.take-left.ensures.left in
-    record { front = path; test = first; is = is; free_at = here; left_at = there }
+    omega (arith, ap length (c.explore.ensures.at c.if-not-progress.true).tests_are, ap length c.append.ensures.tests_are, length-append path (c.args.test ∷ []))
 
 pub go_on-returns-then-not-progress-clause-table : goal.go_on-returns-then-not-progress-clause-table
 go_on-returns-then-not-progress-clause-table g t c =
-    let test : ℕ = c.index-test.result.now in
+    let test : ℕ = c.args.test in
     let grown : c.table.result.now ≡ record c.args.table.now { placed = c.args.table.now.placed ++ at_start test c.noted_start-start.result ∷ [] } = c.table.ensures.value ∙ c.place-frame.ensures.table ∙ ap (λ (t : TableValue). record t { placed = t.placed ++ at_start test c.noted_start-start.result ∷ [] }) c.noted_start-start.ensures.same in
     let back : c.undo.new.self.0 ≡ c.args.table.now = taken_back c.args.table.now c.explore.new.table c.undo.new.self.0 c.place-frame.result.before test c.noted_start-start.result c.undo.ensures.table (c.explore.ensures.table ∙ grown) (c.place-frame.ensures.before ∙ ap (λ (t : TableValue). length t.placed) c.noted_start-start.ensures.same) in
     search rules
 
-pub go_on-returns-then-not-progress-clause-at : goal.go_on-returns-then-not-progress-clause-at
-go_on-returns-then-not-progress-clause-at g t c = λ going.
-    c.take_back.ensures c.args.prefix.now.tests.items (get_or c.args.prefix.now.free.items c.args.place 0) ((c.explore.ensures.at c.if-not-progress.true).tests_are ∙ c.take-left.ensures.at.tests_are)
+pub go_on-returns-then-not-progress-clause-out : goal.go_on-returns-then-not-progress-clause-out
+go_on-returns-then-not-progress-clause-out g t c = λ going.
+    c.go_back.ensures c.args.prefix.now.tests.items c.args.test ((c.explore.ensures.at c.if-not-progress.true).tests_are ∙ c.append.ensures.tests_are)
 
 pub go_on-returns-then-not-progress-clause-room : goal.go_on-returns-then-not-progress-clause-room
 go_on-returns-then-not-progress-clause-room g t c =
-    (c.take_back.ensures c.args.prefix.now.tests.items (get_or c.args.prefix.now.free.items c.args.place 0) ((c.explore.ensures.at c.if-not-progress.true).tests_are ∙ c.take-left.ensures.at.tests_are)).has_room
+    (c.go_back.ensures c.args.prefix.now.tests.items c.args.test ((c.explore.ensures.at c.if-not-progress.true).tests_are ∙ c.append.ensures.tests_are)).has_room
 
 pub go_on-returns-then-not-progress-clause-explored : goal.go_on-returns-then-not-progress-clause-explored
 go_on-returns-then-not-progress-clause-explored g t c =
     let job = job_value c.args.job.now in
     let path : List ℕ = c.args.prefix.now.tests.items in
-    followed job c.args.tries.now.budget (length job.tests) path c.take-left.new.self.tests.items (get_or c.args.prefix.now.free.items c.args.place 0) (stand_of c.args.progress.now) (stand_of c.explore.new.progress) c.take-left.ensures.at.tests_are c.explore.ensures.explored
+    followed job c.args.tries.now.budget (length job.tests) path c.append.new.self.tests.items c.args.test (stand_of c.args.progress.now) (stand_of c.explore.new.progress) c.append.ensures.tests_are c.explore.ensures.explored
 
 pub go_on-returns-else-not-progress-clause-table : goal.go_on-returns-else-not-progress-clause-table
 go_on-returns-else-not-progress-clause-table g t c =
-    let test : ℕ = c.index-test.result.now in
+    let test : ℕ = c.args.test in
     let grown : c.table.result.now ≡ record c.args.table.now { placed = c.args.table.now.placed ++ at_start test c.noted_start-start.result ∷ [] } = c.table.ensures.value ∙ c.place-frame.ensures.table ∙ ap (λ (t : TableValue). record t { placed = t.placed ++ at_start test c.noted_start-start.result ∷ [] }) c.noted_start-start.ensures.same in
     let back : c.undo.new.self.0 ≡ c.args.table.now = taken_back c.args.table.now c.explore.new.table c.undo.new.self.0 c.place-frame.result.before test c.noted_start-start.result c.undo.ensures.table (c.explore.ensures.table ∙ grown) (c.place-frame.ensures.before ∙ ap (λ (t : TableValue). length t.placed) c.noted_start-start.ensures.same) in
     search rules
@@ -264,4 +304,4 @@ pub go_on-returns-else-not-progress-clause-explored : goal.go_on-returns-else-no
 go_on-returns-else-not-progress-clause-explored g t c =
     let job = job_value c.args.job.now in
     let path : List ℕ = c.args.prefix.now.tests.items in
-    followed job c.args.tries.now.budget (length job.tests) path c.take-left.new.self.tests.items (get_or c.args.prefix.now.free.items c.args.place 0) (stand_of c.args.progress.now) (stand_of c.explore.new.progress) c.take-left.ensures.at.tests_are c.explore.ensures.explored
+    followed job c.args.tries.now.budget (length job.tests) path c.append.new.self.tests.items c.args.test (stand_of c.args.progress.now) (stand_of c.explore.new.progress) c.append.ensures.tests_are c.explore.ensures.explored

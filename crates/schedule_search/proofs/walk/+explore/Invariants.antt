@@ -1,6 +1,7 @@
 use Rattle.std.proofs.Common.{◌≡◌, ◌<◌, ◌≤◌, ◌+◌, ◌-◌, ◌*◌, ◌∷◌, ◌++◌, [], ℕ, false, length, get_or, vec_capacity}
 use Rattle.resource_table.specs.Jobs.{job_value}
-use Rattle.schedule_search.specs.Prefixes.{followers, IsAt}
+use Rattle.schedule_search.specs.Prefixes.{followers, IsAt, IsOut}
+use Rattle.schedule_search.specs.Taken.{IsTurn}
 use Rattle.schedule_search.specs.Progress.{stand_of, IsBest, NoneBefore, Explored}
 use Rattle.schedule_search.proofs.Walking.{tried}
 use Rattle.schedule_search.proofs.walk.+explore.Given as goal
@@ -14,7 +15,10 @@ decreases-go_on g l = (length (job_value l.job.now).tests - length l.prefix.now.
 abbrev pub invariant-explore-loop-place : goal.invariant-explore-loop-place
 invariant-explore-loop-place g l = record {
   table : l.table ≡ l.fn.table;
-  at : IsAt (job_value l.job) l.fn.prefix.tests.items l.prefix;
+  few : l.place ≤ length (followers (job_value l.job) l.fn.prefix.tests.items);
+  out : l.place < length (followers (job_value l.job) l.fn.prefix.tests.items) → IsOut (job_value l.job) l.fn.prefix.tests.items l.taken.test l.prefix;
+  turn : l.place < length (followers (job_value l.job) l.fn.prefix.tests.items) → IsTurn (job_value l.job) l.fn.prefix.tests.items l.place l.taken;
+  back : l.place ≡ length (followers (job_value l.job) l.fn.prefix.tests.items) → IsAt (job_value l.job) l.fn.prefix.tests.items l.prefix;
   best_room : vec_capacity l.progress.best ≡ vec_capacity l.initial.progress.best;
   going : l.progress.refused ≡ false;
   within : l.progress.entered ≤ l.tries.budget;
@@ -22,3 +26,6 @@ invariant-explore-loop-place g l = record {
   none_before : (later : ℕ) → l.place ≤ later → later < length (followers (job_value l.job) l.fn.prefix.tests.items) → NoneBefore (job_value l.job) (l.fn.prefix.tests.items ++ get_or (followers (job_value l.job) l.fn.prefix.tests.items) later 0 ∷ []) l.progress.best.items;
   explored : Explored (job_value l.job) l.tries.budget (tried (job_value l.job) (length (job_value l.job).tests - length l.fn.prefix.tests.items - 1) l.fn.prefix.tests.items l.place) (stand_of l.fn.progress) (stand_of l.progress);
 }
+
+abbrev pub decreases-explore-loop-place : goal.decreases-explore-loop-place
+decreases-explore-loop-place g l = length (followers (job_value l.job) l.fn.prefix.tests.items) - l.place
