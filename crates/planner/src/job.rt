@@ -1,13 +1,13 @@
 // The job of a plan: the live tests of a chip, with the cycles that they take in the plan's wrappers. Tests, modules and
 // buses go by their places.
-ghost use Rattle.std.specs.Prelude.{◌≡◌, ℕ, ◌<◌, ◌++◌, ◌∷◌, [], true, length, map, position, slice_get, Some, IfOk, OnOk};
-ghost use Rattle.std.specs.List.{filter, flat_map};
+ghost use Rattle.std.specs.Prelude.{◌≡◌, ℕ, ◌<◌, ◌++◌, ◌∷◌, [], true, length, map, slice_get, Some, IfOk, OnOk};
+ghost use Rattle.std.specs.List.{filter};
 ghost use Rattle.soc_model.specs.declared.TestId.{TestId};
-ghost use Rattle.soc_model.specs.Chips.{soc_value, module_value, is_live, same_test, live_tests};
+ghost use Rattle.soc_model.specs.Chips.{soc_value, module_value, is_live, live_tests};
 ghost use Rattle.soc_model.specs.SoundChips.{IsSoundChip};
 ghost use Rattle.plan_model.specs.SoundLimits.{IsSoundLimits};
-ghost use Rattle.plan_model.specs.Rules.{Keeps, Wrappers, Proper, live_ids};
-ghost use Rattle.plan_model.specs.Views.{wrapper_value, bus_value, profile_value, limits_value};
+ghost use Rattle.plan_model.specs.Rules.{Keeps, Wrappers, Proper};
+ghost use Rattle.plan_model.specs.Views.{wrapper_value, bus_value, limits_value};
 ghost use Rattle.live_tests.specs.Index.{IsIndex};
 ghost use Rattle.live_tests.specs.Profiles.{AreProfilePlaces};
 ghost use Rattle.resource_table.specs.declared.JobTest.{JobTest};
