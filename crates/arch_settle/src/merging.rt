@@ -1,9 +1,7 @@
 // Merging one bus into another.
-ghost use Rattle.std.specs.Prelude.{◌≡◌, ◌≢◌, ℕ, ◌+◌, ◌-◌, ◌<◌, ◌≤◌, List, length, map, min, All, IfOk, OnOk, vec_len, vec_capacity};
-ghost use Rattle.std.specs.List.{IsFirstMaxByKey};
-ghost use Rattle.width_table.specs.Tables.{TableValue, IsTable};
-ghost use Rattle.bus_model.specs.Buses.{BusValue, bus_value, arch_value, bus_at, places_time, bus_time_of, cost_of, spread_of};
-ghost use Rattle.bus_model.specs.Sound.{IsSoundBus, IsSoundArch, wires_used};
+ghost use Rattle.std.specs.Prelude.{◌≡◌, ◌≢◌, ◌-◌, ◌<◌, length, min, IfOk, OnOk};
+ghost use Rattle.bus_model.specs.Buses.{arch_value, bus_at};
+ghost use Rattle.bus_model.specs.Sound.{IsSoundArch};
 ghost use Rattle.arch_settle.specs.Neighbours.{joined_at, merged};
 
 use bus_model::{Arch, spread};

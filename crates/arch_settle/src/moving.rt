@@ -1,8 +1,8 @@
 // Moving a module of the bottleneck, and what that would cost: no candidate is made.
-ghost use Rattle.std.specs.Prelude.{◌≡◌, ◌≢◌, ℕ, ◌+◌, ◌-◌, ◌<◌, ◌≤◌, List, length, map, All, slice_set, slice_index, MatchOption, IfOk, OnOk, ◌++◌};
+ghost use Rattle.std.specs.Prelude.{◌≡◌, ◌≢◌, ℕ, ◌+◌, ◌-◌, ◌<◌, ◌≤◌, length, map, slice_set, slice_index, MatchOption, IfOk, OnOk, ◌++◌};
 ghost use Rattle.std.specs.List.{range_with_len, flat_map};
-ghost use Rattle.width_table.specs.Tables.{TableValue, places_of};
-ghost use Rattle.bus_model.specs.Buses.{BusValue, arch_value, bus_at, bus_time_of, places_time, cost_of};
+ghost use Rattle.width_table.specs.Tables.{places_of};
+ghost use Rattle.bus_model.specs.Buses.{arch_value, bus_at, bus_time_of, places_time, cost_of};
 ghost use Rattle.bus_model.specs.Sound.{IsSoundArch, times_listed, due};
 ghost use Rattle.arch_settle.specs.Settling.{IsAtRest, IsStep};
 ghost use Rattle.arch_settle.specs.Neighbours.{others, moves, all_moves, moved, split_off};

@@ -1,6 +1,5 @@
 // Reshuffle, and all three kinds of step in rounds.
-ghost use Rattle.std.specs.Prelude.{◌≡◌, ℕ, ◌<◌, ◌≤◌, List, length, MatchOption, MatchBool, IfOk, OnOk};
-ghost use Rattle.width_table.specs.Tables.{TableValue};
+ghost use Rattle.std.specs.Prelude.{◌≡◌, ◌<◌, ◌≤◌, List, IfOk, OnOk};
 ghost use Rattle.bus_model.specs.Buses.{BusValue, arch_value, cost_of};
 ghost use Rattle.bus_model.specs.Sound.{IsSoundArch};
 ghost use Rattle.arch_settle.specs.Neighbours.{reshuffle_of};

@@ -1,7 +1,6 @@
 // Bottom-up and top-down: steps by the best merge of two buses.
-ghost use Rattle.std.specs.Prelude.{◌≡◌, ◌≢◌, ℕ, ◌+◌, ◌-◌, ◌<◌, ◌≤◌, List, length, map, All, MatchOption, MatchBool, IfOk, OnOk};
-ghost use Rattle.width_table.specs.Tables.{TableValue};
-ghost use Rattle.bus_model.specs.Buses.{BusValue, arch_value, cost_of};
+ghost use Rattle.std.specs.Prelude.{◌≡◌, ◌≢◌, ◌-◌, ◌<◌, List, length, MatchOption, IfOk, OnOk};
+ghost use Rattle.bus_model.specs.Buses.{BusValue, arch_value};
 ghost use Rattle.bus_model.specs.Sound.{IsSoundArch};
 ghost use Rattle.arch_settle.specs.Neighbours.{merged, merges, bottom_up_of, top_down_of};
 ghost use Rattle.arch_settle.specs.Settling.{IsStep, IsAtRest, IsTaken, Rests};
@@ -25,7 +24,7 @@ pub(crate) fn best_merge(
     ensures { IfOk result (λ choice. MatchOption choice (IsAtRest table.now (merges table.now from (arch_value arch.now)) (arch_value arch.now)) (λ into. ((into < length (arch_value arch.now)) × (from ≢ into)) × IsStep table.now (merges table.now from (arch_value arch.now)) (arch_value arch.now) (merged table.now (arch_value arch.now) from into))) }
 {
     let loads = loads_of(alloc, table, arch)?;
-    let mut room = Vec::with_capacity(alloc, loads.len()).map_err(|_| NoMemory)?;
+    let mut room = Vec::with_capacity(alloc, loads.len())?;
     let mut least = cost(table, arch);
     let mut choice = None;
     for into in 0..arch.buses.len() {

@@ -1,11 +1,10 @@
 // What a merge would cost, from the widths and times of the buses alone: no candidate is made.
-ghost use Rattle.std.specs.Prelude.{◌≡◌, ◌≢◌, ℕ, ◌+◌, ◌-◌, ◌^◌, ◌<◌, ◌≤◌, List, length, map, min, max, All, IfOk, OnOk, vec_len};
+ghost use Rattle.std.specs.Prelude.{◌≡◌, ◌≢◌, ℕ, ◌+◌, ◌-◌, ◌^◌, ◌<◌, ◌≤◌, length, min, max, IfOk, vec_len};
 ghost use Rattle.std.specs.List.{IsFirstMaxByKey};
-ghost use Rattle.width_table.specs.Tables.{TableValue, IsTable};
-ghost use Rattle.bus_model.specs.Buses.{BusValue, bus_value, arch_value, bus_at, places_time, bus_time_of, cost_of, spread_of};
-ghost use Rattle.bus_model.specs.Sound.{IsSoundBus, IsSoundArch, wires_used};
-ghost use Rattle.arch_settle.specs.Neighbours.{joined_at, merged};
-ghost use Rattle.arch_settle.specs.Loads.{AreLoads, IsHeldIn, held_places, load_value, loads_value};
+ghost use Rattle.bus_model.specs.Buses.{arch_value, bus_at, places_time, cost_of, spread_of};
+ghost use Rattle.bus_model.specs.Sound.{IsSoundArch, wires_used};
+ghost use Rattle.arch_settle.specs.Neighbours.{merged};
+ghost use Rattle.arch_settle.specs.Loads.{AreLoads, IsHeldIn, held_places, loads_value};
 
 use bus_model::{Arch, bus_time, time_at};
 use outside::{NoMemory, extend, push};

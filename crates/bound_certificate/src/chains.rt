@@ -18,7 +18,7 @@ ghost use Rattle.bound_certificate.specs.Winners.{names_of};
 
 use crate::nodes::{Node, nodes_of};
 use crate::sums::greatest_sums;
-use outside::NoMemory;
+use outside::{NoMemory, push};
 use plan_model::Limits;
 use soc_model::{Soc, TestId};
 use std::alloc::Global;
@@ -83,15 +83,11 @@ fn chain_to(
         (back : List TheTestId) × (chain.items ≡ reverse (n.id ∷ back)) × GoesBack soc limits n.id back) }
 {
     let mut chain = Vec::new(alloc);
-    if chain.push(nodes[last].id).is_err() {
-        return Err(NoMemory);
-    }
+    push(&mut chain, nodes[last].id)?;
     let mut test = last;
     while let Some(earlier) = best_of(sums, &nodes[test].before) {
         test = earlier;
-        if chain.push(nodes[test].id).is_err() {
-            return Err(NoMemory);
-        }
+        push(&mut chain, nodes[test].id)?;
     }
     chain.reverse();
     Ok(chain)

@@ -9,7 +9,7 @@ ghost use Rattle.bound_certificate.specs.Needs.{need_or_zero, of_need};
 
 use crate::forced_lists::forced_breach;
 use bound_rules::need;
-use outside::NoMemory;
+use outside::{NoMemory, push};
 use plan_model::Limits;
 use soc_model::{MODULES_MOST, Soc, has_tam_test, module_at};
 use std::alloc::Global;
@@ -36,12 +36,7 @@ fn needs_of(alloc: Global, soc: &Soc, limits: &Limits, claimed: u64) -> Result<V
 {
     let mut needs = Vec::new(alloc);
     for place in 0..soc.modules.len() {
-        if needs
-            .push(need_or_zero(soc, limits, claimed, place))
-            .is_err()
-        {
-            return Err(NoMemory);
-        }
+        push(&mut needs, need_or_zero(soc, limits, claimed, place))?;
     }
     Ok(needs)
 }
@@ -61,9 +56,7 @@ fn push_with_need(
         if needs[place] != needed {
             continue;
         }
-        if order.push(module_at(soc, place).number).is_err() {
-            return Err(NoMemory);
-        }
+        push(order, module_at(soc, place).number)?;
     }
     Ok(())
 }
@@ -109,9 +102,7 @@ pub fn forced_part(
     ensures { IfOk result (λ v. IsForcedPart (soc_value soc.now) (limits_value limits.now) claimed v.items) }
 {
     let order = forced_order(alloc, soc, limits, claimed)?;
-    let Ok(mut marks) = Vec::from_elem(alloc, false, MODULES_MOST as usize) else {
-        return Err(NoMemory);
-    };
+    let mut marks = Vec::from_elem(alloc, false, MODULES_MOST as usize)?;
     let place = forced_breach(soc, limits, claimed, &order, &mut marks);
     Ok(cut(order, place))
 }

@@ -3,7 +3,7 @@
 // Claims and values are in cycles; a certificate's modules and tests go by their numbers.
 #![tactic(auto)]
 
-ghost use Rattle.std.specs.Prelude.{◌≡◌, ◌+◌, ◌<◌, ◌≤◌, Ok, Err, IfOk, IfErr, OnOk, length, nat_lt, if◌then◌else◌, vec_len};
+ghost use Rattle.std.specs.Prelude.{◌≡◌, ◌+◌, ◌<◌, ◌≤◌, Ok, Err, IfErr, OnOk, length, nat_lt, if◌then◌else◌, vec_len};
 ghost use Rattle.indexmap.specs.IndexMap.{index_map_len, spare as spare_pairs};
 ghost use Rattle.indexmap.specs.IndexSet.{keys, spare};
 ghost use Rattle.soc_model.specs.Chips.{soc_value};
@@ -62,42 +62,12 @@ pub struct BoundScratch {
     ghost names_room: { TESTS_MOST ≤ length (keys names) + spare names },
 }
 
-/// Room for so many pairs.
-fn pair_room(alloc: Global, count: usize) -> Result<Pairs, NoMemory>
-    ensures { IfOk result (λ room. count ≤ index_map_len room + spare_pairs room) }
-{
-    match IndexMap::with_capacity(alloc, count) {
-        Ok(room) => Ok(room),
-        Err(_) => Err(NoMemory),
-    }
-}
-
-/// Room for so many names.
-fn name_room(alloc: Global, count: usize) -> Result<IndexSet<TestId>, NoMemory>
-    ensures { IfOk result (λ room. count ≤ length (keys room) + spare room) }
-{
-    match IndexSet::with_capacity(alloc, count) {
-        Ok(room) => Ok(room),
-        Err(_) => Err(NoMemory),
-    }
-}
-
-/// A mark for each module that a chip may have.
-fn mark_room(alloc: Global) -> Result<Vec<bool>, NoMemory>
-    ensures { IfOk result (λ room. length room.items ≡ MODULES_MOST) }
-{
-    match Vec::from_elem(alloc, false, MODULES_MOST as usize) {
-        Ok(room) => Ok(room),
-        Err(_) => Err(NoMemory),
-    }
-}
-
 impl BoundScratch {
     /// Room for the check of this certificate.
     pub fn new(alloc: Global, _bound: &Bound) -> Result<BoundScratch, NoMemory> {
-        let marks = mark_room(alloc)?;
-        let pairs = pair_room(alloc, TESTS_MOST as usize)?;
-        let names = name_room(alloc, TESTS_MOST as usize)?;
+        let marks = Vec::from_elem(alloc, false, MODULES_MOST as usize)?;
+        let pairs = IndexMap::with_capacity(alloc, TESTS_MOST as usize)?;
+        let names = IndexSet::with_capacity(alloc, TESTS_MOST as usize)?;
         Ok(BoundScratch {
             marks,
             pairs,

@@ -7,7 +7,7 @@ ghost use Rattle.bound_certificate.specs.Nodes.{node_values, fixed_parts, before
 
 use bound_rules::lower_time;
 use live_tests::{LiveTests, Neighbours, all_before};
-use outside::NoMemory;
+use outside::{NoMemory, push};
 use plan_model::Limits;
 use soc_model::{Module, Soc, TestId, live};
 use std::alloc::Global;
@@ -45,9 +45,7 @@ fn push_live(
                 time: lower_time(module, test, wires),
                 before: Vec::new(alloc),
             };
-            if nodes.push(node).is_err() {
-                return Err(NoMemory);
-            }
+            push(nodes, node)?;
         }
     }
     Ok(())

@@ -1,15 +1,14 @@
 // The greatest sum of lower times over a precedence chain that ends in a test, for each live test. Times and sums are in
 // cycles, and tests go by their places among the live tests of the chip.
-ghost use Rattle.std.specs.Prelude.{◌≡◌, ◌^◌, ◌<◌, length, replicate, slice_get, IfOk, Some};
+ghost use Rattle.std.specs.Prelude.{◌≡◌, ◌^◌, ◌<◌, length, replicate, IfOk};
 ghost use Rattle.soc_model.specs.Chips.{SocValue};
 ghost use Rattle.plan_model.specs.Plans.{LimitsValue};
-ghost use Rattle.bound_certificate.specs.declared.sums.Sum.{Sum as TheSum};
 ghost use Rattle.bound_certificate.specs.declared.sums.Sum.TheVariants.{Unknown};
 ghost use Rattle.bound_certificate.specs.Nodes.{node_values, AreNodes};
 ghost use Rattle.bound_certificate.specs.Sums.{HasSum, AreRight, GoOn, AreAcyclic, IsUnderWay, AreSums};
 
 use crate::nodes::Node;
-use outside::NoMemory;
+use outside::{NoMemory, push};
 use std::alloc::Global;
 
 /// What is known of the greatest sum of a test.
@@ -56,9 +55,7 @@ fn unknown_sums(alloc: Global, count: usize) -> Result<Vec<Sum>, NoMemory>
 {
     let mut sums = Vec::new(alloc);
     for _ in 0..count {
-        if sums.push(Sum::Unknown).is_err() {
-            return Err(NoMemory);
-        }
+        push(&mut sums, Sum::Unknown)?;
     }
     Ok(sums)
 }
@@ -72,9 +69,7 @@ pub fn greatest_sums(alloc: Global, nodes: &[Node]) -> Result<Vec<u128>, NoMemor
     let mut sums = Vec::new(alloc);
     for test in 0..nodes.len() {
         let sum = greatest_sum(nodes, &mut known, test);
-        if sums.push(sum).is_err() {
-            return Err(NoMemory);
-        }
+        push(&mut sums, sum)?;
     }
     Ok(sums)
 }

@@ -1,13 +1,13 @@
 // The job of a plan: the live tests of a chip, with the cycles that they take in the plan's wrappers. Tests, modules and
 // buses go by their places.
-ghost use Rattle.std.specs.Prelude.{◌≡◌, ℕ, ◌<◌, ◌++◌, ◌∷◌, [], true, length, map, position, slice_get, Some, IfOk, OnOk};
-ghost use Rattle.std.specs.List.{filter, flat_map};
+ghost use Rattle.std.specs.Prelude.{◌≡◌, ℕ, ◌<◌, ◌++◌, ◌∷◌, [], true, length, map, slice_get, Some, IfOk, OnOk};
+ghost use Rattle.std.specs.List.{filter};
 ghost use Rattle.soc_model.specs.declared.TestId.{TestId};
-ghost use Rattle.soc_model.specs.Chips.{soc_value, module_value, is_live, same_test, live_tests};
+ghost use Rattle.soc_model.specs.Chips.{soc_value, module_value, is_live, live_tests};
 ghost use Rattle.soc_model.specs.SoundChips.{IsSoundChip};
 ghost use Rattle.plan_model.specs.SoundLimits.{IsSoundLimits};
-ghost use Rattle.plan_model.specs.Rules.{Keeps, Wrappers, Proper, live_ids};
-ghost use Rattle.plan_model.specs.Views.{wrapper_value, bus_value, profile_value, limits_value};
+ghost use Rattle.plan_model.specs.Rules.{Keeps, Wrappers, Proper};
+ghost use Rattle.plan_model.specs.Views.{wrapper_value, bus_value, limits_value};
 ghost use Rattle.live_tests.specs.Index.{IsIndex};
 ghost use Rattle.live_tests.specs.Profiles.{AreProfilePlaces};
 ghost use Rattle.resource_table.specs.declared.JobTest.{JobTest};
@@ -20,7 +20,7 @@ use live_tests::{
     LiveTests, ModeWrappers, bus_over, bus_place, buses_by_module, profile_place, profile_places,
     wrappers_by_mode,
 };
-use outside::{NoMemory, push};
+use outside::{NoMemory, copied, push};
 use plan_model::{Bus, Limits, Wrapper};
 use resource_table::{Job, JobTest};
 use soc_model::{Module, Soc, Test, TestId, live, module_at, parent};
@@ -42,13 +42,6 @@ fn module_count(soc: &Soc) -> usize
     soc.modules.len()
 }
 
-/// A copy of steps.
-fn copy_steps(alloc: Global, steps: &[(u64, u64)]) -> Result<Vec<(u64, u64)>, NoMemory>
-    ensures { IfOk result (λ copy. copy.items ≡ steps.now) }
-{
-    Vec::from_slice(alloc, steps).map_err(|_| NoMemory)
-}
-
 /// The one step of a test without a profile.
 fn one_step(alloc: Global, power: u64) -> Result<Vec<(u64, u64)>, NoMemory>
     ensures { IfOk result (λ steps. steps.items ≡ (0, power) ∷ []) }
@@ -68,7 +61,7 @@ fn steps_of(
     ensures { IfOk result (λ steps. steps.items ≡ the_steps (limits_value limits.now) id own) }
 {
     match profile_place(&limits.profiles, profiles, id) {
-        Some(place) => copy_steps(alloc, &limits.profiles[place].steps),
+        Some(place) => copied(alloc, &limits.profiles[place].steps),
         None => one_step(alloc, own),
     }
 }

@@ -2,8 +2,6 @@
 // and a lower bound (after TR-ARCHITECT, Goel and Marinissen 2002, for fixed buses in place of TestRails).
 #![tactic(auto)]
 
-ghost use Rattle.std.specs.Prelude.{◌≡◌, ◌++◌, ◌∷◌, [], OnOk};
-
 mod buses;
 mod job;
 mod planning;

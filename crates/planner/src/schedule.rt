@@ -14,7 +14,7 @@ ghost use Rattle.planner.specs.Jobs.{settled_parts};
 ghost use Rattle.planner.specs.Schedules.{IsFoundSchedule, AreStartsOf, IsFoundList, KeepsTimes};
 
 use crate::job::{JobParts, job_of};
-use outside::NoMemory;
+use outside::{NoMemory, push};
 use plan_model::{Bus, Limits, Wrapper};
 use resource_table::{Job, Table};
 use schedule_search::{Ahead, Search};
@@ -44,9 +44,7 @@ fn starts_of(
     let mut listed = Vec::new(alloc);
     for place in 0..order.len() {
         let id = job.tests[order[place]].id;
-        if listed.push((id, starts[place])).is_err() {
-            return Err(NoMemory);
-        }
+        push(&mut listed, (id, starts[place]))?;
     }
     Ok(listed)
 }

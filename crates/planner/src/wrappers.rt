@@ -1,17 +1,17 @@
 // The wrappers of a plan: those of the width table at the widths of its buses.
 ghost use Rattle.std.specs.Prelude.{◌≡◌, ◌++◌, ◌<◌, ℕ, Bool, List, length, Some, slice_get, true, IfOk, OnOk, map};
-ghost use Rattle.soc_model.specs.Chips.{ModuleValue, soc_value, module_value};
+ghost use Rattle.soc_model.specs.Chips.{ModuleValue, soc_value};
 ghost use Rattle.plan_model.specs.Plans.{bus_place as the_bus_place};
 ghost use Rattle.plan_model.specs.Rules.{used_pairs, mode_pair};
 ghost use Rattle.soc_model.specs.Modes.{uses_mode};
 ghost use Rattle.plan_model.specs.Views.{bus_value, wrapper_value};
 ghost use Rattle.live_tests.specs.Index.{AreBusPlaces};
-ghost use Rattle.planner.specs.Wrapping.{bus_width, HaveWidths, IsUsedMode, AreUsedModes, AreTableWrappers};
+ghost use Rattle.planner.specs.Wrapping.{bus_width, HaveWidths, AreUsedModes, AreTableWrappers};
 
 use indexmap::IndexMap;
 use live_tests::{bus_place, buses_by_module};
 use outside::{NoMemory, push};
-use plan_model::{Bus, Wrapper, lists_module};
+use plan_model::{Bus, Wrapper, bus_of};
 use soc_model::{Soc, module_at, uses_mode};
 use std::alloc::Global;
 use width_table::WidthTable;
@@ -31,12 +31,7 @@ struct UsedMode {
 pub fn width_of(buses: &[Bus], number: u64) -> u64
     ensures { result ≡ bus_width (map bus_value buses.now) number }
 {
-    for bus in buses {
-        if lists_module(bus, number) {
-            return bus.width;
-        }
-    }
-    0
+    width_at(buses, bus_of(buses, number))
 }
 
 /// The wires of the bus at a place, 0 where none stands there.

@@ -55,10 +55,8 @@ impl<'a> WidthTable<'a> {
         requires few { wires ≤ 256 }
         ensures value { IfOk result (λ t. t ≡ record { soc = soc_value soc.now; wires = wires }) }
     {
-        match rows_of(alloc, soc, wires) {
-            Ok(rows) => Ok(WidthTable { soc, wires, rows }),
-            Err(_) => Err(NoMemory),
-        }
+        let rows = rows_of(alloc, soc, wires)?;
+        Ok(WidthTable { soc, wires, rows })
     }
 
     /// The wires of the table.

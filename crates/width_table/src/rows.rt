@@ -1,5 +1,5 @@
 // The rows of a table: the choices of each module.
-ghost use Rattle.std.specs.Prelude.{◌≡◌, ◌^◌, ◌<◌, ◌≤◌, length, slice_get, Some, IfOk, true, false, sum_by};
+ghost use Rattle.std.specs.Prelude.{◌≡◌, ◌^◌, ◌<◌, ◌≤◌, length, IfOk, true, false, sum_by};
 ghost use Rattle.std.specs.List.{filter};
 ghost use Rattle.soc_model.specs.Chips.{module_value, soc_value, is_live};
 ghost use Rattle.soc_model.specs.Sizes.{test_work};

@@ -1,5 +1,5 @@
 // The room of the check, and its public call.
-ghost use Rattle.std.specs.Prelude.{◌≡◌, ◌*◌, ◌^◌, ◌<◌, ◌≤◌, Ok, IfOk, IfErr, OnOk, length, map, replicate, sum};
+ghost use Rattle.std.specs.Prelude.{◌≡◌, ◌*◌, ◌^◌, ◌<◌, ◌≤◌, Ok, IfOk, IfErr, OnOk, length, map, sum};
 ghost use Rattle.soc_model.specs.Chips.{soc_value};
 ghost use Rattle.soc_model.specs.SoundChips.{IsSoundChip};
 ghost use Rattle.plan_model.specs.Views.{limits_value};
@@ -9,7 +9,7 @@ ghost use Rattle.width_tree.specs.Trees.{WidthTree, nodes_of, node_value, IsOneT
 ghost use Rattle.width_tree.specs.Cases.{root_case, cases_of};
 ghost use Rattle.width_tree.specs.Bounds.{IsChecked, IsAcceptedTree, IsTreeFault};
 ghost use Rattle.width_tree.specs.Tables.{chip_of, IsTable};
-ghost use Rattle.width_tree.specs.Findings.{AreWidths, AreIntervals, area_by, AreAreas};
+ghost use Rattle.width_tree.specs.Findings.{AreWidths, AreIntervals, AreAreas};
 ghost use Rattle.width_tree.specs.Walks.{HasRoom};
 
 use crate::areas::{Widths, least_area};
@@ -51,13 +51,6 @@ impl Model for TreeRoom {
         × (length r.widths.areas.items ≡ length r.own.items) × (length r.marks.items ≡ length r.own.items) };
 }
 
-/// So many copies of an item.
-fn filled_room<T: Copy>(alloc: Global, item: T, count: usize) -> Result<Vec<T>, NoMemory>
-    ensures { IfOk result (λ room. length room.items ≡ count) }
-{
-    Vec::from_elem(alloc, item, count).map_err(|_| NoMemory)
-}
-
 const NO_INTERVAL: Interval = Interval { low: 0, high: 0 };
 
 const NO_TURN: Turn = Turn {
@@ -77,16 +70,16 @@ impl TreeRoom {
             return Err(NoMemory);
         };
         let widths = Widths {
-            intervals: filled_room(alloc, NO_INTERVAL, modules)?,
-            areas: filled_room(alloc, 0, modules)?,
+            intervals: Vec::from_elem(alloc, NO_INTERVAL, modules)?,
+            areas: Vec::from_elem(alloc, 0, modules)?,
             total: 0,
         };
         Ok(TreeRoom {
-            times: filled_room(alloc, 0, count)?,
-            own: filled_room(alloc, 0, modules)?,
+            times: Vec::from_elem(alloc, 0, count)?,
+            own: Vec::from_elem(alloc, 0, modules)?,
             widths,
-            marks: filled_room(alloc, 0, modules)?,
-            turns: filled_room(alloc, NO_TURN, nodes)?,
+            marks: Vec::from_elem(alloc, 0, modules)?,
+            turns: Vec::from_elem(alloc, NO_TURN, nodes)?,
         })
     }
 

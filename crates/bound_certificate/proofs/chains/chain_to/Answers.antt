@@ -15,10 +15,10 @@ pub loop-earlier-init : goal.loop-earlier-init
 loop-earlier-init c =
     let n = c.index-nodes-last.result in
     let at = node_here c.args.nodes.now c.args.last n c.requires.within c.index-nodes-last.is in
-    let pushed : c.push.new.self.items ≡ n.id ∷ [] = search rules in
+    let pushed : c.push.new.to.items ≡ n.id ∷ [] = search rules in
     record {
       within = c.requires.within;
-      leads = λ soc limits are right. way_starts soc limits (node_values c.args.nodes.now) c.args.sums.now are right c.args.last (node_value n) c.push.new.self.items at pushed;
+      leads = λ soc limits are right. way_starts soc limits (node_values c.args.nodes.now) c.args.sums.now are right c.args.last (node_value n) c.push.new.to.items at pushed;
     }
 
 pub best_of-requires : goal.best_of-requires
@@ -51,10 +51,10 @@ loop-earlier-preserved c =
     let best_here = subst (λ (l : List ℕ). IsBest c.args.sums.now (Contains l) (Some c.in-Some.earlier)) items best in
     let falls = c.requires.fall c.in-Some.earlier c.loop-earlier.test (node_value n) at best_here.0 in
     let within : c.in-Some.earlier < length c.args.nodes.now = omega (arith, falls.0, length-map c.args.nodes.now node_value) in
-    let pushed : c.push-in-Some.new.self.items ≡ c.loop-earlier.chain.items ++ m.id ∷ [] = search rules in
+    let pushed : c.push-in-Some.new.to.items ≡ c.loop-earlier.chain.items ++ m.id ∷ [] = search rules in
     record {
       within = within;
-      leads = λ soc limits are right. way_goes soc limits nodes c.args.sums.now are right c.args.last c.loop-earlier.test c.in-Some.earlier (node_value n) (node_value m) c.loop-earlier.chain.items c.push-in-Some.new.self.items
+      leads = λ soc limits are right. way_goes soc limits nodes c.args.sums.now are right c.args.last c.loop-earlier.test c.in-Some.earlier (node_value n) (node_value m) c.loop-earlier.chain.items c.push-in-Some.new.to.items
           (c.loop-earlier.invariant.leads soc limits are right) at (node_here c.args.nodes.now c.in-Some.earlier m within c.index-nodes-test-in-Some.is) best_here pushed;
     }
 

@@ -1,4 +1,4 @@
-use Rattle.std.proofs.Common.{◌≡◌, ◌+◌, ◌++◌, ◌∷◌, [], ◌∙◌, true, is_ok, not, map, sym, ap, refl}
+use Rattle.std.proofs.Common.{◌+◌, ◌++◌, ◌∷◌, [], ◌∙◌, map, sym, ap, refl}
 use Rattle.std.specs.List.{range_with_len}
 use Rattle.soc_model.specs.Chips.{soc_value}
 use Rattle.bound_certificate.specs.Needs.{need_or_zero}
@@ -7,8 +7,7 @@ use Rattle.bound_certificate.proofs.forced_part.needs_of.Goals as goal
 
 pub loop-place-preserved : goal.loop-place-preserved
 loop-place-preserved c =
-    let pushed : is_ok c.push.result ≡ true = c.is_err.ensures.negation ∙ ap not c.if-is_err.false in
-    rw (c.push.ensures.items, pushed)
-    (ap (λ xs. xs ++ c.need_or_zero.result ∷ []) c.loop-place.invariant
+    c.in_ok-push.ensures.ok
+    ∙ ap (λ xs. xs ++ c.need_or_zero.result ∷ []) c.loop-place.invariant
     ∙ ap (λ v. map (need_or_zero (soc_value c.args.soc.now) c.args.limits.now.wires c.args.claimed) (range_with_len 0 c.loop-place.place) ++ v ∷ []) c.need_or_zero.ensures
-    ∙ sym (next_map (need_or_zero (soc_value c.args.soc.now) c.args.limits.now.wires c.args.claimed) c.loop-place.place (c.loop-place.place + 1) refl))
+    ∙ sym (next_map (need_or_zero (soc_value c.args.soc.now) c.args.limits.now.wires c.args.claimed) c.loop-place.place (c.loop-place.place + 1) refl)

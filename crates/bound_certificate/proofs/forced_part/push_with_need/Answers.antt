@@ -1,4 +1,4 @@
-use Rattle.std.proofs.Common.{◌≡◌, length, arith, ◌+◌, ◌++◌, ◌∷◌, [], ◌∙◌, true, is_ok, not, nat_eq, map, sym, ap, refl, append_assoc}
+use Rattle.std.proofs.Common.{◌≡◌, length, arith, ◌+◌, ◌++◌, ◌∷◌, [], ◌∙◌, nat_eq, map, sym, ap, refl, append_assoc}
 use Rattle.std.specs.Prelude.{slice_index}
 use Rattle.std.specs.List.{filter, range_with_len}
 use Rattle.std.proofs.lemmas.Bool.{ne_eqb, eq-eqb}
@@ -16,14 +16,13 @@ loop-place-preserved-then-needs-place c =
 
 pub loop-place-preserved : goal.loop-place-preserved
 loop-place-preserved c =
-    let pushed : is_ok c.push.result ≡ true = c.is_err.ensures.negation ∙ ap not c.if-is_err.false in
-    rw (c.push.ensures.items, pushed)
-    (ap (λ xs. xs ++ c.module_at.result.now.number ∷ []) c.loop-place.invariant
+    c.in_ok-push.ensures.ok
+    ∙ ap (λ xs. xs ++ c.module_at.result.now.number ∷ []) c.loop-place.invariant
     ∙ append_assoc c.args.order.now.items (map (number_at (soc_value c.args.soc.now)) (filter (λ place. nat_eq (slice_index c.args.needs.now place) c.args.needed) (range_with_len 0 c.loop-place.place))) (c.module_at.result.now.number ∷ [])
     ∙ ap (λ r. c.args.order.now.items ++ r)
     (ap (λ v. map (number_at (soc_value c.args.soc.now)) (filter (λ place. nat_eq (slice_index c.args.needs.now place) c.args.needed) (range_with_len 0 c.loop-place.place)) ++ v ∷ []) (sym (number_is (soc_value c.args.soc.now) c.loop-place.place (module_value c.module_at.result.now) c.module_at.ensures))
     ∙ sym (next_taken (number_at (soc_value c.args.soc.now)) (λ place. nat_eq (slice_index c.args.needs.now place) c.args.needed) c.loop-place.place (c.loop-place.place + 1) refl
-    (eq-eqb (slice_index c.args.needs.now c.loop-place.place) c.args.needed c.if-needs-place.false))))
+    (eq-eqb (slice_index c.args.needs.now c.loop-place.place) c.args.needed c.if-needs-place.false)))
 
 pub returns : goal.returns
 returns c =

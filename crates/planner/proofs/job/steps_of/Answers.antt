@@ -11,7 +11,7 @@ pub returns-in-Some : goal.returns-in-Some
 returns-in-Some c =
     let at : position (λ (p : Profile). same_test p.test c.args.id) c.args.limits.now.profiles.items ≡ Some c.in-Some.place = ap (position (λ (p : Profile). same_test p.test c.args.id)) (sym c.deref.ensures.value) ∙ sym c.profile_place.ensures ∙ c.in-Some.is in
     let steps = of_first_found profile_value (λ (p : ProfileValue). same_test p.test c.args.id) (λ (p : ProfileValue). p.steps) ((0, c.args.own) ∷ []) c.args.limits.now.profiles.items c.in-Some.place c.index.result.now c.index.result.now at c.index.ensures in
-    subst (λ (v : List (ℕ × ℕ)). IfOk c.copy_steps.result (λ steps. steps.items ≡ v)) (c.deref-in-Some.ensures.value ∙ sym steps) c.copy_steps.ensures
+    subst (λ (v : List (ℕ × ℕ)). IfOk c.copied.result (λ steps. steps.items ≡ v)) (c.deref-in-Some.ensures.value ∙ sym steps) c.copied.ensures
 
 pub returns-in-None : goal.returns-in-None
 returns-in-None c =
