@@ -8,6 +8,7 @@ ghost use Rattle.resource_table.specs.Jobs.{test_value};
 ghost use Rattle.resource_table.specs.BusyTimes.{IsClear, IsPut, IsTaken, AreFree, MayFill, ArePut, MayClear, AreTaken, IsFree, AreOrdered, MayAdd, IsAdded, MayRemove, IsRemoved};
 
 use crate::JobTest;
+use crate::latest_ends::{LatestEnds, forget_end, have_ended, note_end};
 
 /// A time from a cycle up to before another.
 #[derive(Clone, Copy)]
@@ -45,6 +46,8 @@ pub struct Timelines {
     pub modules: Vec<Timeline>,
     /// Those of the children of the modules.
     pub children: Vec<Timeline>,
+    /// Until when the children of the modules run at the latest.
+    pub latest: LatestEnds,
 }
 
 /// Whether all times start before a cycle. The last of them tells.
@@ -204,6 +207,22 @@ fn after_together(lines: &[Timeline], place: usize, length: u64, start: u64, las
     after_spans(&line.spans, 0, length, start, last)
 }
 
+/// The least start from `start` on at which a test of so many cycles meets no child of the module at a place. Mostly these have all ended.
+fn after_children(times: &Timelines, place: usize, length: u64, start: u64, last: u64) -> u64
+    requires start { start ≤ last }
+    requires last { last + length < 2 ^ 63 }
+    requires times { AreOrdered times.now last }
+    ensures from { start ≤ result }
+    ensures most { result ≤ last }
+    ensures clear { AreFree times.now.children.items (Some place) length result }
+    ensures least { (other : ℕ) → start ≤ other → AreFree times.now.children.items (Some place) length other → result ≤ other }
+{
+    if have_ended(&times.latest, place, start) {
+        return start;
+    }
+    after_together(&times.children, place, length, start, last)
+}
+
 /// Adds a time to the timeline at a place, where there is one, in room that is there.
 fn fill(lines: &mut Vec<Timeline>, place: Option<usize>, span: Span)
     requires { MayFill place lines.old.items }
@@ -232,6 +251,7 @@ pub fn add_time(times: &mut Timelines, test: &JobTest, span: Span)
     fill(&mut times.buses, test.bus, span);
     fill(&mut times.modules, Some(test.place), span);
     fill(&mut times.children, test.parent, span);
+    note_end(&mut times.latest, test.parent, span.to);
 }
 
 /// Takes the time of a test out.
@@ -242,6 +262,7 @@ pub fn remove_time(times: &mut Timelines, test: &JobTest, span: Span)
     clear(&mut times.buses, test.bus, span);
     clear(&mut times.modules, Some(test.place), span);
     clear(&mut times.children, test.parent, span);
+    forget_end(&mut times.latest, test.parent);
 }
 
 /// A start from `start` on before which a test meets a placed test of its module, of that one's direct parent or of a direct
@@ -260,7 +281,7 @@ fn after_modules(times: &Timelines, test: &JobTest, start: u64, last: u64) -> u6
     let length = test.length;
     let own = after_alone(&times.modules, Some(test.place), length, start, last);
     let parent = after_alone(&times.modules, test.parent, length, own, last);
-    after_together(&times.children, test.place, length, parent, last)
+    after_children(times, test.place, length, parent, last)
 }
 
 /// The least start from `start` on at which a test meets no placed one that it may not meet.
