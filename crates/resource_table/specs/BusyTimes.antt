@@ -129,7 +129,6 @@ pub record AreOrdered (times : Timelines) (last : ℕ) : Type 0 where
   pub buses : (k : ℕ) (line : Timeline) → slice_get times.buses.items k ≡ Some line → IsNonDecreasingBy (λ (s : Span). s.from) line.spans.items × IsNonDecreasingBy (λ (s : Span). s.to) line.spans.items × All (λ (s : Span). s.to ≤ last) line.spans.items
   pub modules : (k : ℕ) (line : Timeline) → slice_get times.modules.items k ≡ Some line → IsNonDecreasingBy (λ (s : Span). s.from) line.spans.items × IsNonDecreasingBy (λ (s : Span). s.to) line.spans.items × All (λ (s : Span). s.to ≤ last) line.spans.items
   pub children : (k : ℕ) (line : Timeline) → slice_get times.children.items k ≡ Some line → IsNonDecreasingBy (λ (s : Span). s.from) line.spans.items × All (λ (s : Span). s.to ≤ last) line.spans.items
-
   -- the children of a module end by what stands at its place
   pub latest : (k end : ℕ) (line : Timeline) → slice_get times.children.items k ≡ Some line → slice_get times.latest.ends.items k ≡ Some end → All (λ (s : Span). s.to ≤ end) line.spans.items
 

@@ -16,11 +16,7 @@ pub struct LatestEnds {
 }
 
 /// Ends for so many modules, with room for the placing of so many tests.
-pub fn new_latest_ends(
-    alloc: Global,
-    modules: usize,
-    tests: usize,
-) -> Result<LatestEnds, NoMemory>
+pub fn new_latest_ends(alloc: Global, modules: usize, tests: usize) -> Result<LatestEnds, NoMemory>
     ensures ends { IfOk result (λ latest. length latest.ends.items ≡ modules) }
     ensures before { IfOk result (λ latest. latest.before.items ≡ []) }
     ensures room { IfOk result (λ latest. tests ≤ vec_capacity latest.before) }

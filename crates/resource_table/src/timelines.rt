@@ -1,5 +1,5 @@
 // Busy times, kept apart by what they take: a bus, a module, or the children of a module.
-ghost use Rattle.std.specs.Prelude.{◌≡◌, ℕ, ◌+◌, ◌^◌, ◌<◌, ◌≤◌, Option, None, Some, true, List, length as length_of, map, nat_lt, nat_le, slice_get, slice_index_or, vec_len, vec_capacity, IfOk};
+ghost use Rattle.std.specs.Prelude.{◌≡◌, ℕ, ◌+◌, ◌-◌, ◌^◌, ◌<◌, ◌≤◌, Option, None, Some, true, List, length as length_of, map, nat_lt, nat_le, slice_get, slice_index_or, vec_len, vec_capacity, IfOk};
 ghost use Rattle.std.specs.List.{All, AllWithin};
 ghost use Rattle.std.specs.List.Sorted.{IsNonDecreasingBy, IsPartitionPoint};
 ghost use Rattle.resource_table.specs.declared.timelines.Span.{Span};
@@ -96,12 +96,31 @@ fn starts_before(spans: &[Span], cycle: u64) -> usize
     )
 }
 
-/// How many times have ended by a cycle, where they end in the order of their starts.
+/// Whether of some times, which end in the order of their starts, all but the last have ended by a cycle.
+fn last_only_runs(spans: &[Span], cycle: u64) -> bool
+    requires { IsNonDecreasingBy (λ (s : Span). s.to) spans.now }
+    ensures some { result ≡ true → 1 ≤ length_of spans.now }
+    ensures parts { result ≡ true → IsPartitionPoint (λ (s : Span). s.to ≤ cycle) (λ (s : Span). cycle < s.to) spans.now (length_of spans.now - 1) }
+{
+    let count = spans.len();
+    if count < 2 {
+        return false;
+    }
+    if spans[count - 1].to <= cycle {
+        return false;
+    }
+    spans[count - 2].to <= cycle
+}
+
+/// How many times have ended by a cycle, where they end in the order of their starts: often all but the last.
 fn ended_by(spans: &[Span], cycle: u64) -> usize
     requires { IsNonDecreasingBy (λ (s : Span). s.to) spans.now }
     ensures bound { result ≤ length_of spans.now }
     ensures parts { IsPartitionPoint (λ (s : Span). s.to ≤ cycle) (λ (s : Span). cycle < s.to) spans.now result }
 {
+    if last_only_runs(spans, cycle) {
+        return spans.len() - 1;
+    }
     spans.partition_point(
         |s: &Span| -> bool
             ensures { result ≡ nat_le s.now.to cycle }
@@ -123,6 +142,37 @@ fn put_span(spans: &mut Vec<Span>, span: Span)
     }
 }
 
+/// Whether a time is the last one.
+fn stands_last(spans: &[Span], span: Span) -> bool
+    ensures { result ≡ true → slice_get spans.now (length_of spans.now - 1) ≡ Some span }
+{
+    let count = spans.len();
+    if count == 0 {
+        return false;
+    }
+    let last = spans[count - 1];
+    if last.from != span.from {
+        return false;
+    }
+    last.to == span.to
+}
+
+/// The place of a time that is there: often it is the last one.
+fn place_of(spans: &[Span], span: Span) -> usize
+    requires ordered { IsNonDecreasingBy (λ (s : Span). s.from) spans.now }
+    requires there { (place : ℕ) × (slice_get spans.now place ≡ Some span) }
+    ensures { slice_get spans.now result ≡ Some span }
+{
+    if stands_last(spans, span) {
+        return spans.len() - 1;
+    }
+    let mut place = starts_before(spans, span.from);
+    while spans[place].to != span.to {
+        place += 1;
+    }
+    place
+}
+
 /// Takes a time out that is there.
 fn take_span(spans: &mut Vec<Span>, span: Span)
     requires ordered { IsNonDecreasingBy (λ (s : Span). s.from) spans.old.items }
@@ -130,10 +180,7 @@ fn take_span(spans: &mut Vec<Span>, span: Span)
     ensures taken { IsTaken span spans.old.items spans.new.items }
     ensures capacity { vec_capacity spans.new ≡ vec_capacity spans.old }
 {
-    let mut place = starts_before(spans, span.from);
-    while spans[place].to != span.to {
-        place += 1;
-    }
+    let place = place_of(spans, span);
     spans.remove(place);
 }
 
