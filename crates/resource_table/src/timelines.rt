@@ -254,7 +254,8 @@ fn after_together(lines: &[Timeline], place: usize, length: u64, start: u64, las
     after_spans(&line.spans, 0, length, start, last)
 }
 
-/// The least start from `start` on at which a test of so many cycles meets no child of the module at a place. Mostly these have all ended.
+/// The least start from `start` on at which a test of so many cycles meets no child of the module at a place. Mostly these have
+/// all ended.
 fn after_children(times: &Timelines, place: usize, length: u64, start: u64, last: u64) -> u64
     requires start { start ≤ last }
     requires last { last + length < 2 ^ 63 }
