@@ -1,5 +1,5 @@
 -- The timelines of a table, as tests are placed and taken back, and what they say of where a test fits.
-use Rattle.std.proofs.Common.{◌≡◌, ◌⊎◌, ℕ, zero, suc, ◌+◌, ◌<◌, ◌≤◌, ◌^◌, inl, inr, Option, None, Some, Result, Ok, Err, List, [], ◌∷◌, ◌++◌, length, get_or, map, take, replicate, Bool, true, false, max, arith, refl, sym, ap, ◌∙◌, subst}
+use Rattle.std.proofs.Common.{◌≡◌, ◌⊎◌, ℕ, zero, suc, ◌+◌, ◌<◌, ◌≤◌, ◌^◌, inl, inr, Option, None, Some, Result, Ok, Err, List, [], ◌∷◌, ◌++◌, length, get_or, map, take, replicate, Bool, true, false, max, arith, refl, sym, ap, ◌∙◌, subst, length-append}
 use Rattle.std.specs.Prelude.{slice_get, nat_eq, nat_lt, nat_le, ◌&&◌, ◌||◌, if◌then◌else◌, IfSome, IfOk, vec_capacity}
 use Rattle.std.specs.List.{All, sum_by, remove}
 use Rattle.std.specs.List.Sorted.{IsNonDecreasingBy}
@@ -16,6 +16,7 @@ use Rattle.plan_model.proofs.Sums.{sum_by-le_at}
 use Rattle.plan_model.proofs.Greatest.{le-greatest_at}
 use Rattle.resource_table.specs.declared.JobTest.{JobTest}
 use Rattle.resource_table.specs.declared.Placement.{Placement}
+use Rattle.resource_table.specs.declared.latest_ends.LatestEnds.{LatestEnds}
 use Rattle.resource_table.specs.declared.timelines.Kind.{Kind}
 use Rattle.resource_table.specs.declared.timelines.Kind.TheVariants.{Bus, Own, Children}
 use Rattle.resource_table.specs.declared.timelines.Span.{Span}
@@ -23,12 +24,14 @@ use Rattle.resource_table.specs.declared.timelines.Timeline.{Timeline}
 use Rattle.resource_table.specs.declared.timelines.Timelines.{Timelines}
 use Rattle.resource_table.specs.Jobs.{TestValue, JobValue, test_value, test_at, no_test, cycles_of}
 use Rattle.resource_table.specs.Schedules.{at_start, is_at, same_bus, exclude, end_of, last_end, MeetsNone, MayPlace, IsSoundTable}
+use Rattle.resource_table.specs.LatestEnds.{AreLatestEnds}
 use Rattle.resource_table.specs.BusyTimes.{IsClear, AreFree, IsPut, IsTaken, MayFill, ArePut, MayClear, AreTaken, timeline_of, is_alone, takes, room_of, least_of, span_of, part_in, IsTimeline, AreTimelines, AreTimes, IsFree, AreOrdered, MayAdd, IsAdded, MayRemove, IsRemoved, AreEmpty, AreEmptyTimes}
 use Rattle.resource_table.proofs.Places.{all_at, all_from}
 use Rattle.resource_table.proofs.Placed.{sum_of_placed, sound_tests, at_last}
 use Rattle.resource_table.proofs.Spans.{there_is, ordered_remove}
 use Rattle.resource_table.proofs.Fitting.{lasts_at}
-use Rattle.resource_table.proofs.KeptTables.{sound_push}
+use Rattle.resource_table.proofs.KeptTables.{sound_push, trail_has_room}
+use Rattle.resource_table.proofs.Latest.{latest_new, latest_more, latest_less}
 
 -- ---- sums that are nothing
 
@@ -246,6 +249,7 @@ times_new job times are = record {
   buses = new_kind Bus job times.buses.items are.buses;
   modules = new_kind Own job times.modules.items are.modules;
   children = new_kind Children job times.children.items are.children;
+  latest = latest_new job (length times.children.items) times.latest are.latest are.before are.room;
 }
 
 -- ---- tests that exclude each other
@@ -364,11 +368,18 @@ module _ (job : JobValue) (placed : List Placement) (sound : IsSoundTable (recor
       ltb-false (last_end job placed) s.to (spans_none job placed kind k line.spans.items is.sums (λ (s : Span). nat_lt (last_end job placed) s.to)
       (λ n p at' yes'. le-ltb (last_end job placed) (end_of job p) (le-greatest_at (end_of job) placed n p at')) i s at))
 
+  ended_line : (k end : ℕ) (line : Timeline) → IsTimeline job placed Children k line → (modules : ℕ) (latest : LatestEnds) → AreLatestEnds job placed modules latest → slice_get latest.ends.items k ≡ Some end →
+      All (λ (s : Span). s.to ≤ end) line.spans.items
+  ended_line k end line is modules latest are at = all_from (λ (s : Span). s.to ≤ end) line.spans.items (λ i s at'.
+      ltb-false end s.to (spans_none job placed Children k line.spans.items is.sums (λ (s : Span). nat_lt end s.to)
+      (λ n p there yes'. le-ltb end (end_of job p) (let h = are.now k n p (record { there = there; parent = takes_is (test_at job p.test).parent k yes' }) in omega (arith, h, get_or_from_slice_get latest.ends.items k end 0 at))) i s at'))
+
   pub times_ordered : (times : Timelines) (last : ℕ) → AreTimes job placed times → last ≡ last_end job placed → AreOrdered times last
   times_ordered times last are is = subst (AreOrdered times) (sym is) (record {
     buses = (λ k line at. let l = are.buses.each k line at in (l.starts, l.ends refl, ends_line Bus k line l));
     modules = (λ k line at. let l = are.modules.each k line at in (l.starts, l.ends refl, ends_line Own k line l));
     children = (λ k line at. let l = are.children.each k line at in (l.starts, ends_line Children k line l));
+    latest = (λ k end line at is. ended_line k end line (are.children.each k line at) (length times.children.items) times.latest are.latest is);
   })
 
 -- ---- one test more
@@ -483,6 +494,8 @@ module _ (job : JobValue) (placed : List Placement) (sound : IsSoundTable (recor
     bus = room_in Bus times.buses.items are.buses;
     own = room_in Own times.modules.items are.modules;
     parent = room_in Children times.children.items are.children;
+    latest = subst (λ (m : ℕ). IfSome (test_at job test).parent (λ k. k < m)) (sym are.latest.long) (room_in Children times.children.items are.children).inside;
+    room = omega (arith, are.latest.levels, are.latest.room, trail_has_room job placed test start sound may);
   }
 
   lines_more : (kind : Kind) (old new : List Timeline) → AreTimelines job placed kind old → ArePut (timeline_of kind (test_at job test)) (span_of job (at_start test start)) old new → AreTimelines job (placed ++ at_start test start ∷ []) kind new
@@ -508,6 +521,8 @@ module _ (job : JobValue) (placed : List Placement) (sound : IsSoundTable (recor
     buses = lines_more Bus old.buses.items new.buses.items are.buses added.bus;
     modules = lines_more Own old.modules.items new.modules.items are.modules added.own;
     children = lines_more Children old.children.items new.children.items are.children added.parent;
+    latest = subst (λ (m : ℕ). AreLatestEnds job (placed ++ at_start test start ∷ []) m new.latest) (sym added.parent.long)
+        (latest_more job placed (at_start test start) (length old.children.items) old.latest new.latest are.latest (room_in Children old.children.items are.children).inside added.latest);
   }
 
 -- ---- one test less
@@ -529,6 +544,8 @@ module _ (job : JobValue) (placed : List Placement) (p : Placement) (inside : p.
     bus = there_in Bus times.buses.items are.buses;
     own = there_in Own times.modules.items are.modules;
     parent = there_in Children times.children.items are.children;
+    latest = subst (λ (m : ℕ). IfSome (test_at job p.test).parent (λ k. k < m)) (sym are.latest.long) (there_in Children times.children.items are.children).inside;
+    some = omega (arith, are.latest.levels, length-append placed (p ∷ []));
   }
 
   lines_less : (kind : Kind) (old new : List Timeline) → AreTimelines job (placed ++ p ∷ []) kind old → AreTaken (timeline_of kind (test_at job p.test)) (span_of job p) old new → AreTimelines job placed kind new
@@ -546,4 +563,6 @@ module _ (job : JobValue) (placed : List Placement) (p : Placement) (inside : p.
     buses = lines_less Bus old.buses.items new.buses.items are.buses removed.bus;
     modules = lines_less Own old.modules.items new.modules.items are.modules removed.own;
     children = lines_less Children old.children.items new.children.items are.children removed.parent;
+    latest = subst (λ (m : ℕ). AreLatestEnds job placed m new.latest) (sym removed.parent.long)
+        (latest_less job placed p (length old.children.items) old.latest new.latest are.latest (there_in Children old.children.items are.children).inside removed.latest);
   }

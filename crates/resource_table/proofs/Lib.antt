@@ -7,6 +7,7 @@ pub mod Rewinding
 pub mod Placed
 pub mod Fitting
 pub mod KeptTables
+pub mod Latest
 pub mod BusyTimes
 pub mod KeptMarks
 pub mod KeptStarts

@@ -25,6 +25,7 @@ use Rattle.resource_table.specs.Histories.{no_note, IsHistory}
 use Rattle.resource_table.specs.Kept.{IsKept, IsProfiled, IsBounded}
 use Rattle.resource_table.proofs.Bounds.{bounded_new}
 use Rattle.resource_table.proofs.KeptTables.{profiled_new}
+use Rattle.resource_table.proofs.Latest.{latest_over}
 use Rattle.resource_table.specs.BusyTimes.{takes, room_of, IsTimeline, AreTimelines, AreTimes}
 
 -- ---- tests over other buses
@@ -141,6 +142,7 @@ module _ (job : JobValue) (buses : List (Option ℕ)) (lengths : List ℕ) (buse
     buses = bus_lines few times.buses.items are.buses;
     modules = own_lines times.modules.items are.modules;
     children = child_lines times.children.items are.children;
+    latest = latest_over job other (length times.children.items) times.latest (length-tests_over buses lengths job.tests) are.latest;
   }
 
 -- ---- what else a table keeps

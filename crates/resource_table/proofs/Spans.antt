@@ -2,7 +2,7 @@
 use Rattle.std.proofs.Common.{◌≡◌, ℕ, zero, suc, ◌+◌, ◌-◌, ◌<◌, ◌≤◌, inl, inr, Option, None, Some, List, [], ◌∷◌, length, get_or, set, arith, refl, sym, ap, ◌∙◌, subst}
 use Rattle.std.specs.Prelude.{slice_get, vec_capacity}
 use Rattle.std.specs.List.{All, AllWithin, remove}
-use Rattle.std.specs.List.Sorted.{IsNonDecreasingBy}
+use Rattle.std.specs.List.Sorted.{IsNonDecreasingBy, IsPartitionPoint}
 use Rattle.std.proofs.lemmas.Bool.{cases_lt}
 use Rattle.std.proofs.lemmas.List.{length-set}
 use Rattle.std.proofs.lemmas.Option.{slice_get-get_or, slice_get_within, get_or_from_slice_get}
@@ -112,22 +112,25 @@ stands_behind spans span place at before there = elim (cases_lt at place) [
   | inl early ↦ absurd (let same = ap (λ (s : Span). s.from) (get_or_from_slice_get spans at span span there) in omega (arith, same, before at span (omega arith) early))
 ]
 
--- a time that starts no earlier than one that stands no earlier, and ends as it does, is that one
-pub same_time : (spans : List Span) (span read : Span) (place at : ℕ) → IsNonDecreasingBy (λ (s : Span). s.from) spans → AllWithin (λ (s : Span). span.from ≤ s.from) spans place (length spans) →
-    place ≤ at → slice_get spans at ≡ Some span → read ≡ get_or spans place read → read.to ≡ span.to → slice_get spans place ≡ Some span
-same_time spans span read place at up late le there is end =
-    let within : at < length spans = slice_get_within spans at span there in
-    let here : slice_get spans place ≡ Some read = read_at spans place read (omega arith) is in
-    let last = ap (λ (s : Span). s.from) (get_or_from_slice_get spans at span read there) in
-    let first = ap (λ (s : Span). s.from) is in
-    let begin : read.from ≡ span.from = omega (arith, up place at read le within, late place read (omega arith) (omega arith), last, first) in
-    here ∙ ap Some (both read span begin end)
+-- a time that is read, and starts and ends as another one does
+pub read_time : (spans : List Span) (k : ℕ) (read span : Span) → k < length spans → read ≡ get_or spans k read → read.from ≡ span.from → read.to ≡ span.to → slice_get spans k ≡ Some span
+read_time spans k read span lt is begin end = read_at spans k read lt is ∙ ap Some (both read span begin end)
   where
     make : ℕ → ℕ → Span
     make x y = record { from = x; to = y }
 
     both : (a b : Span) → a.from ≡ b.from → a.to ≡ b.to → a ≡ b
     both a b f t = ap (λ (v : ℕ). make v a.to) f ∙ ap (make b.from) t
+
+-- a time that starts no earlier than one that stands no earlier, and ends as it does, is that one
+pub same_time : (spans : List Span) (span read : Span) (place at : ℕ) → IsNonDecreasingBy (λ (s : Span). s.from) spans → AllWithin (λ (s : Span). span.from ≤ s.from) spans place (length spans) →
+    place ≤ at → slice_get spans at ≡ Some span → read ≡ get_or spans place read → read.to ≡ span.to → slice_get spans place ≡ Some span
+same_time spans span read place at up late le there is end =
+    let within : at < length spans = slice_get_within spans at span there in
+    let last = ap (λ (s : Span). s.from) (get_or_from_slice_get spans at span read there) in
+    let first = ap (λ (s : Span). s.from) is in
+    let begin : read.from ≡ span.from = omega (arith, up place at read le within, late place read (omega arith) (omega arith), last, first) in
+    read_time spans place read span (omega arith) is begin end
 
 -- ---- the first start behind times that have ended
 
@@ -138,3 +141,11 @@ clear_between spans length' next place e up ended within room k d lt = elim (cas
   | inl before ↦ inl (ended k d (omega arith) before)
   | inr behind ↦ inr (omega (arith, room, up place k d behind lt, ap (λ (s : Span). s.from) (same_item spans place e d within)))
 ]
+
+-- of times that end in the order of their starts, only the last runs
+pub last_runs : (spans : List Span) (cycle : ℕ) (e : Span) → IsNonDecreasingBy (λ (s : Span). s.to) spans → 2 ≤ length spans → cycle < (get_or spans (length spans - 1) e).to → (get_or spans (length spans - 2) e).to ≤ cycle →
+    IsPartitionPoint (λ (s : Span). s.to ≤ cycle) (λ (s : Span). cycle < s.to) spans (length spans - 1)
+last_runs spans cycle e up some last before = (
+  (λ k d low high. omega (arith, before, up k (length spans - 2) d (omega arith) (omega arith), ap (λ (s : Span). s.to) (same_item spans (length spans - 2) d e (omega arith)))),
+  (λ k d low high. omega (arith, last, up (length spans - 1) k d low high, ap (λ (s : Span). s.to) (same_item spans (length spans - 1) d e (omega arith)))),
+)

@@ -10,6 +10,7 @@ use Rattle.resource_table.specs.declared.timelines.Timelines.{Timelines}
 use Rattle.resource_table.specs.declared.timelines.Kind.{Kind}
 use Rattle.resource_table.specs.declared.timelines.Kind.TheVariants.{Bus, Own, Children}
 use Rattle.resource_table.specs.Jobs.{TestValue, JobValue, test_at}
+use Rattle.resource_table.specs.LatestEnds.{IsLater, IsBack, AreLatestEnds}
 use Rattle.resource_table.specs.Schedules.{is_at, end_of}
 
 -- a test of so many cycles from a start doesn't meet this time
@@ -114,6 +115,7 @@ pub record AreTimes (job : JobValue) (placed : List Placement) (times : Timeline
   pub buses : AreTimelines job placed Bus times.buses.items
   pub modules : AreTimelines job placed Own times.modules.items
   pub children : AreTimelines job placed Children times.children.items
+  pub latest : AreLatestEnds job placed (length times.children.items) times.latest
 
 -- a test from a start meets nothing on its bus, in its module, in that one's direct parent and in its direct children
 pub record IsFree (times : Timelines) (t : TestValue) (start : ℕ) : Type 0 where
@@ -127,30 +129,38 @@ pub record AreOrdered (times : Timelines) (last : ℕ) : Type 0 where
   pub buses : (k : ℕ) (line : Timeline) → slice_get times.buses.items k ≡ Some line → IsNonDecreasingBy (λ (s : Span). s.from) line.spans.items × IsNonDecreasingBy (λ (s : Span). s.to) line.spans.items × All (λ (s : Span). s.to ≤ last) line.spans.items
   pub modules : (k : ℕ) (line : Timeline) → slice_get times.modules.items k ≡ Some line → IsNonDecreasingBy (λ (s : Span). s.from) line.spans.items × IsNonDecreasingBy (λ (s : Span). s.to) line.spans.items × All (λ (s : Span). s.to ≤ last) line.spans.items
   pub children : (k : ℕ) (line : Timeline) → slice_get times.children.items k ≡ Some line → IsNonDecreasingBy (λ (s : Span). s.from) line.spans.items × All (λ (s : Span). s.to ≤ last) line.spans.items
+  -- the children of a module end by what stands at its place
+  pub latest : (k end : ℕ) (line : Timeline) → slice_get times.children.items k ≡ Some line → slice_get times.latest.ends.items k ≡ Some end → All (λ (s : Span). s.to ≤ end) line.spans.items
 
 -- room for the time of one test more
 pub record MayAdd (times : Timelines) (t : TestValue) : Type 0 where
   pub bus : MayFill t.bus times.buses.items
   pub own : MayFill (Some t.place) times.modules.items
   pub parent : MayFill t.parent times.children.items
+  pub latest : IfSome t.parent (λ k. k < length times.latest.ends.items)
+  pub room : length times.latest.before.items < vec_capacity times.latest.before
 
 -- the time of one test more
 pub record IsAdded (t : TestValue) (span : Span) (old new : Timelines) : Type 0 where
   pub bus : ArePut t.bus span old.buses.items new.buses.items
   pub own : ArePut (Some t.place) span old.modules.items new.modules.items
   pub parent : ArePut t.parent span old.children.items new.children.items
+  pub latest : IsLater t.parent span.to old.latest new.latest
 
 -- the time of a test is there
 pub record MayRemove (times : Timelines) (t : TestValue) (span : Span) : Type 0 where
   pub bus : MayClear t.bus span times.buses.items
   pub own : MayClear (Some t.place) span times.modules.items
   pub parent : MayClear t.parent span times.children.items
+  pub latest : IfSome t.parent (λ k. k < length times.latest.ends.items)
+  pub some : 1 ≤ length times.latest.before.items
 
 -- the time of one test less
 pub record IsRemoved (t : TestValue) (span : Span) (old new : Timelines) : Type 0 where
   pub bus : AreTaken t.bus span old.buses.items new.buses.items
   pub own : AreTaken (Some t.place) span old.modules.items new.modules.items
   pub parent : AreTaken t.parent span old.children.items new.children.items
+  pub latest : IsBack t.parent old.latest new.latest
 
 -- timelines of a kind without times, with room for those of all tests
 pub record AreEmpty (kind : Kind) (tests : List TestValue) (lines : List Timeline) : Type 0 where
@@ -164,3 +174,6 @@ pub record AreEmptyTimes (tests : List TestValue) (times : Timelines) : Type 0 w
   pub buses : AreEmpty Bus tests times.buses.items
   pub modules : AreEmpty Own tests times.modules.items
   pub children : AreEmpty Children tests times.children.items
+  pub latest : length times.latest.ends.items ≡ length times.children.items
+  pub before : times.latest.before.items ≡ []
+  pub room : length tests ≤ vec_capacity times.latest.before

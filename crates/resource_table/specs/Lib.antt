@@ -2,6 +2,7 @@ pub mod Jobs
 pub mod Schedules
 pub mod Calm
 pub mod Resources
+pub mod LatestEnds
 pub mod BusyTimes
 pub mod Profiles
 pub mod Befores

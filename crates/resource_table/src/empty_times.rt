@@ -9,6 +9,7 @@ ghost use Rattle.resource_table.specs.Schedules.{is_at};
 ghost use Rattle.resource_table.specs.BusyTimes.{timeline_of as timeline_of_value, takes, least_of, AreEmpty, AreEmptyTimes};
 
 use crate::JobTest;
+use crate::latest_ends::new_latest_ends;
 use crate::timelines::{Kind, Timeline, Timelines};
 use outside::{NoMemory, push};
 use plan_model::WIRES_MOST;
@@ -131,9 +132,14 @@ fn empty_timelines(alloc: Global, tests: &[JobTest], kind: Kind) -> Result<Vec<T
 pub fn empty_times(alloc: Global, tests: &[JobTest]) -> Result<Timelines, NoMemory>
     ensures { IfOk result (λ times. AreEmptyTimes (map test_value tests.now) times) }
 {
+    let buses = empty_buses(alloc, tests)?;
+    let modules = empty_timelines(alloc, tests, Kind::Own)?;
+    let children = empty_timelines(alloc, tests, Kind::Children)?;
+    let latest = new_latest_ends(alloc, children.len(), tests.len())?;
     Ok(Timelines {
-        buses: empty_buses(alloc, tests)?,
-        modules: empty_timelines(alloc, tests, Kind::Own)?,
-        children: empty_timelines(alloc, tests, Kind::Children)?,
+        buses,
+        modules,
+        children,
+        latest,
     })
 }

@@ -10,6 +10,7 @@ mod earlier;
 mod empty_times;
 mod frame;
 mod history;
+mod latest_ends;
 mod laws;
 mod marks;
 mod points;

@@ -1,5 +1,5 @@
 // Busy times, kept apart by what they take: a bus, a module, or the children of a module.
-ghost use Rattle.std.specs.Prelude.{◌≡◌, ℕ, ◌+◌, ◌^◌, ◌<◌, ◌≤◌, Option, None, Some, true, List, length as length_of, map, nat_lt, nat_le, slice_get, slice_index_or, vec_len, vec_capacity, IfOk};
+ghost use Rattle.std.specs.Prelude.{◌≡◌, ℕ, ◌+◌, ◌-◌, ◌^◌, ◌<◌, ◌≤◌, Option, None, Some, true, List, length as length_of, map, nat_lt, nat_le, slice_get, slice_index_or, vec_len, vec_capacity, IfOk};
 ghost use Rattle.std.specs.List.{All, AllWithin};
 ghost use Rattle.std.specs.List.Sorted.{IsNonDecreasingBy, IsPartitionPoint};
 ghost use Rattle.resource_table.specs.declared.timelines.Span.{Span};
@@ -8,6 +8,7 @@ ghost use Rattle.resource_table.specs.Jobs.{test_value};
 ghost use Rattle.resource_table.specs.BusyTimes.{IsClear, IsPut, IsTaken, AreFree, MayFill, ArePut, MayClear, AreTaken, IsFree, AreOrdered, MayAdd, IsAdded, MayRemove, IsRemoved};
 
 use crate::JobTest;
+use crate::latest_ends::{LatestEnds, forget_end, have_ended, note_end};
 
 /// A time from a cycle up to before another.
 #[derive(Clone, Copy)]
@@ -45,6 +46,8 @@ pub struct Timelines {
     pub modules: Vec<Timeline>,
     /// Those of the children of the modules.
     pub children: Vec<Timeline>,
+    /// Until when the children of the modules run at the latest.
+    pub latest: LatestEnds,
 }
 
 /// Whether all times start before a cycle. The last of them tells.
@@ -93,12 +96,31 @@ fn starts_before(spans: &[Span], cycle: u64) -> usize
     )
 }
 
-/// How many times have ended by a cycle, where they end in the order of their starts.
+/// Whether of some times, which end in the order of their starts, all but the last have ended by a cycle.
+fn last_only_runs(spans: &[Span], cycle: u64) -> bool
+    requires { IsNonDecreasingBy (λ (s : Span). s.to) spans.now }
+    ensures some { result ≡ true → 1 ≤ length_of spans.now }
+    ensures parts { result ≡ true → IsPartitionPoint (λ (s : Span). s.to ≤ cycle) (λ (s : Span). cycle < s.to) spans.now (length_of spans.now - 1) }
+{
+    let count = spans.len();
+    if count < 2 {
+        return false;
+    }
+    if spans[count - 1].to <= cycle {
+        return false;
+    }
+    spans[count - 2].to <= cycle
+}
+
+/// How many times have ended by a cycle, where they end in the order of their starts: often all but the last.
 fn ended_by(spans: &[Span], cycle: u64) -> usize
     requires { IsNonDecreasingBy (λ (s : Span). s.to) spans.now }
     ensures bound { result ≤ length_of spans.now }
     ensures parts { IsPartitionPoint (λ (s : Span). s.to ≤ cycle) (λ (s : Span). cycle < s.to) spans.now result }
 {
+    if last_only_runs(spans, cycle) {
+        return spans.len() - 1;
+    }
     spans.partition_point(
         |s: &Span| -> bool
             ensures { result ≡ nat_le s.now.to cycle }
@@ -120,6 +142,37 @@ fn put_span(spans: &mut Vec<Span>, span: Span)
     }
 }
 
+/// Whether a time is the last one.
+fn stands_last(spans: &[Span], span: Span) -> bool
+    ensures { result ≡ true → slice_get spans.now (length_of spans.now - 1) ≡ Some span }
+{
+    let count = spans.len();
+    if count == 0 {
+        return false;
+    }
+    let last = spans[count - 1];
+    if last.from != span.from {
+        return false;
+    }
+    last.to == span.to
+}
+
+/// The place of a time that is there: often it is the last one.
+fn place_of(spans: &[Span], span: Span) -> usize
+    requires ordered { IsNonDecreasingBy (λ (s : Span). s.from) spans.now }
+    requires there { (place : ℕ) × (slice_get spans.now place ≡ Some span) }
+    ensures { slice_get spans.now result ≡ Some span }
+{
+    if stands_last(spans, span) {
+        return spans.len() - 1;
+    }
+    let mut place = starts_before(spans, span.from);
+    while spans[place].to != span.to {
+        place += 1;
+    }
+    place
+}
+
 /// Takes a time out that is there.
 fn take_span(spans: &mut Vec<Span>, span: Span)
     requires ordered { IsNonDecreasingBy (λ (s : Span). s.from) spans.old.items }
@@ -127,10 +180,7 @@ fn take_span(spans: &mut Vec<Span>, span: Span)
     ensures taken { IsTaken span spans.old.items spans.new.items }
     ensures capacity { vec_capacity spans.new ≡ vec_capacity spans.old }
 {
-    let mut place = starts_before(spans, span.from);
-    while spans[place].to != span.to {
-        place += 1;
-    }
+    let place = place_of(spans, span);
     spans.remove(place);
 }
 
@@ -204,6 +254,23 @@ fn after_together(lines: &[Timeline], place: usize, length: u64, start: u64, las
     after_spans(&line.spans, 0, length, start, last)
 }
 
+/// The least start from `start` on at which a test of so many cycles meets no child of the module at a place. Mostly these have
+/// all ended.
+fn after_children(times: &Timelines, place: usize, length: u64, start: u64, last: u64) -> u64
+    requires start { start ≤ last }
+    requires last { last + length < 2 ^ 63 }
+    requires times { AreOrdered times.now last }
+    ensures from { start ≤ result }
+    ensures most { result ≤ last }
+    ensures clear { AreFree times.now.children.items (Some place) length result }
+    ensures least { (other : ℕ) → start ≤ other → AreFree times.now.children.items (Some place) length other → result ≤ other }
+{
+    if have_ended(&times.latest, place, start) {
+        return start;
+    }
+    after_together(&times.children, place, length, start, last)
+}
+
 /// Adds a time to the timeline at a place, where there is one, in room that is there.
 fn fill(lines: &mut Vec<Timeline>, place: Option<usize>, span: Span)
     requires { MayFill place lines.old.items }
@@ -232,6 +299,7 @@ pub fn add_time(times: &mut Timelines, test: &JobTest, span: Span)
     fill(&mut times.buses, test.bus, span);
     fill(&mut times.modules, Some(test.place), span);
     fill(&mut times.children, test.parent, span);
+    note_end(&mut times.latest, test.parent, span.to);
 }
 
 /// Takes the time of a test out.
@@ -242,6 +310,7 @@ pub fn remove_time(times: &mut Timelines, test: &JobTest, span: Span)
     clear(&mut times.buses, test.bus, span);
     clear(&mut times.modules, Some(test.place), span);
     clear(&mut times.children, test.parent, span);
+    forget_end(&mut times.latest, test.parent);
 }
 
 /// A start from `start` on before which a test meets a placed test of its module, of that one's direct parent or of a direct
@@ -260,7 +329,7 @@ fn after_modules(times: &Timelines, test: &JobTest, start: u64, last: u64) -> u6
     let length = test.length;
     let own = after_alone(&times.modules, Some(test.place), length, start, last);
     let parent = after_alone(&times.modules, test.parent, length, own, last);
-    after_together(&times.children, test.place, length, parent, last)
+    after_children(times, test.place, length, parent, last)
 }
 
 /// The least start from `start` on at which a test meets no placed one that it may not meet.
