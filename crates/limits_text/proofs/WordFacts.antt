@@ -7,11 +7,12 @@ use Rattle.std.proofs.lemmas.Grind.{common_steps}
 use Rattle.outside.specs.Words.{same_letters, Word}
 use Rattle.outside.specs.Decimal.{value_after}
 use Rattle.outside.proofs.DecimalLemmas.{number_of-decimal}
+use Rattle.outside.proofs.WordLemmas.{same_letters-same}
 use Rattle.soc_model.specs.declared.TheConstants.{NUMBER_WORD_MOST}
 use Rattle.limits_text.specs.declared.items.Amount.{Amount}
 use Rattle.limits_text.specs.declared.items.Amount.TheVariants.{Wires, Power, Budget}
 use Rattle.limits_text.specs.declared.items.Key.{Key}
-use Rattle.limits_text.specs.declared.items.Key.TheVariants.{One}
+use Rattle.limits_text.specs.declared.items.Key.TheVariants.{One, Before}
 use Rattle.limits_text.specs.Items.{number, is_title, key_of, is_in_range}
 
 pub both_true : (p q : Bool) → (p && q) ≡ true → (p ≡ true) × (q ≡ true)
@@ -110,3 +111,10 @@ one_in_range Budget = refl
 pub number-decimal : (n : ℕ) → n ≤ NUMBER_WORD_MOST → number (decimal n) ≡ Some n
 unfolding number
 number-decimal n small = number_of-decimal n NUMBER_WORD_MOST (omega arith) small
+
+-- `Before` may be looked for first
+pub before_key : (w : List ℕ) → same_letters w (codes "Before") ≡ true → Some Before ≡ key_of w
+unfolding key_of
+before_key w is =
+    let other = λ (x : List ℕ). same_letters-same w (codes "Before") x is in
+    rw (other (codes "Wires"), other (codes "Power"), other (codes "Budget"), other (codes "Before")) refl

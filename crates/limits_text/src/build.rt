@@ -10,17 +10,18 @@ use outside::{NoMemory, push};
 use plan_model::{Limits, Profile};
 use std::alloc::Global;
 
-/// Limits before any item.
-fn no_limits(alloc: Global) -> Limits
-    ensures { limits_value result ≡ no_limits_said }
+/// Limits before any item, with room for so many precedences.
+fn no_limits(alloc: Global, precedences: usize) -> Result<Limits, NoMemory>
+    ensures { IfOk result (λ limits. limits_value limits ≡ no_limits_said) }
 {
-    Limits {
+    let before = Vec::with_capacity(alloc, precedences)?;
+    Ok(Limits {
         wires: 0,
         power: None,
-        before: Vec::new(alloc),
+        before,
         budget: BUDGET,
         profiles: Vec::new(alloc),
-    }
+    })
 }
 
 /// Changes the limits as an item says.
@@ -47,7 +48,7 @@ fn tell(limits: &mut Limits, item: Item) -> Result<(), NoMemory>
 pub fn limits_of(alloc: Global, list: Vec<Item>) -> Result<Limits, NoMemory>
     ensures { IfOk result (λ limits. limits_value limits ≡ limits_said (reverse (map item_of list.items))) }
 {
-    let mut limits = no_limits(alloc);
+    let mut limits = no_limits(alloc, list.len())?;
     for item in list {
         tell(&mut limits, item)?;
     }

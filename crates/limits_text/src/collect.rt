@@ -1,5 +1,5 @@
 // Adds items to those that were read.
-ghost use Rattle.std.specs.Prelude.{◌≡◌, ◌∷◌, ◌||◌, [], false, OnOk, OnErr, map};
+ghost use Rattle.std.specs.Prelude.{◌≡◌, ◌∷◌, ◌||◌, [], false, IfOk, OnOk, OnErr, map};
 ghost use Rattle.std.specs.List.{list_any};
 ghost use Rattle.soc_model.specs.Chips.{same_test};
 ghost use Rattle.limits_text.specs.Items.{gives_amount as gives, has_amount as has_that_amount, has_profile as has_that_profile, gives_profile, same_amount as is_same_amount};
@@ -7,21 +7,25 @@ ghost use Rattle.limits_text.specs.Views.{item_of, done_of, InStep};
 
 use crate::items::{Amount, Item, Items};
 use indexmap::IndexSet;
-use outside::Stop;
+use outside::{NoMemory, Stop};
 use soc_model::TestId;
 use std::alloc::Global;
 
-/// No items.
-pub fn no_items(alloc: Global) -> Items
-    ensures none { done_of result ≡ [] }
-    ensures first_form { result.second ≡ false }
-    ensures in_step { InStep result }
+/// What most texts have at least for each item, in bytes: `Before` with four numbers.
+const ITEM_BYTES: usize = 16;
+
+/// No items, with room for those of a text of so many bytes.
+pub fn no_items(alloc: Global, bytes: usize) -> Result<Items, NoMemory>
+    ensures none { IfOk result (λ items. done_of items ≡ []) }
+    ensures first_form { IfOk result (λ items. items.second ≡ false) }
+    ensures in_step { IfOk result InStep }
 {
-    Items {
+    let list = Vec::with_capacity(alloc, bytes / ITEM_BYTES)?;
+    Ok(Items {
         second: false,
-        list: Vec::new(alloc),
+        list,
         profiled: IndexSet::new(alloc),
-    }
+    })
 }
 
 fn same_amount(a: Amount, b: Amount) -> bool

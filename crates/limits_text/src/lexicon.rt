@@ -23,11 +23,14 @@ pub fn is_title(word: &[u8]) -> bool
     same_word(word, b"Limits")
 }
 
-/// The keyword that a word is.
+/// The keyword that a word is, the most frequent one first.
 #[tactic(auto, unfolding(crate::specs::Items::key_of))]
 pub fn key_of(word: &[u8]) -> Option<Key>
     ensures { result ≡ key_that_is word.now }
 {
+    if same_word(word, b"Before") {
+        return Some(Key::Before);
+    }
     if same_word(word, b"Wires") {
         return Some(Key::One(Amount::Wires));
     }
@@ -36,9 +39,6 @@ pub fn key_of(word: &[u8]) -> Option<Key>
     }
     if same_word(word, b"Budget") {
         return Some(Key::One(Amount::Budget));
-    }
-    if same_word(word, b"Before") {
-        return Some(Key::Before);
     }
     if same_word(word, b"Profile") {
         return Some(Key::Profile);

@@ -1,5 +1,5 @@
 // The tests of a chip: whether a name is one of them, and its place among those that are live.
-ghost use Rattle.std.specs.Prelude.{◌≡◌, ◌<◌, None, length, map, slice_index_or, IfOk};
+ghost use Rattle.std.specs.Prelude.{◌≡◌, ◌<◌, [], None, length, map, slice_index_or, IfOk};
 ghost use Rattle.std.specs.List.{list_any};
 ghost use Rattle.soc_model.specs.Chips.{soc_value};
 ghost use Rattle.plan_model.specs.Rules.{live_ids};
@@ -154,6 +154,14 @@ fn note(tests: &ChipTests<'_>, pairs: &mut Vec<(usize, usize)>, item: &Item) -> 
     }
 }
 
+/// No precedences, with room for so many.
+fn room_for_pairs(alloc: Global, count: usize) -> Result<Vec<(usize, usize)>, NoMemory>
+    ensures { IfOk result (λ pairs. pairs.items ≡ []) }
+{
+    let pairs = Vec::with_capacity(alloc, count)?;
+    Ok(pairs)
+}
+
 /// The precedences of live tests by the places of these, in the order of the text. `UnknownTest` with the line of the
 /// first item that names a test which isn't in the chip.
 pub fn precedences(
@@ -163,7 +171,7 @@ pub fn precedences(
 ) -> Result<Vec<(usize, usize)>, LimFault>
     ensures { AreNoted tests.now (map item_of list.now) result }
 {
-    let mut pairs = Vec::new(alloc);
+    let mut pairs = room_for_pairs(alloc, list.len())?;
     for item in list {
         match note(tests, &mut pairs, item) {
             Ok(()) => {}

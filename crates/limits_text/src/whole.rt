@@ -56,8 +56,12 @@ pub fn read_items(alloc: Global, bytes: &[u8]) -> Result<Items, Unread>
     if bytes.len() as u64 > NUMBER_WORD_MOST {
         return Err(Unread::NoMemory);
     }
+    let items = match no_items(alloc, bytes.len()) {
+        Ok(items) => items,
+        Err(_) => return Err(Unread::NoMemory),
+    };
     let nothing = ReadSoFar {
-        items: no_items(alloc),
+        items,
         part: Part::Title,
     };
     let read = match Box::new(alloc, nothing) {

@@ -1,5 +1,6 @@
 pub mod Entries
 pub mod Places
+pub mod Nearby
 pub mod Parents
 pub mod Sums
 pub mod Limits

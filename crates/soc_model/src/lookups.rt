@@ -1,16 +1,38 @@
 // Where modules and tests stand in a chip.
-ghost use Rattle.std.specs.Prelude.{◌≡◌, ℕ, ◌<◌, ◌≤◌, Some, length, option_map, position, slice_get, nat_eq, IfSome, IfNone};
+ghost use Rattle.std.specs.Prelude.{◌≡◌, ℕ, ◌<◌, ◌≤◌, true, Some, length, option_map, position, slice_get, nat_eq, IfSome, IfNone};
 ghost use Rattle.soc_model.specs.Chips.{soc_value, module_value, is_live, level_at, parent_place, IsParent};
 ghost use Rattle.soc_model.specs.Lookups.{module_place, test_places};
 ghost use Rattle.soc_model.specs.declared.Test.{Test};
 
 use crate::{Module, Soc, Test, TestId};
 
+/// Whether the module of a number stands at a place.
+fn stands_at(soc: &Soc, place: usize, number: u64) -> bool
+    ensures { result ≡ true → module_place (soc_value soc.now) number ≡ Some place }
+{
+    if place >= soc.modules.len() {
+        return false;
+    }
+    match soc.modules.get_index(place) {
+        Some((found, _)) if *found == number => true,
+        _ => false,
+    }
+}
+
 /// The place of the module that is found by a number, counted from 0 by first mention. None comes exactly where the
-/// number isn't there.
+/// number isn't there. Most chips number their modules in their order, from 1 or from 0, so that these places are looked at
+/// first.
 pub fn place_of(soc: &Soc, number: u64) -> Option<usize>
     ensures { result ≡ module_place (soc_value soc.now) number }
 {
+    let place = number as usize;
+    let before = place.saturating_sub(1);
+    if stands_at(soc, before, number) {
+        return Some(before);
+    }
+    if stands_at(soc, place, number) {
+        return Some(place);
+    }
     soc.modules.get_index_of(&number)
 }
 

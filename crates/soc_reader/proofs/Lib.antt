@@ -11,7 +11,6 @@ pub mod Telling
 pub mod TotalFacts
 pub mod RowBits
 pub mod Sizes
-pub mod Nearby
 pub mod Lengths
 pub mod ChipsSaid
 pub mod OneAnswer

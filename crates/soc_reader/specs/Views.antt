@@ -26,7 +26,7 @@ value_of (Flag b) = flag b
 value_of (Lengths ns) = lengths ns.items
 
 abbrev pub item_of : ReadItem → Item
-item_of (Entry s k v) = entry s k (value_of v)
+item_of (Entry k s v) = entry s k (value_of v)
 item_of (Name m w) = name m w.now
 item_of PlaceData = place_data
 item_of Coordinate = coordinate

@@ -1,17 +1,19 @@
 // Adds items to those that were read.
-ghost use Rattle.std.specs.Prelude.{◌≡◌, ◌∷◌, ◌||◌, ℕ, List, not, OnOk, OnErr, true, false, [], map};
+ghost use Rattle.std.specs.Prelude.{◌≡◌, ◌∷◌, ◌||◌, ℕ, List, not, IfOk, OnOk, OnErr, true, false, [], map};
 ghost use Rattle.soc_reader.specs.Grammar.{opens_item, after_item as after_the_item, after_entry, gives_xy as gives, may_give as may_be_given, may_name as may_be_named, is_given as gives_this, renames as gives_other};
 ghost use Rattle.soc_reader.specs.Table.{may_repeat as repeats, name as named_item};
 ghost use Rattle.std.specs.List.{list_any};
 ghost use Rattle.soc_reader.specs.Marks.{is_marked};
 ghost use Rattle.soc_reader.specs.Names.{name_in, is_other_name, KeepsNames};
+ghost use Rattle.indexmap.specs.IndexMap.{IsEmpty};
 ghost use Rattle.soc_reader.specs.Views.{item_of, done_of, InStep};
 
 use crate::items::{Items, ReadItem, ReadValue};
 use crate::keys::{After, Given, Key, Subject};
 use crate::marks::{Marks, is_in, mark};
 use indexmap::IndexMap;
-use outside::Stop;
+use outside::{NoMemory, Stop};
+use soc_model::{MODULES_MOST, TESTS_MOST};
 use std::alloc::{AllocFailed, Global};
 
 /// What is spoken of after an item.
@@ -74,19 +76,35 @@ fn gives_xy(item: &ReadItem<'_>) -> bool
     }
 }
 
-/// No items.
-pub fn no_items<'a>(alloc: Global) -> Items<'a>
-    ensures none { done_of result ≡ [] }
-    ensures in_step { InStep result }
+/// The chip, and as many modules and tests as it may have.
+const SUBJECTS_MOST: u64 = 1 + MODULES_MOST + TESTS_MOST;
+
+/// What most texts have at least for each subject, in bytes: the keywords of a test with their numbers.
+const SUBJECT_BYTES: u64 = 64;
+
+/// No marks, with room for the subjects of a text of so many bytes.
+fn no_marks(alloc: Global, bytes: usize) -> Result<Marks, NoMemory>
+    ensures { IfOk result IsEmpty }
 {
-    Items {
+    let room = (bytes as u64 / SUBJECT_BYTES).min(SUBJECTS_MOST);
+    let marks = IndexMap::with_capacity(alloc, room as usize)?;
+    Ok(marks)
+}
+
+/// No items of a text of so many bytes.
+pub fn no_items<'a>(alloc: Global, bytes: usize) -> Result<Items<'a>, NoMemory>
+    ensures none { IfOk result (λ items. done_of items ≡ []) }
+    ensures in_step { IfOk result InStep }
+{
+    let given = no_marks(alloc, bytes)?;
+    Ok(Items {
         list: Vec::new(alloc),
         opened: Subject::Chip,
         after: After::Elsewhere,
         xy: false,
-        given: IndexMap::new(alloc),
+        given,
         names: IndexMap::new(alloc),
-    }
+    })
 }
 
 /// Whether a keyword may be given again: then it goes on with that module or test.

@@ -22,10 +22,10 @@ pub enum ReadValue<'a> {
 /// An item.
 #[derive(Drop)]
 pub enum ReadItem<'a> {
-    /// A keyword with its value.
+    /// A keyword with its value. The keyword stands first, beside the number of the variant, so that an item is shorter.
     Entry {
-        subject: Subject,
         key: Key,
+        subject: Subject,
         value: ReadValue<'a>,
     },
     /// The name of a module.

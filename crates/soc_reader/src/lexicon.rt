@@ -17,11 +17,14 @@ fn keyword_of_four(word: &[u8]) -> Option<Key>
     None
 }
 
-/// The keyword that a word of five letters is.
+/// The keyword that a word of five letters is, the most frequent one first.
 #[tactic(auto)]
 fn keyword_of_five(word: &[u8]) -> Option<Key>
     ensures { result ≡ named (sized (nat_eq 5)) word.now }
 {
+    if same_word(word, b"Power") {
+        return Some(Key::Power);
+    }
     if same_word(word, b"Level") {
         return Some(Key::Level);
     }
@@ -31,13 +34,10 @@ fn keyword_of_five(word: &[u8]) -> Option<Key>
     if same_word(word, b"Tests") {
         return Some(Key::TotalTests);
     }
-    if same_word(word, b"Power") {
-        return Some(Key::Power);
-    }
     None
 }
 
-/// The keyword that a word of six letters is.
+/// The keyword that a word of six letters is, the most frequent ones first.
 #[tactic(auto)]
 fn keyword_of_six(word: &[u8]) -> Option<Key>
     ensures { result ≡ named (sized (nat_eq 6)) word.now }
@@ -45,34 +45,34 @@ fn keyword_of_six(word: &[u8]) -> Option<Key>
     if same_word(word, b"Module") {
         return Some(Key::Module);
     }
+    if same_word(word, b"TamUse") {
+        return Some(Key::TamUse);
+    }
     if same_word(word, b"Inputs") {
         return Some(Key::Inputs);
     }
     if same_word(word, b"Bidirs") {
         return Some(Key::Bidirs);
     }
-    if same_word(word, b"TamUse") {
-        return Some(Key::TamUse);
-    }
     None
 }
 
-/// The keyword that a word of seven letters is.
+/// The keyword that a word of seven letters is, the most frequent ones first.
 #[tactic(auto)]
 fn keyword_of_seven(word: &[u8]) -> Option<Key>
     ensures { result ≡ named (sized (nat_eq 7)) word.now }
 {
+    if same_word(word, b"ScanUse") {
+        return Some(Key::ScanUse);
+    }
+    if same_word(word, b"Outputs") {
+        return Some(Key::Outputs);
+    }
     if same_word(word, b"SocName") {
         return Some(Key::SocName);
     }
     if same_word(word, b"Options") {
         return Some(Key::Options);
-    }
-    if same_word(word, b"Outputs") {
-        return Some(Key::Outputs);
-    }
-    if same_word(word, b"ScanUse") {
-        return Some(Key::ScanUse);
     }
     None
 }

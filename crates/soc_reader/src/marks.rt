@@ -91,7 +91,8 @@ fn add_to_last(marks: &mut Marks, subject: Subject, bit: u32) -> bool
     }
 }
 
-/// Notes a row of a subject, found by its hash.
+/// Notes a row of a subject, found by its hash. It stands apart, since most rows are of the last subject.
+#[inline(never)]
 fn add_by_hash(marks: &mut Marks, subject: Subject, bit: u32) -> Result<(), Stop>
     ensures ok { OnOk result ((s : Subject) → bits_of marks.new s ≡ (if is_same subject s then Some (option_map_or (λ rows. bit_or rows bit) (bits_of marks.old subject) bit) else bits_of marks.old s)) }
     ensures memory { OnErr result (result ≡ Err Stop.NoMemory) }

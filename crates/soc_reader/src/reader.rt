@@ -1,7 +1,7 @@
 // Reads a text word by word.
-ghost use Rattle.std.specs.Prelude.{◌≡◌, ◌∷◌, ◌++◌, [], true, false, option_map, OnErr};
+ghost use Rattle.std.specs.Prelude.{◌≡◌, ◌∷◌, ◌++◌, [], true, false, option_map, IfOk, OnErr};
 ghost use Rattle.soc_reader.specs.Grammar.{after as after_done, open_after, has_xy, may_name as may_be_named};
-ghost use Rattle.soc_reader.specs.Steps.{begin_if, after_value, at, between, begun, begin_entry as begins_entry, begin_name as begins_name, begin_data as begins_data, begin_free as begins_free, begin as begins, is_data_word as is_data_word_after, list_from as lists_from, after_length as lists_after, step_value as steps_value, step_counted as steps_counted, step_listing as steps_listing, step_name as steps_name, step_at, closed_at};
+ghost use Rattle.soc_reader.specs.Steps.{begin_if, after_value, at, between, begun, begin_entry as begins_entry, begin_name as begins_name, begin_data as begins_data, begin_free as begins_free, begin as begins, is_data_word as is_data_word_after, list_from as lists_from, after_length as lists_after, step_value as steps_value, step_counted as steps_counted, step_name as steps_name, step_at, closed_at};
 ghost use Rattle.soc_reader.specs.Views.{value_of, item_of, done_of, part_of, InStep, is_list, Steps, Closes, AddsLength};
 ghost use Rattle.soc_reader.specs.Table.{word_value as value_that_is, owner as owner_of, shape_of as shape_that_follows, entry, name as named_item, place_data, lengths};
 ghost use Rattle.soc_reader.specs.Keywords.{number as number_in, is_lengths_word as says_lengths, is_coordinate as is_number_like};
@@ -15,6 +15,7 @@ use crate::lexicon::{
     number_of,
 };
 use outside::{Stop, Word};
+use soc_model::CHAINS_MOST;
 use std::alloc::Global;
 use std::mem::replace;
 
@@ -319,6 +320,17 @@ fn step_length<'a>(
     go_on_listing(items, part, subject, key, read, left)
 }
 
+/// A list without lengths, with room for so many, or for as many as a module of a chip may have.
+fn no_lengths(alloc: Global, count: u64) -> Result<Vec<u64>, Stop>
+    ensures none { IfOk result (λ read. read.items ≡ []) }
+    ensures memory { OnErr result (result ≡ Err Stop.NoMemory) }
+{
+    match Vec::with_capacity(alloc, count.min(CHAINS_MOST) as usize) {
+        Ok(read) => Ok(read),
+        Err(_) => Err(Stop::NoMemory),
+    }
+}
+
 /// Directly after the number of scan chains.
 fn step_counted<'a>(
     alloc: Global,
@@ -333,7 +345,8 @@ fn step_counted<'a>(
     ensures { Steps (steps_counted (done_of items.old) subject key count word.now (says_lengths word.now)) result part.new items.new }
 {
     if is_lengths_word(word) {
-        return go_on_listing(items, part, subject, key, Vec::new(alloc), count);
+        let read = no_lengths(alloc, count)?;
+        return go_on_listing(items, part, subject, key, read, count);
     }
     if count == 0 {
         push(
@@ -346,7 +359,8 @@ fn step_counted<'a>(
         )?;
         return begin(items, part, word);
     }
-    step_length(items, part, subject, key, Vec::new(alloc), count - 1, word)
+    let read = no_lengths(alloc, count)?;
+    step_length(items, part, subject, key, read, count - 1, word)
 }
 
 /// After a word that may be a name or begin place data.

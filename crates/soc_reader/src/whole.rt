@@ -57,8 +57,12 @@ impl<'a> Reader<'a> for ChipText<'a> {
 fn read_items<'a>(alloc: Global, bytes: &'a [u8]) -> Result<Items<'a>, Unread>
     ensures { IsRead InGrammar AreItems bytes.now result }
 {
+    let items = match no_items(alloc, bytes.len()) {
+        Ok(items) => items,
+        Err(_) => return Err(Unread::NoMemory),
+    };
     let nothing = ReadSoFar {
-        items: no_items(alloc),
+        items,
         part: ReadPart::Between,
     };
     let read = match Box::new(alloc, nothing) {

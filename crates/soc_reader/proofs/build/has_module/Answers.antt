@@ -1,7 +1,7 @@
 use Rattle.std.proofs.Common.{◌≡◌, ◌-◌, ◌∙◌, arith}
 use Rattle.indexmap.specs.IndexMap.{index_map_len}
 use Rattle.soc_model.proofs.Entries.{found-has}
-use Rattle.soc_reader.proofs.Nearby.{module_there}
+use Rattle.soc_model.proofs.Nearby.{module_there}
 use Rattle.soc_reader.proofs.build.has_module.Goals as goal
 
 pub returns-in-Some : goal.returns-in-Some

@@ -1,5 +1,5 @@
 use Rattle.std.proofs.Common.{◌≡◌, arith}
-use Rattle.soc_reader.proofs.Nearby.{module_found}
+use Rattle.soc_model.proofs.Nearby.{module_found}
 use Rattle.soc_reader.proofs.build.module_place.Goals as goal
 
 pub returns-in-Some : goal.returns-in-Some

@@ -1,5 +1,5 @@
 use Rattle.std.proofs.Common.{◌≡◌, Some, arith, sym, ap, ◌∙◌}
-use Rattle.soc_reader.proofs.Nearby.{found_there}
+use Rattle.soc_model.proofs.Nearby.{found_there}
 use Rattle.soc_reader.proofs.build.test_place.Goals as goal
 
 pub returns-in-Some : goal.returns-in-Some

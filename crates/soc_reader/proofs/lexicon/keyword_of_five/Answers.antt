@@ -1,0 +1,7 @@
+use Rattle.std.proofs.Common.{sym, ◌∙◌, codes, nat_eq}
+use Rattle.soc_reader.specs.Keywords.{sized}
+use Rattle.soc_reader.proofs.WordFacts.{named-same}
+use Rattle.soc_reader.proofs.lexicon.keyword_of_five.Goals as goal
+
+pub returns-then-same_word : goal.returns-then-same_word
+returns-then-same_word c = sym (named-same c.args.word.now (codes "Power") (sized (nat_eq 5)) (sym c.same_word.ensures ∙ c.if-same_word.true))
