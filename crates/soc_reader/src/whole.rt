@@ -1,4 +1,6 @@
 // Reads whole texts.
+ghost use Rattle.std.specs.Prelude.{ℕ, List};
+ghost use Rattle.outside.specs.Words.{words_of};
 ghost use Rattle.soc_reader.specs.Grammar.{InGrammar};
 ghost use Rattle.soc_reader.specs.Reads.{AreItems, ChipRead};
 ghost use Rattle.outside.specs.Grammars.{IsRead};
@@ -73,20 +75,27 @@ fn read_items<'a>(alloc: Global, bytes: &'a [u8]) -> Result<Items<'a>, Unread>
     read_text(start, bytes)
 }
 
+/// The chip that items say, where the totals among them agree with it.
+fn chip_of_items(alloc: Global, items: &Items<'_>) -> Result<Soc, Unread>
+    ensures { (bytes : List ℕ) → AreItems (words_of bytes) items.now → ChipRead bytes result }
+{
+    let list = items.list.as_slice();
+    let soc = match build(alloc, list) {
+        Ok(soc) => soc,
+        Err(_) => return Err(Unread::NoMemory),
+    };
+    match first_wrong(&soc, list) {
+        Some(line) => Err(Unread::Refused { line }),
+        None => Ok(soc),
+    }
+}
+
 /// The chip that a text says, of whatever size.
 pub fn read_chip(alloc: Global, bytes: &[u8]) -> Result<Soc, Unread>
     ensures { ChipRead bytes.now result }
 {
-    let items = match read_items(alloc, bytes) {
-        Ok(items) => items,
-        Err(unread) => return Err(unread),
-    };
-    let soc = match build(alloc, items.list.as_slice()) {
-        Ok(soc) => soc,
-        Err(_) => return Err(Unread::NoMemory),
-    };
-    match first_wrong(&soc, items.list.as_slice()) {
-        Some(line) => Err(Unread::Refused { line }),
-        None => Ok(soc),
+    match read_items(alloc, bytes) {
+        Ok(items) => chip_of_items(alloc, &items),
+        Err(unread) => Err(unread),
     }
 }
