@@ -18,7 +18,7 @@ use crate::lines::{
 use crate::{FILE_MOST, FileKind, PLAN_FILE_MOST, Status, Verdict};
 use limits_text::{LimFault, read_limits};
 use outside::{Loaded, NoMemory, Shelf};
-use plan_checker::{Scratch, check_plan};
+use plan_checker::first_fault;
 use plan_model::{Limits, Plan};
 use plan_text::{PlanTextFault, read_plan};
 use soc_model::{Soc, SocLimit};
@@ -182,12 +182,10 @@ fn checked(alloc: Global, soc: &Soc, limits: &Limits, plan: Plan) -> Result<Plan
     requires starts { AreSmallStarts (plan_value plan).starts }
     ensures { AnswersCheck (soc_value soc.now) (limits_value limits.now) (plan_value plan) result }
 {
-    let Ok(mut room) = Scratch::new(alloc, soc, &plan) else {
-        return Err(Verdict::NoMemory);
-    };
-    match check_plan(soc, limits, &plan, &mut room) {
-        Ok(()) => Ok(plan),
-        Err(fault) => Err(refused_with(fault_line(alloc, &fault))),
+    match first_fault(alloc, soc, limits, &plan) {
+        Ok(None) => Ok(plan),
+        Ok(Some(fault)) => Err(refused_with(fault_line(alloc, &fault))),
+        Err(_) => Err(Verdict::NoMemory),
     }
 }
 

@@ -3,6 +3,8 @@ use Rattle.std.specs.Prelude.{◌≡◌, ℕ, ◌≤◌, ◌^◌, Some, List, []
 use Rattle.std.specs.List.{filter}
 use Rattle.soc_model.specs.Chips.{SocValue}
 use Rattle.plan_model.specs.Plans.{LimitsValue, PlanValue}
+use Rattle.plan_model.specs.Rules.{IsGood}
+use Rattle.plan_model.specs.SoundLimits.{IsSoundLimits}
 use Rattle.live_tests.specs.declared.placed.PlacedTest.{PlacedTest}
 use Rattle.live_tests.specs.Placed.{placed_tests}
 use Rattle.picture.specs.declared.Parts.{Parts}
@@ -22,6 +24,12 @@ AreDrawn drawn tests = map drawn_test drawn ≡ filter is_wired tests
 -- under a limit no step is above it
 abbrev pub StaysWithin : LimitsValue → List (ℕ × ℕ) → Type 0
 StaysWithin limits steps = (most i : ℕ) (s : ℕ × ℕ) → limits.power ≡ Some most → slice_get steps i ≡ Some s → s.1 ≤ most
+
+-- the placed tests of a good plan
+pub record AreTestsOf (soc : SocValue) (limits : LimitsValue) (plan : PlanValue) (tests : List PlacedTest) : Type 0 where
+  pub sound_limits : IsSoundLimits soc limits
+  pub good : IsGood soc limits plan
+  pub placed : tests ≡ placed_tests soc plan
 
 -- the parts of the picture of a plan; the steps are those of what is drawn where there is a limit
 pub record AreParts (soc : SocValue) (limits : LimitsValue) (plan : PlanValue) (parts : Parts) : Type 0 where

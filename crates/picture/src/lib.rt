@@ -11,7 +11,7 @@ ghost use Rattle.plan_model.specs.Views.{limits_value, plan_value};
 ghost use Rattle.live_tests.specs.declared.placed.PlacedTest.{PlacedTest as the_placed};
 ghost use Rattle.power_events.specs.Events.{HasSteps};
 ghost use Rattle.power_events.specs.Loads.{drawn_by, load_steps};
-ghost use Rattle.picture.specs.Laws.{AreParts};
+ghost use Rattle.picture.specs.Laws.{AreParts, AreTestsOf};
 ghost use Rattle.picture.specs.PictureText.{bottom_of as the_bottom, inner_text, picture_text, wires_text};
 ghost use Rattle.picture.specs.Rectangles.{wired as the_wired};
 
@@ -28,7 +28,7 @@ use outside::{NoMemory, extend};
 use panels::{Drawn, Panel, below, lanes_panel, wires_panel};
 use plan_model::{Limits, Plan, good_without_limits};
 use power_events::power_steps;
-use rectangles::{bus_wires, by_start, lane_count, laned, wired};
+use rectangles::{bus_wires, lane_count, self_lanes, wired};
 use sections::{push_frame, push_head, push_lanes, push_lines, push_power};
 use soc_model::Soc;
 use std::alloc::Global;
@@ -87,20 +87,20 @@ fn steps_under(
     }
 }
 
-/// The parts of the picture of a good plan.
-fn parts_of(alloc: Global, soc: &Soc, limits: &Limits, plan: &Plan) -> Result<Parts, NoMemory>
-    requires sound { IsSoundChip (soc_value soc.now) }
-    requires sound_limits { IsSoundLimits (soc_value soc.now) (limits_value limits.now) }
-    requires good { IsGood (soc_value soc.now) (limits_value limits.now) (plan_value plan.now) }
-    ensures { IfOk result (AreParts (soc_value soc.now) (limits_value limits.now) (plan_value plan.now)) }
+/// The parts of the picture of a good plan whose tests are placed.
+fn parts_with(
+    alloc: Global,
+    limits: &Limits,
+    plan: &Plan,
+    placed: &[PlacedTest],
+) -> Result<Parts, NoMemory>
+    requires { (soc : SocValue) × AreTestsOf soc (limits_value limits.now) (plan_value plan.now) placed.now }
+    ensures { (soc : SocValue) → AreTestsOf soc (limits_value limits.now) (plan_value plan.now) placed.now → IfOk result (AreParts soc (limits_value limits.now) (plan_value plan.now)) }
 {
     good_without_limits();
-    let tests = PlacedTests::new(alloc, soc, plan)?;
-    let placed = tests.tests();
     let buses = bus_wires(alloc, &plan.buses)?;
     let wired = wired(alloc, &buses, placed)?;
-    let own = by_start(alloc, placed)?;
-    let lanes = laned(alloc, &own)?;
+    let lanes = self_lanes(alloc, placed)?;
     let steps = steps_under(alloc, limits, placed)?;
     let panel = lanes_panel(plan.cycles, limits.wires, lane_count(&lanes));
     let bottom = bottom_of(below(&panel), plan.cycles, limits.power);
@@ -113,6 +113,19 @@ fn parts_of(alloc: Global, soc: &Soc, limits: &Limits, plan: &Plan) -> Result<Pa
         steps,
         bottom,
     })
+}
+
+/// The parts of the picture of a good plan.
+fn parts_of(alloc: Global, soc: &Soc, limits: &Limits, plan: &Plan) -> Result<Parts, NoMemory>
+    requires sound { IsSoundChip (soc_value soc.now) }
+    requires sound_limits { IsSoundLimits (soc_value soc.now) (limits_value limits.now) }
+    requires good { IsGood (soc_value soc.now) (limits_value limits.now) (plan_value plan.now) }
+    ensures { IfOk result (AreParts (soc_value soc.now) (limits_value limits.now) (plan_value plan.now)) }
+{
+    good_without_limits();
+    let tests = PlacedTests::new(alloc, soc, plan)?;
+    let placed = tests.tests();
+    parts_with(alloc, limits, plan, placed)
 }
 
 /// Appends the buses and the tests over their wires.

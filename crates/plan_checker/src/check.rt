@@ -1,6 +1,6 @@
 // The checker's room and its public call.
 
-ghost use Rattle.std.specs.Prelude.{◌≡◌, ℕ, ◌+◌, ◌≤◌, OnOk, IfOk, IfErr, IfSome, IsOk, length, vec_capacity};
+ghost use Rattle.std.specs.Prelude.{◌≡◌, ℕ, ◌+◌, ◌≤◌, None, OnOk, IfOk, IfErr, IfSome, IsOk, length, vec_capacity};
 ghost use Rattle.std.specs.List.{All, filter};
 ghost use Rattle.soc_model.specs.declared.TestId.{TestId};
 ghost use Rattle.soc_model.specs.Chips.{soc_value, is_live, live_tests};
@@ -14,7 +14,7 @@ ghost use Rattle.plan_model.specs.Runs.{Content};
 ghost use Rattle.plan_model.specs.SoundLimits.{IsSoundLimits};
 ghost use Rattle.indexmap.specs.IndexSet.{keys, spare};
 ghost use Rattle.plan_checker.specs.FaultValues.{fault_value};
-ghost use Rattle.plan_checker.specs.Room.{HasRoom};
+ghost use Rattle.plan_checker.specs.Room.{HasRoom, HasPlacedRoom, HasRuleRoom};
 
 use crate::PlanFault;
 use crate::events::EVENTS_EACH;
@@ -115,38 +115,37 @@ fn live_count(soc: &Soc) -> Option<usize>
     Some(count)
 }
 
-/// So many copies of an item.
-fn filled_room<T: Copy>(alloc: Global, item: T, count: usize) -> Result<Vec<T>, NoMemory>
-    ensures { IfOk result (λ room. length room.items ≡ count) }
+/// Room for the placed tests of a chip of so many modules and live tests.
+fn placed_rooms(alloc: Global, modules: usize, tests: usize) -> Result<PlacedRooms, NoMemory>
+    ensures { IfOk result (HasPlacedRoom modules tests) }
 {
-    Vec::from_elem(alloc, item, count).map_err(|_| NoMemory)
+    let Some(slots) = modules.checked_add(WIRES_MOST as usize + 1) else {
+        return Err(NoMemory);
+    };
+    let Some(all_events) = tests.checked_mul(EVENTS_EACH) else {
+        return Err(NoMemory);
+    };
+    Ok(PlacedRooms {
+        parents: Vec::from_elem(alloc, 0, modules)?,
+        tests: Vec::from_elem(alloc, NO_TEST, tests)?,
+        begins: Vec::from_elem(alloc, NO_BEGIN, tests)?,
+        ends: Vec::from_elem(alloc, 0, slots)?,
+        profiles: Vec::from_elem(alloc, 0, tests)?,
+        events: Vec::with_capacity(alloc, all_events)?,
+    })
 }
 
-/// Room for so many pairs of a module and a mode.
-fn pair_room(alloc: Global, count: usize) -> Result<IndexSet<(u64, bool)>, NoMemory>
-    ensures { IfOk result (λ room. count ≤ length (keys room) + spare room) }
+/// Room for the rules of so many modules, pairs of a module and a mode, and live tests.
+fn rule_rooms(alloc: Global, modules: usize, pairs: usize, tests: usize) -> Result<Rooms, NoMemory>
+    ensures { IfOk result (HasRuleRoom modules pairs tests) }
 {
-    match IndexSet::with_capacity(alloc, count) {
-        Ok(room) => Ok(room),
-        Err(_) => Err(NoMemory),
-    }
-}
-
-/// Room for so many names.
-fn name_room(alloc: Global, count: usize) -> Result<IndexSet<TestId>, NoMemory>
-    ensures { IfOk result (λ room. count ≤ length (keys room) + spare room) }
-{
-    match IndexSet::with_capacity(alloc, count) {
-        Ok(room) => Ok(room),
-        Err(_) => Err(NoMemory),
-    }
-}
-
-/// Room for so many events.
-fn event_room(alloc: Global, count: usize) -> Result<Vec<Event>, NoMemory>
-    ensures { IfOk result (λ room. count ≤ vec_capacity room) }
-{
-    Vec::with_capacity(alloc, count).map_err(|_| NoMemory)
+    Ok(Rooms {
+        placed: placed_rooms(alloc, modules, tests)?,
+        marks: Vec::from_elem(alloc, 0, modules)?,
+        starts: Vec::from_elem(alloc, NO_START, tests)?,
+        wrappers: IndexSet::with_capacity(alloc, pairs)?,
+        names: IndexSet::with_capacity(alloc, tests)?,
+    })
 }
 
 impl Scratch {
@@ -160,27 +159,7 @@ impl Scratch {
     ) -> Result<Scratch, NoMemory>
         ensures { IfOk result (λ room. (room.modules ≡ modules) × (pairs ≤ room.pairs) × (room.tests ≡ tests)) }
     {
-        let Some(slots) = modules.checked_add(WIRES_MOST as usize + 1) else {
-            return Err(NoMemory);
-        };
-        let Some(all_events) = tests.checked_mul(EVENTS_EACH) else {
-            return Err(NoMemory);
-        };
-        let placed = PlacedRooms {
-            parents: filled_room(alloc, 0, modules)?,
-            tests: filled_room(alloc, NO_TEST, tests)?,
-            begins: filled_room(alloc, NO_BEGIN, tests)?,
-            ends: filled_room(alloc, 0, slots)?,
-            profiles: filled_room(alloc, 0, tests)?,
-            events: event_room(alloc, all_events)?,
-        };
-        let rooms = Rooms {
-            marks: filled_room(alloc, 0, modules)?,
-            wrappers: pair_room(alloc, pairs)?,
-            names: name_room(alloc, tests)?,
-            starts: filled_room(alloc, NO_START, tests)?,
-            placed,
-        };
+        let rooms = rule_rooms(alloc, modules, pairs, tests)?;
         Ok(Scratch { rooms, bound })
     }
 
@@ -228,5 +207,30 @@ pub fn check_plan(
             Ok(()) => Ok(()),
             Err(fault) => Err(PlanFault::Bound(fault)),
         },
+    }
+}
+
+/// The fault of a plan that shows first, as [`check_plan`] answers it, over room that is taken for this one plan. `NoMemory` where
+/// there is none, and for no other reason.
+pub fn first_fault(
+    alloc: Global,
+    soc: &Soc,
+    limits: &Limits,
+    plan: &Plan,
+) -> Result<Option<PlanFault>, NoMemory>
+    requires sound { IsSoundChip (soc_value soc.now) }
+    requires limits { IsSoundLimits (soc_value soc.now) (limits_value limits.now) }
+    requires early { All (λ (s : TestId × ℕ). s.1 ≤ START_MOST) plan.now.starts.items }
+    ensures none { IfOk result (λ found. found ≡ None → IsFaultless (soc_value soc.now) (limits_value limits.now) (plan_value plan.now)) }
+    ensures fault { IfOk result (λ found. IfSome found (λ f. IsFault (soc_value soc.now) (limits_value limits.now) (plan_value plan.now) (fault_value f))) }
+    ensures exact { IfOk result (λ found. IsFaultless (soc_value soc.now) (limits_value limits.now) (plan_value plan.now) → found ≡ None) }
+{
+    let mut room = Scratch::new(alloc, soc, plan)?;
+    let checked = check_plan(soc, limits, plan, &mut room);
+    // let go by a call: an arm below would let go of each of its parts, and be proved for each
+    drop(room);
+    match checked {
+        Ok(()) => Ok(None),
+        Err(fault) => Ok(Some(fault)),
     }
 }

@@ -19,7 +19,7 @@ mod widths;
 mod wrappers;
 
 use bound_certificate::BoundFault;
-pub use check::{Scratch, check_plan};
+pub use check::{Scratch, check_plan, first_fault};
 use soc_model::TestId;
 
 /// The first rule of good plans that a plan breaks, and what shows that first. Buses go by their places, modules and

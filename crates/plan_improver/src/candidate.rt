@@ -12,7 +12,7 @@ ghost use Rattle.plan_improver.specs.Widths.{HaveWidthsBelow};
 
 use arch_search::Found;
 use outside::{NoMemory, push};
-use plan_checker::{Scratch, check_plan};
+use plan_checker::first_fault;
 use plan_model::{Bound, Bus, Limits, Plan, Why};
 use planner::{table_wrappers, width_of};
 use soc_model::{Soc, TestId, module_at};
@@ -136,10 +136,9 @@ fn is_accepted(alloc: Global, soc: &Soc, limits: &Limits, plan: &Plan) -> Result
     requires starts { AreSmallStarts (plan_value plan.now).starts }
     ensures { IfOk result (λ good. good ≡ true → IsGood (soc_value soc.now) (limits_value limits.now) (plan_value plan.now)) }
 {
-    let mut room = Scratch::new(alloc, soc, plan)?;
-    match check_plan(soc, limits, plan, &mut room) {
-        Ok(()) => Ok(true),
-        Err(_) => Ok(false),
+    match first_fault(alloc, soc, limits, plan)? {
+        None => Ok(true),
+        Some(_) => Ok(false),
     }
 }
 

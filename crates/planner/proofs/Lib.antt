@@ -2,6 +2,7 @@ pub mod Lists
 pub mod BusRules
 pub mod WrapperRules
 pub mod PartRules
+pub mod GoodParts
 pub mod UsedModes
 pub mod BusWidths
 pub mod SettledBuses

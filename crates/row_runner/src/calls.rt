@@ -11,10 +11,11 @@ use crate::chips::run_of_chip;
 use crate::lines::{count_of, part};
 use crate::rig::Rig;
 use crate::runs::{ended, words_of};
+use crate::searches::found_by;
 use crate::sessions::steps_of_session;
 use limits_text::{print_limits, read_limits};
 use outside::{Loaded, NoMemory, RealShelf, RealSink, Shelf, extend, push_number};
-use plan_checker::{Scratch, check_plan};
+use plan_checker::first_fault;
 use plan_model::{Limits, Plan, good_without_limits, is_proper};
 use plan_text::{print_plan, read_plan};
 use soc_model::{Soc, module_at, place_of};
@@ -115,12 +116,9 @@ fn accepted_plan(rig: &Rig, soc: &Soc, limits: &Limits) -> Option<Plan>
     let Ok(plan) = read_plan(rig.alloc(), rig.bytes_of("PLAN")) else {
         return None;
     };
-    let Ok(mut room) = Scratch::new(rig.alloc(), soc, &plan) else {
-        return None;
-    };
-    match check_plan(soc, limits, &plan, &mut room) {
-        Ok(()) => Some(plan),
-        Err(_) => None,
+    match first_fault(rig.alloc(), soc, limits, &plan) {
+        Ok(None) => Some(plan),
+        _ => None,
     }
 }
 
@@ -165,9 +163,9 @@ fn run_under(
     run_of_chip(rig.alloc(), soc, plan, seed)
 }
 
-/// `stream SEED` and `chip SEED`: how the vectors of the plan of PLAN are written to an output of the rig, and the run of the
-/// chip under that plan.
-pub fn under_the_plan(rig: &Rig, stepped: bool, seed: &str) -> Result<Vec<u8>, NoMemory> {
+/// `stream SEED`, `chip SEED`, `search now` and `search ready`: how the vectors of the plan of PLAN are written to an output of
+/// the rig, the run of the chip under that plan, and what a search for an order of its tests finds.
+pub fn under_the_plan(rig: &Rig, kind: &str, words: &str) -> Result<Vec<u8>, NoMemory> {
     let Some(soc) = chip_of(rig) else {
         return copied(rig.alloc(), b"no chip");
     };
@@ -177,11 +175,11 @@ pub fn under_the_plan(rig: &Rig, stepped: bool, seed: &str) -> Result<Vec<u8>, N
     let Some(plan) = accepted_plan(rig, &soc, &limits) else {
         return copied(rig.alloc(), b"no plan");
     };
-    let seed = count_of(seed.trim());
-    if stepped {
-        run_under(rig, &soc, &limits, &plan, seed)
-    } else {
-        written_of(rig, &soc, &limits, &plan, seed)
+    let word = words.trim();
+    match kind {
+        "search" => found_by(rig.alloc(), &soc, &limits, &plan, word == "now"),
+        "chip" => run_under(rig, &soc, &limits, &plan, count_of(word)),
+        _ => written_of(rig, &soc, &limits, &plan, count_of(word)),
     }
 }
 

@@ -8,6 +8,7 @@ mod chips;
 mod lines;
 mod rig;
 mod runs;
+mod searches;
 mod sessions;
 
 use crate::calls::{
@@ -44,8 +45,7 @@ fn answer_of<R: Files + AllocGlobal>(
         "real" => Ok(Some(run_of_real_files(rt, words)?)),
         "load" => Ok(Some(what_a_load_answers(rt, words)?)),
         "prints" => Ok(Some(printed_again(rig, words)?)),
-        "stream" => Ok(Some(under_the_plan(rig, false, words)?)),
-        "chip" => Ok(Some(under_the_plan(rig, true, words)?)),
+        "stream" | "chip" | "search" => Ok(Some(under_the_plan(rig, kind, words)?)),
         "session" => Ok(Some(session_of_plan(rig, words)?)),
         _ => Ok(None),
     }

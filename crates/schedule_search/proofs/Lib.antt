@@ -22,6 +22,5 @@ pub mod Taking
 pub mod WalkCounts
 pub mod Agreeing
 pub mod Estimates
-pub mod SearchSamples
 mod Rows
 pub mod Turns

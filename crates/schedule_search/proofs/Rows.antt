@@ -1,12 +1,18 @@
 -- Worked rows: the walk over the orders of a job, computed.
-use Rattle.std.proofs.Common.{◌≡◌, true, false, Some, [], ◌∷◌, length, refl}
+use Rattle.std.proofs.Common.{◌≡◌, ℕ, true, false, None, Some, List, [], ◌∷◌, length, refl}
 use Rattle.std.specs.Prelude.{slice_get}
-use Rattle.resource_table.specs.Jobs.{JobValue}
+use Rattle.resource_table.specs.Jobs.{TestValue, JobValue}
 use Rattle.schedule_search.specs.Walks.{stands_before, by_length, walk}
-use Rattle.schedule_search.proofs.SearchSamples.{free_job, five_tests, self_test_of}
+
+abbrev self_test_of : (place cycles power : ℕ) → TestValue
+self_test_of place cycles power = record { id = record { «module» = 1; test = 1 }; place = place; parent = None; bus = None; cycles = cycles; steps = (0, power) ∷ [] }
+
+-- self tests, no precedences, and a limit on power
+abbrev free_job : List TestValue → ℕ → JobValue
+free_job tests most = record { tests = tests; before = []; power = Some most }
 
 abbrev five_job : JobValue
-five_job = free_job five_tests 2
+five_job = free_job (self_test_of 0 3 1 ∷ self_test_of 1 3 1 ∷ self_test_of 2 2 1 ∷ self_test_of 3 2 1 ∷ self_test_of 4 2 1 ∷ []) 2
 
 -- three tests, of which the first precedes the second
 abbrev three_job : JobValue

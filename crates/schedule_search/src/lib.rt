@@ -22,6 +22,3 @@ pub use order_laws::{
     walks_are_short, walks_have_all_orders,
 };
 pub use search::{Found, Search};
-
-#[cfg(test)]
-mod tests;

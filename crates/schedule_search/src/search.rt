@@ -7,7 +7,7 @@ ghost use Rattle.schedule_search.specs.Orders.{IsFirstOrder};
 ghost use Rattle.schedule_search.specs.OrderCycles.{Takes};
 ghost use Rattle.schedule_search.specs.Exchanges.{NoExchangeHelps};
 ghost use Rattle.schedule_search.specs.Found.{IsFound};
-ghost use Rattle.schedule_search.specs.Kept.{HasRoom};
+ghost use Rattle.schedule_search.specs.Kept.{HasRoom, IsKept};
 ghost use Rattle.schedule_search.specs.Prefixes.{HasPrefixRoom};
 ghost use Rattle.schedule_search.specs.Progress.{AreTries, stand_of, IsBest};
 ghost use Rattle.schedule_search.specs.Estimates.{IsEstimate};
@@ -218,6 +218,23 @@ impl Room {
     }
 }
 
+/// What a search over a sound job keeps, but for the estimate: the empty table, what the walk goes by, the first order, and room.
+fn kept_for<'a>(
+    alloc: Global,
+    job: &'a Job,
+    budget: u64,
+) -> Result<(Table<'a>, Tries, Vec<usize>, Room), NoMemory>
+    requires { IsSoundJob (job_value job.now) }
+    ensures kept { IfOk result (λ kept. IsKept (job_value job.now) kept.0 kept.1 kept.2 kept.3) }
+    ensures budget { IfOk result (λ kept. kept.1.budget ≡ budget) }
+{
+    let tries = tries_of(alloc, job, budget)?;
+    let first = first_by(alloc, job, &tries)?;
+    let room = Room::new(alloc, job.tests.len())?;
+    let table = Table::new(alloc, job)?;
+    Ok((table, tries, first, room))
+}
+
 impl<'a, F: Fn(&Table<'_>, usize) -> u64> Search<'a, F> {
     /// A search over a sound job that may enter so many prefixes of orders. All memory that it ever takes is taken here;
     /// `NoMemory` where there is none.
@@ -232,14 +249,14 @@ impl<'a, F: Fn(&Table<'_>, usize) -> u64> Search<'a, F> {
         requires { IsSoundJob (job_value job.now) }
         ensures { IfOk result (λ s. s ≡ record { job = job_value job.now; budget = budget; ahead = ahead }) }
     {
-        let tries = tries_of(alloc, job, budget)?;
+        let (table, tries, first, room) = kept_for(alloc, job, budget)?;
         Ok(Search {
             job,
-            table: Table::new(alloc, job)?,
+            table,
             ahead,
-            first: first_by(alloc, job, &tries)?,
             tries,
-            room: Room::new(alloc, job.tests.len())?,
+            first,
+            room,
         })
     }
 

@@ -1,10 +1,9 @@
 -- How a call ends that is either decided with its text or writes vectors as they are made.
-use Rattle.std.specs.Prelude.{◌≡◌, ℕ, ◌⊎◌, List, Option, None, Some, IfSome, IsTrue}
+use Rattle.std.specs.Prelude.{ℕ, List, Option}
 use Rattle.outside.specs.Held.{Files}
-use Rattle.soc_model.specs.Chips.{SocValue, soc_value}
+use Rattle.soc_model.specs.Chips.{soc_value}
 use Rattle.soc_model.specs.SoundChips.{IsSoundChip}
 use Rattle.plan_model.specs.Faults.{IsFaultless}
-use Rattle.plan_model.specs.Plans.{PlanValue}
 use Rattle.plan_model.specs.SoundLimits.{IsSoundLimits}
 use Rattle.plan_model.specs.Views.{limits_value, plan_value}
 use Rattle.bit_machine.specs.Chips.{made_content}

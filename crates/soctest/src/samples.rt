@@ -19,7 +19,7 @@ ghost use Rattle.commands.specs.Decides.{Follows};
 use crate::deciding::planned;
 use commands::{Status, Verdict, answered_with, numbered, push, push_decimal, refused_with};
 use outside::NoMemory;
-use plan_checker::{Scratch, check_plan};
+use plan_checker::first_fault;
 use plan_model::{Limits, Plan, Why};
 use sample_maker::{SampleFault, sample};
 use soc_model::{Module, Soc, live};
@@ -101,16 +101,16 @@ fn summary(alloc: Global, n: u64, seed: u64, soc: &Soc, plan: &Plan) -> Result<V
     Ok(text)
 }
 
-/// Checks the planner's plan: it is always accepted.
-fn recheck(alloc: Global, soc: &Soc, limits: &Limits, plan: &Plan) -> Result<(), NoMemory>
+/// The planner's plan, checked once more: it is always accepted.
+pub(crate) fn checked_plan(alloc: Global, soc: &Soc, limits: &Limits) -> Result<Plan, NoMemory>
     requires chip { IsSoundChip (soc_value soc.now) }
     requires limits { IsSoundLimits (soc_value soc.now) (limits_value limits.now) }
-    requires planned { IsPlanned (soc_value soc.now) (limits_value limits.now) (plan_value plan.now) }
+    ensures { IfOk result (λ plan. IsPlanned (soc_value soc.now) (limits_value limits.now) (plan_value plan)) }
 {
-    let mut room = Scratch::new(alloc, soc, plan)?;
-    match check_plan(soc, limits, plan, &mut room) {
-        Ok(()) => Ok(()),
-        Err(_) => unreachable!(),
+    let plan = planned(alloc, soc, limits)?;
+    match first_fault(alloc, soc, limits, &plan)? {
+        None => Ok(plan),
+        Some(_) => unreachable!(),
     }
 }
 
@@ -121,8 +121,7 @@ fn plan_sample(alloc: Global, n: u64, seed: u64, soc: &Soc) -> Result<Vec<u8>, N
     ensures { IfOk result (λ text. (value : PlanValue) × IsPlanned (soc_value soc.now) sample_limits value × (text.items ≡ sample_text n seed (soc_value soc.now) value)) }
 {
     let limits = make_limits(alloc);
-    let plan = planned(alloc, soc, &limits)?;
-    recheck(alloc, soc, &limits, &plan)?;
+    let plan = checked_plan(alloc, soc, &limits)?;
     summary(alloc, n, seed, soc, &plan)
 }
 

@@ -13,15 +13,14 @@ ghost use Rattle.soctest.specs.Procedures.{procedure_of};
 ghost use Rattle.soctest.specs.SplitText.{part_line, parts_text, soc_and_limits, split_line as split_line_text, split_refusal, split_text as text_of_parts};
 ghost use Rattle.commands.specs.Texts.{is_line};
 
-use crate::deciding::planned;
+use crate::samples::checked_plan;
 use commands::{
     Status, Verdict, answered_with, limit_word, load_both, push, push_decimal, push_test, push_two,
     refused_with,
 };
 use limits_text::print_limits;
 use outside::{NoMemory, Shelf, extend};
-use plan_checker::{Scratch, check_plan};
-use plan_model::{Limits, Plan, faults_are_exact};
+use plan_model::{Limits, Plan};
 use plan_text::print_plan;
 use soc_model::{Soc, SocLimit};
 use soc_printer::print_soc;
@@ -74,21 +73,6 @@ fn split_text(alloc: Global, split: &Split, plan: &Plan) -> Result<Vec<u8>, NoMe
     let of_plan = print_plan(alloc, plan)?;
     extend(&mut text, &of_plan)?;
     Ok(text)
-}
-
-/// The planner's plan, checked once more.
-fn checked_plan(alloc: Global, soc: &Soc, limits: &Limits) -> Result<Plan, NoMemory>
-    requires chip { IsSoundChip (soc_value soc.now) }
-    requires limits { IsSoundLimits (soc_value soc.now) (limits_value limits.now) }
-    ensures { IfOk result (λ plan. IsPlanned (soc_value soc.now) (limits_value limits.now) (plan_value plan)) }
-{
-    faults_are_exact();
-    let plan = planned(alloc, soc, limits)?;
-    let mut room = Scratch::new(alloc, soc, &plan)?;
-    match check_plan(soc, limits, &plan, &mut room) {
-        Ok(()) => Ok(plan),
-        Err(_) => unreachable!(),
-    }
 }
 
 /// The text of the parts of a chip and of the planner's plan for them.

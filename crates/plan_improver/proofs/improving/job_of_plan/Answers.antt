@@ -4,7 +4,7 @@ use Rattle.soc_model.specs.Chips.{soc_value, live_tests}
 use Rattle.plan_model.specs.Views.{bus_value, wrapper_value, limits_value, plan_value}
 use Rattle.resource_table.specs.Jobs.{JobValue}
 use Rattle.planner.specs.Jobs.{settled_parts, test_of}
-use Rattle.plan_improver.proofs.OtherBounds.{parts_wrapped, parts_proper}
+use Rattle.planner.proofs.GoodParts.{parts_wrapped, parts_proper}
 use Rattle.plan_improver.proofs.improving.job_of_plan.Goals as goal
 
 pub job_of-requires-clause-wrapped : goal.job_of-requires-clause-wrapped
