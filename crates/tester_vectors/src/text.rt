@@ -144,11 +144,13 @@ impl<'a> Run<'a> {
         count
     }
 
-    /// Writes the whole text: the first line by itself, and then block by block, each of whole lines.
+    /// Writes the whole text: the first line by itself, and then block by block, each of whole lines. The run serves again.
     pub fn write<K: Sink>(&mut self, cycles: u64, out: &mut K) -> Result<(), WriteFault>
         requires run { IsRun self.old }
         requires good { IsGoodAlone self.old.vectors.soc self.old.vectors.plan }
         requires cycles { cycles ≡ self.old.vectors.plan.cycles }
+        ensures run { IsRun self.new }
+        ensures vectors { self.new.vectors ≡ self.old.vectors }
         ensures faults_never_fall { K.faults out.old ≤ K.faults out.new }
         ensures all { OnOk result (Appended (K.written out.old) (vector_text self.old.vectors.soc self.old.vectors.plan (vectors_content self.old.vectors)) (K.written out.new)) }
         ensures front { OnErr result (AppendedFront (K.written out.old) (vector_text self.old.vectors.soc self.old.vectors.plan (vectors_content self.old.vectors)) (K.written out.new)) }
@@ -165,6 +167,8 @@ impl<'a> Run<'a> {
     fn write_lines<K: Sink>(&mut self, cycles: u64, out: &mut K) -> Result<(), WriteFault>
         requires run { IsRun self.old }
         requires good { IsGoodAlone self.old.vectors.soc self.old.vectors.plan }
+        ensures run { IsRun self.new }
+        ensures vectors { self.new.vectors ≡ self.old.vectors }
         ensures faults_never_fall { K.faults out.old ≤ K.faults out.new }
         ensures all { OnOk result (Appended (K.written out.old) (lines_of self.old.vectors 0 cycles) (K.written out.new)) }
         ensures front { OnErr result (AppendedFront (K.written out.old) (lines_of self.old.vectors 0 cycles) (K.written out.new)) }
