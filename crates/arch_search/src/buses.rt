@@ -1,5 +1,5 @@
 // The buses of a state of the search, and how they are changed.
-ghost use Rattle.std.specs.Prelude.{◌≡◌, ℕ, ◌<◌, ◌≤◌, length, slice_index, IfSome};
+ghost use Rattle.std.specs.Prelude.{◌≡◌, ◌<◌, ◌≤◌, length, slice_index, IfSome};
 ghost use Rattle.arch_search.specs.States.{AreBuses, AreAlike};
 
 use crate::draws::{below, coin};

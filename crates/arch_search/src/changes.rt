@@ -1,5 +1,5 @@
 // One change of a state, drawn at random.
-ghost use Rattle.std.specs.Prelude.{◌≡◌, ℕ, ◌<◌, ◌≤◌, length};
+ghost use Rattle.std.specs.Prelude.{◌≡◌, ◌<◌, ◌≤◌, length};
 ghost use Rattle.std.specs.List.{All};
 ghost use Rattle.resource_table.specs.Jobs.{JobValue};
 ghost use Rattle.arch_search.specs.States.{AreBuses, AreAlike};

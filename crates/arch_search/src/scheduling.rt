@@ -7,7 +7,7 @@ ghost use Rattle.resource_table.specs.Befores.{listed, AreListed};
 ghost use Rattle.resource_table.specs.Schedules.{at_start, is_placed as is_placed_in, MayPlace, IsListSchedule, IsSoundTable};
 ghost use Rattle.arch_search.specs.States.{AreBuses};
 ghost use Rattle.arch_search.specs.Problems.{IsTimed, IsProblem, IsStateOf};
-ghost use Rattle.arch_search.specs.Rooms.{IsSlot, HasRoom, HasRoomFor, AreShort, AreCyclesOf};
+ghost use Rattle.arch_search.specs.Rooms.{HasRoom, HasRoomFor, AreShort, AreCyclesOf};
 
 use crate::buses::Buses;
 use crate::problem::{Problem, TestTimes};

@@ -1,7 +1,7 @@
 // What tests draw together over their lower times, in power times cycles.
 ghost use Rattle.std.specs.Prelude.{◌≡◌, ℕ, ◌*◌, ◌^◌, ◌<◌, ◌≤◌, Some, length, map, position, slice_get, IfSome};
 ghost use Rattle.indexmap.specs.IndexSet.{keys};
-ghost use Rattle.soc_model.specs.Chips.{soc_value, module_value, same_test};
+ghost use Rattle.soc_model.specs.Chips.{soc_value, same_test};
 ghost use Rattle.soc_model.specs.SoundChips.{IsSoundChip};
 ghost use Rattle.plan_model.specs.declared.Profile.{Profile};
 ghost use Rattle.plan_model.specs.Views.{limits_value, profile_value};

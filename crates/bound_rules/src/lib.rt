@@ -3,7 +3,7 @@
 // Lower times are in cycles, widths in wires, lengths of chains in cells. Nothing here takes memory.
 #![tactic(auto)]
 
-ghost use Rattle.std.specs.Prelude.{◌≡◌, ℕ, ◌*◌, ◌^◌, ◌<◌, ◌≤◌, true, false, Some, List, length, option_map, slice_get, IfSome, IsTrue};
+ghost use Rattle.std.specs.Prelude.{◌≡◌, ◌*◌, ◌^◌, ◌<◌, ◌≤◌, true, false, Some, List, length, option_map, IfSome, IsTrue};
 ghost use Rattle.soc_model.specs.Chips.{soc_value, module_value, is_live, parent_place};
 ghost use Rattle.soc_model.specs.Sizes.{test_work};
 ghost use Rattle.soc_model.specs.SoundChips.{IsSoundChip};

@@ -6,7 +6,6 @@ ghost use Rattle.plan_model.specs.Listing.{module_size};
 ghost use Rattle.plan_model.specs.Plans.{greatest};
 ghost use Rattle.plan_model.specs.Bounds.{quotient_up};
 ghost use Rattle.bound_rules.specs.Sizes.{sizes_of, least_chain, time_by, work_by, times_by, tam_times_by, works_by, IsFitting};
-ghost use Rattle.soc_model.specs.Modes.{is_tam};
 
 use plan_model::closed_time;
 use soc_model::{Module, Test, live, over_wires};

@@ -1,5 +1,5 @@
 // The start solution.
-ghost use Rattle.std.specs.Prelude.{◌≡◌, ◌++◌, ◌∷◌, [], ℕ, ◌<◌, ◌≤◌, List, length, All, IfOk, OnOk, map};
+ghost use Rattle.std.specs.Prelude.{◌≡◌, ℕ, ◌<◌, ◌≤◌, List, length, All, IfOk, OnOk, map};
 ghost use Rattle.width_table.specs.Tables.{time_of};
 ghost use Rattle.bus_model.specs.Buses.{BusValue, arch_value, quickest_of};
 ghost use Rattle.bus_model.specs.Sound.{IsSoundBus, IsSoundArch, times_listed, due};

@@ -1,5 +1,5 @@
 // The end of a call: what was decided is written, once.
-ghost use Rattle.std.specs.Prelude.{◌≡◌, ◌≤◌};
+ghost use Rattle.std.specs.Prelude.{◌≤◌};
 ghost use Rattle.commands.specs.Ends.{IsWritten, Writes};
 
 use crate::lines::unread_line;

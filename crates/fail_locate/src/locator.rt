@@ -10,7 +10,7 @@ ghost use Rattle.plan_model.specs.Rules.{IsGoodAlone};
 ghost use Rattle.plan_model.specs.Views.{plan_value};
 ghost use Rattle.fail_locate.specs.declared.wired.WiredTest.{WiredTest};
 ghost use Rattle.fail_locate.specs.Chains.{IsFromEnd, cells_at};
-ghost use Rattle.fail_locate.specs.Locating.{AreFirsts, IsBehind, IsLast, IsOnWire, IsTurn, comes_by};
+ghost use Rattle.fail_locate.specs.Locating.{AreFirsts, IsLast, IsOnWire, IsTurn, comes_by};
 ghost use Rattle.fail_locate.specs.SpotAt.{spot_at};
 ghost use Rattle.fail_locate.specs.Spots.{IsNoSpot, IsSpot};
 ghost use Rattle.fail_locate.specs.Wired.{AreInOrder, IsWired};

@@ -1,5 +1,5 @@
 // The first cycle of precedences of so many tests, which go by their places.
-ghost use Rattle.std.specs.Prelude.{◌≡◌, ℕ, ◌+◌, ◌-◌, ◌<◌, ◌≤◌, ◌++◌, ◌∷◌, [], false, not, min, length, nat_eq, position, slice_index, slice_index_or, slice_set, replicate, map, IfOk, OnOk, MatchOption, if◌then◌else◌};
+ghost use Rattle.std.specs.Prelude.{◌≡◌, ℕ, ◌+◌, ◌-◌, ◌<◌, ◌≤◌, ◌++◌, ◌∷◌, [], false, not, min, length, nat_eq, position, slice_index, slice_set, replicate, IfOk, OnOk, MatchOption, if◌then◌else◌};
 ghost use Rattle.std.specs.List.{All};
 ghost use Rattle.limits_text.specs.Cycles.{IsFirstCycle, HasRank};
 ghost use Rattle.limits_text.specs.Orders.{held, copies, Counts, IsKept, GoesOn, IsTaking, AreMarked, least_before as least_of, ComesAgain, IsBack};

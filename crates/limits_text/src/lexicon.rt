@@ -1,5 +1,5 @@
 // What kinds of words there are.
-ghost use Rattle.std.specs.Prelude.{◌≡◌, ◌&&◌, nat_le};
+ghost use Rattle.std.specs.Prelude.{◌≡◌, ◌&&◌};
 ghost use Rattle.limits_text.specs.Items.{number as number_in, is_title as says_title, key_of as key_that_is, is_in_range as is_ranged};
 
 use crate::items::{Amount, Key};

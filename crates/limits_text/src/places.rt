@@ -3,7 +3,7 @@ ghost use Rattle.std.specs.Prelude.{◌≡◌, ◌<◌, [], None, length, map, s
 ghost use Rattle.std.specs.List.{list_any};
 ghost use Rattle.soc_model.specs.Chips.{soc_value};
 ghost use Rattle.plan_model.specs.Rules.{live_ids};
-ghost use Rattle.limits_text.specs.Items.{before_item, profile_item};
+ghost use Rattle.limits_text.specs.Items.{before_item};
 ghost use Rattle.limits_text.specs.Places.{AreRows, row_of, named, Notes, AreNoted, names_test as is_of_test};
 ghost use Rattle.limits_text.specs.Views.{item_of};
 

@@ -1,5 +1,5 @@
 // Prints limits.
-ghost use Rattle.std.specs.Prelude.{◌≡◌, ◌∷◌, ◌++◌, [], map, codes, IfOk, OnOk};
+ghost use Rattle.std.specs.Prelude.{◌≡◌, ◌++◌, [], map, IfOk, OnOk};
 ghost use Rattle.std.specs.List.{flat_map};
 ghost use Rattle.plan_model.specs.Views.{limits_value, profile_value};
 ghost use Rattle.soc_model.specs.Chips.{SocValue};

@@ -1,7 +1,7 @@
 // Reads a text word by word.
-ghost use Rattle.std.specs.Prelude.{◌≡◌, ◌∷◌, ◌++◌, [], IfOk};
+ghost use Rattle.std.specs.Prelude.{◌≡◌, ◌∷◌, IfOk};
 ghost use Rattle.soc_model.specs.declared.TestId.{TestId};
-ghost use Rattle.limits_text.specs.Items.{number as number_in, is_title as says_title, amount_item, profile_item};
+ghost use Rattle.limits_text.specs.Items.{number as number_in, is_title as says_title};
 ghost use Rattle.limits_text.specs.Steps.{at, between, begin as begins, after_title as goes_after_title, after_version as goes_after_version, after_amount as goes_after_amount, named as goes_after_name, after_module as goes_after_module, after_test as goes_after_test, may_follow as may_come_next, end_profile as goes_on, after_step as goes_after_step, after_power as goes_after_power, step_at, ended_at, whole_of};
 ghost use Rattle.limits_text.specs.Views.{item_of, done_of, part_of, InStep, Steps, Closes};
 

@@ -1,11 +1,11 @@
 // The buses, wrappers and starts of a plan, found by the numbers of modules and tests.
-ghost use Rattle.std.specs.Prelude.{◌≡◌, ℕ, Bool, Some, length, map, nat_eq, position, unwrap_or, if◌then◌else◌, IfOk, OnOk};
+ghost use Rattle.std.specs.Prelude.{◌≡◌, ℕ, Bool, Some, map, nat_eq, position, unwrap_or, if◌then◌else◌, IfOk, OnOk};
 ghost use Rattle.std.specs.List.{list_any};
 ghost use Rattle.std.specs.Map.{lookup};
 ghost use Rattle.soc_model.specs.declared.TestId.{TestId};
 ghost use Rattle.soc_model.specs.Chips.{same_test};
 ghost use Rattle.plan_model.specs.declared.Wrapper.{Wrapper};
-ghost use Rattle.plan_model.specs.Plans.{WrapperValue, bus_place as the_bus_place, of_first, wraps};
+ghost use Rattle.plan_model.specs.Plans.{bus_place as the_bus_place, of_first, wraps};
 ghost use Rattle.plan_model.specs.Views.{bus_value, plan_value, wrapper_value};
 ghost use Rattle.live_tests.specs.Index.{AreBusPlaces, is_pair};
 

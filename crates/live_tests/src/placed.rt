@@ -1,5 +1,5 @@
 // The live tests of a chip as a plan places them.
-ghost use Rattle.std.specs.Prelude.{◌≡◌, ◌+◌, ◌++◌, ◌^◌, ◌<◌, ◌≤◌, ℕ, Some, find, length, map, slice_get, sum, take, unwrap_or, IfOk, OnOk, IsTrue};
+ghost use Rattle.std.specs.Prelude.{◌≡◌, ◌+◌, ◌++◌, ◌^◌, ◌<◌, ◌≤◌, ℕ, Some, find, length, map, slice_get, sum, take, IfOk, OnOk, IsTrue};
 ghost use Rattle.soc_model.specs.Chips.{is_live, module_value, soc_value};
 ghost use Rattle.soc_model.specs.SoundChips.{IsSoundChip};
 ghost use Rattle.plan_model.specs.declared.Bus.{Bus};

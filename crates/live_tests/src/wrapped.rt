@@ -1,6 +1,6 @@
 // The wrappers of a module in a plan, with their longest paths.
-ghost use Rattle.std.specs.Prelude.{◌≡◌, ℕ, Bool, true, false, ◌+◌, ◌^◌, ◌≤◌, length, map, position, slice_get, Some, IsTrue};
-ghost use Rattle.soc_model.specs.Chips.{ModuleValue, is_live, module_value, soc_value};
+ghost use Rattle.std.specs.Prelude.{◌≡◌, true, false, ◌+◌, ◌^◌, ◌≤◌, length, map, position, slice_get, Some};
+ghost use Rattle.soc_model.specs.Chips.{ModuleValue, module_value, soc_value};
 ghost use Rattle.soc_model.specs.SoundChips.{IsSoundChip};
 ghost use Rattle.plan_model.specs.Cells.{IsProper, chain_cells};
 ghost use Rattle.plan_model.specs.Listing.{module_size};

@@ -1,6 +1,6 @@
 // Every module that a plan names is in the chip, and every wrapper is proper.
 
-ghost use Rattle.std.specs.Prelude.{◌≡◌, ℕ, map, [], IsTrue, IfSome, IfNone, false};
+ghost use Rattle.std.specs.Prelude.{◌≡◌, map, [], IsTrue, IfSome, IfNone, false};
 ghost use Rattle.std.specs.List.{flat_map, Contains};
 ghost use Rattle.plan_model.specs.declared.Bus.{Bus};
 ghost use Rattle.plan_model.specs.declared.Wrapper.{Wrapper};
@@ -8,7 +8,6 @@ ghost use Rattle.plan_model.specs.Plans.{PlanValue, LimitsValue};
 ghost use Rattle.soc_model.specs.Chips.{soc_value};
 ghost use Rattle.plan_model.specs.Views.{plan_value, wrapper_value};
 ghost use Rattle.plan_model.specs.Rules.{Known, Proper, HasProperCells};
-ghost use Rattle.soc_model.specs.Chips.{numbers};
 ghost use Rattle.soc_model.specs.SoundChips.{IsSoundChip};
 ghost use Rattle.plan_checker.specs.Stages.{IsStage};
 ghost use Rattle.plan_checker.specs.Broken.{EachOf, Breaks};

@@ -1,6 +1,6 @@
 // Precedences, and the cycles that a plan says it takes.
 
-ghost use Rattle.std.specs.Prelude.{◌≡◌, ℕ, ◌⊎◌, ◌≤◌, [], IsTrue, false, Some, slice_get};
+ghost use Rattle.std.specs.Prelude.{◌≡◌, [], IsTrue, false, Some};
 ghost use Rattle.soc_model.specs.declared.TestId.{TestId};
 ghost use Rattle.soc_model.specs.Chips.{SocValue};
 ghost use Rattle.plan_model.specs.Plans.{PlanValue, LimitsValue};

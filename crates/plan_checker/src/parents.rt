@@ -1,6 +1,6 @@
 // The parent of each module: the nearest one before it of a smaller level. Each is found through the parents before it.
 
-ghost use Rattle.std.specs.Prelude.{◌≡◌, ℕ, ◌<◌, ◌≤◌, length, slice_get};
+ghost use Rattle.std.specs.Prelude.{◌≡◌, ℕ, ◌<◌, ◌≤◌, length};
 ghost use Rattle.soc_model.specs.Chips.{IsParent, level_at};
 ghost use Rattle.soc_model.specs.Chips.{soc_value};
 ghost use Rattle.plan_checker.specs.Clashes.{AreParents, HasParentAt};

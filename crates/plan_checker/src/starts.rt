@@ -1,6 +1,6 @@
 // Each live test has one start, and no other test has any.
 
-ghost use Rattle.std.specs.Prelude.{◌≡◌, ℕ, ◌+◌, ◌<◌, ◌≤◌, length, [], nat_eq, IfSome, IfNone, Some, slice_get};
+ghost use Rattle.std.specs.Prelude.{◌≡◌, ℕ, ◌+◌, ◌<◌, ◌≤◌, length, [], nat_eq, IfSome, IfNone, Some};
 ghost use Rattle.std.specs.List.{position};
 ghost use Rattle.indexmap.specs.IndexSet.{keys, spare};
 ghost use Rattle.soc_model.specs.declared.TestId.{TestId};

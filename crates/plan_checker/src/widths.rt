@@ -1,6 +1,6 @@
 // Each bus has a wire, and all buses together have no more wires than the limits.
 
-ghost use Rattle.std.specs.Prelude.{◌≡◌, ℕ, ◌+◌, ◌≤◌, map, IfSome};
+ghost use Rattle.std.specs.Prelude.{◌≡◌, map};
 ghost use Rattle.soc_model.specs.Chips.{SocValue};
 ghost use Rattle.plan_model.specs.Plans.{PlanValue, LimitsValue};
 ghost use Rattle.plan_model.specs.Views.{bus_value};

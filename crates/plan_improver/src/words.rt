@@ -1,5 +1,5 @@
 // The words of the command line.
-ghost use Rattle.std.specs.Prelude.{◌≡◌, ◌≤◌, map, string_bytes, option_map, IfSome};
+ghost use Rattle.std.specs.Prelude.{◌≡◌, map, string_bytes, option_map};
 ghost use Rattle.plan_improver.specs.declared.TheConstants.{TRIES_MOST};
 ghost use Rattle.plan_improver.specs.declared.Request.{Request};
 ghost use Rattle.plan_improver.specs.Requests.{request_value, request_of, with_numbers};

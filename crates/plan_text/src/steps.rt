@@ -2,7 +2,7 @@
 ghost use Rattle.std.specs.Prelude.{◌≡◌, Ok, OnOk, OnErr, option_map};
 ghost use Rattle.plan_model.specs.Views.{bus_value, wrapper_value, chain_value, bound_value};
 ghost use Rattle.plan_text.specs.PartValues.{draft_value, part_value, Begins, Steps};
-ghost use Rattle.plan_text.specs.Steps.{with_bus, with_wrapper, with_start, with_chain, with_module, with_scan, next_if, at, start as state_at_first, step_number as steps_number, step_key as steps_key, step_wrapper as steps_wrapper, step as steps, begin as begins, begin_mode as begins_mode, begin_reason as begins_reason, begin_plan as begins_plan, begin_cycles as begins_cycles, is_chain as chains, bound_at as bound_there, in_bus, wants_form, wants_start};
+ghost use Rattle.plan_text.specs.Steps.{with_bus, with_wrapper, with_start, with_chain, with_module, with_scan, at, start as state_at_first, step_number as steps_number, step_key as steps_key, step_wrapper as steps_wrapper, step as steps, begin as begins, begin_mode as begins_mode, begin_reason as begins_reason, begin_plan as begins_plan, begin_cycles as begins_cycles, is_chain as chains, bound_at as bound_there, in_bus, wants_form, wants_start};
 
 use crate::parts::{Draft, Part, Section};
 use crate::tokens::{Keyword, Token};

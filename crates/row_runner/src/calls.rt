@@ -1,6 +1,6 @@
 // Calls that no command over files in memory makes: real files and a real output, limits that are printed, vectors that are
 // written, and a chip and one of its modules that are stepped by themselves.
-ghost use Rattle.std.specs.Prelude.{◌≡◌, IfSome};
+ghost use Rattle.std.specs.Prelude.{IfSome};
 ghost use Rattle.soc_model.specs.Chips.{soc_value};
 ghost use Rattle.soc_model.specs.SoundChips.{IsSoundChip};
 ghost use Rattle.plan_model.specs.Faults.{IsFaultless};

@@ -1,6 +1,6 @@
 // Searches for an order of the tests of an accepted plan, by either end of a test as the estimate: the commands search by one
 // of them alone.
-ghost use Rattle.std.specs.Prelude.{◌≡◌, IfOk};
+ghost use Rattle.std.specs.Prelude.{IfOk};
 ghost use Rattle.soc_model.specs.Chips.{soc_value};
 ghost use Rattle.soc_model.specs.SoundChips.{IsSoundChip};
 ghost use Rattle.plan_model.specs.Faults.{IsFaultless};

@@ -1,11 +1,9 @@
 // The search for an order of the tests of a job whose list schedule takes few cycles.
-ghost use Rattle.std.specs.Prelude.{◌≡◌, ℕ, ◌≤◌, true, false, not, [], length, vec_capacity, IfOk};
+ghost use Rattle.std.specs.Prelude.{◌≡◌, ◌≤◌, false, not, [], length, vec_capacity, IfOk};
 ghost use Rattle.std.specs.Borrow.{sem};
 ghost use Rattle.resource_table.specs.Jobs.{job_value, IsSoundJob};
 ghost use Rattle.resource_table.specs.Schedules.{IsSoundTable};
 ghost use Rattle.schedule_search.specs.Orders.{IsFirstOrder};
-ghost use Rattle.schedule_search.specs.OrderCycles.{Takes};
-ghost use Rattle.schedule_search.specs.Exchanges.{NoExchangeHelps};
 ghost use Rattle.schedule_search.specs.Found.{IsFound};
 ghost use Rattle.schedule_search.specs.Kept.{HasRoom, IsKept};
 ghost use Rattle.schedule_search.specs.Prefixes.{HasPrefixRoom};

@@ -1,7 +1,7 @@
 // Prints a chip as the text that `soc_reader` reads.
 #![tactic(auto)]
 
-ghost use Rattle.std.specs.Prelude.{◌≡◌, ◌∷◌, [], ◌++◌, List, length, decimal, codes, map, OnOk, IfOk};
+ghost use Rattle.std.specs.Prelude.{◌≡◌, ◌∷◌, [], ◌++◌, decimal, map, OnOk, IfOk};
 ghost use Rattle.std.specs.List.{flat_map};
 ghost use Rattle.soc_model.specs.Chips.{SocValue, soc_value, module_value};
 ghost use Rattle.soc_model.specs.SoundChips.{IsSoundChip};

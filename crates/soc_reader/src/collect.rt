@@ -1,8 +1,7 @@
 // Adds items to those that were read.
-ghost use Rattle.std.specs.Prelude.{◌≡◌, ◌∷◌, ◌||◌, ℕ, List, not, IfOk, OnOk, OnErr, true, false, [], map};
+ghost use Rattle.std.specs.Prelude.{◌≡◌, ◌∷◌, ◌||◌, ℕ, List, not, IfOk, OnOk, OnErr, true, false, []};
 ghost use Rattle.soc_reader.specs.Grammar.{opens_item, after_item as after_the_item, after_entry, gives_xy as gives, may_give as may_be_given, may_name as may_be_named, is_given as gives_this, renames as gives_other};
 ghost use Rattle.soc_reader.specs.Table.{may_repeat as repeats, name as named_item};
-ghost use Rattle.std.specs.List.{list_any};
 ghost use Rattle.soc_reader.specs.Marks.{is_marked};
 ghost use Rattle.soc_reader.specs.Names.{name_in, is_other_name, KeepsNames};
 ghost use Rattle.indexmap.specs.IndexMap.{IsEmpty};

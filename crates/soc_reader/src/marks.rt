@@ -1,5 +1,5 @@
 // What was given, found by its subject: a bit for each row of the table.
-ghost use Rattle.std.specs.Prelude.{◌≡◌, ◌&&◌, ◌^◌, nat_eq, option_map, OnOk, OnErr, IfSome, ◌||◌, true, false, is_some, if◌then◌else◌};
+ghost use Rattle.std.specs.Prelude.{◌≡◌, ◌&&◌, ◌^◌, nat_eq, OnOk, OnErr, IfSome, ◌||◌, true, false, is_some, if◌then◌else◌};
 ghost use Rattle.std.specs.Int.Bits.{bit_or};
 ghost use Rattle.std.specs.Option.{option_map_or};
 ghost use Rattle.soc_reader.specs.Grammar.{same_subject, row};

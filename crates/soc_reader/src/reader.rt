@@ -1,9 +1,9 @@
 // Reads a text word by word.
-ghost use Rattle.std.specs.Prelude.{◌≡◌, ◌∷◌, ◌++◌, [], true, false, option_map, IfOk, OnErr};
-ghost use Rattle.soc_reader.specs.Grammar.{after as after_done, open_after, has_xy, may_name as may_be_named};
-ghost use Rattle.soc_reader.specs.Steps.{begin_if, after_value, at, between, begun, begin_entry as begins_entry, begin_name as begins_name, begin_data as begins_data, begin_free as begins_free, begin as begins, is_data_word as is_data_word_after, list_from as lists_from, after_length as lists_after, step_value as steps_value, step_counted as steps_counted, step_name as steps_name, step_at, closed_at};
+ghost use Rattle.std.specs.Prelude.{◌≡◌, ◌∷◌, [], true, false, option_map, IfOk, OnErr};
+ghost use Rattle.soc_reader.specs.Grammar.{after as after_done, open_after, may_name as may_be_named};
+ghost use Rattle.soc_reader.specs.Steps.{begin_if, after_value, at, between, begun, begin_entry as begins_entry, begin_data as begins_data, begin_free as begins_free, begin as begins, list_from as lists_from, after_length as lists_after, step_value as steps_value, step_counted as steps_counted, step_name as steps_name, step_at, closed_at};
 ghost use Rattle.soc_reader.specs.Views.{value_of, item_of, done_of, part_of, InStep, is_list, Steps, Closes, AddsLength};
-ghost use Rattle.soc_reader.specs.Table.{word_value as value_that_is, owner as owner_of, shape_of as shape_that_follows, entry, name as named_item, place_data, lengths};
+ghost use Rattle.soc_reader.specs.Table.{word_value as value_that_is, owner as owner_of, shape_of as shape_that_follows, entry, name as named_item, lengths};
 ghost use Rattle.soc_reader.specs.Keywords.{number as number_in, is_lengths_word as says_lengths, is_coordinate as is_number_like};
 ghost use Rattle.soc_reader.specs.Names.{KeepsNames};
 

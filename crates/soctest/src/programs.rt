@@ -1,5 +1,5 @@
 // What `shift` answers of a program.
-ghost use Rattle.std.specs.Prelude.{◌≡◌, ℕ, ◌^◌, ◌≤◌, ◌++◌, None, Some, IfOk, IfSome, IfNone, IsTrue, map, slice_get, true};
+ghost use Rattle.std.specs.Prelude.{◌≡◌, ◌^◌, ◌≤◌, None, Some, IfOk, IfSome, IfNone, IsTrue, map, slice_get, true};
 ghost use Rattle.std.specs.List.{All};
 ghost use Rattle.soc_model.specs.declared.Test.{Test};
 ghost use Rattle.soc_model.specs.Chips.{ModuleValue, module_value, soc_value};

@@ -1,8 +1,8 @@
 // The chip of parts.
-ghost use Rattle.std.specs.Prelude.{◌≡◌, ℕ, ◌++◌, ◌∷◌, [], ◌^◌, ◌<◌, ◌≤◌, false, length, map, OnOk, IfOk};
+ghost use Rattle.std.specs.Prelude.{◌≡◌, ◌++◌, ◌∷◌, [], ◌^◌, ◌<◌, ◌≤◌, false, length, map, OnOk, IfOk};
 ghost use Rattle.std.specs.List.{All};
 ghost use Rattle.soc_model.specs.declared.Test.{Test};
-ghost use Rattle.soc_model.specs.Chips.{SocValue, soc_value, module_value};
+ghost use Rattle.soc_model.specs.Chips.{soc_value, module_value};
 ghost use Rattle.soc_model.specs.Lookups.{has_module_number};
 ghost use Rattle.soc_model.specs.SoundChips.{IsSoundChip};
 ghost use Rattle.plan_model.specs.SoundLimits.{IsSoundLimits};

@@ -1,5 +1,5 @@
 // The numbers that the limits on the size of a chip ask for, of the chip of parts, before it is made.
-ghost use Rattle.std.specs.Prelude.{◌≡◌, ℕ, ◌+◌, ◌*◌, ◌^◌, ◌<◌, ◌≤◌, length, sum_by, OnOk, IfErr, if◌then◌else◌};
+ghost use Rattle.std.specs.Prelude.{◌≡◌, ◌+◌, ◌*◌, ◌^◌, ◌<◌, ◌≤◌, length, OnOk, IfErr, if◌then◌else◌};
 ghost use Rattle.std.specs.List.{All};
 ghost use Rattle.soc_model.specs.declared.Test.{Test};
 ghost use Rattle.soc_model.specs.Chips.{soc_value, module_value};
@@ -10,7 +10,7 @@ ghost use Rattle.plan_model.specs.SoundLimits.{IsSoundLimits};
 ghost use Rattle.split_plan.specs.Cuts.{part_count as parts_of};
 ghost use Rattle.split_plan.specs.Laws.{IsRefusal};
 ghost use Rattle.split_plan.specs.Parts.{split_chip};
-ghost use Rattle.split_plan.specs.Steps.{count_in, count_all as parts_in_all, parts_work, module_work as work_in, total_work as work_in_all};
+ghost use Rattle.split_plan.specs.Steps.{count_in, count_all as parts_in_all, module_work as work_in, total_work as work_in_all};
 
 use crate::SplitFault;
 use soc_model::{Module, Soc, TESTS_MOST, Test, WORK_MOST, Which, cells_and_one, live, over_wires};
