@@ -13,6 +13,7 @@ pub mod KeptMarks
 pub mod KeptStarts
 pub mod Profiles
 pub mod Marked
+mod Gaps
 pub mod Sweeps
 pub mod Befores
 pub mod Ready

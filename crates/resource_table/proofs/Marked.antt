@@ -1,5 +1,5 @@
 -- The marks of one more test, put in from the last one on, or taken away from the first one on.
-use Rattle.std.proofs.Common.{◌≡◌, ℕ, ◌+◌, ◌-◌, ◌<◌, ◌≤◌, inl, inr, Some, List, ◌∷◌, ◌++◌, length, get_or, drop, arith, sym, ap, ◌∙◌, subst}
+use Rattle.std.proofs.Common.{◌≡◌, ℕ, ◌+◌, ◌-◌, ◌<◌, ◌≤◌, inl, inr, Some, List, ◌∷◌, ◌++◌, length, get_or, drop, arith, sym, ap, ◌∙◌, subst, length-append}
 use Rattle.std.specs.Prelude.{slice_get, nat_eq, if◌then◌else◌}
 use Rattle.std.specs.List.{AllWithin, sum_by}
 use Rattle.std.specs.List.Sorted.{IsNonDecreasingBy, IsPartitionPoint}
@@ -10,7 +10,7 @@ use Rattle.std.proofs.lemmas.List.Sums.{sum_by-cons, sum_by-append}
 use Rattle.resource_table.specs.declared.power.Draw.{Draw}
 use Rattle.resource_table.specs.declared.points.Point.{Point}
 use Rattle.resource_table.specs.Resources.{load_of, marks_from}
-use Rattle.resource_table.specs.Profiles.{no_point, load_before, uses_at, counted, ArePoints, AreMarked}
+use Rattle.resource_table.specs.Profiles.{no_point, load_before, uses_at, all_uses, counted, ArePoints, AreMarked}
 use Rattle.resource_table.proofs.Places.{same_item}
 use Rattle.resource_table.proofs.Profiles.{drawn_profile, load_there, self_counts, some_used}
 
@@ -60,6 +60,13 @@ mark_there held marks cycles points n c lt is are =
     let all = are.marks c in
     let split : counted c (drop n marks ++ cycles) ≡ counted c (c ∷ (drop (n + 1) marks ++ cycles)) = ap (counted c) (sym (marks_split marks cycles n c lt is)) in
     omega (arith, all, split, self_counts c, sum_by-cons (λ y. if nat_eq y c then 1 else 0) c (drop (n + 1) marks ++ cycles))
+
+-- the marks that are left find room where all found it
+pub room_left : (held : List Draw) (marks cycles : List ℕ) (old points : List Point) (n : ℕ) → n ≤ length marks → ArePoints held cycles old → ArePoints held (drop n marks ++ cycles) points → all_uses points + n ≡ all_uses old + length marks
+room_left held marks cycles old points n le before now =
+    let first = before.count in
+    let all = now.count in
+    omega (arith, le, first, all, length-append (drop n marks) cycles, length-drop n marks)
 
 -- ---- the point of a mark
 

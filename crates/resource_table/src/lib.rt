@@ -16,6 +16,7 @@ mod marks;
 mod points;
 mod power;
 mod profile;
+mod spares;
 mod table;
 mod timelines;
 

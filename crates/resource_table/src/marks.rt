@@ -13,6 +13,7 @@ use crate::points::{
     Point, drop_unused, load_before, places_before_near, put_point, stands_at, use_less, use_more,
 };
 use crate::power::Draw;
+use crate::spares::{put_over, put_spares, takes_spare};
 
 /// A mark of a test: its start, or behind that the end of one of its draws, which are those from a place on.
 fn mark_at(draws: &[Draw], from: usize, start: u64, at: usize) -> u64
@@ -74,6 +75,64 @@ fn make_room(points: &mut Vec<Point>, more: usize)
     }
 }
 
+/// How many marks of a test find no point at their cycle.
+fn missing(points: &[Point], draws: &[Draw], from: usize, start: u64) -> usize
+    requires from { from ≤ length draws.now }
+    requires ordered { IsNonDecreasingBy (λ (p : Point). p.cycle) points.now }
+    ensures { result ≤ length draws.now - from + 1 }
+{
+    let mut left = draws.len() - from + 1;
+    let mut near = points.len();
+    let mut count = 0;
+    while left > 0 {
+        left -= 1;
+        let cycle = mark_at(draws, from, start, left);
+        near = places_before_near(points, near, cycle);
+        if !stands_at(points, near, cycle) {
+            count += 1;
+        }
+    }
+    count
+}
+
+/// Puts spare points behind the place of a test's last mark, where several of its marks find no point at their cycle, in room that
+/// is there. The first place of a spare point is answered, and without one a place past all points.
+fn open_gap(points: &mut Vec<Point>, draws: &[Draw], from: usize, start: u64) -> usize
+    requires from { from ≤ length draws.now }
+    requires ordered { IsNonDecreasingBy (λ (p : Point). p.cycle) points.old.items }
+    requires room { length points.old.items + (length draws.now - from + 1) ≤ vec_capacity points.old }
+    ensures points { (held : List Draw) (cycles : List ℕ) → ArePoints held cycles points.old.items → ArePoints held cycles points.new.items }
+    ensures capacity { vec_capacity points.new ≡ vec_capacity points.old }
+{
+    let more = missing(points, draws, from, start);
+    let last = mark_at(draws, from, start, draws.len() - from);
+    let place = places_before_near(points, points.len(), last);
+    if more < 2 || place == points.len() {
+        return points.capacity();
+    }
+    put_spares(points, place + 1, more);
+    place + 1
+}
+
+/// Adds a mark at a cycle, over the spare point at a place if one stands there, and else in room that the marks leave. The loads stay
+/// as they are. Its place, which is sought from a near one, is answered, and the place of the next spare point.
+fn add_next_mark(points: &mut Vec<Point>, near: usize, spare: usize, cycle: u64) -> (usize, usize)
+    requires room { all_uses points.old.items + 1 ≤ vec_capacity points.old }
+    requires points { (held : List Draw) × (cycles : List ℕ) × ArePoints held cycles points.old.items }
+    ensures points { (held : List Draw) (cycles : List ℕ) → AreMarked held cycles → ArePoints held cycles points.old.items → ArePoints held (cycle ∷ cycles) points.new.items }
+    ensures capacity { vec_capacity points.new ≡ vec_capacity points.old }
+{
+    let place = places_before_near(points, near, cycle);
+    if takes_spare(points, place, spare, cycle) {
+        let load = load_before(points, place);
+        let uses = 1;
+        put_over(points, place, spare, Point { cycle, load, uses });
+        return (place, spare + 1);
+    }
+    make_room(points, 1);
+    (add_mark(points, place, cycle), spare)
+}
+
 /// Adds the marks of a test with the draws from a place on, in room that the marks leave. The loads stay as they are. The place
 /// of its start is answered.
 pub fn add_marks(points: &mut Vec<Point>, draws: &[Draw], from: usize, start: u64) -> usize
@@ -85,11 +144,12 @@ pub fn add_marks(points: &mut Vec<Point>, draws: &[Draw], from: usize, start: u6
 {
     let mut left = draws.len() - from + 1;
     make_room(points, left);
+    let mut spare = open_gap(points, draws, from, start);
     let mut near = points.len();
     while left > 0 {
         left -= 1;
         let cycle = mark_at(draws, from, start, left);
-        near = add_mark(points, near, cycle);
+        (near, spare) = add_next_mark(points, near, spare, cycle);
     }
     near
 }

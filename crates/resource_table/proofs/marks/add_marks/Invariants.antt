@@ -1,4 +1,4 @@
-use Rattle.std.proofs.Common.{◌≡◌, ◌+◌, ◌++◌, ◌≤◌, ℕ, List, length, drop, vec_capacity}
+use Rattle.std.proofs.Common.{◌≡◌, ◌++◌, ◌≤◌, ℕ, List, length, drop, vec_capacity}
 use Rattle.resource_table.specs.declared.power.Draw.{Draw}
 use Rattle.resource_table.specs.Resources.{marks_from}
 use Rattle.resource_table.specs.Profiles.{ArePoints, AreMarked}
@@ -8,7 +8,6 @@ abbrev pub invariant-loop-left : goal.invariant-loop-left
 invariant-loop-left l = record {
   most : l.left ≤ length (marks_from l.start (drop l.from l.draws));
   points : (held : List Draw) (cycles : List ℕ) → AreMarked held cycles → ArePoints held cycles l.fn.points.items → ArePoints held (drop l.left (marks_from l.start (drop l.from l.draws)) ++ cycles) l.points.items;
-  room : length l.points.items + l.left ≤ vec_capacity l.points;
   capacity : vec_capacity l.points ≡ vec_capacity l.fn.points;
 }
 
