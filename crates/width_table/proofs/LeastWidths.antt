@@ -1,12 +1,14 @@
 -- The least of some numbers, from one width to the next.
 use Rattle.std.proofs.Common.{◌≡◌, ℕ, zero, suc, ◌+◌, ◌-◌, ◌^◌, ◌≤◌, ◌<◌, Some, List, [], ◌∷◌, ◌++◌, length, replicate, refl, ap, ◌∙◌, sym, arith, inl, inr, ◌⊎◌}
-use Rattle.std.specs.Prelude.{slice_get}
+use Rattle.std.specs.Prelude.{slice_get, map}
 use Rattle.std.proofs.lemmas.Bool.{cases_lt, cases_eq}
-use Rattle.std.proofs.lemmas.List.{length-append, length-replicate}
+use Rattle.std.specs.List.{All}
+use Rattle.std.proofs.lemmas.List.{length-append, length-map, length-replicate}
+use Rattle.plan_model.proofs.Lists.{from_map}
 use Rattle.plan_model.specs.Bounds.{least_from_one}
 use Rattle.plan_model.proofs.FirstAndLeast.{least-le, least-ge}
 use Rattle.width_table.specs.Times.{IsChosen}
-use Rattle.width_table.specs.Choices.{IsChoice, AreChoices}
+use Rattle.width_table.specs.Choices.{IsChoice, AreChoices, AreSums, AreTimes, AreWidths, IsRow, AreRows, HasRows, width_of, widths_of}
 use Rattle.width_table.specs.declared.choosing.Choice.{Choice}
 use Rattle.width_table.specs.declared.rows.ModuleRow.{ModuleRow}
 use Rattle.std.proofs.Common.{Option, None, Bool, true, false}
@@ -15,7 +17,6 @@ use Rattle.soc_model.specs.Chips.{ModuleValue, SocValue}
 use Rattle.plan_model.specs.Cells.{ChainValue}
 use Rattle.wrapper_design.specs.Design.{mode_of, design}
 use Rattle.width_table.specs.Times.{mode_time, time, time_in, least_time}
-use Rattle.width_table.specs.Choices.{AreRows, HasRows, choices_of}
 use Rattle.std.proofs.lemmas.Option.{slice_get_within, slice_get-get_or}
 use Rattle.std.proofs.Common.{get_or}
 
@@ -161,53 +162,6 @@ pub chosen_fits : (w cycles : ℕ) (old new : Choice) → cycles ≤ 10 ^ 18 →
 chosen_fits w cycles old new small (inl better) = rw better.1 small
 chosen_fits w cycles old new small (inr kept) = rw kept.1 (omega (arith, kept.0))
 
--- ---- the table
-
-if_some : {X : Type 0} (o : Option X) (P : X → Type 0) → ((x : X) → o ≡ Some x → P x) → IfSome o P
-if_some None P h = tt
-if_some (Some x) P h = h x refl
-
--- what holds of the module at a place
-pub at_place : {X : Type 0} (xs : List X) (k : ℕ) (P : X → Type 0) → ((x : X) → slice_get xs k ≡ Some x → P x) → IfSome (slice_get xs k) P
-at_place xs k P h = if_some (slice_get xs k) P h
-
-pub push_row : (ms : List ModuleValue) (w k : ℕ) (rows : List ModuleRow) (m : ModuleValue) (r : ModuleRow) → length rows ≡ k → slice_get ms k ≡ Some m → AreRows ms w rows → AreChoices (mode_time m true) w r.scan.items → AreChoices (mode_time m false) w r.terminals.items → AreRows ms w (rows ++ r ∷ [])
-push_row ms w k rows m r e here h a b = record {
-  scan = λ p n s at at'. elim (get_push rows r p s at') [
-    | inl new ↦ let i : p ≡ k = new.0 ∙ e in let same : m ≡ n = same_at ms k p m n here (sym i) at in rw (← same, ← new.1) a
-    | inr old ↦ h.scan p n s at old
-  ];
-  terminals = λ p n s at at'. elim (get_push rows r p s at') [
-    | inl new ↦ let i : p ≡ k = new.0 ∙ e in let same : m ≡ n = same_at ms k p m n here (sym i) at in rw (← same, ← new.1) b
-    | inr old ↦ h.terminals p n s at old
-  ];
-} where
-  same_at : (ms : List ModuleValue) (k p : ℕ) (m n : ModuleValue) → slice_get ms k ≡ Some m → k ≡ p → slice_get ms p ≡ Some n → m ≡ n
-  same_at ms k p m n here i at = let t : slice_get ms k ≡ Some n = ap (slice_get ms) i ∙ at in cc
-
-choices_in_row : (soc : SocValue) (w : ℕ) (rows : List ModuleRow) (place : ℕ) (scan : Bool) (r : ModuleRow) (m : ModuleValue) → HasRows soc w rows → slice_get soc.modules place ≡ Some m → slice_get rows place ≡ Some r → AreChoices (mode_time m scan) w (choices_of scan r)
-choices_in_row soc w rows place true r m t at at' = t.rows_are.scan place m r at at'
-choices_in_row soc w rows place false r m t at at' = t.rows_are.terminals place m r at at'
-
-row_at : (rows : List ModuleRow) (place : ℕ) (r : ModuleRow) → r ≡ get_or rows place r → place < length rows → slice_get rows place ≡ Some r
-row_at rows place r e h = slice_get-get_or rows place r h ∙ ap Some (sym e)
-
--- the row that is read has the choices of the module at the place
-pub row_choices : (soc : SocValue) (w : ℕ) (rows : List ModuleRow) (place : ℕ) (scan : Bool) (r : ModuleRow) (m : ModuleValue) → HasRows soc w rows → slice_get soc.modules place ≡ Some m → r ≡ get_or rows place r → AreChoices (mode_time m scan) w (choices_of scan r)
-row_choices soc w rows place scan r m t at e = choices_in_row soc w rows place scan r m t at (row_at rows place r e (omega (arith, t.as_many, slice_get_within soc.modules place m at)))
-
-pub module_there : (soc : SocValue) (place : ℕ) → place < length soc.modules → (m : ModuleValue) × (slice_get soc.modules place ≡ Some m)
-module_there soc place h = go soc.modules place h where
-  go : (ms : List ModuleValue) (k : ℕ) → k < length ms → (m : ModuleValue) × (slice_get ms k ≡ Some m)
-  go [] k h = absurd (omega arith)
-  go (m ∷ ms) zero h = (m, refl)
-  go (m ∷ ms) (suc k) h = go ms k (omega arith)
-
-pub choice_read : (f : ℕ → ℕ) (w width k : ℕ) (cs : List Choice) (c d : Choice) → AreChoices f w cs → c ≡ get_or cs k d → k + 1 ≡ width → width ≤ w → IsChoice f width c × (c.cycles ≤ 10 ^ 18)
-choice_read f w width k cs c d h e is le =
-    let at : slice_get cs k ≡ Some c = slice_get-get_or cs k d (omega (arith, h.size)) ∙ ap Some (sym e) in
-    (rw (← is) (h.each k c at), h.fits k c at)
-
 -- ---- both modes together
 
 pub time_from : (m : ModuleValue) (w : ℕ) (a b : Choice) → IsChoice (mode_time m true) w a → IsChoice (mode_time m false) w b → a.cycles + b.cycles ≡ time m w
@@ -218,15 +172,74 @@ pub time_falls : (m : ModuleValue) (v w : ℕ) → 1 ≤ v → v ≤ w → time 
 unfolding time
 time_falls m v w some le = omega (arith, least_falls (mode_time m true) v w some le, least_falls (mode_time m false) v w some le)
 
-pub cycles_at_chosen : (f : ℕ → ℕ) (w v : ℕ) (c : Choice) → IsChoice f w c → IsChosen f w v → c.cycles ≡ f v
-cycles_at_chosen f w v c x h = let e : c.width ≡ v = chosen_unique f w c.width v x.chosen h in x.cycles ∙ ap f e
+-- any two chosen widths have the time
+pub time_of_chosen : (m : ModuleValue) (w v u : ℕ) → IsChosen (mode_time m true) w v → IsChosen (mode_time m false) w u → time m w ≡ mode_time m true v + mode_time m false u
+time_of_chosen m w v u a b = sym (time_from m w (record { cycles = mode_time m true v; width = v }) (record { cycles = mode_time m false u; width = u }) (record { chosen = a; cycles = refl }) (record { chosen = b; cycles = refl }))
 
-both_some : {X : Type 0} (o : Option X) (P Q R : X → Type 0) → IfSome o P → IfSome o Q → ((x : X) → P x → Q x → R x) → IfSome o R
-both_some None P Q R p q h = tt
-both_some (Some x) P Q R p q h = h x p q
+-- ---- the table
 
-pub both_at : {X : Type 0} (xs : List X) (k : ℕ) (P Q R : X → Type 0) → IfSome (slice_get xs k) P → IfSome (slice_get xs k) Q → ((x : X) → P x → Q x → R x) → IfSome (slice_get xs k) R
-both_at xs k P Q R p q h = both_some (slice_get xs k) P Q R p q h
+if_some : {X : Type 0} (o : Option X) (P : X → Type 0) → ((x : X) → o ≡ Some x → P x) → IfSome o P
+if_some None P h = tt
+if_some (Some x) P h = h x refl
+
+-- what holds of the module at a place
+pub at_place : {X : Type 0} (xs : List X) (k : ℕ) (P : X → Type 0) → ((x : X) → slice_get xs k ≡ Some x → P x) → IfSome (slice_get xs k) P
+at_place xs k P h = if_some (slice_get xs k) P h
+
+pub push_row : (ms : List ModuleValue) (w k : ℕ) (rows : List ModuleRow) (m : ModuleValue) (r : ModuleRow) → length rows ≡ k → slice_get ms k ≡ Some m → AreRows ms w rows → IsRow m w r → AreRows ms w (rows ++ r ∷ [])
+push_row ms w k rows m r e here h new = λ p n s at at'. elim (get_push rows r p s at') [
+  | inl last ↦ let i : p ≡ k = last.0 ∙ e in let same : m ≡ n = same_at ms k p m n here (sym i) at in rw (← same, ← last.1) new
+  | inr old ↦ h p n s at old
+] where
+  same_at : (ms : List ModuleValue) (k p : ℕ) (m n : ModuleValue) → slice_get ms k ≡ Some m → k ≡ p → slice_get ms p ≡ Some n → m ≡ n
+  same_at ms k p m n here i at = let t : slice_get ms k ≡ Some n = ap (slice_get ms) i ∙ at in cc
+
+item_there : {X : Type 0} (xs : List X) (k : ℕ) → k < length xs → (x : X) × (slice_get xs k ≡ Some x)
+item_there [] k h = absurd (omega arith)
+item_there (x ∷ xs) zero h = (x, refl)
+item_there (x ∷ xs) (suc k) h = item_there xs k (omega arith)
+
+pub module_there : (soc : SocValue) (place : ℕ) → place < length soc.modules → (m : ModuleValue) × (slice_get soc.modules place ≡ Some m)
+module_there soc place h = item_there soc.modules place h
+
+read_at : {X : Type 0} (xs : List X) (k : ℕ) (x d : X) → x ≡ get_or xs k d → k < length xs → slice_get xs k ≡ Some x
+read_at xs k x d e h = slice_get-get_or xs k d h ∙ ap Some (sym e)
+
+-- the row that is read is that of the module at the place
+pub row_read : (soc : SocValue) (w : ℕ) (rows : List ModuleRow) (place : ℕ) (r : ModuleRow) (m : ModuleValue) → HasRows soc w rows → slice_get soc.modules place ≡ Some m → r ≡ get_or rows place r → IsRow m w r
+row_read soc w rows place r m t at e = t.rows_are place m r at (read_at rows place r r e (omega (arith, t.as_many, slice_get_within soc.modules place m at)))
+
+pub time_read : (m : ModuleValue) (w width k : ℕ) (times : List ℕ) (t d : ℕ) → AreTimes m w times → t ≡ get_or times k d → k + 1 ≡ width → width ≤ w → t ≡ time m width
+time_read m w width k times t d h e is le = rw (← is) (h.each k t (read_at times k t d e (omega (arith, h.size))))
+
+pub width_read : (f : ℕ → ℕ) (w width k : ℕ) (widths : List ℕ) (v d : ℕ) → AreWidths f w widths → v ≡ get_or widths k d → k + 1 ≡ width → width ≤ w → IsChosen f width v
+width_read f w width k widths v d h e is le = rw (← is) (h.each k v (read_at widths k v d e (omega (arith, h.size))))
+
+pub row_widths : (m : ModuleValue) (w : ℕ) (scan : Bool) (r : ModuleRow) → IsRow m w r → AreWidths (mode_time m scan) w (widths_of scan r)
+row_widths m w true r h = h.scan
+row_widths m w false r h = h.terminals
+
+-- ---- the lists of a row, from the choices of its modes
+
+-- sums of chosen cycles are the times of the module
+pub times_from_sums : (m : ModuleValue) (w : ℕ) (scan terminals : List Choice) (sums : List ℕ) → AreChoices (mode_time m true) w scan → AreChoices (mode_time m false) w terminals → length sums ≡ length scan → AreSums scan terminals sums → AreTimes m w sums
+times_from_sums m w scan terminals sums x y size h = record {
+  size = size ∙ x.size;
+  each = λ k t at.
+      let inside : k < w = omega (arith, slice_get_within sums k t at, size, x.size) in
+      let a = item_there scan k (omega (arith, inside, x.size)) in
+      let b = item_there terminals k (omega (arith, inside, y.size)) in
+      h.each k t a.0 b.0 at a.1 b.1 ∙ time_from m (k + 1) a.0 b.0 (x.each k a.0 a.1) (y.each k b.0 b.1);
+}
+
+pub widths_from_choices : (f : ℕ → ℕ) (w : ℕ) (choices : List Choice) (widths : List ℕ) → AreChoices f w choices → widths ≡ map width_of choices → AreWidths f w widths
+widths_from_choices f w choices widths h e = rw e (record {
+  size = length-map choices width_of ∙ h.size;
+  each = λ k v at. let c = from_map width_of choices k v at in rw (← c.2) (h.each k c.0 c.1).chosen;
+})
+
+pub widths_fit : (f : ℕ → ℕ) (w : ℕ) (choices : List Choice) → w ≤ 256 → AreChoices f w choices → All (λ c. c.width ≤ 256) choices
+widths_fit f w choices few h = λ k d less. let is = (h.each k (get_or choices k d) (slice_get-get_or choices k d less)).chosen in omega (arith, is.within, h.size, few, less)
 
 -- in the design at the chosen width the mode's tests take the least time
 pub wrapper_attains : (ms : List ModuleValue) (place : ℕ) (scan : Bool) (width v : ℕ) (own : ModuleValue) (chains : List ChainValue) → slice_get ms place ≡ Some own → IfSome (slice_get ms place) (λ m. IsChosen (mode_time m scan) width v) → chains ≡ design (mode_of own scan) v → IfSome (slice_get ms place) (λ m. time_in m scan chains ≡ least_time m scan width)

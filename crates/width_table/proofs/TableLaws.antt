@@ -26,12 +26,12 @@ use Rattle.plan_model.proofs.OperationCounts.{ops_length}
 use Rattle.wrapper_design.specs.Design.{mode_of, design}
 use Rattle.wrapper_design.specs.Balance.{in_length_of, out_length_of}
 use Rattle.wrapper_design.proofs.Laws.{design_bounded}
-use Rattle.width_table.specs.Times.{mode_time, time}
+use Rattle.width_table.specs.Times.{mode_time, time, IsChosen}
 use Rattle.soc_model.specs.Modes.{is_of_mode}
 use Rattle.width_table.specs.Tables.{TableValue, IsTable, places_of, time_if, time_of}
 use Rattle.width_table.proofs.Work.{live_of_mode, tam_of_mode, one_test, over_wires, idle_time}
 use Rattle.plan_model.proofs.FirstAndLeast.{least-ge, least-zero}
-use Rattle.width_table.proofs.LeastWidths.{time_falls, module_there}
+use Rattle.width_table.proofs.LeastWidths.{time_falls, time_of_chosen, module_there}
 
 -- ---- the time on one wire is within the work
 
@@ -161,6 +161,15 @@ there (Some m) h = (m, refl)
 pub falls_in : (table : TableValue) (p v w : ℕ) → 1 ≤ v → v ≤ w → time_of table p w ≤ time_of table p v
 unfolding time_of
 falls_in table p v w some le = falls_at (slice_get table.soc.modules p) v w some le
+
+attained_at : (o : Option ModuleValue) (w n : ℕ) → n ≡ time_if w o → IfSome o (λ m. (v u : ℕ) → IsChosen (mode_time m true) w v → IsChosen (mode_time m false) w u → n ≡ mode_time m true v + mode_time m false u)
+attained_at None w n is = tt
+attained_at (Some m) w n is = λ v u a b. is ∙ time_of_chosen m w v u a b
+
+-- at any two chosen widths the modes take the time
+pub attained_in : (table : TableValue) (p w n : ℕ) → n ≡ time_of table p w → IfSome (slice_get table.soc.modules p) (λ m. (v u : ℕ) → IsChosen (mode_time m true) w v → IsChosen (mode_time m false) w u → n ≡ mode_time m true v + mode_time m false u)
+unfolding time_of
+attained_in table p w n is = attained_at (slice_get table.soc.modules p) w n is
 
 -- what is the time of the module that stands there
 pub time_there : (table : TableValue) (p w : ℕ) → p < places_of table → (n : ℕ) → IfSome (slice_get table.soc.modules p) (λ m. n ≡ time m w) → n ≡ time_of table p w

@@ -13,12 +13,10 @@ ghost use Rattle.wrapper_design.specs.Design.{mode_of, design};
 ghost use Rattle.wrapper_design.specs.Balance.{IsBalanced};
 ghost use Rattle.width_table.specs.Times.{mode_time, time_in, least_time, IsChosen};
 ghost use Rattle.width_table.specs.Tables.{TableValue, IsTable, places_of, time_of, has_tam};
-ghost use Rattle.width_table.specs.Choices.{IsChoice};
 
 mod choosing;
 mod rows;
 
-use choosing::Choice;
 use outside::NoMemory;
 use plan_model::Wrapper;
 use rows::{ModuleRow, rows_of};
@@ -75,18 +73,6 @@ impl<'a> WidthTable<'a> {
         self.soc.modules.len()
     }
 
-    /// The choice for a mode of the module at a place on a bus of a width.
-    fn choice(&self, place: usize, scan: bool, width: u64) -> Choice
-        requires place { place < places_of self.now }
-        requires some { 1 ≤ width }
-        requires within { width ≤ self.now.wires }
-        ensures choice { IfSome (slice_get self.now.soc.modules place) (λ m. IsChoice (mode_time m scan) width result) }
-        ensures fits { result.cycles ≤ 10 ^ 18 }
-    {
-        let choices = self.rows[place].choices(scan);
-        choices[(width - 1) as usize]
-    }
-
     /// The cycles of all tests over the wires of the module at a place, one after another, on a bus of a width: in each
     /// mode in the wrapper that takes the fewest. It never grows with the width, and takes no memory.
     pub fn time(&self, place: usize, width: u64) -> u64
@@ -97,7 +83,8 @@ impl<'a> WidthTable<'a> {
         ensures falls { (v : ℕ) → 1 ≤ v → v ≤ width → result ≤ time_of self.now place v }
         ensures attained { IfSome (slice_get self.now.soc.modules place) (λ m. (v u : ℕ) → IsChosen (mode_time m true) width v → IsChosen (mode_time m false) width u → result ≡ mode_time m true v + mode_time m false u) }
     {
-        self.choice(place, true, width).cycles + self.choice(place, false, width).cycles
+        let times = &self.rows[place].times;
+        times[(width - 1) as usize]
     }
 
     /// Whether the module at a place has a live test over the wires. It takes no memory.
@@ -116,7 +103,8 @@ impl<'a> WidthTable<'a> {
         requires within { width ≤ self.now.wires }
         ensures chosen { IfSome (slice_get self.now.soc.modules place) (λ m. IsChosen (mode_time m scan) width result) }
     {
-        self.choice(place, scan, width).width
+        let widths = self.rows[place].widths(scan);
+        widths[(width - 1) as usize] as u64
     }
 
     /// The wrapper for a mode of the module at a place on a bus of a width: the design at the chosen width. The tests of

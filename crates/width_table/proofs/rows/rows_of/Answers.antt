@@ -24,5 +24,5 @@ loop-place-preserved c =
     let i = c.loop-place.invariant in
     record {
       as_many = ap length c.in_ok-push.ensures.items ∙ length_push _ _ ∙ omega (arith, i.as_many);
-      rows = rw c.in_ok-push.ensures.items (push_row (soc_value c.args.soc.now).modules c.args.wires c.loop-place.place c.loop-place.rows.items (module_value c.module_at.result.now) c.in_ok-row.row i.as_many c.module_at.ensures i.rows c.in_ok-row.ensures.scan c.in_ok-row.ensures.terminals);
+      rows = rw c.in_ok-push.ensures.items (push_row (soc_value c.args.soc.now).modules c.args.wires c.loop-place.place c.loop-place.rows.items (module_value c.module_at.result.now) c.in_ok-row.row i.as_many c.module_at.ensures i.rows (record { times = c.in_ok-row.ensures.times; scan = c.in_ok-row.ensures.scan; terminals = c.in_ok-row.ensures.terminals }));
     }
