@@ -7,7 +7,7 @@ ghost use Rattle.std.specs.List.Sorted.{IsNonDecreasingBy};
 ghost use Rattle.resource_table.specs.declared.power.Draw.{Draw};
 ghost use Rattle.resource_table.specs.declared.points.Point.{Point};
 ghost use Rattle.resource_table.specs.Resources.{marks_from};
-ghost use Rattle.resource_table.specs.Profiles.{uses_at, all_uses, ArePoints, AreMarked};
+ghost use Rattle.resource_table.specs.Profiles.{no_point, uses_at, all_uses, ArePoints, AreMarked};
 
 use crate::points::{
     Point, drop_unused, load_before, places_before_near, put_point, stands_at, use_less, use_more,
@@ -27,6 +27,21 @@ fn mark_at(draws: &[Draw], from: usize, start: u64, at: usize) -> u64
     }
 }
 
+/// Adds a mark at a cycle if its point stands at a place, and tells whether it does.
+fn add_standing_mark(points: &mut Vec<Point>, place: usize, cycle: u64) -> bool
+    requires fits { all_uses points.old.items + 1 < 2 ^ 64 }
+    ensures added { result ≡ true → (held : List Draw) (cycles : List ℕ) → ArePoints held cycles points.old.items → ArePoints held (cycle ∷ cycles) points.new.items }
+    ensures same { result ≡ false → points.new.items ≡ points.old.items }
+    ensures missing { result ≡ false → place < length points.old.items → (slice_index_or points.old.items place no_point).cycle ≡ cycle → ⊥ }
+    ensures capacity { vec_capacity points.new ≡ vec_capacity points.old }
+{
+    if stands_at(points, place, cycle) {
+        use_more(points, place);
+        return true;
+    }
+    false
+}
+
 /// Adds a mark at a cycle, in room that is there. The loads stay as they are. Its place, which is sought from a near one, is
 /// answered.
 fn add_mark(points: &mut Vec<Point>, near: usize, cycle: u64) -> usize
@@ -34,12 +49,10 @@ fn add_mark(points: &mut Vec<Point>, near: usize, cycle: u64) -> usize
     requires fits { all_uses points.old.items + 1 < 2 ^ 64 }
     requires ordered { IsNonDecreasingBy (λ (p : Point). p.cycle) points.old.items }
     ensures points { (held : List Draw) (cycles : List ℕ) → AreMarked held cycles → ArePoints held cycles points.old.items → ArePoints held (cycle ∷ cycles) points.new.items }
-    ensures long { length points.new.items ≤ length points.old.items + 1 }
     ensures capacity { vec_capacity points.new ≡ vec_capacity points.old }
 {
     let place = places_before_near(points, near, cycle);
-    if stands_at(points, place, cycle) {
-        use_more(points, place);
+    if add_standing_mark(points, place, cycle) {
         return place;
     }
     let load = load_before(points, place);
@@ -138,20 +151,6 @@ fn add_next_mark(points: &mut Vec<Point>, near: usize, spare: usize, cycle: u64)
     }
     make_room(points, 1);
     (add_mark(points, place, cycle), spare)
-}
-
-/// Adds a mark at a cycle if its point stands at a place, and tells whether it does.
-fn add_standing_mark(points: &mut Vec<Point>, place: usize, cycle: u64) -> bool
-    requires fits { all_uses points.old.items + 1 < 2 ^ 64 }
-    ensures added { result ≡ true → (held : List Draw) (cycles : List ℕ) → ArePoints held cycles points.old.items → ArePoints held (cycle ∷ cycles) points.new.items }
-    ensures missing { result ≡ false → points.new.items ≡ points.old.items }
-    ensures capacity { vec_capacity points.new ≡ vec_capacity points.old }
-{
-    if stands_at(points, place, cycle) {
-        use_more(points, place);
-        return true;
-    }
-    false
 }
 
 /// Adds the marks of a test with the draws from a place on, from the last one up to the first that finds no point at its cycle. How

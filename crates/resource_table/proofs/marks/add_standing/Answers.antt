@@ -21,7 +21,7 @@ add_standing_mark-requires c =
 pub returns-then-not-add_standing_mark-clause-points :
     goal.returns-then-not-add_standing_mark-clause-points
 returns-then-not-add_standing_mark-clause-points c = λ held cycles are.
-    subst (ArePoints held (drop c.loop-left.left (marks_from c.args.start (drop c.args.from c.args.draws.now)) ++ cycles)) (sym (c.if-not-add_standing_mark.ensures.missing refl)) (c.loop-left.invariant.points held cycles are)
+    subst (ArePoints held (drop c.loop-left.left (marks_from c.args.start (drop c.args.from c.args.draws.now)) ++ cycles)) (sym (c.if-not-add_standing_mark.ensures.same refl)) (c.loop-left.invariant.points held cycles are)
 
 pub loop-left-preserved : goal.loop-left-preserved
 loop-left-preserved c =
