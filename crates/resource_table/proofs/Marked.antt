@@ -61,12 +61,9 @@ mark_there held marks cycles points n c lt is are =
     let split : counted c (drop n marks ++ cycles) ≡ counted c (c ∷ (drop (n + 1) marks ++ cycles)) = ap (counted c) (sym (marks_split marks cycles n c lt is)) in
     omega (arith, all, split, self_counts c, sum_by-cons (λ y. if nat_eq y c then 1 else 0) c (drop (n + 1) marks ++ cycles))
 
--- the marks that are left find room where all found it
-pub room_left : (held : List Draw) (marks cycles : List ℕ) (old points : List Point) (n : ℕ) → n ≤ length marks → ArePoints held cycles old → ArePoints held (drop n marks ++ cycles) points → all_uses points + n ≡ all_uses old + length marks
-room_left held marks cycles old points n le before now =
-    let first = before.count in
-    let all = now.count in
-    omega (arith, le, first, all, length-append (drop n marks) cycles, length-drop n marks)
+-- the marks in the profile, and those that are left
+pub marks_and_left : (held : List Draw) (marks cycles : List ℕ) (points : List Point) (n : ℕ) → n ≤ length marks → ArePoints held (drop n marks ++ cycles) points → all_uses points + n ≡ length marks + length cycles
+marks_and_left held marks cycles points n le are = (let all = are.count in omega (arith, le, all, length-append (drop n marks) cycles, length-drop n marks))
 
 -- ---- the point of a mark
 

@@ -1,7 +1,7 @@
 // Frames: a placement that is to be taken back or kept.
 ghost use Rattle.std.specs.Prelude.{◌≡◌, ◌≤◌, ◌++◌, ◌∷◌, [], length, take};
 ghost use Rattle.std.specs.Borrow.{sem};
-ghost use Rattle.resource_table.specs.Schedules.{TableValue, at_start, MayPlace, IsSoundTable};
+ghost use Rattle.resource_table.specs.Schedules.{at_start, MayPlace, IsSoundTable};
 ghost use Rattle.resource_table.specs.Lent.{table_of, name_of, before_of, LendsTable};
 
 use crate::Job;

@@ -3,7 +3,7 @@ ghost use Rattle.std.specs.Prelude.{◌≡◌, ℕ, ◌+◌, ◌^◌, ◌<◌, �
 ghost use Rattle.std.specs.List.{sum_by};
 ghost use Rattle.resource_table.specs.declared.Placement.{Placement};
 ghost use Rattle.resource_table.specs.Jobs.{TestValue, JobValue, test_at, cycles_of, Precedes, IsSoundJob};
-ghost use Rattle.resource_table.specs.Schedules.{TableValue, at_start, exclude, end_of, last_end, IsActive, power_at, is_placed, IsEarliest, MayPlace, Fits, IsSoundTable, IsListSchedule};
+ghost use Rattle.resource_table.specs.Schedules.{TableValue, at_start, exclude, end_of, last_end, IsActive, power_at, is_placed, IsEarliest, Fits, IsSoundTable, IsListSchedule};
 
 /// The placed tests of a sound table keep the rules together: no test is placed twice, tests that exclude each other are
 /// never active at one cycle, the power stays within the limit at each cycle, and a test that precedes another has ended

@@ -1,13 +1,13 @@
 // The marks of a test in a profile of power: one at its start, and one at the end of each of its draws. Each stands at a
 // point of its cycle. A point stays where its marks are taken away, since the same marks often come again; such points
 // are taken out together, where there is no room.
-ghost use Rattle.std.specs.Prelude.{◌≡◌, ℕ, ◌+◌, ◌-◌, ◌^◌, ◌<◌, ◌≤◌, ◌++◌, ◌∷◌, List, drop, length, slice_index_or, vec_capacity};
+ghost use Rattle.std.specs.Prelude.{◌≡◌, ℕ, ◌+◌, ◌-◌, ◌^◌, ◌<◌, ◌≤◌, ◌++◌, ◌∷◌, true, false, List, drop, length, slice_index_or, vec_capacity};
 ghost use Rattle.std.specs.List.{sum_by};
 ghost use Rattle.std.specs.List.Sorted.{IsNonDecreasingBy};
 ghost use Rattle.resource_table.specs.declared.power.Draw.{Draw};
 ghost use Rattle.resource_table.specs.declared.points.Point.{Point};
 ghost use Rattle.resource_table.specs.Resources.{marks_from};
-ghost use Rattle.resource_table.specs.Profiles.{uses_at, all_uses, ArePoints, AreMarked};
+ghost use Rattle.resource_table.specs.Profiles.{no_point, uses_at, all_uses, ArePoints, AreMarked};
 
 use crate::points::{
     Point, drop_unused, load_before, places_before_near, put_point, stands_at, use_less, use_more,
@@ -27,6 +27,21 @@ fn mark_at(draws: &[Draw], from: usize, start: u64, at: usize) -> u64
     }
 }
 
+/// Adds a mark at a cycle if its point stands at a place, and tells whether it does.
+fn add_standing_mark(points: &mut Vec<Point>, place: usize, cycle: u64) -> bool
+    requires fits { all_uses points.old.items + 1 < 2 ^ 64 }
+    ensures added { result ≡ true → (held : List Draw) (cycles : List ℕ) → ArePoints held cycles points.old.items → ArePoints held (cycle ∷ cycles) points.new.items }
+    ensures same { result ≡ false → points.new.items ≡ points.old.items }
+    ensures missing { result ≡ false → place < length points.old.items → (slice_index_or points.old.items place no_point).cycle ≡ cycle → ⊥ }
+    ensures capacity { vec_capacity points.new ≡ vec_capacity points.old }
+{
+    if stands_at(points, place, cycle) {
+        use_more(points, place);
+        return true;
+    }
+    false
+}
+
 /// Adds a mark at a cycle, in room that is there. The loads stay as they are. Its place, which is sought from a near one, is
 /// answered.
 fn add_mark(points: &mut Vec<Point>, near: usize, cycle: u64) -> usize
@@ -34,12 +49,10 @@ fn add_mark(points: &mut Vec<Point>, near: usize, cycle: u64) -> usize
     requires fits { all_uses points.old.items + 1 < 2 ^ 64 }
     requires ordered { IsNonDecreasingBy (λ (p : Point). p.cycle) points.old.items }
     ensures points { (held : List Draw) (cycles : List ℕ) → AreMarked held cycles → ArePoints held cycles points.old.items → ArePoints held (cycle ∷ cycles) points.new.items }
-    ensures long { length points.new.items ≤ length points.old.items + 1 }
     ensures capacity { vec_capacity points.new ≡ vec_capacity points.old }
 {
     let place = places_before_near(points, near, cycle);
-    if stands_at(points, place, cycle) {
-        use_more(points, place);
+    if add_standing_mark(points, place, cycle) {
         return place;
     }
     let load = load_before(points, place);
@@ -75,37 +88,44 @@ fn make_room(points: &mut Vec<Point>, more: usize)
     }
 }
 
-/// How many marks of a test find no point at their cycle.
-fn missing(points: &[Point], draws: &[Draw], from: usize, start: u64) -> usize
+/// How many of so many first marks of a test find no point at their cycle. Marks of one cycle that follow each other count once.
+fn missing(points: &[Point], draws: &[Draw], from: usize, start: u64, first: usize) -> usize
     requires from { from ≤ length draws.now }
+    requires first { first ≤ length draws.now - from + 1 }
     requires ordered { IsNonDecreasingBy (λ (p : Point). p.cycle) points.now }
-    ensures { result ≤ length draws.now - from + 1 }
+    ensures { result ≤ first }
 {
-    let mut left = draws.len() - from + 1;
+    let mut left = first;
     let mut near = points.len();
+    let mut behind = None;
     let mut count = 0;
     while left > 0 {
         left -= 1;
         let cycle = mark_at(draws, from, start, left);
         near = places_before_near(points, near, cycle);
-        if !stands_at(points, near, cycle) {
+        if behind != Some(cycle) && !stands_at(points, near, cycle) {
             count += 1;
         }
+        behind = Some(cycle);
     }
     count
 }
 
-/// Puts spare points behind the place of a test's last mark, where several of its marks find no point at their cycle, in room that
-/// is there. The first place of a spare point is answered, and without one a place past all points.
-fn open_gap(points: &mut Vec<Point>, draws: &[Draw], from: usize, start: u64) -> usize
+/// Puts spare points behind the place of the last of so many first marks of a test, where several of them find no point at their
+/// cycle, in room that is there. The first place of a spare point is answered, and without one a place past all points.
+fn open_gap(points: &mut Vec<Point>, draws: &[Draw], from: usize, start: u64, first: usize) -> usize
     requires from { from ≤ length draws.now }
+    requires first { first ≤ length draws.now - from + 1 }
     requires ordered { IsNonDecreasingBy (λ (p : Point). p.cycle) points.old.items }
-    requires room { length points.old.items + (length draws.now - from + 1) ≤ vec_capacity points.old }
+    requires room { length points.old.items + first ≤ vec_capacity points.old }
     ensures points { (held : List Draw) (cycles : List ℕ) → ArePoints held cycles points.old.items → ArePoints held cycles points.new.items }
     ensures capacity { vec_capacity points.new ≡ vec_capacity points.old }
 {
-    let more = missing(points, draws, from, start);
-    let last = mark_at(draws, from, start, draws.len() - from);
+    if first < 3 {
+        return points.capacity();
+    }
+    let more = missing(points, draws, from, start, first);
+    let last = mark_at(draws, from, start, first - 1);
     let place = places_before_near(points, points.len(), last);
     if more < 2 || place == points.len() {
         return points.capacity();
@@ -133,6 +153,57 @@ fn add_next_mark(points: &mut Vec<Point>, near: usize, spare: usize, cycle: u64)
     (add_mark(points, place, cycle), spare)
 }
 
+/// Adds the marks of a test with the draws from a place on, from the last one up to the first that finds no point at its cycle. How
+/// many are left is answered, and a place near to the next one.
+fn add_standing(points: &mut Vec<Point>, draws: &[Draw], from: usize, start: u64) -> (usize, usize)
+    requires from { from ≤ length draws.now }
+    requires room { all_uses points.old.items + (length draws.now - from + 1) ≤ vec_capacity points.old }
+    requires points { (held : List Draw) × (cycles : List ℕ) × ArePoints held cycles points.old.items }
+    ensures left { result.0 ≤ length draws.now - from + 1 }
+    ensures points { (held : List Draw) (cycles : List ℕ) → ArePoints held cycles points.old.items → ArePoints held (drop result.0 (marks_from start (drop from draws.now)) ++ cycles) points.new.items }
+    ensures capacity { vec_capacity points.new ≡ vec_capacity points.old }
+{
+    let mut left = draws.len() - from + 1;
+    let mut near = points.len();
+    while left > 0 {
+        let cycle = mark_at(draws, from, start, left - 1);
+        near = places_before_near(points, near, cycle);
+        if !add_standing_mark(points, near, cycle) {
+            return (left, near);
+        }
+        left -= 1;
+    }
+    (left, near)
+}
+
+/// Adds so many first marks of a test with the draws from a place on, where the others are in the profile, in room that these leave.
+/// The place of its start is answered.
+fn add_first(
+    points: &mut Vec<Point>,
+    draws: &[Draw],
+    from: usize,
+    start: u64,
+    first: usize,
+) -> usize
+    requires from { from ≤ length draws.now }
+    requires first { first ≤ length draws.now - from + 1 }
+    requires room { all_uses points.old.items + first ≤ vec_capacity points.old }
+    requires points { (held : List Draw) × (cycles : List ℕ) × AreMarked held cycles × ArePoints held (drop first (marks_from start (drop from draws.now)) ++ cycles) points.old.items }
+    ensures points { (held : List Draw) (cycles : List ℕ) → AreMarked held cycles → ArePoints held (drop first (marks_from start (drop from draws.now)) ++ cycles) points.old.items → ArePoints held (marks_from start (drop from draws.now) ++ cycles) points.new.items }
+    ensures capacity { vec_capacity points.new ≡ vec_capacity points.old }
+{
+    make_room(points, first);
+    let mut spare = open_gap(points, draws, from, start, first);
+    let mut near = points.len();
+    let mut left = first;
+    while left > 0 {
+        left -= 1;
+        let cycle = mark_at(draws, from, start, left);
+        (near, spare) = add_next_mark(points, near, spare, cycle);
+    }
+    near
+}
+
 /// Adds the marks of a test with the draws from a place on, in room that the marks leave. The loads stay as they are. The place
 /// of its start is answered.
 pub fn add_marks(points: &mut Vec<Point>, draws: &[Draw], from: usize, start: u64) -> usize
@@ -142,16 +213,11 @@ pub fn add_marks(points: &mut Vec<Point>, draws: &[Draw], from: usize, start: u6
     ensures points { (held : List Draw) (cycles : List ℕ) → AreMarked held cycles → ArePoints held cycles points.old.items → ArePoints held (marks_from start (drop from draws.now) ++ cycles) points.new.items }
     ensures capacity { vec_capacity points.new ≡ vec_capacity points.old }
 {
-    let mut left = draws.len() - from + 1;
-    make_room(points, left);
-    let mut spare = open_gap(points, draws, from, start);
-    let mut near = points.len();
-    while left > 0 {
-        left -= 1;
-        let cycle = mark_at(draws, from, start, left);
-        (near, spare) = add_next_mark(points, near, spare, cycle);
+    let (left, near) = add_standing(points, draws, from, start);
+    if left == 0 {
+        return near;
     }
-    near
+    add_first(points, draws, from, start, left)
 }
 
 /// Takes away the marks of a test with the draws from a place on. The first one is sought from a near place.

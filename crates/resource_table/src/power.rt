@@ -2,7 +2,7 @@
 ghost use Rattle.std.specs.Prelude.{◌≡◌, ℕ, ◌+◌, ◌^◌, ◌<◌, ◌≤◌, ◌++◌, ◌∷◌, [], true, drop, length as length_of, slice_index_or, vec_len, vec_capacity};
 ghost use Rattle.std.specs.List.{All};
 ghost use Rattle.std.specs.List.Sorted.{IsNonDecreasingBy};
-ghost use Rattle.soc_model.specs.declared.TheConstants.{POWER_MOST, NUMBER_WORD_MOST};
+ghost use Rattle.soc_model.specs.declared.TheConstants.{NUMBER_WORD_MOST};
 ghost use Rattle.resource_table.specs.Resources.{step_end as step_end_of, draws_from, StepsFit, StepFits};
 ghost use Rattle.resource_table.specs.Profiles.{IsEndedProfile};
 

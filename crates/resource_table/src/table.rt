@@ -1,12 +1,12 @@
 // The table of placed tests.
-ghost use Rattle.std.specs.Prelude.{◌≡◌, ℕ, ◌+◌, ◌-◌, ◌^◌, ◌<◌, ◌≤◌, ◌++◌, ◌∷◌, [], List, length, map, take, Some, slice_get, replicate, None, IfOk, ◌⊎◌, ◌*◌, vec_capacity, slice_index_or, unwrap_or, IfSome};
+ghost use Rattle.std.specs.Prelude.{◌≡◌, ℕ, ◌+◌, ◌-◌, ◌^◌, ◌<◌, ◌≤◌, ◌++◌, ◌∷◌, [], length, map, take, Some, replicate, None, IfOk, ◌⊎◌, ◌*◌, vec_capacity, slice_index_or, unwrap_or, IfSome};
 ghost use Rattle.std.specs.List.{All, Contains, sum_by};
 ghost use Rattle.plan_model.specs.declared.TheConstants.{WIRES_MOST};
 ghost use Rattle.resource_table.specs.Calm.{IsCalm};
 ghost use Rattle.resource_table.specs.declared.JobTest.{JobTest};
 ghost use Rattle.resource_table.specs.declared.Placement.{Placement};
-ghost use Rattle.resource_table.specs.Jobs.{TestValue, test_value, job_value, cycles_of, test_over, tests_over, job_over, Precedes, IsSoundJob};
-ghost use Rattle.resource_table.specs.Schedules.{TableValue, at_start, end_of, last_end as last_end_of, ready_at, is_placed as is_placed_in, MeetsNone, StaysWithin, ComesAfter, Fits, IsEarliest, MayPlace, IsSoundTable};
+ghost use Rattle.resource_table.specs.Jobs.{test_value, job_value, cycles_of, test_over, tests_over, job_over, IsSoundJob};
+ghost use Rattle.resource_table.specs.Schedules.{TableValue, at_start, last_end as last_end_of, ready_at, is_placed as is_placed_in, MeetsNone, StaysWithin, ComesAfter, Fits, IsEarliest, MayPlace, IsSoundTable};
 
 use crate::copies::copy_job;
 use crate::crowds::calm_end;

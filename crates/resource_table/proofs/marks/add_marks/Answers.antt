@@ -1,53 +1,24 @@
-use Rattle.std.proofs.Common.{◌≡◌, ◌∙◌, ◌+◌, ◌-◌, ◌++◌, [], ℕ, List, length, drop, arith, sym, subst}
-use Rattle.std.proofs.lemmas.List.{drop_all}
+use Rattle.std.proofs.Common.{◌≡◌, ◌+◌, ◌-◌, ◌++◌, ℕ, List, length, drop, arith, subst}
 use Rattle.resource_table.specs.Resources.{marks_from}
 use Rattle.resource_table.specs.Profiles.{ArePoints}
-use Rattle.resource_table.proofs.Marked.{length-marks, marks_split, marked_more, room_left}
+use Rattle.resource_table.proofs.Marked.{length-marks, marks_and_left}
 use Rattle.resource_table.proofs.marks.add_marks.Goals as goal
 
-pub open_gap-spare-requires-clause-ordered : goal.open_gap-spare-requires-clause-ordered
-open_gap-spare-requires-clause-ordered c = (c.make_room.ensures.points c.requires.points.0 c.requires.points.1 c.requires.points.3).ordered
+pub returns-then-left-eq0-clause-points : goal.returns-then-left-eq0-clause-points
+returns-then-left-eq0-clause-points c = λ held cycles marked are.
+    subst (λ (n : ℕ). ArePoints held (drop n (marks_from c.args.start (drop c.args.from c.args.draws.now)) ++ cycles) c.add_standing-left.new.points.items) c.if-left-eq0.true (c.add_standing-left.ensures.points held cycles are)
 
-pub loop-left-init : goal.loop-left-init
-loop-left-init c =
+pub add_first-requires-clause-room : goal.add_first-requires-clause-room
+add_first-requires-clause-room c =
     let marks : List ℕ = marks_from c.args.start (drop c.args.from c.args.draws.now) in
     let count : length marks ≡ length c.args.draws.now - c.args.from + 1 = length-marks c.args.start c.args.from c.args.draws.now c.requires.from in
-    let none : drop (length c.args.draws.now - c.args.from + 1) marks ≡ [] = drop_all (length c.args.draws.now - c.args.from + 1) marks (omega (arith, count)) in
-    record {
-      most = omega (arith, count);
-      points = (λ held cycles marked old. subst (λ (v : List ℕ). ArePoints held (v ++ cycles) c.open_gap-spare.new.points.items) (sym none) (c.open_gap-spare.ensures.points held cycles (c.make_room.ensures.points held cycles old)));
-      capacity = c.open_gap-spare.ensures.capacity ∙ c.make_room.ensures.capacity;
-    }
+    let capacity = c.add_standing-left.ensures.capacity in
+    let before = c.requires.points.3.count in
+    let now = marks_and_left c.requires.points.0 marks c.requires.points.1 c.add_standing-left.new.points.items c.add_standing-left.result.0 (omega (arith, count, c.add_standing-left.ensures.left)) (c.add_standing-left.ensures.points c.requires.points.0 c.requires.points.1 c.requires.points.3) in
+    omega (arith, before, now, count, capacity, c.requires.room)
 
-pub add_next_mark-requires-clause-room : goal.add_next_mark-requires-clause-room
-add_next_mark-requires-clause-room c =
-    let marks : List ℕ = marks_from c.args.start (drop c.args.from c.args.draws.now) in
-    let count : length marks ≡ length c.args.draws.now - c.args.from + 1 = length-marks c.args.start c.args.from c.args.draws.now c.requires.from in
-    let some = c.loop-left-test.true in
-    let capacity = c.loop-left.invariant.capacity in
-    let uses = room_left c.requires.points.0 marks c.requires.points.1 c.args.points.now.items c.loop-left.points.items c.loop-left.left c.loop-left.invariant.most c.requires.points.3
-    (c.loop-left.invariant.points c.requires.points.0 c.requires.points.1 c.requires.points.2 c.requires.points.3) in
-    omega (arith, uses, count, some, capacity, c.requires.room)
+pub add_first-requires-clause-points : goal.add_first-requires-clause-points
+add_first-requires-clause-points c = (c.requires.points.0, c.requires.points.1, c.requires.points.2, c.add_standing-left.ensures.points c.requires.points.0 c.requires.points.1 c.requires.points.3)
 
-pub add_next_mark-requires-clause-points : goal.add_next_mark-requires-clause-points
-add_next_mark-requires-clause-points c = (
-  c.requires.points.0,
-  drop c.loop-left.left (marks_from c.args.start (drop c.args.from c.args.draws.now)) ++ c.requires.points.1,
-  c.loop-left.invariant.points c.requires.points.0 c.requires.points.1 c.requires.points.2 c.requires.points.3,
-)
-
-pub loop-left-preserved : goal.loop-left-preserved
-loop-left-preserved c =
-    let marks : List ℕ = marks_from c.args.start (drop c.args.from c.args.draws.now) in
-    let more : ℕ = c.loop-left.left - 1 in
-    let some = c.loop-left-test.true in
-    let most = c.loop-left.invariant.most in
-    let left_is : c.loop-left.left ≡ more + 1 = omega (arith, some) in
-    record {
-      most = omega (arith, most);
-      points = (λ held cycles marked old.
-          let before : ArePoints held (drop (more + 1) marks ++ cycles) c.loop-left.points.items = subst (λ (n : ℕ). ArePoints held (drop n marks ++ cycles) c.loop-left.points.items) left_is (c.loop-left.invariant.points held cycles marked old) in
-          let added = c.add_next_mark.ensures.points held (drop (more + 1) marks ++ cycles) (marked_more held (drop (more + 1) marks) cycles marked) before in
-          subst (λ (v : List ℕ). ArePoints held v c.add_next_mark.new.points.items) (marks_split marks cycles more c.mark_at-cycle.result (omega (arith, left_is, most)) c.mark_at-cycle.ensures) added);
-      capacity = c.add_next_mark.ensures.capacity ∙ c.loop-left.invariant.capacity;
-    }
+pub returns-clause-points : goal.returns-clause-points
+returns-clause-points c = λ held cycles marked are. c.add_first.ensures.points held cycles marked (c.add_standing-left.ensures.points held cycles are)

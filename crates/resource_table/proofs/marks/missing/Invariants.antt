@@ -1,9 +1,9 @@
-use Rattle.std.proofs.Common.{◌+◌, ◌-◌, ◌≤◌, length}
+use Rattle.std.proofs.Common.{◌+◌, ◌≤◌}
 use Rattle.resource_table.proofs.marks.missing.Given as goal
 
 abbrev pub invariant-loop-left : goal.invariant-loop-left
 invariant-loop-left l = record {
-  few : l.count + l.left ≤ length l.draws - l.from + 1;
+  few : l.count + l.left ≤ l.first;
 }
 
 abbrev pub decreases-loop-left : goal.decreases-loop-left

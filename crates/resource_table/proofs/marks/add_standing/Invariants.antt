@@ -1,13 +1,13 @@
 use Rattle.std.proofs.Common.{◌≡◌, ◌++◌, ◌≤◌, ℕ, List, length, drop, vec_capacity}
 use Rattle.resource_table.specs.declared.power.Draw.{Draw}
 use Rattle.resource_table.specs.Resources.{marks_from}
-use Rattle.resource_table.specs.Profiles.{ArePoints, AreMarked}
-use Rattle.resource_table.proofs.marks.add_marks.Given as goal
+use Rattle.resource_table.specs.Profiles.{ArePoints}
+use Rattle.resource_table.proofs.marks.add_standing.Given as goal
 
 abbrev pub invariant-loop-left : goal.invariant-loop-left
 invariant-loop-left l = record {
   most : l.left ≤ length (marks_from l.start (drop l.from l.draws));
-  points : (held : List Draw) (cycles : List ℕ) → AreMarked held cycles → ArePoints held cycles l.fn.points.items → ArePoints held (drop l.left (marks_from l.start (drop l.from l.draws)) ++ cycles) l.points.items;
+  points : (held : List Draw) (cycles : List ℕ) → ArePoints held cycles l.fn.points.items → ArePoints held (drop l.left (marks_from l.start (drop l.from l.draws)) ++ cycles) l.points.items;
   capacity : vec_capacity l.points ≡ vec_capacity l.fn.points;
 }
 
