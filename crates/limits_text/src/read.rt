@@ -1,15 +1,24 @@
 // Reads the limits of a text for a chip.
+ghost use Rattle.std.specs.Prelude.{◌≡◌};
 ghost use Rattle.soc_model.specs.Chips.{soc_value};
 ghost use Rattle.limits_text.specs.Answers.{LimitsRead};
 
 use crate::LimFault;
 use crate::build::limits_of;
 use crate::cycles::first_cycle_of;
+use crate::items::{Item, Items};
 use crate::refusals::test_power;
 use crate::whole::read_items;
 use plan_model::Limits;
 use soc_model::Soc;
 use std::alloc::Global;
+
+/// The items by themselves. The set of tests beside them is let go here, once, and not at each exit of the caller.
+fn list_of(items: Items) -> Vec<Item>
+    ensures { result.items ≡ items.list.items }
+{
+    items.list
+}
 
 /// The limits that a text says for a chip; they are sound for it. The refusals are tried in the order of [`LimFault`].
 ///
@@ -20,11 +29,12 @@ pub fn read_limits(alloc: Global, bytes: &[u8], soc: &Soc) -> Result<Limits, Lim
     ensures { LimitsRead bytes.now (soc_value soc.now) result }
 {
     let items = read_items(alloc, bytes)?;
-    let cycle = match first_cycle_of(alloc, soc, &items.list) {
+    let list = list_of(items);
+    let cycle = match first_cycle_of(alloc, soc, &list) {
         Ok(found) => found,
         Err(fault) => return Err(fault),
     };
-    let limits = limits_of(alloc, items.list)?;
+    let limits = limits_of(alloc, list)?;
     if let Some(tests) = cycle {
         return Err(LimFault::Cycle { tests });
     }

@@ -1,8 +1,8 @@
 // Reads the words of a plan one by one.
-ghost use Rattle.std.specs.Prelude.{◌≡◌, Ok, OnOk, OnErr, option_map};
+ghost use Rattle.std.specs.Prelude.{◌≡◌, ◌++◌, ◌∷◌, [], Ok, OnOk, OnErr, option_map};
 ghost use Rattle.plan_model.specs.Views.{bus_value, wrapper_value, chain_value, bound_value};
 ghost use Rattle.plan_text.specs.PartValues.{draft_value, part_value, Begins, Steps};
-ghost use Rattle.plan_text.specs.Steps.{with_bus, with_wrapper, with_start, with_chain, with_module, with_scan, at, start as state_at_first, step_number as steps_number, step_key as steps_key, step_wrapper as steps_wrapper, step as steps, begin as begins, begin_mode as begins_mode, begin_reason as begins_reason, begin_plan as begins_plan, begin_cycles as begins_cycles, is_chain as chains, bound_at as bound_there, in_bus, wants_form, wants_start};
+ghost use Rattle.plan_text.specs.Steps.{with_bus, with_wrapper, with_start, with_chain, with_module, with_scan, at, start as state_at_first, step_number as steps_number, step_key as steps_key, step_wrapper as steps_wrapper, step as steps, begin as begins, begin_mode as begins_mode, begin_reason as begins_reason, begin_plan as begins_plan, begin_cycles as begins_cycles, is_chain as chains, bound_at as bound_there, in_bus, in_tests, wants_form, wants_start};
 
 use crate::parts::{Draft, Part, Section};
 use crate::tokens::{Keyword, Token};
@@ -69,6 +69,14 @@ fn push_scan(chain: &mut ChainPlan, scan: u64) -> Result<(), Stop>
     ensures err { OnErr result (result ≡ Err Stop.NoMemory) }
 {
     chain.scans.push(scan)?;
+    Ok(())
+}
+
+fn push_forced(modules: &mut Vec<u64>, module: u64) -> Result<(), Stop>
+    ensures ok { OnOk result (modules.new.items ≡ modules.old.items ++ «module» ∷ []) }
+    ensures err { OnErr result (result ≡ Err Stop.NoMemory) }
+{
+    modules.push(module)?;
     Ok(())
 }
 
@@ -282,6 +290,28 @@ fn step_start(draft: &mut Draft, part: &mut Part, test: TestId, n: u64) -> Resul
     Ok(())
 }
 
+/// The next test of a chain that bounds.
+fn step_test(part: &mut Part, cycles: u64, mut tests: Vec<TestId>, test: TestId) -> Result<(), Stop>
+    ensures ok { OnOk result (part_value part.new ≡ in_tests cycles (tests.items ++ test ∷ [])) }
+    ensures err { OnErr result (result ≡ Err Stop.NoMemory) }
+{
+    tests.push(test)?;
+    *part = Part::InTests { cycles, tests };
+    Ok(())
+}
+
+/// Ends a step: puts the next part in place of this one. Each place that writes a part also lets go of whatever the old one may
+/// own, and is proved for all of it, so one function writes. In its caller's place no whole part is moved through memory for
+/// each word.
+#[inline(always)]
+fn go_on(part: &mut Part, next: Part) -> Result<(), Stop>
+    ensures next { part.new ≡ next }
+    ensures ok { result ≡ Ok tt }
+{
+    *part = next;
+    Ok(())
+}
+
 /// A number as the next word. What goes on is changed where it stands.
 fn step_number(alloc: Global, draft: &mut Draft, part: &mut Part, n: u64) -> Result<(), Stop>
     ensures { Steps (steps_number (draft_value draft.old) (part_value part.old) n) result part.new draft.new }
@@ -290,25 +320,20 @@ fn step_number(alloc: Global, draft: &mut Draft, part: &mut Part, n: u64) -> Res
         Part::WantsForm => step_form(draft, part, n),
         Part::WantsCycles => {
             draft.cycles = n;
-            *part = Part::AfterCycles;
-            Ok(())
+            go_on(part, Part::AfterCycles)
         }
         Part::WantsWidth => {
-            *part = Part::InBus(Bus {
+            let bus = Bus {
                 width: n,
                 modules: Vec::new(alloc),
-            });
-            Ok(())
+            };
+            go_on(part, Part::InBus(bus))
         }
         Part::InBus(bus) => push_module(bus, n),
-        Part::WantsModule => {
-            *part = Part::WantsMode { module: n };
-            Ok(())
-        }
+        Part::WantsModule => go_on(part, Part::WantsMode { module: n }),
         Part::WantsIns(wrapper) => {
             let wrapper = replace(wrapper, no_wrapper(alloc));
-            *part = Part::WantsOuts { wrapper, ins: n };
-            Ok(())
+            go_on(part, Part::WantsOuts { wrapper, ins: n })
         }
         Part::WantsOuts { wrapper, ins } => {
             let wrapper = replace(wrapper, no_wrapper(alloc));
@@ -317,52 +342,38 @@ fn step_number(alloc: Global, draft: &mut Draft, part: &mut Part, n: u64) -> Res
                 scans: Vec::new(alloc),
                 outs: n,
             };
-            *part = Part::InChain { wrapper, chain };
-            Ok(())
+            go_on(part, Part::InChain { wrapper, chain })
         }
         Part::InChain { chain, .. } => push_scan(chain, n),
-        Part::WantsTestModule => {
-            *part = Part::WantsTest { module: n };
-            Ok(())
-        }
+        Part::WantsTestModule => go_on(part, Part::WantsTest { module: n }),
         Part::WantsTest { module } => {
             let module = *module;
-            *part = Part::WantsStart(TestId { module, test: n });
-            Ok(())
+            go_on(part, Part::WantsStart(TestId { module, test: n }))
         }
         Part::WantsStart(test) => {
             let test = *test;
             step_start(draft, part, test, n)
         }
-        Part::WantsBound => {
-            *part = Part::WantsReason { cycles: n };
-            Ok(())
-        }
+        Part::WantsBound => go_on(part, Part::WantsReason { cycles: n }),
         Part::WantsBoundModule { cycles } => {
             let cycles = *cycles;
-            *part = Part::Whole(Bound {
-                cycles,
-                why: Why::Module { module: n },
-            });
-            Ok(())
+            let why = Why::Module { module: n };
+            go_on(part, Part::Whole(Bound { cycles, why }))
         }
         Part::WantsPairModule { cycles } => {
             let cycles = *cycles;
-            *part = Part::Whole(Bound {
-                cycles,
-                why: Why::Pair { module: n },
-            });
-            Ok(())
+            let why = Why::Pair { module: n };
+            go_on(part, Part::Whole(Bound { cycles, why }))
         }
         Part::InTests { cycles, tests } => {
             let cycles = *cycles;
             let tests = replace(tests, Vec::new(alloc));
-            *part = Part::WantsTestOf {
+            let next = Part::WantsTestOf {
                 cycles,
                 tests,
                 module: n,
             };
-            Ok(())
+            go_on(part, next)
         }
         Part::WantsTestOf {
             cycles,
@@ -371,15 +382,10 @@ fn step_number(alloc: Global, draft: &mut Draft, part: &mut Part, n: u64) -> Res
         } => {
             let cycles = *cycles;
             let module = *module;
-            tests.push(TestId { module, test: n })?;
             let tests = replace(tests, Vec::new(alloc));
-            *part = Part::InTests { cycles, tests };
-            Ok(())
+            step_test(part, cycles, tests, TestId { module, test: n })
         }
-        Part::InForced { modules, .. } => {
-            modules.push(n)?;
-            Ok(())
-        }
+        Part::InForced { modules, .. } => push_forced(modules, n),
         Part::WantsPlan
         | Part::WantsCyclesWord
         | Part::AfterCycles

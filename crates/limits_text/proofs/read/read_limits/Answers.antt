@@ -1,4 +1,4 @@
-use Rattle.std.proofs.Common.{List, map, subst}
+use Rattle.std.proofs.Common.{◌∙◌, List, map, subst}
 use Rattle.std.specs.Prelude.{Ok}
 use Rattle.soc_model.specs.Chips.{soc_value}
 use Rattle.plan_model.specs.Views.{limits_value}
@@ -13,22 +13,24 @@ pub returns-in-Err : goal.returns-in-Err
 returns-in-Err c =
     let soc = soc_value c.args.soc.now in
     noted_said c.args.bytes.now soc c.in_ok-items.items.second (map item_of c.in_ok-items.items.list.items) c.in-Err.fault c.in_ok-items.ensures
-    (subst (λ (l : List Item). StopsAt soc (map item_of l) c.in-Err.fault) c.deref.ensures.value c.in-Err.ensures)
+    (subst (λ (l : List Item). StopsAt soc (map item_of l) c.in-Err.fault) (c.deref.ensures.value ∙ c.list_of-list.ensures) c.in-Err.ensures)
 
 pub returns-in-Some : goal.returns-in-Some
 returns-in-Some c =
     let soc = soc_value c.args.soc.now in
-    let first : HasFirstCycle soc (map item_of c.in_ok-items.items.list.items) (Ok c.in-Ok.found) = subst (λ (l : List Item). HasFirstCycle soc (map item_of l) (Ok c.in-Ok.found)) c.deref.ensures.value c.in-Ok.ensures in
-    let k = said c.args.bytes.now soc c.in_ok-items.items.second (map item_of c.in_ok-items.items.list.items) (limits_value c.in_ok-limits.limits) c.in_ok-items.ensures c.in_ok-limits.ensures first.0 in
-    let cycle = first.1 (limits_value c.in_ok-limits.limits) c.in_ok-limits.ensures in
+    let first : HasFirstCycle soc (map item_of c.in_ok-items.items.list.items) (Ok c.in-Ok.found) = subst (λ (l : List Item). HasFirstCycle soc (map item_of l) (Ok c.in-Ok.found)) (c.deref.ensures.value ∙ c.list_of-list.ensures) c.in-Ok.ensures in
+    let whole = rw c.list_of-list.ensures at c.in_ok-limits.ensures in
+    let k = said c.args.bytes.now soc c.in_ok-items.items.second (map item_of c.in_ok-items.items.list.items) (limits_value c.in_ok-limits.limits) c.in_ok-items.ensures whole first.0 in
+    let cycle = first.1 (limits_value c.in_ok-limits.limits) whole in
     record { limits = limits_value c.in_ok-limits.limits; said = k; cycle = rw c.in-Some.is at cycle }
 
 pub returns-in-Some-2 : goal.returns-in-Some-2
 returns-in-Some-2 c =
     let soc = soc_value c.args.soc.now in
-    let first : HasFirstCycle soc (map item_of c.in_ok-items.items.list.items) (Ok c.in-Ok.found) = subst (λ (l : List Item). HasFirstCycle soc (map item_of l) (Ok c.in-Ok.found)) c.deref.ensures.value c.in-Ok.ensures in
-    let k = said c.args.bytes.now soc c.in_ok-items.items.second (map item_of c.in_ok-items.items.list.items) (limits_value c.in_ok-limits.limits) c.in_ok-items.ensures c.in_ok-limits.ensures first.0 in
-    let cycle = first.1 (limits_value c.in_ok-limits.limits) c.in_ok-limits.ensures in
+    let first : HasFirstCycle soc (map item_of c.in_ok-items.items.list.items) (Ok c.in-Ok.found) = subst (λ (l : List Item). HasFirstCycle soc (map item_of l) (Ok c.in-Ok.found)) (c.deref.ensures.value ∙ c.list_of-list.ensures) c.in-Ok.ensures in
+    let whole = rw c.list_of-list.ensures at c.in_ok-limits.ensures in
+    let k = said c.args.bytes.now soc c.in_ok-items.items.second (map item_of c.in_ok-items.items.list.items) (limits_value c.in_ok-limits.limits) c.in_ok-items.ensures whole first.0 in
+    let cycle = first.1 (limits_value c.in_ok-limits.limits) whole in
     record {
       limits = limits_value c.in_ok-limits.limits;
       said = k;
@@ -39,7 +41,8 @@ returns-in-Some-2 c =
 pub returns : goal.returns
 returns c =
     let soc = soc_value c.args.soc.now in
-    let first : HasFirstCycle soc (map item_of c.in_ok-items.items.list.items) (Ok c.in-Ok.found) = subst (λ (l : List Item). HasFirstCycle soc (map item_of l) (Ok c.in-Ok.found)) c.deref.ensures.value c.in-Ok.ensures in
-    let k = said c.args.bytes.now soc c.in_ok-items.items.second (map item_of c.in_ok-items.items.list.items) (limits_value c.in_ok-limits.limits) c.in_ok-items.ensures c.in_ok-limits.ensures first.0 in
-    let cycle = first.1 (limits_value c.in_ok-limits.limits) c.in_ok-limits.ensures in
+    let first : HasFirstCycle soc (map item_of c.in_ok-items.items.list.items) (Ok c.in-Ok.found) = subst (λ (l : List Item). HasFirstCycle soc (map item_of l) (Ok c.in-Ok.found)) (c.deref.ensures.value ∙ c.list_of-list.ensures) c.in-Ok.ensures in
+    let whole = rw c.list_of-list.ensures at c.in_ok-limits.ensures in
+    let k = said c.args.bytes.now soc c.in_ok-items.items.second (map item_of c.in_ok-items.items.list.items) (limits_value c.in_ok-limits.limits) c.in_ok-items.ensures whole first.0 in
+    let cycle = first.1 (limits_value c.in_ok-limits.limits) whole in
     sound_said c.args.bytes.now soc (limits_value c.in_ok-limits.limits) k (rw c.in_default.is at cycle) (rw c.in_default-2.is at c.in_ok-test.ensures)
