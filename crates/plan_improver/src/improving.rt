@@ -165,6 +165,7 @@ fn searched_on<T: Sink>(
         &search.found(),
         given.cycles,
     );
+    // let go by a call: the end of the scope would let go of each of its parts, and be proved for each
     drop(search);
     plan
 }
@@ -194,6 +195,7 @@ fn searched<T: Sink>(
     }
     let grounds = grounds_of(alloc, soc, limits, given)?;
     let plan = searched_on(alloc, soc, limits, &grounds, given, tries, seed, told);
+    // let go by a call, as the search is
     drop(grounds);
     plan
 }
