@@ -3,7 +3,7 @@ ghost use Rattle.std.specs.Prelude.{◌≡◌, ◌≤◌, length};
 ghost use Rattle.soc_model.specs.Chips.{soc_value};
 ghost use Rattle.plan_model.specs.Rules.{live_ids};
 ghost use Rattle.resource_table.specs.Jobs.{job_value, IsSoundJob};
-ghost use Rattle.arch_search.specs.Problems.{IsProblem};
+ghost use Rattle.arch_search.specs.Problems.{IsProblem, IsStateOf};
 ghost use Rattle.arch_search.specs.Searches.{IsLent};
 
 use crate::changes::change;
@@ -90,17 +90,38 @@ impl<'a> Search<'a> {
         requires problem { IsProblem (job_value job.now) problem.now }
         requires names { length (live_ids (soc_value soc.now)) ≡ length (job_value job.now).tests }
     {
-        let first = first_state(alloc, soc, problem, job, plan)?;
-        let best = first.copy(alloc)?;
-        let next = first.copy(alloc)?;
+        let current = first_state(alloc, soc, problem, job, plan)?;
+        let best = current.copy(alloc)?;
+        let next = current.copy(alloc)?;
+        Search::with_states(alloc, problem, job, best, current, next, seed)
+    }
+
+    /// A search with these states, the next of which is weighed.
+    fn with_states(
+        alloc: Global,
+        problem: &'a Problem,
+        job: &'a Job,
+        best: State,
+        current: State,
+        next: State,
+        seed: u64,
+    ) -> Result<Search<'a>, NoMemory>
+        requires sound { IsSoundJob (job_value job.now) }
+        requires problem { IsProblem (job_value job.now) problem.now }
+        requires best { IsStateOf problem.now best }
+        requires current { IsStateOf problem.now current }
+        requires next { IsStateOf problem.now next }
+    {
+        let room = Room::new(alloc, problem.tests.len(), problem.wires)?;
+        let table = Table::new(alloc, job)?;
         let mut search = Search {
             problem,
-            table: Table::new(alloc, job)?,
-            room: Room::new(alloc, problem.tests.len(), problem.wires)?,
+            table,
+            room,
             rng: Xoshiro256PlusPlus::seed_from_u64(seed),
             best,
+            current,
             next,
-            current: first,
             since: 0,
         };
         search.weigh(u64::MAX);

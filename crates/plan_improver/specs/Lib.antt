@@ -3,3 +3,4 @@ pub mod Requests
 pub mod Headlines
 pub mod Widths
 pub mod Told
+pub mod Grounds

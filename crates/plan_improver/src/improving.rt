@@ -11,6 +11,7 @@ ghost use Rattle.plan_model.specs.Runs.{Content};
 ghost use Rattle.plan_model.specs.Right.{IsRight};
 ghost use Rattle.plan_model.specs.Views.{limits_value, plan_value, bound_value};
 ghost use Rattle.plan_improver.specs.declared.progress.TheConstants.{TOLD_FROM};
+ghost use Rattle.plan_improver.specs.Grounds.{AreGrounds};
 ghost use Rattle.plan_improver.specs.Improved.{IsGreaterBound, IsRaised, IsImproved};
 ghost use Rattle.plan_improver.specs.Told.{MayTell};
 
@@ -99,6 +100,76 @@ fn job_of_plan(alloc: Global, soc: &Soc, limits: &Limits, given: &Plan) -> Resul
     Ok(job)
 }
 
+/// What a search for a better plan goes by.
+#[derive(Drop)]
+struct Grounds<'a> {
+    /// The times of the modules.
+    table: WidthTable<'a>,
+    /// The job of the given plan's tests.
+    job: Job,
+    /// Those tests, with their cycles on each width.
+    problem: Problem,
+}
+
+/// What a search that begins at a plan goes by.
+fn grounds_of<'a>(
+    alloc: Global,
+    soc: &'a Soc,
+    limits: &Limits,
+    given: &Plan,
+) -> Result<Grounds<'a>, NoMemory>
+    requires sound { IsSoundChip (soc_value soc.now) }
+    requires limits { IsSoundLimits (soc_value soc.now) (limits_value limits.now) }
+    requires given { IsGood (soc_value soc.now) (limits_value limits.now) (plan_value given.now) }
+    ensures { IfOk result (AreGrounds (soc_value soc.now)) }
+{
+    let table = WidthTable::new(alloc, soc, limits.wires)?;
+    let job = job_of_plan(alloc, soc, limits, given)?;
+    let problem = Problem::new(alloc, soc, &table, &job)?;
+    Ok(Grounds {
+        table,
+        job,
+        problem,
+    })
+}
+
+/// A good plan of fewer cycles than the given one, where so many tries of a search on its grounds find one.
+fn searched_on<T: Sink>(
+    alloc: Global,
+    soc: &Soc,
+    limits: &Limits,
+    grounds: &Grounds<'_>,
+    given: &Plan,
+    tries: u64,
+    seed: u64,
+    told: &mut T,
+) -> Result<Option<Plan>, NoMemory>
+    requires sound { IsSoundChip (soc_value soc.now) }
+    requires limits { IsSoundLimits (soc_value soc.now) (limits_value limits.now) }
+    requires grounds { AreGrounds (soc_value soc.now) grounds.now }
+    ensures good { IfOk result (λ plan. IfSome plan (λ p. IsGood (soc_value soc.now) (limits_value limits.now) (plan_value p))) }
+    ensures fewer { IfOk result (λ plan. IfSome plan (λ p. p.cycles < given.now.cycles)) }
+    ensures faults_never_fall { T.faults told.old ≤ T.faults told.new }
+    ensures quiet { tries < TOLD_FROM → told.new ≡ told.old }
+    ensures told { MayTell tries (T.written told.old) (T.written told.new) }
+{
+    let mut line = line_room(alloc)?;
+    let mut search = Search::new(alloc, soc, &grounds.problem, &grounds.job, given, seed)?;
+    run_told(&mut search, tries, &mut line, told);
+    search.finish();
+    let plan = better_plan(
+        alloc,
+        soc,
+        limits,
+        &grounds.table,
+        &search.found(),
+        given.cycles,
+    );
+    // let go by a call: the end of the scope would let go of each of its parts, and be proved for each
+    drop(search);
+    plan
+}
+
 /// A good plan of fewer cycles than the given one, where so many tries find one.
 fn searched<T: Sink>(
     alloc: Global,
@@ -122,15 +193,11 @@ fn searched<T: Sink>(
     if tries == 0 {
         return Ok(None);
     }
-    let mut line = line_room(alloc)?;
-    let table = WidthTable::new(alloc, soc, limits.wires)?;
-    let job = job_of_plan(alloc, soc, limits, given)?;
-    let problem = Problem::new(alloc, soc, &table, &job)?;
-    let mut search = Search::new(alloc, soc, &problem, &job, given, seed)?;
-    run_told(&mut search, tries, &mut line, told);
-    search.finish();
-    let found = search.found();
-    better_plan(alloc, soc, limits, &table, &found, given.cycles)
+    let grounds = grounds_of(alloc, soc, limits, given)?;
+    let plan = searched_on(alloc, soc, limits, &grounds, given, tries, seed, told);
+    // let go by a call, as the search is
+    drop(grounds);
+    plan
 }
 
 /// A plan of no more cycles than the given one has, for the same chip and limits, after so many tries of a search that draws
