@@ -13,14 +13,46 @@ pub struct Neighbours {
     pub tests: Vec<usize>,
 }
 
-/// No neighbours for any of so many tests.
-fn no_neighbours(alloc: Global, count: usize) -> Result<Vec<Neighbours>, NoMemory>
-    ensures long { IfOk result (λ lists. length lists.items ≡ count) }
-    ensures none { IfOk result (λ lists. (i : ℕ) → i < count → slice_index_or (map tests_of lists.items) i [] ≡ []) }
+/// How often each of `count` tests stands first in some pairs: the room that those after it take.
+fn count_after(
+    alloc: Global,
+    count: usize,
+    pairs: &[(usize, usize)],
+) -> Result<Vec<usize>, NoMemory>
+    requires { All (λ (e : ℕ × ℕ). (e.0 < count) × (e.1 < count)) pairs.now }
+    ensures { IfOk result (λ rooms. length rooms.items ≡ count) }
 {
-    let mut lists = Vec::new(alloc);
-    for _ in 0..count {
-        let tests = Vec::new(alloc);
+    let mut rooms: Vec<usize> = vec![in alloc; 0; count].map_err(|_| NoMemory)?;
+    for (first, _) in pairs {
+        rooms[*first] = rooms[*first].saturating_add(1);
+    }
+    Ok(rooms)
+}
+
+/// How often each of `count` tests stands second in some pairs: the room that those before it take.
+fn count_before(
+    alloc: Global,
+    count: usize,
+    pairs: &[(usize, usize)],
+) -> Result<Vec<usize>, NoMemory>
+    requires { All (λ (e : ℕ × ℕ). (e.0 < count) × (e.1 < count)) pairs.now }
+    ensures { IfOk result (λ rooms. length rooms.items ≡ count) }
+{
+    let mut rooms: Vec<usize> = vec![in alloc; 0; count].map_err(|_| NoMemory)?;
+    for (_, second) in pairs {
+        rooms[*second] = rooms[*second].saturating_add(1);
+    }
+    Ok(rooms)
+}
+
+/// No neighbours for any test, with room for so many of each.
+fn no_neighbours(alloc: Global, rooms: &[usize]) -> Result<Vec<Neighbours>, NoMemory>
+    ensures long { IfOk result (λ lists. length lists.items ≡ length rooms.now) }
+    ensures none { IfOk result (λ lists. (i : ℕ) → i < length rooms.now → slice_index_or (map tests_of lists.items) i [] ≡ []) }
+{
+    let mut lists = Vec::with_capacity(alloc, rooms.len())?;
+    for room in rooms {
+        let tests = Vec::with_capacity(alloc, *room)?;
         push(&mut lists, Neighbours { tests })?;
     }
     Ok(lists)
@@ -37,7 +69,8 @@ pub fn all_after(
     ensures long { IfOk result (λ lists. length lists.items ≡ count) }
     ensures lists { IfOk result (λ lists. (i : ℕ) → i < count → slice_index_or (map tests_of lists.items) i [] ≡ after i pairs.now) }
 {
-    let mut lists = no_neighbours(alloc, count)?;
+    let rooms = count_after(alloc, count, pairs)?;
+    let mut lists = no_neighbours(alloc, &rooms)?;
     for (first, second) in pairs {
         push(&mut lists[*first].tests, *second)?;
     }
@@ -55,7 +88,8 @@ pub fn all_before(
     ensures long { IfOk result (λ lists. length lists.items ≡ count) }
     ensures lists { IfOk result (λ lists. (i : ℕ) → i < count → slice_index_or (map tests_of lists.items) i [] ≡ before i pairs.now) }
 {
-    let mut lists = no_neighbours(alloc, count)?;
+    let rooms = count_before(alloc, count, pairs)?;
+    let mut lists = no_neighbours(alloc, &rooms)?;
     for (first, second) in pairs {
         push(&mut lists[*second].tests, *first)?;
     }

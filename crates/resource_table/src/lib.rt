@@ -8,6 +8,7 @@ mod copies;
 mod crowds;
 mod earlier;
 mod empty_times;
+mod excluding;
 mod frame;
 mod history;
 mod latest_ends;

@@ -139,7 +139,7 @@ fn search_orders<J, E: Estimate<J>>(
 {
     begin(job, table, first, progress);
     prefix.begin(job, tries);
-    explore(job, tries, ahead, table, prefix, progress, 0);
+    explore(job, tries, ahead, table, prefix, progress, 0, None);
     improve_best(job, table, progress);
 }
 

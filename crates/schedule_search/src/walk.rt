@@ -1,6 +1,6 @@
 // The walk over the orders of a job, depth first, within a budget of prefixes that are entered.
-ghost use Rattle.std.specs.Prelude.{◌≡◌, ℕ, ◌+◌, ◌-◌, ◌<◌, ◌≤◌, ◌++◌, ◌∷◌, [], true, false, length, vec_capacity, IfSome};
-ghost use Rattle.resource_table.specs.Jobs.{job_value, cycles_of};
+ghost use Rattle.std.specs.Prelude.{◌≡◌, ℕ, ◌+◌, ◌-◌, ◌<◌, ◌≤◌, ◌++◌, ◌∷◌, [], true, false, length, vec_capacity, Some, IfSome};
+ghost use Rattle.resource_table.specs.Jobs.{job_value, cycles_of, Precedes};
 ghost use Rattle.resource_table.specs.Schedules.{last_end, ready_at, IsEarliest, IsSoundTable};
 ghost use Rattle.resource_table.specs.Calm.{IsCalm};
 ghost use Rattle.schedule_search.specs.Estimates.{CanAsk};
@@ -8,14 +8,14 @@ ghost use Rattle.schedule_search.specs.OrderCycles.{HasPlaced};
 ghost use Rattle.schedule_search.specs.Walks.{walk_from, IsOpen};
 ghost use Rattle.schedule_search.specs.Prefixes.{HasPrefixRoom, IsAt, IsOut};
 ghost use Rattle.schedule_search.specs.Progress.{AreTries, stand_of, IsBest, NoneBefore, Explored};
-ghost use Rattle.schedule_search.specs.Late.{IsLateAt, AreInTime, AreUnplaced};
+ghost use Rattle.schedule_search.specs.Late.{IsLateAt, AreInTime, IsSeen, AreUnplaced};
 
 use crate::ahead::Estimate;
 use crate::lists::copy_to;
 use crate::order::cycles_at;
 use crate::prefix::Prefix;
 use crate::tries::Tries;
-use resource_table::{Job, TableOf, list_schedules_are_short};
+use resource_table::{Job, TableOf, earlier_than, list_schedules_are_short};
 
 /// How far a walk has come.
 #[derive(Drop)]
@@ -30,6 +30,16 @@ pub(crate) struct Progress {
     pub(crate) refused: bool,
     /// The test that was late last, where one was.
     pub(crate) late: usize,
+}
+
+/// A test that was placed last, and what was seen of those that are left before it was: all of them are in time. Where it excludes
+/// one of them, that may start later now; the others start when they did.
+#[derive(Clone, Copy)]
+pub(crate) struct Seen {
+    /// The test.
+    pub(crate) test: usize,
+    /// Before so many cycles the others end.
+    pub(crate) cycles: u64,
 }
 
 /// Enters one prefix more, where the budget isn't spent; else notes the refusal.
@@ -59,6 +69,21 @@ fn offer(progress: &mut Progress, order: &[usize], cycles: u64)
     }
 }
 
+/// Whether a test was in time before the last one was placed, and that one doesn't exclude it: it needn't be asked of then.
+fn is_still_in_time(job: &Job, seen: Option<Seen>, test: usize, cycles: u64) -> bool
+    requires last { IfSome seen (λ s. s.test < length (job_value job.now).tests) }
+    requires in_job { test < length (job_value job.now).tests }
+    ensures { result ≡ true → (s : Seen) × (seen ≡ Some s) × (s.cycles ≡ cycles) }
+{
+    let Some(last) = seen else {
+        return false;
+    };
+    if last.cycles != cycles {
+        return false;
+    }
+    !job.tests[last.test].excludes(&job.tests[test])
+}
+
 /// Whether a test that isn't placed ends, by its estimate, as late as so many cycles, or later. Its least start is noted, so
 /// that it is found the sooner beside more placed tests. Where it ends in time if it is placed now, no estimate is later, and
 /// none is asked for.
@@ -84,7 +109,7 @@ fn ends_late<J, E: Estimate<J>>(
 }
 
 /// Whether a test is left that ends, by its estimate, as late as so many cycles, or later. Any number may be asked of. It isn't
-/// looked at where the test takes fewer cycles than are left behind the last placed one.
+/// looked at where the test takes fewer cycles than are left behind the last placed one, and where it is still in time.
 fn asks_late<J, E: Estimate<J>>(
     job: &Job,
     ahead: &E,
@@ -92,10 +117,12 @@ fn asks_late<J, E: Estimate<J>>(
     test: usize,
     left: u64,
     cycles: u64,
+    seen: Option<Seen>,
 ) -> bool
     requires job { table.old.job ≡ job_value job.now }
     requires estimates { E.estimates ahead.now }
     requires sound { IsSoundTable table.old }
+    requires seen { IfSome seen (IsSeen table.old) }
     ensures late { result ≡ true → IsLateAt table.old cycles }
     ensures same { table.new ≡ table.old }
 {
@@ -106,6 +133,9 @@ fn asks_late<J, E: Estimate<J>>(
         return false;
     }
     if table.is_placed(test) {
+        return false;
+    }
+    if is_still_in_time(job, seen, test, cycles) {
         return false;
     }
     ends_late(job, ahead, table, test, cycles)
@@ -159,8 +189,8 @@ fn is_in_time<J>(
     start < cycles.saturating_sub(cycles_at(job, test))
 }
 
-/// Whether a test that isn't placed ends, by its estimate, as late as so many cycles, or later. Where it is in time from a calm
-/// cycle on, it isn't asked where it fits first.
+/// Whether a test that isn't placed ends, by its estimate, as late as so many cycles, or later. Where it is still in time, or in time
+/// from a calm cycle on, it isn't asked where it fits first.
 fn ends_late_after<J, E: Estimate<J>>(
     job: &Job,
     ahead: &E,
@@ -169,16 +199,21 @@ fn ends_late_after<J, E: Estimate<J>>(
     most: u64,
     calm: Option<u64>,
     cycles: u64,
+    seen: Option<Seen>,
 ) -> bool
     requires job { table.old.job ≡ job_value job.now }
     requires estimates { E.estimates ahead.now }
     requires asked { CanAsk table.old test }
+    requires seen { IfSome seen (IsSeen table.old) }
     requires calm { IfSome calm (IsCalm table.old.job table.old.placed most) }
     requires at_last { IfSome calm (λ from. from ≤ last_end table.old.job table.old.placed) }
     ensures late { result ≡ true → (start : ℕ) → IsEarliest table.old.job table.old.placed test start → cycles ≤ start + cycles_of table.old.job test }
     ensures in_time { result ≡ false → ready_at table.old.job table.old.placed test + cycles_of table.old.job test < cycles }
     ensures same { table.new ≡ table.old }
 {
+    if is_still_in_time(job, seen, test, cycles) {
+        return false;
+    }
     if is_in_time(job, table, test, most, calm, cycles) {
         return false;
     }
@@ -187,8 +222,8 @@ fn ends_late_after<J, E: Estimate<J>>(
 
 /// Whether one of some tests ends, by its estimate, as late as so many cycles, or later. The tests are those that aren't
 /// placed, longest first. Each starts at the end of the last placed test at the latest, and so the look ends at the first
-/// of them that is in time even then. The one that was late last is asked of first: it often is again. After many, one that
-/// is in time even from a calm cycle on isn't asked of.
+/// of them that is in time even then. The one that was late last is asked of first: it often is again. One that is still in time, as
+/// it was before the last test was placed, isn't asked of; nor, after many, one that is in time even from a calm cycle on.
 fn is_late<J, E: Estimate<J>>(
     job: &Job,
     ahead: &E,
@@ -198,18 +233,20 @@ fn is_late<J, E: Estimate<J>>(
     cycles: u64,
     most: u64,
     late: &mut usize,
+    seen: Option<Seen>,
 ) -> bool
     requires job { table.old.job ≡ job_value job.now }
     requires estimates { E.estimates ahead.now }
     requires sound { IsSoundTable table.old }
     requires ends { end ≡ last_end table.old.job table.old.placed }
     requires rest { AreUnplaced table.old.job table.old.placed rest.now }
+    requires seen { IfSome seen (IsSeen table.old) }
     ensures late { result ≡ true → IsLateAt table.old cycles }
     ensures in_time { result ≡ false → AreInTime table.old cycles }
     ensures same { table.new ≡ table.old }
 {
     let left = cycles.saturating_sub(end);
-    if asks_late(job, ahead, table, *late, left, cycles) {
+    if asks_late(job, ahead, table, *late, left, cycles, seen) {
         return true;
     }
     let mut calm = None;
@@ -218,7 +255,7 @@ fn is_late<J, E: Estimate<J>>(
             return false;
         }
         calm = calm_after(job, table, asked, calm, most);
-        if ends_late_after(job, ahead, table, *test, most, calm, cycles) {
+        if ends_late_after(job, ahead, table, *test, most, calm, cycles, seen) {
             *late = *test;
             return true;
         }
@@ -254,21 +291,40 @@ fn is_over<J, E: Estimate<J>>(
     cycles: u64,
     most: u64,
     late: &mut usize,
+    seen: Option<Seen>,
 ) -> bool
     requires job { table.old.job ≡ job_value job.now }
     requires estimates { E.estimates ahead.now }
     requires sound { IsSoundTable table.old }
     requires ends { end ≡ last_end table.old.job table.old.placed }
     requires rest { AreUnplaced table.old.job table.old.placed rest.now }
+    requires seen { IfSome seen (IsSeen table.old) }
     ensures late { result ≡ true → IsLateAt table.old cycles }
     ensures in_time { result ≡ false → AreInTime table.old cycles }
     ensures same { table.new ≡ table.old }
 {
-    if is_late(job, ahead, table, rest, end, cycles, most, late) {
+    if is_late(job, ahead, table, rest, end, cycles, most, late, seen) {
         return true;
     }
     note_few(table, rest);
     false
+}
+
+/// What is seen of the tests that are left as one of them is placed, where all of them are in time: without a limit on power only
+/// those that it excludes or precedes may start later beside it. It is noted where it precedes none.
+fn seen_beside(job: &Job, tries: &Tries, test: usize, cycles: u64) -> Option<Seen>
+    requires tries { AreTries (job_value job.now) tries.now }
+    requires in_job { test < length (job_value job.now).tests }
+    ensures seen { IfSome result (λ s. s ≡ record { test = test; cycles = cycles }) }
+    ensures precedes_none { IfSome result (λ s. (later : ℕ) → Precedes (job_value job.now) test later → ⊥) }
+{
+    if job.power.is_some() {
+        return None;
+    }
+    if !earlier_than(&tries.after, test).is_empty() {
+        return None;
+    }
+    Some(Seen { test, cycles })
 }
 
 /// Goes on with all orders that begin with the placed tests and then with one more, which is taken out. Its start is noted:
@@ -283,6 +339,7 @@ fn go_on<J, E: Estimate<J>>(
     progress: &mut Progress,
     end: u64,
     test: usize,
+    cycles: u64,
 )
     requires job { table.old.job ≡ job_value job.now }
     requires sound { IsSoundTable table.old }
@@ -290,6 +347,7 @@ fn go_on<J, E: Estimate<J>>(
     requires estimates { E.estimates ahead.now }
     requires placed { HasPlaced table.old prefix.old.tests.items end }
     requires out { IsOut (job_value job.now) prefix.old.tests.items test prefix.old }
+    requires in_time { AreInTime table.old cycles }
     requires best_room { length (job_value job.now).tests ≤ vec_capacity progress.old.best }
     requires going { progress.old.refused ≡ false }
     requires within { progress.old.entered ≤ tries.now.budget }
@@ -307,9 +365,19 @@ fn go_on<J, E: Estimate<J>>(
     list_schedules_are_short();
     let start = table.noted_start(test);
     let next_end = end.max(start + cycles_at(job, test));
+    let seen = seen_beside(job, tries, test, cycles);
     prefix.append(job, tries, test);
     let mut frame = table.place(test, start);
-    explore(job, tries, ahead, frame.table(), prefix, progress, next_end);
+    explore(
+        job,
+        tries,
+        ahead,
+        frame.table(),
+        prefix,
+        progress,
+        next_end,
+        seen,
+    );
     frame.undo();
     if !progress.refused {
         prefix.go_back(job, tries);
@@ -327,6 +395,7 @@ pub(crate) fn explore<J, E: Estimate<J>>(
     prefix: &mut Prefix,
     progress: &mut Progress,
     end: u64,
+    seen: Option<Seen>,
 )
     requires job { table.old.job ≡ job_value job.now }
     requires sound { IsSoundTable table.old }
@@ -334,6 +403,7 @@ pub(crate) fn explore<J, E: Estimate<J>>(
     requires estimates { E.estimates ahead.now }
     requires placed { HasPlaced table.old prefix.old.tests.items end }
     requires at { IsAt (job_value job.now) prefix.old.tests.items prefix.old }
+    requires seen { IfSome seen (IsSeen table.old) }
     requires best_room { length (job_value job.now).tests ≤ vec_capacity progress.old.best }
     requires going { progress.old.refused ≡ false }
     requires within { progress.old.entered ≤ tries.now.budget }
@@ -355,15 +425,17 @@ pub(crate) fn explore<J, E: Estimate<J>>(
         offer(progress, &prefix.tests, end);
         return;
     }
+    let cycles = progress.cycles;
     if is_over(
         job,
         ahead,
         table,
         &prefix.rest,
         end,
-        progress.cycles,
+        cycles,
         tries.most,
         &mut progress.late,
+        seen,
     ) {
         return;
     }
@@ -371,7 +443,9 @@ pub(crate) fn explore<J, E: Estimate<J>>(
     let mut taken = prefix.take_out(job, 0);
     let mut place = 0;
     while place < count {
-        go_on(job, tries, ahead, table, prefix, progress, end, taken.test);
+        go_on(
+            job, tries, ahead, table, prefix, progress, end, taken.test, cycles,
+        );
         if progress.refused {
             return;
         }

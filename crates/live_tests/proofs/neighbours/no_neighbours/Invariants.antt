@@ -3,5 +3,5 @@ use Rattle.std.specs.Prelude.{slice_index_or}
 use Rattle.live_tests.specs.Neighbours.{tests_of}
 use Rattle.live_tests.proofs.neighbours.no_neighbours.Given as goal
 
-abbrev pub invariant-loop : goal.invariant-loop
-invariant-loop l = (length l.lists.items ≡ l.counter) × ((i : ℕ) → i < l.counter → slice_index_or (map tests_of l.lists.items) i [] ≡ [])
+abbrev pub invariant-loop-room : goal.invariant-loop-room
+invariant-loop-room l = (length l.lists.items ≡ l.room-index) × ((i : ℕ) → i < l.room-index → slice_index_or (map tests_of l.lists.items) i [] ≡ [])

@@ -1,4 +1,5 @@
 use Rattle.std.proofs.Common.{◌≡◌, ◌∙◌, ℕ, ◌+◌, ◌-◌, ◌*◌, ◌^◌, ◌<◌, ◌≤◌, ◌++◌, ◌∷◌, [], List, false, length, length-append, get_or, max, vec_capacity, refl, sym, ap, subst, arith, rules}
+use Rattle.std.specs.Prelude.{IfSome}
 use Rattle.std.proofs.lemmas.Option.{get_or_from_slice_get}
 use Rattle.resource_table.specs.Jobs.{JobValue, job_value, cycles_of, IsSoundJob}
 use Rattle.resource_table.specs.Schedules.{TableValue, at_start, is_placed, MayPlace, IsSoundTable}
@@ -8,6 +9,7 @@ use Rattle.schedule_search.specs.Orders.{IsReady, IsTopological}
 use Rattle.schedule_search.specs.Walks.{may_follow, IsOpen}
 use Rattle.schedule_search.specs.Prefixes.{outside, followers, IsAt, IsOut}
 use Rattle.schedule_search.specs.Taken.{IsTurn}
+use Rattle.schedule_search.specs.Late.{IsSeen}
 use Rattle.schedule_search.specs.Progress.{stand_of, AtMostFirst, NoneBefore}
 use Rattle.resource_table.proofs.Placed.{each_last}
 use Rattle.schedule_search.proofs.PlacedOrders.{takes_placed}
@@ -17,6 +19,7 @@ use Rattle.schedule_search.proofs.Bests.{none_before_more}
 use Rattle.schedule_search.proofs.Stepping.{at_own, out_own}
 use Rattle.schedule_search.proofs.Taking.{some_free}
 use Rattle.schedule_search.proofs.Explorings.{best_refused, best_entered, best_offered, path_topological, explored_refused, explored_whole, explored_left, explored_entered, turn, followed, child_of, walk_stopped, walk_ended, may_place, one_placed, open_below, none_before_rest, taken_back, none_left, some_left}
+use Rattle.schedule_search.proofs.Lateness.{seen_more}
 use Rattle.schedule_search.proofs.walk.+explore.Goals as goal
 
 -- ---- explore
@@ -257,6 +260,8 @@ go_on-explore-requires g t c κs within_measure =
     let cycles : c.cycles_at.result ≡ cycles_of c.args.table.now.job test = c.cycles_at.ensures ∙ ap (λ (j : JobValue). cycles_of j test) (sym c.requires.job) in
     let end' : c.max-next_end.result ≡ max c.args.end (c.noted_start-start.result + cycles_of c.args.table.now.job test) = omega (arith, c.max-next_end.ensures, cycles) in
     let placed : HasPlaced c.table.result.now more c.max-next_end.result = one_placed c.args.table.now c.table.result.now path more c.args.end c.max-next_end.result test c.noted_start-start.result c.requires.placed c.noted_start-start.ensures.earliest grown more_is end' in
+    let inside : test < length job.tests = (each_last (IsReady job) path test c.requires.out.ready).in_job in
+    let seen : IfSome c.seen_beside-seen.result (IsSeen c.table.result.now) = seen_more c.args.table.now c.table.result.now job (at_start test c.noted_start-start.result) c.args.cycles c.seen_beside-seen.result c.requires.job grown inside c.requires.in_time c.seen_beside-seen.ensures.seen c.seen_beside-seen.ensures.precedes_none in
     let at : IsAt job more c.append.new.self = at_own job (path ++ test ∷ []) c.append.new.self c.append.ensures in
     let long : length more ≡ length path + 1 = omega (arith, ap length more_is, length-append path (test ∷ [])) in
     let opened : IsOpen job more = subst (IsOpen job) (sym more_is) c.requires.opened in
