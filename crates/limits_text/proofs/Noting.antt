@@ -1,19 +1,23 @@
 -- The places of the tests of a chip, and of the precedences that items say.
-use Rattle.std.proofs.Common.{◌≡◌, ℕ, suc, add-one, ◌+◌, ◌<◌, Bool, true, false, ◌&&◌, not, List, [], ◌∷◌, ◌++◌, length, get_or, map, take, drop, reverse, option_map, Option, None, Some, is_some, nat_eq, position, slice_get, refl, sym, ap, ◌∙◌, subst}
-use Rattle.std.specs.List.{flat_map, list_any, Contains}
+use Rattle.std.proofs.Common.{◌≡◌, ◌≢◌, ℕ, suc, add-one, zero-add, ◌+◌, ◌<◌, ◌⊎◌, inl, inr, Bool, true, false, ◌&&◌, ◌||◌, not, cond, List, [], ◌∷◌, ◌++◌, length, get_or, map, set, replicate, take, drop, reverse, option_map, Option, None, Some, is_some, nat_eq, nat_lt, position, slice_get, refl, sym, ap, ◌∙◌, subst, arith}
+use Rattle.std.specs.Prelude.{if◌then◌else◌}
+use Rattle.std.specs.List.{flat_map, list_any, position_or_len, range_with_len, Contains}
 use Rattle.std.specs.Prelude.{Err}
 use Rattle.std.proofs.Math.Seq.{drop-cons}
-use Rattle.std.proofs.lemmas.Bool.{eqb-true}
+use Rattle.std.proofs.lemmas.Bool.{cases_eq}
+use Rattle.std.proofs.lemmas.Bool.Decides.{nat_tests}
 use Rattle.std.proofs.lemmas.Grind.{flat_map-append}
-use Rattle.std.proofs.lemmas.List.{take_more, map-append, append-nil, reverse-append, reverse-reverse}
-use Rattle.std.proofs.lemmas.Option.{slice_get-get_or, slice_get-map, slice_get_within, get_or_from_slice_get}
+use Rattle.std.proofs.lemmas.List.{take_more, map-append, append-nil, reverse-append, reverse-reverse, length-replicate, length-set, get_or-replicate, get_or-set_same, get_or-set_other, same_lists}
+use Rattle.std.proofs.lemmas.List.Folds.{list_any-append}
+use Rattle.std.proofs.lemmas.List.FromFn.{get_or-map-range_with_len, length-map-range_with_len}
+use Rattle.std.proofs.lemmas.Option.{slice_get-map, get_or_from_slice_get}
 use Rattle.soc_model.specs.declared.Module.{Module}
 use Rattle.soc_model.specs.declared.Soc.{Soc}
 use Rattle.soc_model.specs.declared.Test.{Test}
 use Rattle.soc_model.specs.declared.TestId.{TestId}
-use Rattle.soc_model.specs.Chips.{ModuleValue, SocValue, module_value, soc_value, same_test}
-use Rattle.soc_model.specs.Lookups.{test_places, with_test, module_place, tests_of}
-use Rattle.soc_model.proofs.Places.{slice_get-from_position}
+use Rattle.soc_model.specs.Chips.{SocValue, module_value, soc_value, same_test}
+use Rattle.soc_model.specs.Lookups.{test_places, module_place}
+use Rattle.soc_model.proofs.Places.{slice_get-from_position, test_places-at}
 use Rattle.plan_model.specs.Plans.{LimitsValue}
 use Rattle.plan_model.specs.Rules.{live_ids}
 use Rattle.plan_model.proofs.Lists.{from_map, contains_at}
@@ -26,7 +30,7 @@ use Rattle.limits_text.specs.Items.{Item, amount_item, before_item, profile_item
 use Rattle.limits_text.specs.Cycles.{precedences}
 use Rattle.limits_text.proofs.CycleTests.{acyclic}
 use Rattle.limits_text.specs.Meaning.{limits_of, is_known, line_if, unknown_line, or_first, first_line}
-use Rattle.limits_text.specs.Places.{place_of, row_of, places_in, AreRows, named, pair_of, names_test, Notes, StopsAt}
+use Rattle.limits_text.specs.Places.{entry_of, row_of, entries_in, AreRows, named, pair_of, names_test, Notes, StopsAt}
 use Rattle.limits_text.specs.Views.{item_of}
 use Rattle.limits_text.specs.Answers.{LimitsRead}
 use Rattle.limits_text.specs.Grammar.{IsText}
@@ -36,60 +40,129 @@ use Rattle.limits_text.specs.declared.items.Item.{Item as ReadItem}
 use Rattle.limits_text.proofs.Reading.{unknown_said}
 use Rattle.outside.specs.Words.{words_of}
 use Rattle.limits_text.proofs.Complete.{some_same}
-use Rattle.limits_text.proofs.Positions.{passes_at}
 
 -- one item more of a list that is mapped
 pub map_more : {X Y : Type 0} (f : X → Y) (xs : List X) (k : ℕ) (d x : X) (ys : List Y) → ys ≡ map f (take k xs) → k < length xs → x ≡ get_or xs k d → ys ++ f x ∷ [] ≡ map f (take (k + 1) xs)
 map_more f xs k d x ys so_far within is =
     ap (λ l. l ++ f x ∷ []) so_far ∙ ap (λ z. map f (take k xs) ++ f z ∷ []) is ∙ sym (map-append f (take k xs) (get_or xs k d ∷ [])) ∙ ap (map f) (sym (take_more xs k d within))
 
--- where the name of a test is kept
-pub record IsKept (ids : List TestId) (rows : List Row) (id : TestId) (p k : ℕ) : Type 0 where
+-- ---- what is noted of a module's numbers
+
+none_less : (n : ℕ) → nat_lt 0 (suc n) ≡ true
+none_less n = grind (arith, nat_tests)
+
+one_less : (m n : ℕ) → nat_lt (1 + m) (suc n) ≡ nat_lt m n
+one_less m n = grind (arith, nat_tests)
+
+found_within : {X : Type 0} (p : X → Bool) (xs : List X) → nat_lt (position_or_len p xs) (length xs) ≡ list_any p xs
+found_within p [] = refl
+found_within p (x ∷ xs) = by (p x) refl (found_within p xs)
+  where
+    by : (b : Bool) → p x ≡ b → nat_lt (position_or_len p xs) (length xs) ≡ list_any p xs → nat_lt (position_or_len p (x ∷ xs)) (length (x ∷ xs)) ≡ list_any p (x ∷ xs)
+    by true e rest = rw e (none_less (length xs))
+    by false e rest = rw e (one_less (position_or_len p xs) (length xs) ∙ rest)
+
+said_if : {X Y : Type 0} (b : Bool) (x : X) (y : Y) → option_map (λ (x : X). y) (cond b (Some x) None) ≡ (if b then Some y else None)
+said_if true x y = refl
+said_if false x y = refl
+
+-- what is said of a found item but not of its place
+said_found : {X Y : Type 0} (p : X → Bool) (xs : List X) (y : Y) → option_map (λ (n : ℕ). y) (position p xs) ≡ (if list_any p xs then Some y else None)
+said_found p xs y = said_if (nat_lt (position_or_len p xs) (length xs)) (position_or_len p xs) y ∙ ap (λ b. if b then Some y else None) (found_within p xs)
+
+said_twice : {X Y Z : Type 0} (f : X → Y) (z : Z) (o : Option X) → option_map (λ (y : Y). z) (option_map f o) ≡ option_map (λ (x : X). z) o
+said_twice f z None = refl
+said_twice f z (Some x) = refl
+
+same_eq : (n : ℕ) → nat_eq n n ≡ true
+same_eq n = grind (arith, nat_tests)
+
+other_eq : (a b : ℕ) → a ≢ b → nat_eq a b ≡ false
+other_eq a b other = grind (arith, nat_tests)
+
+-- a list that is known place by place
+filled : {X : Type 0} (f : ℕ → X) (xs : List X) (n : ℕ) → length xs ≡ n → ((k : ℕ) (d : X) → k < n → get_or xs k d ≡ f k) → xs ≡ map f (range_with_len 0 n)
+filled f xs n long each =
+    same_lists xs (map f (range_with_len 0 n)) (long ∙ sym (length-map-range_with_len f 0 n))
+    (λ k d h. let less : k < n = omega (arith, h, long) in each k d less ∙ sym (get_or-map-range_with_len f 0 n k k d less (zero-add k)))
+
+-- before the first test
+pub none_noted : (ids : List TestId) (number n : ℕ) → replicate n None ≡ map (entry_of ids number []) (range_with_len 0 n)
+none_noted ids number n = filled (entry_of ids number []) (replicate n None) n (length-replicate n None) (λ k d h. get_or-replicate n k None d h)
+
+same_entry : {Y : Type 0} (a b : Bool) (y : Y) → (if a || (b || false) then Some y else None) ≡ (if b then Some y else (if a then Some y else None))
+same_entry true true y = refl
+same_entry true false y = refl
+same_entry false true y = refl
+same_entry false false y = refl
+
+-- one test more says of its number alone
+entry_more : (ids : List TestId) (number : ℕ) (tests : List Test) (t : Test) (n : ℕ) → entry_of ids number (tests ++ t ∷ []) n ≡ (if nat_eq n t.number then Some (position (same_test (record { «module» = number; test = n })) ids) else entry_of ids number tests n)
+entry_more ids number tests t n =
+    ap (λ b. if b then Some (position (same_test (record { «module» = number; test = n })) ids) else None) (list_any-append (λ (t : Test). nat_eq n t.number) tests (t ∷ []))
+    ∙ same_entry (list_any (λ (t : Test). nat_eq n t.number) tests) (nat_eq n t.number) (position (same_test (record { «module» = number; test = n })) ids)
+
+-- what is noted after one test more
+noted_more : (ids : List TestId) (number count : ℕ) (tests : List Test) (t : Test) (entries : List (Option (Option ℕ))) → entries ≡ map (entry_of ids number tests) (range_with_len 0 count)
+    → set entries t.number (Some (position (same_test (record { «module» = number; test = t.number })) ids)) ≡ map (entry_of ids number (tests ++ t ∷ [])) (range_with_len 0 count)
+noted_more ids number count tests t entries so_far = filled (entry_of ids number (tests ++ t ∷ [])) (set entries t.number y) count (length-set entries t.number y ∙ long) each
+  where
+    y : Option (Option ℕ)
+    y = Some (position (same_test (record { «module» = number; test = t.number })) ids)
+
+    long : length entries ≡ count
+    long = ap length so_far ∙ length-map-range_with_len (entry_of ids number tests) 0 count
+
+    by : (k : ℕ) (d : Option (Option ℕ)) → k < count → (k ≡ t.number) ⊎ (k ≢ t.number) → get_or (set entries t.number y) k d ≡ entry_of ids number (tests ++ t ∷ []) k
+    by k d h (inl same) =
+        ap (λ j. get_or (set entries t.number y) j d) same ∙ get_or-set_same entries t.number y d (omega (arith, h, same, long))
+        ∙ ap (λ b. if b then y else entry_of ids number tests t.number) (sym (same_eq t.number)) ∙ sym (entry_more ids number tests t t.number) ∙ ap (entry_of ids number (tests ++ t ∷ [])) (sym same)
+    by k d h (inr other) =
+        get_or-set_other entries t.number k y d other ∙ ap (λ l. get_or l k d) so_far ∙ get_or-map-range_with_len (entry_of ids number tests) 0 count k k d h (zero-add k)
+        ∙ ap (λ b. if b then Some (position (same_test (record { «module» = number; test = k })) ids) else entry_of ids number tests k) (sym (other_eq k t.number other)) ∙ sym (entry_more ids number tests t k)
+
+    each : (k : ℕ) (d : Option (Option ℕ)) → k < count → get_or (set entries t.number y) k d ≡ entry_of ids number (tests ++ t ∷ []) k
+    each k d h = by k d h (cases_eq k t.number)
+
+pub noted_next : (ids : List TestId) (number count : ℕ) (tests : List Test) (i : ℕ) (d : Test) (entries new : List (Option (Option ℕ))) → entries ≡ map (entry_of ids number (take i tests)) (range_with_len 0 count) → i < length tests
+    → new ≡ set entries (get_or tests i d).number (Some (position (same_test (record { «module» = number; test = (get_or tests i d).number })) ids)) → new ≡ map (entry_of ids number (take (i + 1) tests)) (range_with_len 0 count)
+noted_next ids number count tests i d entries new so_far within is =
+    is ∙ noted_more ids number count (take i tests) (get_or tests i d) entries so_far ∙ ap (λ l. map (entry_of ids number l) (range_with_len 0 count)) (sym (take_more tests i d within))
+
+-- the row of a module that is found
+pub record IsRowOf (ids : List TestId) (soc : Soc) (rows : List Row) (number p : ℕ) : Type 0 where
   pub row : Row
   pub row_at : slice_get rows p ≡ Some row
-  pub place_at : slice_get row.places.items k ≡ Some (position (same_test id) ids)
+  pub «module» : Module
+  pub module_at : slice_get (soc_value soc).modules p ≡ Some (module_value «module»)
+  pub entries : row.by_number.items ≡ row_of ids (number, «module»)
 
-no_test : Test
-no_test = record { number = 0; scan = false; tam = false; patterns = 0; power = 0 }
+row_found : (ids : List TestId) (soc : Soc) (rows : List Row) (number p : ℕ) → AreRows ids soc rows → module_place (soc_value soc) number ≡ Some p → IsRowOf ids soc rows number p
+row_found ids soc rows number p are at =
+    let es = soc.modules.entries in
+    let entry = from_map (λ (e : ℕ × Module). e.0) es p number (slice_get-from_position (soc_value soc).keys number p at) in
+    let row = from_map entries_in rows p (row_of ids entry.0) (ap (λ l. slice_get l p) are ∙ slice_get-map (row_of ids) es p ∙ ap (option_map (row_of ids)) entry.1) in
+    record {
+      row = row.0;
+      row_at = row.1;
+      «module» = (entry.0).1;
+      module_at = slice_get-map (λ (e : ℕ × Module). module_value e.1) es p ∙ ap (option_map (λ (e : ℕ × Module). module_value e.1)) entry.1;
+      entries = row.2 ∙ ap (λ n. row_of ids (n, (entry.0).1)) entry.2;
+    }
 
-pub kept_at : (soc : Soc) (ids : List TestId) (rows : List Row) (id : TestId) (p k : ℕ) → AreRows ids soc rows → test_places (soc_value soc) id ≡ Some (p, k) → IsKept ids rows id p k
-kept_at soc ids rows id p k are found = by (module_place (soc_value soc) id.«module») refl found
-  where
-    es : List (ℕ × Module)
-    es = soc.modules.entries
-
-    here : (q : ℕ) → module_place (soc_value soc) id.«module» ≡ Some q → (o : Option ℕ) → o ≡ position (λ (t : Test). nat_eq id.test t.number) (tests_of (slice_get (soc_value soc).modules q)) → option_map {U = ℕ × ℕ} (λ (n : ℕ). (q, n)) o ≡ Some (p, k) → IsKept ids rows id p k
-    here q at None is e = absurd cc
-    here q at (Some n) is e =
-        let same : (q, n) ≡ (p, k) = some_same {X = ℕ × ℕ} (q, n) (p, k) e in
-        let entry = from_map (λ (e : ℕ × Module). e.0) es q id.«module» (slice_get-from_position (soc_value soc).keys id.«module» q at) in
-        let own : slice_get (soc_value soc).modules q ≡ Some (module_value (entry.0).1) = slice_get-map (λ (e : ℕ × Module). module_value e.1) es q ∙ ap (option_map (λ (e : ℕ × Module). module_value e.1)) entry.1 in
-        let tests = ((entry.0).1).tests.items in
-        let first : position (λ (t : Test). nat_eq id.test t.number) tests ≡ Some n = ap (λ (o : Option ModuleValue). position (λ (t : Test). nat_eq id.test t.number) (tests_of o)) (sym own) ∙ sym is in
-        let passes = passes_at (λ (t : Test). nat_eq id.test t.number) tests n no_test first in
-        let number : id.test ≡ (get_or tests n no_test).number = eqb-true id.test (get_or tests n no_test).number passes.1 in
-        let name : place_of ids (entry.0).0 (get_or tests n no_test) ≡ position (same_test id) ids =
-        ap (λ m. position (same_test (record { «module» = m; test = (get_or tests n no_test).number })) ids) entry.2 ∙ ap (λ t. position (same_test (record { «module» = id.«module»; test = t })) ids) (sym number) in
-        let row = from_map places_in rows q (row_of ids entry.0) (ap (λ l. slice_get l q) are ∙ slice_get-map (row_of ids) es q ∙ ap (option_map (row_of ids)) entry.1) in
-        let place : slice_get (row.0).places.items n ≡ Some (position (same_test id) ids) =
-        ap (λ l. slice_get l n) row.2 ∙ slice_get-map (place_of ids (entry.0).0) tests n ∙ ap (option_map (place_of ids (entry.0).0)) (slice_get-get_or tests n no_test passes.0) ∙ ap Some name in
-        record {
-          row = row.0;
-          row_at = ap (λ (e : ℕ × ℕ). slice_get rows e.0) (sym same) ∙ row.1;
-          place_at = ap (λ (e : ℕ × ℕ). slice_get (row.0).places.items e.1) (sym same) ∙ place;
-        }
-
-    by : (o : Option ℕ) → module_place (soc_value soc) id.«module» ≡ o → with_test (soc_value soc) id o ≡ Some (p, k) → IsKept ids rows id p k
-    by None at e = absurd cc
-    by (Some q) at e = here q at (position (λ (t : Test). nat_eq id.test t.number) (tests_of (slice_get (soc_value soc).modules q))) refl e
-
--- what the row of a test has for it
-pub kept_in : (soc : Soc) (ids : List TestId) (rows : List Row) (id : TestId) (p k : ℕ) (row : Row) → AreRows ids soc rows → test_places (soc_value soc) id ≡ Some (p, k) → row ≡ get_or rows p row → (k < length row.places.items) × (get_or row.places.items k None ≡ position (same_test id) ids)
-kept_in soc ids rows id p k row are found is =
-    let kept = kept_at soc ids rows id p k are found in
-    let same : row ≡ kept.row = is ∙ get_or_from_slice_get rows p kept.row row kept.row_at in
-    let at : slice_get row.places.items k ≡ Some (position (same_test id) ids) = ap (λ (r : Row). slice_get r.places.items k) same ∙ kept.place_at in
-    (slice_get_within row.places.items k (position (same_test id) ids) at, get_or_from_slice_get row.places.items k (position (same_test id) ids) None at)
+-- what the row of a test's module has of its number
+pub noted_of : (ids : List TestId) (soc : Soc) (rows : List Row) (id : TestId) (p : ℕ) (row : Row) (entries : List (Option (Option ℕ))) (noted : Option (Option ℕ)) → AreRows ids soc rows → module_place (soc_value soc) id.«module» ≡ Some p → row ≡ get_or rows p row → entries ≡ row.by_number.items → id.test < length entries → noted ≡ get_or entries id.test noted
+    → noted ≡ option_map (λ (p : ℕ × ℕ). position (same_test id) ids) (test_places (soc_value soc) id)
+noted_of ids soc rows id p row entries noted are at is are_its within there =
+    let found = row_found ids soc rows id.«module» p are at in
+    let tests = found.«module».tests.items in
+    let f = entry_of ids id.«module» tests in
+    let known : entries ≡ map f (range_with_len 0 (length tests + 1)) = are_its ∙ ap (λ (r : Row). r.by_number.items) (is ∙ get_or_from_slice_get rows p found.row row found.row_at) ∙ found.entries in
+    let less : id.test < length tests + 1 = subst (λ (n : ℕ). id.test < n) (ap length known ∙ length-map-range_with_len f 0 (length tests + 1)) within in
+    there ∙ ap (λ l. get_or l id.test noted) known ∙ get_or-map-range_with_len f 0 (length tests + 1) id.test id.test noted less (zero-add id.test)
+    ∙ sym (said_found (λ (t : Test). nat_eq id.test t.number) tests (position (same_test id) ids))
+    ∙ sym (said_twice (λ (n : ℕ). (p, n)) (position (same_test id) ids) (position (λ (t : Test). nat_eq id.test t.number) tests))
+    ∙ ap (option_map (λ (p : ℕ × ℕ). position (same_test id) ids)) (sym (test_places-at (soc_value soc) id p (module_value found.«module») at found.module_at))
 
 -- ---- the precedences of items
 

@@ -1,7 +1,7 @@
 -- The tests of a chip and their places among its live tests.
-use Rattle.std.specs.Prelude.{◌≡◌, ◌++◌, ℕ, Option, None, Some, List, [], Bool, true, false, map, reverse, option_map, position, Result, Ok, Err, MatchOption}
+use Rattle.std.specs.Prelude.{◌≡◌, ◌+◌, ◌++◌, ℕ, Option, None, Some, List, [], Bool, true, false, length, map, nat_eq, if◌then◌else◌, reverse, option_map, position, Result, Ok, Err, MatchOption}
 use Rattle.std.specs.Global.{Vec}
-use Rattle.std.specs.List.{flat_map}
+use Rattle.std.specs.List.{flat_map, list_any, range_with_len}
 use Rattle.soc_model.specs.declared.Module.{Module}
 use Rattle.soc_model.specs.declared.Soc.{Soc}
 use Rattle.soc_model.specs.declared.Test.{Test}
@@ -19,20 +19,21 @@ use Rattle.plan_model.specs.SoundLimits.{IsAcyclic}
 use Rattle.limits_text.specs.Cycles.{IsCycleOf}
 use Rattle.limits_text.specs.Meaning.{unknown_line, first_line, limits_of}
 
--- where the name of a test of the module of a number stands among these
-abbrev pub place_of : List TestId → ℕ → Test → Option ℕ
-place_of ids number t = position (same_test (record { «module» = number; test = t.number })) ids
+-- What is noted of a number beside a module's: where the name of these two stands among the names. Nothing where none of the
+-- tests has that number.
+abbrev pub entry_of : List TestId → ℕ → List Test → ℕ → Option (Option ℕ)
+entry_of ids number tests n = if list_any (λ (t : Test). nat_eq n t.number) tests then Some (position (same_test (record { «module» = number; test = n })) ids) else None
 
--- the same for each test of a module
-abbrev pub row_of : List TestId → ℕ × Module → List (Option ℕ)
-row_of ids e = map (place_of ids e.0) (e.1).tests.items
+-- the same for each number up to the count of the module's tests
+abbrev pub row_of : List TestId → ℕ × Module → List (Option (Option ℕ))
+row_of ids e = map (entry_of ids e.0 (e.1).tests.items) (range_with_len 0 (length (e.1).tests.items + 1))
 
-abbrev pub places_in : Row → List (Option ℕ)
-places_in row = row.places.items
+abbrev pub entries_in : Row → List (Option (Option ℕ))
+entries_in row = row.by_number.items
 
 -- the rows are those of the chip's modules
 abbrev pub AreRows : List TestId → Soc → List Row → Type 0
-AreRows ids soc rows = map places_in rows ≡ map (row_of ids) soc.modules.entries
+AreRows ids soc rows = map entries_in rows ≡ map (row_of ids) soc.modules.entries
 
 -- where a name of the chip's tests stands among those of the live tests; nothing where it is none of the chip's
 abbrev pub named : SocValue → TestId → Option (Option ℕ)

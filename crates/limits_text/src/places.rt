@@ -1,5 +1,5 @@
 // The tests of a chip: whether a name is one of them, and its place among those that are live.
-ghost use Rattle.std.specs.Prelude.{◌≡◌, ◌<◌, [], None, length, map, slice_index_or, IfOk};
+ghost use Rattle.std.specs.Prelude.{◌≡◌, [], Some, map, set, IfOk};
 ghost use Rattle.std.specs.List.{list_any};
 ghost use Rattle.soc_model.specs.Chips.{soc_value};
 ghost use Rattle.plan_model.specs.Rules.{live_ids};
@@ -11,19 +11,19 @@ use crate::LimFault;
 use crate::items::Item;
 use live_tests::LiveTests;
 use outside::{NoMemory, push};
-use soc_model::{Module, Soc, TestId, find_test};
+use soc_model::{Module, Soc, TestId, find_test, place_of};
 use std::alloc::Global;
 use std::marker::Model;
 
-/// Of each test of a module the place among the live tests of the chip.
+/// Of each number from 0 to the count of a module's tests: the place of its test among the live tests of the chip.
 #[derive(Drop)]
 pub struct Row {
-    /// None where no live test has its name.
-    pub places: Vec<Option<usize>>,
+    /// None where the module has no test of that number, and None within where that test isn't live.
+    pub by_number: Vec<Option<Option<usize>>>,
 }
 
-/// A chip, its live tests, and for each test of each module where its name stands among these. So a name is looked up
-/// once, in the chip. Its model is the chip.
+/// A chip, its live tests, and for each module what its tests' numbers say of these. Most chips number a module's tests
+/// from 1, so a name is looked up by its numbers, without a search. Its model is the chip.
 #[derive(Drop)]
 pub struct ChipTests<'a> {
     soc: &'a Soc,
@@ -66,32 +66,46 @@ impl<'a> ChipTests<'a> {
     pub fn place(&self, id: TestId) -> Option<Option<usize>>
         ensures { result ≡ named self.now id }
     {
-        let (place, test) = find_test(self.soc, id)?;
-        Some(place_in(&self.rows[place], test))
+        let place = place_of(self.soc, id.module)?;
+        let row = &self.rows[place];
+        match row.by_number.get(id.test as usize) {
+            Some(noted) => *noted,
+            None => self.place_beyond(id),
+        }
+    }
+
+    /// The same by a search, for a test's number that its module's row doesn't reach.
+    fn place_beyond(&self, id: TestId) -> Option<Option<usize>>
+        ensures { result ≡ named self.now id }
+    {
+        find_test(self.soc, id)?;
+        Some(self.live.place(id))
     }
 }
 
-/// The place of the test at a place of its module.
-fn place_in(row: &Row, test: usize) -> Option<usize>
-    requires { test < length row.now.places.items }
-    ensures { result ≡ slice_index_or row.now.places.items test None }
+/// Notes the place of a number's test, where the row reaches so far.
+fn note_number(by_number: &mut Vec<Option<Option<usize>>>, number: u64, place: Option<usize>)
+    ensures { by_number.new.items ≡ set by_number.old.items number (Some place) }
 {
-    row.places[test]
+    let at = number as usize;
+    if at < by_number.len() {
+        by_number[at] = Some(place);
+    }
 }
 
-/// The row of a module that is found by a number.
+/// The row of a module that is found by a number. A test's number that comes again is noted alike.
 fn row_in(alloc: Global, live: &LiveTests, number: u64, module: &Module) -> Result<Row, NoMemory>
-    ensures { IfOk result (λ row. row.places.items ≡ row_of live.now (number, «module».now)) }
+    ensures { IfOk result (λ row. row.by_number.items ≡ row_of live.now (number, «module».now)) }
 {
-    let mut places = Vec::new(alloc);
+    let mut by_number = Vec::from_elem(alloc, None, module.tests.len() + 1)?;
     for test in &module.tests {
         let id = TestId {
             module: number,
             test: test.number,
         };
-        push(&mut places, live.place(id))?;
+        note_number(&mut by_number, test.number, live.place(id));
     }
-    Ok(Row { places })
+    Ok(Row { by_number })
 }
 
 /// The rows of all modules, in the order of the chip.

@@ -1,3 +1,5 @@
+mod ChipAnswers
+mod Decided
 pub mod Endings
 pub mod Headlines
 mod LiveCounts

@@ -1,31 +1,30 @@
 -- The log of `locate`, loaded behind an accepted plan.
-use Rattle.std.proofs.Common.{◌≡◌, ℕ, ◌≤◌, List, Option, Some, Result, Err, IfSome, length, refl, sym, ◌∙◌, ap, true}
+use Rattle.std.proofs.Common.{◌≡◌, ℕ, ◌≤◌, List, Option, Some, Result, Err, IfSome, IfOk, length, refl, sym, ◌∙◌, ap, true}
 use Rattle.std.specs.FinMap.{get}
 use Rattle.std.specs.Global.{Vec}
+use Rattle.outside.specs.declared.NoMemory.{NoMemory as MemoryFault}
 use Rattle.outside.specs.Held.{Files, WhereTold}
 use Rattle.outside.specs.Words.{words_of}
 use Rattle.outside.specs.Grammars.{last_line}
-use Rattle.soc_model.specs.Chips.{SocValue, soc_value}
+use Rattle.soc_model.specs.Chips.{SocValue}
 use Rattle.plan_model.specs.Plans.{LimitsValue, PlanValue}
-use Rattle.plan_model.specs.Views.{plan_value}
 use Rattle.fail_locate.specs.declared.LogFault.{LogFault}
 use Rattle.fail_locate.specs.declared.LogFault.TheVariants as log_fault
 use Rattle.fail_locate.specs.LogAnswers.{SaysLog, LogRead}
 use Rattle.fail_locate.proofs.ReadLogs.{one_log}
 use Rattle.fail_locate.proofs.LogProgress.{logs_not_refused, logs_once}
 use Rattle.commands.specs.declared.FileKind.TheVariants.{Log}
+use Rattle.commands.specs.declared.Status.TheVariants.{Done}
 use Rattle.commands.specs.declared.Verdict.{Verdict}
-use Rattle.commands.specs.declared.loading.Accepted.{Accepted}
 use Rattle.soctest.specs.LocateText.{locate_text}
 use Rattle.commands.specs.Readings.{most_of, IsRead}
 use Rattle.soctest.specs.LogReadings.{RefusesFails}
 use Rattle.soctest.specs.Texts.{log_line}
-use Rattle.commands.specs.Procedures.{Procedure, nothing, with_all, done_with}
+use Rattle.commands.specs.Procedures.{Procedure, nothing, done_with}
 use Rattle.soctest.specs.LogReadings.{with_log}
-use Rattle.commands.specs.Decides.{Follows, AreRead, LoadsBytes}
+use Rattle.commands.specs.Decides.{Follows, GivesText, LoadsBytes}
 use Rattle.soctest.specs.LogReadings.{LoadsLog, RefusesLogText}
-use Rattle.commands.proofs.AllFiles.{after_all}
-use Rattle.commands.proofs.FileStages.{after_file, no_value, refused, without_bytes}
+use Rattle.commands.proofs.FileStages.{after_file, done_of, no_value, refused, without_bytes}
 use Rattle.commands.specs.Settled.{SaysOne, RefusesOne, IsSettled}
 use Rattle.commands.proofs.Settled.{done_once}
 
@@ -45,19 +44,17 @@ log_refused name bytes held before after log_fault.NoMemory verdict told within 
 abbrev pub after_plan : (log : List ℕ) → SocValue → LimitsValue → PlanValue → Procedure
 after_plan log chip bounds value = with_log log (λ fails. done_with (locate_text chip value fails))
 
--- the verdict on the fails of a log is one from the first file on
-pub after_log : (soc limits plan log : List ℕ) (held : Option Files) (before mid late after : ℕ) (all : Accepted) (fails : List (ℕ × ℕ)) (verdict : Verdict) → before ≤ mid → mid ≤ late → IfSome held (λ files. AreRead files soc limits plan all) → IfSome held (λ files. IsRead Log SaysLog (get files log) fails) →
-    Follows (done_with (locate_text (soc_value all.soc) (plan_value all.plan) fails)) held late after verdict → Follows (with_all soc limits plan (after_plan log)) held before after verdict
-after_log soc limits plan log held before mid late after all fails verdict order order' read read' d =
-    after_all soc limits plan (after_plan log) held before mid after all verdict order read
-    (after_file Log SaysLog RefusesFails log (λ fails. done_with (locate_text (soc_value all.soc) (plan_value all.plan) fails)) held mid late after fails verdict order' read' d)
+-- the verdict on the fails of a log is one from its file on
+pub log_answered : (chip : SocValue) (plan : PlanValue) (log : List ℕ) (held : Option Files) (before after : ℕ) (fails : List (ℕ × ℕ)) (made : Result (Vec ℕ) MemoryFault) (verdict : Verdict) → before ≤ after → IfSome held (λ files. IsRead Log SaysLog (get files log) fails) →
+    IfOk made (λ text. text.items ≡ locate_text chip plan fails) → GivesText Done made verdict → Follows (with_log log (λ fails. done_with (locate_text chip plan fails))) held before after verdict
+log_answered chip plan log held before after fails made verdict order read is d =
+    after_file Log SaysLog RefusesFails log (λ fails. done_with (locate_text chip plan fails)) held before after after fails verdict order read
+    (done_of (locate_text chip plan fails) made held after after verdict is d)
 
 -- and so is the verdict on a log that isn't taken
-pub not_log : (soc limits plan log : List ℕ) (held : Option Files) (before mid after : ℕ) (all : Accepted) (verdict : Verdict) → before ≤ mid → IfSome held (λ files. AreRead files soc limits plan all) →
-    Follows (with_log log (λ fails. nothing)) held mid after verdict → Follows (with_all soc limits plan (after_plan log)) held before after verdict
-not_log soc limits plan log held before mid after all verdict order read d =
-    after_all soc limits plan (after_plan log) held before mid after all verdict order read
-    (no_value Log SaysLog RefusesFails log (λ fails. done_with (locate_text (soc_value all.soc) (plan_value all.plan) fails)) held mid after verdict d)
+pub log_not_taken : (chip : SocValue) (plan : PlanValue) (log : List ℕ) (held : Option Files) (before after : ℕ) (verdict : Verdict) →
+    Follows (with_log log (λ fails. nothing)) held before after verdict → Follows (with_log log (λ fails. done_with (locate_text chip plan fails))) held before after verdict
+log_not_taken chip plan log held before after verdict d = no_value Log SaysLog RefusesFails log (λ fails. done_with (locate_text chip plan fails)) held before after verdict d
 
 -- ---- a log says one thing
 

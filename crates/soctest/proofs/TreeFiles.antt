@@ -1,5 +1,5 @@
 -- A file with a width tree: its verdicts, that the files give one answer of it, and that the bound that is printed is one.
-use Rattle.std.proofs.Common.{◌≡◌, ◌∙◌, ℕ, ◌≤◌, inl, inr, List, Option, Some, IfSome, Result, Ok, Err, IfOk, true, length, refl, sym, subst, ap}
+use Rattle.std.proofs.Common.{◌≡◌, ◌∙◌, ℕ, ◌≤◌, inl, inr, List, Option, Some, Result, Ok, Err, IfOk, true, length, refl, sym, subst, ap}
 use Rattle.std.specs.Prelude.{IsTrue}
 use Rattle.std.specs.FinMap.{get}
 use Rattle.std.specs.Global.{Vec}
@@ -7,9 +7,8 @@ use Rattle.outside.specs.declared.NoMemory.{NoMemory as MemoryFault}
 use Rattle.outside.specs.Held.{Files, WhereTold, Appended}
 use Rattle.outside.specs.Words.{words_of}
 use Rattle.outside.specs.Grammars.{last_line}
-use Rattle.soc_model.specs.Chips.{SocValue, soc_value}
+use Rattle.soc_model.specs.Chips.{SocValue}
 use Rattle.plan_model.specs.Plans.{LimitsValue}
-use Rattle.plan_model.specs.Views.{limits_value}
 use Rattle.soc_reader.specs.ChipForm.{SaysChip}
 use Rattle.width_tree.specs.declared.Tree.{Tree as TreeModel}
 use Rattle.width_tree.specs.declared.TreeFault.{TreeFault}
@@ -26,7 +25,6 @@ use Rattle.commands.specs.declared.FileKind.TheVariants.{Soc, Limits, Tree}
 use Rattle.commands.specs.declared.Status.TheVariants.{Done, Refused}
 use Rattle.commands.specs.declared.Verdict.{Verdict}
 use Rattle.commands.specs.declared.Verdict.TheVariants.{Answered, CannotRead, NoMemory as OutOfMemory}
-use Rattle.commands.specs.declared.loading.Both.{Both}
 use Rattle.commands.specs.Texts.{is_line}
 use Rattle.soctest.specs.TreeTexts.{bound_line, tree_line, tree_fault_line}
 use Rattle.commands.specs.Readings.{most_of, IsRead, SaysLimits}
@@ -34,11 +32,10 @@ use Rattle.soctest.specs.TreeReadings.{SaysBound, RefusesTree}
 use Rattle.commands.specs.Procedures.{nothing, with_both, done_with}
 use Rattle.soctest.specs.Procedures.{with_tree, with_bound}
 use Rattle.commands.specs.Answers.{Answers}
-use Rattle.commands.specs.Decides.{Follows, GivesText, LoadsBytes, BothRead}
+use Rattle.commands.specs.Decides.{Follows, GivesText, LoadsBytes}
 use Rattle.soctest.specs.TreeDecides.{LoadsTree, RefusesTreeText, AnswersTree}
 use Rattle.soctest.specs.TreeBounds.{IsShownBound}
 use Rattle.commands.proofs.FileStages.{without_bytes, refused, read_from, after_file, no_value, done_of}
-use Rattle.commands.proofs.AllFiles.{not_both, after_both}
 use Rattle.commands.proofs.Trusted.{stage_done, read_as_well, both_done}
 use Rattle.commands.specs.Settled.{SaysOne, RefusesOne, IsSettled}
 use Rattle.commands.proofs.Settled.{done_once}
@@ -73,28 +70,18 @@ faulty_tree chip bounds value fault (Ok text) (CannotRead missed) is says line d
 faulty_tree chip bounds value fault (Ok text) OutOfMemory is says line d = inr refl
 faulty_tree chip bounds value fault (Err none) verdict is says line d = inr d
 
--- ---- the command, after a chip and limits
+-- ---- what comes after a chip and limits
 
--- a verdict without both
-pub bound_without : (soc limits tree : List ℕ) (held : Option Files) (before after : ℕ) (verdict : Verdict) →
-    Follows (with_both soc limits (λ chip bounds. nothing)) held before after verdict → Follows (with_both soc limits (with_bound tree)) held before after verdict
-bound_without soc limits tree held before after verdict d = not_both soc limits (with_bound tree) held before after verdict d
+-- the verdict on a tree that isn't taken is one from its file on
+pub bound_unread : (chip : SocValue) (bounds : LimitsValue) (tree : List ℕ) (held : Option Files) (before after : ℕ) (verdict : Verdict) → LoadsTree chip bounds tree held before after (Err verdict) → Follows (with_bound tree chip bounds) held before after verdict
+bound_unread chip bounds tree held before after verdict d = no_value Tree (SaysBound chip bounds) (RefusesTree chip bounds) tree (λ value. done_with (bound_line value)) held before after verdict d
 
--- and one without the tree
-pub bound_unread : (soc limits tree : List ℕ) (held : Option Files) (before mid after : ℕ) (both : Both) (verdict : Verdict) → before ≤ mid → IfSome held (λ files. BothRead files soc limits both) →
-    LoadsTree (soc_value both.soc) (limits_value both.limits) tree held mid after (Err verdict) → Follows (with_both soc limits (with_bound tree)) held before after verdict
-bound_unread soc limits tree held before mid after both verdict order read d =
-    after_both soc limits (with_bound tree) held before mid after both verdict order read
-    (no_value Tree (SaysBound (soc_value both.soc) (limits_value both.limits)) (RefusesTree (soc_value both.soc) (limits_value both.limits)) tree (λ value. done_with (bound_line value)) held mid after verdict d)
-
--- the bound of a tree that was read
-pub bound_read : (soc limits tree : List ℕ) (held : Option Files) (before mid after : ℕ) (both : Both) (value : TreeModel) (made : Result (Vec ℕ) MemoryFault) (verdict : Verdict) → before ≤ mid → mid ≤ after → IfSome held (λ files. BothRead files soc limits both) →
-    LoadsTree (soc_value both.soc) (limits_value both.limits) tree held mid after (Ok value) → IfOk made (λ text. text.items ≡ bound_line (tree_value value)) → GivesText Done made verdict →
-    Follows (with_both soc limits (with_bound tree)) held before after verdict
-bound_read soc limits tree held before mid after both value made verdict order later read tree_read is d =
-    after_both soc limits (with_bound tree) held before mid after both verdict order read
-    (after_file Tree (SaysBound (soc_value both.soc) (limits_value both.limits)) (RefusesTree (soc_value both.soc) (limits_value both.limits)) tree (λ value. done_with (bound_line value)) held mid after after (tree_value value) verdict later tree_read
-    (done_of (bound_line (tree_value value)) made held after after verdict is d))
+-- and so is the bound of a tree that was read
+pub bound_read : (chip : SocValue) (bounds : LimitsValue) (tree : List ℕ) (held : Option Files) (before after : ℕ) (value : TreeModel) (made : Result (Vec ℕ) MemoryFault) (verdict : Verdict) → before ≤ after →
+    LoadsTree chip bounds tree held before after (Ok value) → IfOk made (λ text. text.items ≡ bound_line (tree_value value)) → GivesText Done made verdict → Follows (with_bound tree chip bounds) held before after verdict
+bound_read chip bounds tree held before after value made verdict order read is d =
+    after_file Tree (SaysBound chip bounds) (RefusesTree chip bounds) tree (λ value. done_with (bound_line value)) held before after after (tree_value value) verdict order read
+    (done_of (bound_line (tree_value value)) made held after after verdict is d)
 
 -- ---- one answer
 

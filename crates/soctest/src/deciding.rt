@@ -1,4 +1,5 @@
-// Decides how a command ends before anything is written.
+// Decides how a command ends before anything is written. What was loaded is let go by a call, as the room of a checker is:
+// a value that goes out of scope is taken apart in the function's own proof, part by part.
 ghost use Rattle.std.specs.Prelude.{◌≡◌, ◌≤◌, ℕ, List, None, Some, IfOk, map, string_bytes};
 ghost use Rattle.soc_model.specs.Chips.{soc_value};
 ghost use Rattle.soc_model.specs.SoundChips.{IsSoundChip};
@@ -9,7 +10,7 @@ ghost use Rattle.plan_text.specs.PlanLines.{plan_text};
 ghost use Rattle.schedule_search.specs.Estimates.{CanAsk, IsAtLeastReady, IsAtMostNow};
 ghost use Rattle.planner.specs.Plans.{IsPlanned};
 ghost use Rattle.plan_model.specs.declared.TheConstants.{WIRES_MOST};
-ghost use Rattle.soctest.specs.Commands.{Print, Widths, MakePlan, Check, Chart, Vectors, TreeBound, command_of, SplitTests, Shift, Locate};
+ghost use Rattle.soctest.specs.Commands.{Print, Widths, MakePlan, Check, Chart, Vectors, TreeBound, IsInRange, command_of, command_value, SplitTests, Shift, Locate};
 ghost use Rattle.commands.specs.Procedures.{asked};
 ghost use Rattle.soctest.specs.Endings.{Closes, IsRunnable};
 ghost use Rattle.soctest.specs.Procedures.{procedure_of};
@@ -17,21 +18,16 @@ ghost use Rattle.commands.specs.Decides.{Follows};
 
 use crate::Command;
 use crate::ending::Ending;
-use crate::fails::locate_text;
 use crate::lines::accepted_line;
-use crate::logs::load_log;
-use crate::programs::answer_program;
+use crate::logs::answer_log;
+use crate::programs::answer_program_file;
 use crate::samples::decide_sample;
 use crate::splitting::decide_split;
-use crate::tree_lines::bound_line;
-use crate::trees::load_accepted_tree;
+use crate::trees::answer_tree;
 use crate::widths::widths_text;
 use crate::words::command;
 use chart::print_chart;
-use commands::{
-    FileKind, Status, Verdict, answered_with, bad_words, load_all, load_both, load_chip, load_file,
-    refused_with,
-};
+use commands::{Status, Verdict, answered_with, bad_words, load_all, load_both, load_chip};
 use outside::{NoMemory, Shelf};
 use plan_model::{Limits, Plan, good_without_limits};
 use plan_text::print_plan;
@@ -49,7 +45,11 @@ fn decide_print<H: Shelf>(alloc: Global, soc: &str, shelf: &mut H) -> Verdict
     ensures follows { Follows (procedure_of (Print soc.now)) (H.held shelf.old) (H.faults shelf.old) (H.faults shelf.new) result }
 {
     match load_chip(alloc, soc, shelf) {
-        Ok(chip) => answered_with(Status::Done, print_soc(alloc, &chip)),
+        Ok(chip) => {
+            let verdict = answered_with(Status::Done, print_soc(alloc, &chip));
+            drop(chip);
+            verdict
+        }
         Err(verdict) => verdict,
     }
 }
@@ -63,7 +63,11 @@ fn decide_widths<H: Shelf>(alloc: Global, soc: &str, wires: u64, shelf: &mut H) 
     ensures follows { Follows (procedure_of (Widths soc.now wires)) (H.held shelf.old) (H.faults shelf.old) (H.faults shelf.new) result }
 {
     match load_chip(alloc, soc, shelf) {
-        Ok(chip) => answered_with(Status::Done, widths_text(alloc, &chip, wires)),
+        Ok(chip) => {
+            let verdict = answered_with(Status::Done, widths_text(alloc, &chip, wires));
+            drop(chip);
+            verdict
+        }
         Err(verdict) => verdict,
     }
 }
@@ -102,7 +106,11 @@ fn decide_plan<H: Shelf>(alloc: Global, soc: &str, limits: &str, shelf: &mut H) 
     ensures follows { Follows (procedure_of (MakePlan soc.now limits.now)) (H.held shelf.old) (H.faults shelf.old) (H.faults shelf.new) result }
 {
     match load_both(alloc, soc, limits, shelf) {
-        Ok(both) => answered_with(Status::Done, text_of_plan(alloc, &both.soc, &both.limits)),
+        Ok(both) => {
+            let verdict = answered_with(Status::Done, text_of_plan(alloc, &both.soc, &both.limits));
+            drop(both);
+            verdict
+        }
         Err(verdict) => verdict,
     }
 }
@@ -120,7 +128,11 @@ fn decide_check<H: Shelf>(
     ensures follows { Follows (procedure_of (Check soc.now limits.now plan.now)) (H.held shelf.old) (H.faults shelf.old) (H.faults shelf.new) result }
 {
     match load_all(alloc, soc, limits, plan, shelf) {
-        Ok(all) => answered_with(Status::Done, accepted_line(alloc, &all.plan)),
+        Ok(all) => {
+            let verdict = answered_with(Status::Done, accepted_line(alloc, &all.plan));
+            drop(all);
+            verdict
+        }
         Err(verdict) => verdict,
     }
 }
@@ -140,7 +152,9 @@ fn decide_chart<H: Shelf>(
     match load_all(alloc, soc, limits, plan, shelf) {
         Ok(all) => {
             good_without_limits();
-            answered_with(Status::Done, print_chart(alloc, &all.soc, &all.plan))
+            let verdict = answered_with(Status::Done, print_chart(alloc, &all.soc, &all.plan));
+            drop(all);
+            verdict
         }
         Err(verdict) => verdict,
     }
@@ -179,10 +193,11 @@ fn decide_tree<H: Shelf>(
     ensures follows { Follows (procedure_of (TreeBound soc.now limits.now tree.now)) (H.held shelf.old) (H.faults shelf.old) (H.faults shelf.new) result }
 {
     match load_both(alloc, soc, limits, shelf) {
-        Ok(both) => match load_accepted_tree(alloc, &both.soc, &both.limits, tree, shelf) {
-            Ok(tree) => answered_with(Status::Done, bound_line(alloc, &tree)),
-            Err(verdict) => verdict,
-        },
+        Ok(both) => {
+            let verdict = answer_tree(alloc, &both.soc, &both.limits, tree, shelf);
+            drop(both);
+            verdict
+        }
         Err(verdict) => verdict,
     }
 }
@@ -203,13 +218,9 @@ fn decide_locate<H: Shelf>(
     match load_all(alloc, soc, limits, plan, shelf) {
         Ok(all) => {
             good_without_limits();
-            match load_log(alloc, log, shelf) {
-                Ok(fails) => answered_with(
-                    Status::Done,
-                    locate_text(alloc, &all.soc, &all.plan, fails.as_slice()),
-                ),
-                Err(verdict) => verdict,
-            }
+            let verdict = answer_log(alloc, &all.soc, &all.plan, log, shelf);
+            drop(all);
+            verdict
         }
         Err(verdict) => verdict,
     }
@@ -229,11 +240,67 @@ fn decide_shift<H: Shelf>(
     ensures follows { Follows (procedure_of (Shift soc.now limits.now plan.now program.now)) (H.held shelf.old) (H.faults shelf.old) (H.faults shelf.new) result }
 {
     match load_all(alloc, soc, limits, plan, shelf) {
-        Ok(all) => match load_file(alloc, FileKind::Program, program, shelf) {
-            Ok(bytes) => answer_program(alloc, &all.soc, &all.limits, &all.plan, bytes.as_slice()),
-            Err(verdict) => verdict,
-        },
+        Ok(all) => {
+            let verdict = answer_program_file(
+                alloc,
+                &all.soc,
+                &all.limits,
+                &all.plan,
+                program,
+                shelf,
+            );
+            drop(all);
+            verdict
+        }
         Err(verdict) => verdict,
+    }
+}
+
+/// Decides how a command ends.
+fn decide_command<H: Shelf>(alloc: Global, given: Command<'_>, shelf: &mut H) -> Ending
+    requires { IsInRange given }
+    ensures held_stays { H.held shelf.new ≡ H.held shelf.old }
+    ensures faults_never_fall { H.faults shelf.old ≤ H.faults shelf.new }
+    ensures closes { Closes (procedure_of (command_value given.entry)) (H.held shelf.old) (H.faults shelf.old) (H.faults shelf.new) result }
+    ensures runnable { IsRunnable result }
+{
+    match given {
+        Command::Print { soc } => Ending::Decided(decide_print(alloc, soc, shelf)),
+        Command::Widths { soc, wires } => {
+            Ending::Decided(decide_widths(alloc, soc, wires, shelf))
+        }
+        Command::Plan { soc, limits } => Ending::Decided(decide_plan(alloc, soc, limits, shelf)),
+        Command::Check { soc, limits, plan } => {
+            Ending::Decided(decide_check(alloc, soc, limits, plan, shelf))
+        }
+        Command::Chart { soc, limits, plan } => {
+            Ending::Decided(decide_chart(alloc, soc, limits, plan, shelf))
+        }
+        Command::Vectors {
+            soc,
+            limits,
+            plan,
+            seed,
+        } => decide_vectors(alloc, soc, limits, plan, seed, shelf),
+        Command::Sample { n, seed } => Ending::Decided(decide_sample(alloc, n, seed)),
+        Command::Locate {
+            soc,
+            limits,
+            plan,
+            log,
+        } => Ending::Decided(decide_locate(alloc, soc, limits, plan, log, shelf)),
+        Command::Shift {
+            soc,
+            limits,
+            plan,
+            program,
+        } => Ending::Decided(decide_shift(alloc, soc, limits, plan, program, shelf)),
+        Command::Tree { soc, limits, tree } => {
+            Ending::Decided(decide_tree(alloc, soc, limits, tree, shelf))
+        }
+        Command::Split { soc, limits, most } => {
+            Ending::Decided(decide_split(alloc, soc, limits, most, shelf))
+        }
     }
 }
 
@@ -247,50 +314,7 @@ pub fn decide<H: Shelf>(alloc: Global, words: &[String], shelf: &mut H) -> Endin
     ensures patterns { (soc limits : List ℕ) (most : ℕ) → command_of (map string_bytes words.now) ≡ Some (SplitTests soc limits most) → 1 ≤ most }
 {
     match command(words) {
-        Some(Command::Print { soc }) => Ending::Decided(decide_print(alloc, soc, shelf)),
-        Some(Command::Widths { soc, wires }) => Ending::Decided(decide_widths(
-            alloc, soc, wires, shelf,
-        )),
-        Some(Command::Plan { soc, limits }) => Ending::Decided(decide_plan(
-            alloc, soc, limits, shelf,
-        )),
-        Some(Command::Check { soc, limits, plan }) => Ending::Decided(decide_check(
-            alloc, soc, limits, plan, shelf,
-        )),
-        Some(Command::Chart { soc, limits, plan }) => Ending::Decided(decide_chart(
-            alloc, soc, limits, plan, shelf,
-        )),
-        Some(
-            Command::Vectors {
-                soc,
-                limits,
-                plan,
-                seed,
-            },
-        ) => decide_vectors(alloc, soc, limits, plan, seed, shelf),
-        Some(Command::Sample { n, seed }) => Ending::Decided(decide_sample(alloc, n, seed)),
-        Some(
-            Command::Locate {
-                soc,
-                limits,
-                plan,
-                log,
-            },
-        ) => Ending::Decided(decide_locate(alloc, soc, limits, plan, log, shelf)),
-        Some(
-            Command::Shift {
-                soc,
-                limits,
-                plan,
-                program,
-            },
-        ) => Ending::Decided(decide_shift(alloc, soc, limits, plan, program, shelf)),
-        Some(Command::Tree { soc, limits, tree }) => Ending::Decided(decide_tree(
-            alloc, soc, limits, tree, shelf,
-        )),
-        Some(Command::Split { soc, limits, most }) => Ending::Decided(decide_split(
-            alloc, soc, limits, most, shelf,
-        )),
+        Some(given) => decide_command(alloc, given, shelf),
         None => Ending::Decided(bad_words(alloc)),
     }
 }

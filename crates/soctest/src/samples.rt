@@ -1,5 +1,5 @@
 // `sample`: a made chip, planned and checked.
-ghost use Rattle.std.specs.Prelude.{◌≡◌, ◌≤◌, ℕ, Option, IfOk, IsTrue, length};
+ghost use Rattle.std.specs.Prelude.{◌≡◌, ◌≤◌, ◌++◌, ℕ, Option, IfOk, IsTrue, OnOk, codes, decimal, length};
 ghost use Rattle.std.specs.List.{filter};
 ghost use Rattle.outside.specs.Held.{Files};
 ghost use Rattle.soc_model.specs.Chips.{module_value, soc_value, is_live, live_tests};
@@ -12,11 +12,13 @@ ghost use Rattle.planner.specs.Plans.{IsPlanned};
 ghost use Rattle.soctest.specs.Commands.{Sample};
 ghost use Rattle.soctest.specs.Procedures.{procedure_of};
 ghost use Rattle.soctest.specs.Samples.{sample_limits, sample_line as sample_line_text, sample_text, kind_text};
-ghost use Rattle.commands.specs.Texts.{is_line};
+ghost use Rattle.commands.specs.Texts.{is_line, two_numbers};
 ghost use Rattle.commands.specs.Decides.{Follows};
 
 use crate::deciding::planned;
-use commands::{Status, Verdict, answered_with, numbered, push, push_decimal, refused_with};
+use commands::{
+    Status, Verdict, answered_with, numbered, push, push_decimal, push_two, refused_with,
+};
 use outside::NoMemory;
 use plan_checker::first_fault;
 use plan_model::{Limits, Plan, Why};
@@ -76,26 +78,39 @@ fn kind(why: &Why) -> &'static [u8]
     }
 }
 
+/// Appends the lines of a made chip: its numbers, its modules and its live tests.
+fn push_made(text: &mut Vec<u8>, n: u64, seed: u64, soc: &Soc) -> Result<(), NoMemory>
+    requires { IsSoundChip (soc_value soc.now) }
+    ensures { OnOk result (text.new.items ≡ text.old.items ++ codes "sample " ++ two_numbers n seed ++ codes "\nmodules " ++ decimal (length (soc_value soc.now).modules) ++ codes "\ntests " ++ decimal (length (live_tests (soc_value soc.now)))) }
+{
+    push(text, b"sample ")?;
+    push_two(text, u128::from(n), u128::from(seed))?;
+    push(text, b"\nmodules ")?;
+    push_decimal(text, soc.modules.len() as u128)?;
+    push(text, b"\ntests ")?;
+    push_decimal(text, count_tests(soc))
+}
+
+/// Appends the lines of a plan: its cycles, and its bound with the kind of its certificate.
+fn push_planned(text: &mut Vec<u8>, plan: &Plan) -> Result<(), NoMemory>
+    ensures { OnOk result (text.new.items ≡ text.old.items ++ codes "\ncycles " ++ decimal plan.now.cycles ++ codes "\nbound " ++ decimal plan.now.bound.cycles ++ codes " " ++ kind_text (why_value plan.now.bound.why)) }
+{
+    push(text, b"\ncycles ")?;
+    push_decimal(text, u128::from(plan.cycles))?;
+    push(text, b"\nbound ")?;
+    push_decimal(text, u128::from(plan.bound.cycles))?;
+    push(text, b" ")?;
+    push(text, kind(&plan.bound.why))
+}
+
 /// The summary of a made chip and its plan.
 fn summary(alloc: Global, n: u64, seed: u64, soc: &Soc, plan: &Plan) -> Result<Vec<u8>, NoMemory>
     requires { IsSoundChip (soc_value soc.now) }
     ensures { IfOk result (λ text. text.items ≡ sample_text n seed (soc_value soc.now) (plan_value plan.now)) }
 {
     let mut text = Vec::new(alloc);
-    push(&mut text, b"sample ")?;
-    push_decimal(&mut text, u128::from(n))?;
-    push(&mut text, b" ")?;
-    push_decimal(&mut text, u128::from(seed))?;
-    push(&mut text, b"\nmodules ")?;
-    push_decimal(&mut text, soc.modules.len() as u128)?;
-    push(&mut text, b"\ntests ")?;
-    push_decimal(&mut text, count_tests(soc))?;
-    push(&mut text, b"\ncycles ")?;
-    push_decimal(&mut text, u128::from(plan.cycles))?;
-    push(&mut text, b"\nbound ")?;
-    push_decimal(&mut text, u128::from(plan.bound.cycles))?;
-    push(&mut text, b" ")?;
-    push(&mut text, kind(&plan.bound.why))?;
+    push_made(&mut text, n, seed, soc)?;
+    push_planned(&mut text, plan)?;
     push(&mut text, b"\naccepted\n")?;
     Ok(text)
 }

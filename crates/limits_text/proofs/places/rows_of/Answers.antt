@@ -2,7 +2,7 @@ use Rattle.std.proofs.Common.{◌≡◌, ◌∷◌, ◌++◌, [], ◌∙◌, ap,
 use Rattle.std.proofs.lemmas.List.{map-append}
 use Rattle.std.proofs.lemmas.Option.{slice_get_within, get_or_from_slice_get}
 use Rattle.soc_model.specs.declared.Module.{Module}
-use Rattle.limits_text.specs.Places.{places_in, row_of}
+use Rattle.limits_text.specs.Places.{entries_in, row_of}
 use Rattle.limits_text.proofs.Noting.{map_more}
 use Rattle.limits_text.proofs.places.rows_of.Goals as goal
 
@@ -12,5 +12,5 @@ loop-place-preserved c =
     let entry : ℕ × Module = (c.in-Some.number.now, c.in-Some.«module».now) in
     let at = sym c.in-Some.ensures.entry in
     let pushed : c.push.new.to.items ≡ c.loop-place.rows.items ++ c.in_ok-row_in-in-Some.field-0 ∷ [] = search rules in
-    ap (map places_in) pushed ∙ map-append places_in c.loop-place.rows.items (c.in_ok-row_in-in-Some.field-0 ∷ []) ∙ ap (λ l. map places_in c.loop-place.rows.items ++ l ∷ []) c.in_ok-row_in-in-Some.ensures
-    ∙ map_more (row_of c.args.live.now) entries c.loop-place.place entry entry (map places_in c.loop-place.rows.items) c.loop-place.invariant (slice_get_within entries c.loop-place.place entry at) (sym (get_or_from_slice_get entries c.loop-place.place entry entry at))
+    ap (map entries_in) pushed ∙ map-append entries_in c.loop-place.rows.items (c.in_ok-row_in-in-Some.field-0 ∷ []) ∙ ap (λ l. map entries_in c.loop-place.rows.items ++ l ∷ []) c.in_ok-row_in-in-Some.ensures
+    ∙ map_more (row_of c.args.live.now) entries c.loop-place.place entry entry (map entries_in c.loop-place.rows.items) c.loop-place.invariant (slice_get_within entries c.loop-place.place entry at) (sym (get_or_from_slice_get entries c.loop-place.place entry entry at))

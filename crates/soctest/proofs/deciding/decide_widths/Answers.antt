@@ -1,0 +1,11 @@
+use Rattle.soc_model.specs.Chips.{SocValue, soc_value}
+use Rattle.soctest.specs.WidthsText.{widths_text}
+use Rattle.soctest.proofs.ChipAnswers.{chip_answered, chip_unread}
+use Rattle.soctest.proofs.deciding.decide_widths.Goals as goal
+
+pub returns-in-Ok-clause-follows : goal.returns-in-Ok-clause-follows
+returns-in-Ok-clause-follows g c =
+    chip_answered _ (λ (chip : SocValue). widths_text chip c.args.wires) _ _ (g.H.Shelf.faults c.load_chip.new.shelf) (soc_value c.in-Ok.chip) _ _ c.load_chip.ensures.faults_never_fall c.in-Ok.ensures.loads c.widths_text.ensures c.answered_with-verdict.ensures
+
+pub returns-in-Err-clause-follows : goal.returns-in-Err-clause-follows
+returns-in-Err-clause-follows g c = chip_unread _ (λ (chip : SocValue). widths_text chip c.args.wires) _ _ _ _ c.in-Err.ensures.loads
