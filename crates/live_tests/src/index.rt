@@ -42,11 +42,28 @@ impl<'a> PlanIndex<'a> {
     pub fn new(alloc: Global, plan: &'a Plan) -> Result<PlanIndex<'a>, NoMemory>
         ensures { IfOk result (λ index. index ≡ plan_value plan.now) }
     {
+        let starts = starts_by_name(alloc, &plan.starts)?;
+        let buses = buses_by_module(alloc, &plan.buses)?;
+        PlanIndex::with_wrappers(alloc, plan, buses, starts)
+    }
+
+    /// The index of a plan whose buses and starts are found already.
+    fn with_wrappers(
+        alloc: Global,
+        plan: &'a Plan,
+        buses: IndexMap<u64, usize>,
+        starts: IndexMap<TestId, u64>,
+    ) -> Result<PlanIndex<'a>, NoMemory>
+        requires buses { AreBusPlaces buses.entries (plan_value plan.now).buses }
+        requires starts { (id : TestId) → lookup (same_test id) starts.entries ≡ lookup (same_test id) (plan_value plan.now).starts }
+        ensures { IfOk result (λ index. index ≡ plan_value plan.now) }
+    {
+        let wrappers = wrappers_by_mode(alloc, &plan.wrappers)?;
         Ok(PlanIndex {
             plan,
-            buses: buses_by_module(alloc, &plan.buses)?,
-            wrappers: wrappers_by_mode(alloc, &plan.wrappers)?,
-            starts: starts_by_name(alloc, &plan.starts)?,
+            buses,
+            wrappers,
+            starts,
         })
     }
 

@@ -4,8 +4,9 @@ ghost use Rattle.soc_model.specs.Chips.{is_live, module_value, soc_value};
 ghost use Rattle.soc_model.specs.SoundChips.{IsSoundChip};
 ghost use Rattle.plan_model.specs.declared.Bus.{Bus};
 ghost use Rattle.plan_model.specs.Plans.{planned_test};
-ghost use Rattle.plan_model.specs.Rules.{IsGoodAlone};
+ghost use Rattle.plan_model.specs.Rules.{IsGoodAlone, live_ids};
 ghost use Rattle.plan_model.specs.Views.{plan_value};
+ghost use Rattle.live_tests.specs.declared.placed.PlacedTest.{PlacedTest};
 ghost use Rattle.live_tests.specs.Wrapped.{AreModeWrappers};
 ghost use Rattle.live_tests.specs.Placed.{bus_over as the_bus_over, is_called, placed_at, placed_in, placed_of, placed_tests};
 
@@ -58,10 +59,16 @@ impl PlacedTests {
         requires good { IsGoodAlone (soc_value soc.now) (plan_value plan.now) }
         ensures { IfOk result (λ tests. tests ≡ placed_tests (soc_value soc.now) (plan_value plan.now)) }
     {
+        let tests = placed(alloc, soc, plan)?;
+        PlacedTests::named(alloc, soc, tests)
+    }
+
+    /// The placed tests of all live tests of a chip, found by their names.
+    fn named(alloc: Global, soc: &Soc, tests: Vec<PlacedTest>) -> Result<PlacedTests, NoMemory>
+        requires { map (λ (p : PlacedTest). p.id) tests.items ≡ live_ids (soc_value soc.now) }
+        ensures { IfOk result (λ placed. placed ≡ tests.items) }
+    {
         let names = LiveTests::new(alloc, soc)?;
-        let index = PlanIndex::new(alloc, plan)?;
-        let planned = PlannedChip { soc, index: &index };
-        let tests = planned.tests(alloc)?;
         Ok(PlacedTests { names, tests })
     }
 
@@ -79,6 +86,20 @@ impl PlacedTests {
     {
         &self.tests
     }
+}
+
+/// The live tests of a chip as a good plan places them. The plan's index goes when all are placed.
+fn placed(alloc: Global, soc: &Soc, plan: &Plan) -> Result<Vec<PlacedTest>, NoMemory>
+    requires sound { IsSoundChip (soc_value soc.now) }
+    requires good { IsGoodAlone (soc_value soc.now) (plan_value plan.now) }
+    ensures { IfOk result (λ tests. tests.items ≡ placed_tests (soc_value soc.now) (plan_value plan.now)) }
+{
+    let index = PlanIndex::new(alloc, plan)?;
+    let planned = PlannedChip { soc, index: &index };
+    let tests = planned.tests(alloc);
+    // let go by a call: the end of the scope would let go of each of its parts, and be proved for each
+    drop(index);
+    tests
 }
 
 /// The first wire of a bus: its wires come after those of the buses before it.

@@ -6,6 +6,7 @@ pub mod LatestEnds
 pub mod BusyTimes
 pub mod Profiles
 pub mod Befores
+pub mod EmptyRows
 pub mod Histories
 pub mod Kept
 pub mod Lent

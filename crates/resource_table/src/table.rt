@@ -6,6 +6,9 @@ ghost use Rattle.resource_table.specs.Calm.{IsCalm};
 ghost use Rattle.resource_table.specs.declared.JobTest.{JobTest};
 ghost use Rattle.resource_table.specs.declared.Placement.{Placement};
 ghost use Rattle.resource_table.specs.Jobs.{test_value, job_value, cycles_of, test_over, tests_over, job_over, IsSoundJob};
+ghost use Rattle.resource_table.specs.Befores.{listed, AreListed};
+ghost use Rattle.resource_table.specs.BusyTimes.{AreEmptyTimes};
+ghost use Rattle.resource_table.specs.EmptyRows.{AreEmptyRows};
 ghost use Rattle.resource_table.specs.Schedules.{TableValue, at_start, last_end as last_end_of, ready_at, is_placed as is_placed_in, MeetsNone, StaysWithin, ComesAfter, Fits, IsEarliest, MayPlace, IsSoundTable};
 
 use crate::copies::copy_job;
@@ -162,6 +165,53 @@ fn new_points(alloc: Global, tests: usize, steps: usize) -> Result<Vec<Point>, N
     Vec::with_capacity(alloc, room).map_err(|_| NoMemory)
 }
 
+/// What a table keeps of its placements. It is made by a function of its own, and what the table makes of its job by another: one
+/// that has all parts of a table in its hands at each want of memory takes much longer to prove.
+#[derive(Drop)]
+struct Rows {
+    ends: Vec<Option<u64>>,
+    lasts: Vec<u64>,
+    draws: Vec<Draw>,
+    points: Vec<Point>,
+    trail: SmallVec<Placement, 16>,
+    bounds: History,
+}
+
+/// Rows in which none of so many tests is placed, with room for all of them and for their steps.
+fn new_rows(alloc: Global, tests: usize, steps: usize) -> Result<Rows, NoMemory>
+    ensures { IfOk result (AreEmptyRows tests steps) }
+{
+    Ok(Rows {
+        ends: no_ends(alloc, tests)?,
+        lasts: new_lasts(alloc, tests)?,
+        draws: new_draws(alloc, steps)?,
+        points: new_points(alloc, tests, steps)?,
+        trail: new_trail(alloc, tests)?,
+        bounds: new_history(alloc, tests, tests, tests.saturating_mul(NOTES))?,
+    })
+}
+
+/// What a table makes of its job.
+#[derive(Drop)]
+struct JobParts {
+    own: Job,
+    times: Timelines,
+    before: Vec<Neighbours>,
+}
+
+/// A copy of a job, its timelines, empty, and for each of its tests those that precede it.
+fn job_parts(alloc: Global, job: &Job) -> Result<JobParts, NoMemory>
+    requires { IsSoundJob (job_value job.now) }
+    ensures own { IfOk result (λ parts. job_value parts.own ≡ job_value job.now) }
+    ensures times { IfOk result (λ parts. AreEmptyTimes (job_value job.now).tests parts.times) }
+    ensures before { IfOk result (λ parts. AreListed (job_value job.now) (map listed parts.before.items)) }
+{
+    let before = all_before(alloc, job.tests.len(), &job.before)?;
+    let times = empty_times(alloc, &job.tests)?;
+    let own = copy_job(alloc, job)?;
+    Ok(JobParts { own, times, before })
+}
+
 /// Lets a test go over a bus and take so many cycles.
 fn send_one_over(test: &mut JobTest, bus: Option<usize>, length: u64)
     ensures { test_value test.new ≡ test_over bus length (test_value test.old) }
@@ -188,20 +238,28 @@ impl<'a> TableOf<&'a Job> {
         ensures empty { IfOk result (λ t. t ≡ record { job = job_value job.now; placed = [] }) }
         ensures sound { IfOk result IsSoundTable }
     {
-        let own = copy_job(alloc, job)?;
-        let tests = own.tests.len();
-        let steps = count_steps(&own.tests);
+        let tests = job.tests.len();
+        let steps = count_steps(&job.tests);
+        let Rows {
+            ends,
+            lasts,
+            draws,
+            points,
+            trail,
+            bounds,
+        } = new_rows(alloc, tests, steps)?;
+        let JobParts { own, times, before } = job_parts(alloc, job)?;
         Ok(TableOf {
             job,
-            trail: new_trail(alloc, tests)?,
-            ends: no_ends(alloc, tests)?,
-            lasts: new_lasts(alloc, tests)?,
-            times: empty_times(alloc, &own.tests)?,
-            bounds: new_history(alloc, tests, tests, tests.saturating_mul(NOTES))?,
-            draws: new_draws(alloc, steps)?,
-            points: new_points(alloc, tests, steps)?,
-            before: all_before(alloc, tests, &own.before)?,
             own,
+            trail,
+            ends,
+            lasts,
+            times,
+            bounds,
+            draws,
+            points,
+            before,
         })
     }
 }

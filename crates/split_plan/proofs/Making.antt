@@ -34,6 +34,13 @@ use Rattle.split_plan.proofs.CutTests.{are_parts}
 pub moved_on : {X : Type 0} (old new here rest whole : List X) → new ≡ old ++ here → old ++ (here ++ rest) ≡ whole → new ++ rest ≡ whole
 moved_on old new here rest whole e f = ap (λ l. l ++ rest) e ∙ append_assoc old here rest ∙ f
 
+-- one item more
+pub map_more : {X Y : Type 0} (f : X → Y) (xs : List X) (i : ℕ) (d : X) (old new : List Y) → i < length xs → old ≡ map f (take i xs) → new ≡ old ++ f (get_or xs i d) ∷ [] → new ≡ map f (take (i + 1) xs)
+map_more f xs i d old new less so_far added =
+    added ∙ ap (λ l. l ++ f (get_or xs i d) ∷ []) so_far
+    ∙ sym (map-append f (take i xs) (get_or xs i d ∷ []))
+    ∙ ap (map f) (sym (take_more xs i d less))
+
 -- one item more, of each of which a list is added
 pub flat_more : {X Y : Type 0} (f : X → List Y) (xs : List X) (i : ℕ) (d : X) (start old new : List Y) → i < length xs → old ≡ start ++ flat_map f (take i xs) → new ≡ old ++ f (get_or xs i d) → new ≡ start ++ flat_map f (take (i + 1) xs)
 flat_more f xs i d start old new less so_far added =
@@ -72,12 +79,15 @@ room_of limits most home number t some small few =
     record { some = parts.some; patterns = small; begins = parts.begins; numbers = omega (arith, count, small, few) }
 
 -- one test more
-pub cuts_more : (limits : LimitsValue) (most home number : ℕ) (ts : List Test) (i : ℕ) (d : Test) (old new whole : List Cut) → i < length ts → old ++ cuts_from limits most home number (drop i ts) ≡ whole → new ≡ old ++ cut_of limits most home number (get_or ts i d) ∷ [] →
-    new ++ cuts_from limits most home (number + part_count most (get_or ts i d)) (drop (i + 1) ts) ≡ whole
-cuts_more limits most home number ts i d old new whole less so_far added =
-    let rest : List Cut = cuts_from limits most home (number + part_count most (get_or ts i d)) (drop (i + 1) ts) in
-    let next : cuts_from limits most home number (drop i ts) ≡ cut_of limits most home number (get_or ts i d) ∷ cuts_from limits most home (number + part_count most (get_or ts i d)) (drop (i + 1) ts) = ap (cuts_from limits most home number) (drop_more ts i d less) in
-    moved_on old new (cut_of limits most home number (get_or ts i d) ∷ []) (cuts_from limits most home (number + part_count most (get_or ts i d)) (drop (i + 1) ts)) whole added (ap (λ (l : List Cut). old ++ l) (sym next) ∙ so_far)
+pub cuts_more : (limits : LimitsValue) (most home number : ℕ) (ts : List Test) (i : ℕ) (d : Test) (cut : Cut) (old new whole : List Cut) → i < length ts → cut ≡ cut_of limits most home number (get_or ts i d) → old ++ cuts_from limits most home number (drop i ts) ≡ whole → new ≡ old ++ cut ∷ [] →
+    new ++ cuts_from limits most home (number + cut.count) (drop (i + 1) ts) ≡ whole
+cuts_more limits most home number ts i d cut old new whole less is so_far =
+    subst (λ (cut : Cut). new ≡ old ++ cut ∷ [] → new ++ cuts_from limits most home (number + cut.count) (drop (i + 1) ts) ≡ whole) (sym is) by
+  where
+    by : new ≡ old ++ cut_of limits most home number (get_or ts i d) ∷ [] → new ++ cuts_from limits most home (number + part_count most (get_or ts i d)) (drop (i + 1) ts) ≡ whole
+    by added =
+        let next : cuts_from limits most home number (drop i ts) ≡ cut_of limits most home number (get_or ts i d) ∷ cuts_from limits most home (number + part_count most (get_or ts i d)) (drop (i + 1) ts) = ap (cuts_from limits most home number) (drop_more ts i d less) in
+        moved_on old new (cut_of limits most home number (get_or ts i d) ∷ []) (cuts_from limits most home (number + part_count most (get_or ts i d)) (drop (i + 1) ts)) whole added (ap (λ (l : List Cut). old ++ l) (sym next) ∙ so_far)
 
 -- ---- the chip
 

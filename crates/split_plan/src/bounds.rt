@@ -157,18 +157,45 @@ fn kept_profiles(
     Ok(kept)
 }
 
-/// The limits of the parts of these tests.
-pub(crate) fn limits_of(alloc: Global, limits: &Limits, cuts: &[Cut]) -> Result<Limits, NoMemory>
-    requires differ { AllDiffer (wholes cuts.now) }
+/// An index of the names of tests.
+fn index_of_wholes(alloc: Global, cuts: &[Cut]) -> Result<IndexSet<TestId>, NoMemory>
+    requires { AllDiffer (wholes cuts.now) }
+    ensures { IfOk result (λ index. index.keys ≡ wholes cuts.now) }
+{
+    let names = whole_names(alloc, cuts)?;
+    index_of(alloc, &names)
+}
+
+/// The precedences of the parts.
+fn precedences(
+    alloc: Global,
+    index: &IndexSet<TestId>,
+    cuts: &[Cut],
+    pairs: &[(TestId, TestId)],
+) -> Result<Vec<(TestId, TestId)>, NoMemory>
+    requires named { index.now.keys ≡ wholes cuts.now }
+    requires room { All HasRoom cuts.now }
+    ensures { IfOk result (λ before. before.items ≡ precedences_of cuts.now pairs.now) }
+{
+    let mut before = Vec::new(alloc);
+    push_chains(&mut before, cuts)?;
+    push_all_joined(&mut before, index, cuts, pairs)?;
+    Ok(before)
+}
+
+/// The limits of the parts, by the names of the tests.
+fn limits_by(
+    alloc: Global,
+    index: &IndexSet<TestId>,
+    limits: &Limits,
+    cuts: &[Cut],
+) -> Result<Limits, NoMemory>
+    requires named { index.now.keys ≡ wholes cuts.now }
     requires room { All HasRoom cuts.now }
     ensures { IfOk result (λ made. limits_value made ≡ record (limits_value limits.now) { before = precedences_of cuts.now (limits_value limits.now).before; profiles = profiles_of cuts.now (limits_value limits.now).profiles }) }
 {
-    let names = whole_names(alloc, cuts)?;
-    let index = index_of(alloc, &names)?;
-    let mut before = Vec::new(alloc);
-    push_chains(&mut before, cuts)?;
-    push_all_joined(&mut before, &index, cuts, &limits.before)?;
-    let profiles = kept_profiles(alloc, &index, cuts, &limits.profiles)?;
+    let before = precedences(alloc, index, cuts, &limits.before)?;
+    let profiles = kept_profiles(alloc, index, cuts, &limits.profiles)?;
     Ok(Limits {
         wires: limits.wires,
         power: limits.power,
@@ -176,4 +203,14 @@ pub(crate) fn limits_of(alloc: Global, limits: &Limits, cuts: &[Cut]) -> Result<
         budget: limits.budget,
         profiles,
     })
+}
+
+/// The limits of the parts of these tests.
+pub(crate) fn limits_of(alloc: Global, limits: &Limits, cuts: &[Cut]) -> Result<Limits, NoMemory>
+    requires differ { AllDiffer (wholes cuts.now) }
+    requires room { All HasRoom cuts.now }
+    ensures { IfOk result (λ made. limits_value made ≡ record (limits_value limits.now) { before = precedences_of cuts.now (limits_value limits.now).before; profiles = profiles_of cuts.now (limits_value limits.now).profiles }) }
+{
+    let index = index_of_wholes(alloc, cuts)?;
+    limits_by(alloc, &index, limits, cuts)
 }

@@ -5,6 +5,7 @@ ghost use Rattle.soc_model.specs.declared.Test.{Test};
 ghost use Rattle.soc_model.specs.Chips.{soc_value, module_value};
 ghost use Rattle.soc_model.specs.Lookups.{has_module_number};
 ghost use Rattle.soc_model.specs.SoundChips.{IsSoundChip};
+ghost use Rattle.live_tests.specs.Names.{AllDiffer};
 ghost use Rattle.plan_model.specs.SoundLimits.{IsSoundLimits};
 ghost use Rattle.plan_model.specs.Views.{limits_value, profile_value};
 ghost use Rattle.split_plan.specs.Cuts.{all_cuts, cuts_in as cuts_of_module, part_test, pieces};
@@ -81,6 +82,17 @@ fn put_new(soc: &mut Soc, module: Module) -> Result<(), NoMemory>
     }
 }
 
+/// Puts a module last with the parts of these tests, whose number the chip hasn't.
+fn put_parts(alloc: Global, soc: &mut Soc, module: &Module, cuts: &[Cut]) -> Result<(), NoMemory>
+    requires new { has_module_number (soc_value soc.old) «module».now.number ≡ false }
+    requires room { All HasRoom cuts.now }
+    ensures { OnOk result (soc_value soc.new ≡ record (soc_value soc.old) { keys = (soc_value soc.old).keys ++ «module».now.number ∷ []; modules = (soc_value soc.old).modules ++ record (module_value «module».now) { tests = map part_test (pieces cuts.now) } ∷ [] }) }
+{
+    let tests = part_tests(alloc, cuts)?;
+    let of_parts = with_tests(alloc, module, tests)?;
+    put_new(soc, of_parts)
+}
+
 /// Adds a module with the parts of its tests, and these tests.
 fn add_module(
     alloc: Global,
@@ -101,9 +113,7 @@ fn add_module(
     ensures room { OnOk result (All HasRoom made.new.cuts.items) }
 {
     let own = cuts_in(alloc, limits, profiled, most, module)?;
-    let tests = part_tests(alloc, &own)?;
-    let of_parts = with_tests(alloc, module, tests)?;
-    put_new(&mut made.soc, of_parts)?;
+    put_parts(alloc, &mut made.soc, module, &own)?;
     extend(&mut made.cuts, &own)
 }
 
@@ -123,6 +133,59 @@ fn nothing_made(alloc: Global, soc: &Soc) -> Result<Made, NoMemory>
     })
 }
 
+/// An index of the tests of profiles.
+fn index_of_profiles(alloc: Global, limits: &Limits) -> Result<IndexSet<TestId>, NoMemory>
+    requires { AllDiffer (tests_of (limits_value limits.now).profiles) }
+    ensures { IfOk result (λ profiled. profiled.keys ≡ tests_of (limits_value limits.now).profiles) }
+{
+    let names = profile_names(alloc, &limits.profiles)?;
+    index_of(alloc, &names)
+}
+
+/// Adds all modules with the parts of their tests, and these tests.
+fn add_modules(
+    alloc: Global,
+    made: &mut Made,
+    soc: &Soc,
+    limits: &Limits,
+    profiled: &IndexSet<TestId>,
+    most: u64,
+) -> Result<(), NoMemory>
+    requires no_module { soc_value made.old.soc ≡ record (soc_value soc.now) { keys = []; modules = [] } }
+    requires no_cut { made.old.cuts.items ≡ [] }
+    requires chip { IsSoundChip (soc_value soc.now) }
+    requires named { profiled.now.keys ≡ tests_of (limits_value limits.now).profiles }
+    requires some { 1 ≤ most }
+    ensures chip { OnOk result (soc_value made.new.soc ≡ split_chip (limits_value limits.now) most (soc_value soc.now)) }
+    ensures cuts { OnOk result (made.new.cuts.items ≡ all_cuts (limits_value limits.now) most (soc_value soc.now)) }
+    ensures room { OnOk result (All HasRoom made.new.cuts.items) }
+{
+    for module in soc.modules.values() {
+        add_module(alloc, made, limits, profiled, most, module)?;
+    }
+    Ok(())
+}
+
+/// The chip of parts, and the tests that are cut with their parts, by the tests of profiles.
+fn made_of(
+    alloc: Global,
+    soc: &Soc,
+    limits: &Limits,
+    profiled: &IndexSet<TestId>,
+    most: u64,
+) -> Result<Made, NoMemory>
+    requires chip { IsSoundChip (soc_value soc.now) }
+    requires named { profiled.now.keys ≡ tests_of (limits_value limits.now).profiles }
+    requires some { 1 ≤ most }
+    ensures chip { IfOk result (λ made. soc_value made.soc ≡ split_chip (limits_value limits.now) most (soc_value soc.now)) }
+    ensures cuts { IfOk result (λ made. made.cuts.items ≡ all_cuts (limits_value limits.now) most (soc_value soc.now)) }
+    ensures room { IfOk result (λ made. All HasRoom made.cuts.items) }
+{
+    let mut made = nothing_made(alloc, soc)?;
+    add_modules(alloc, &mut made, soc, limits, profiled, most)?;
+    Ok(made)
+}
+
 /// The chip of parts, and the tests that are cut with their parts.
 pub(crate) fn cut_chip(
     alloc: Global,
@@ -137,11 +200,6 @@ pub(crate) fn cut_chip(
     ensures cuts { IfOk result (λ made. made.cuts.items ≡ all_cuts (limits_value limits.now) most (soc_value soc.now)) }
     ensures room { IfOk result (λ made. All HasRoom made.cuts.items) }
 {
-    let names = profile_names(alloc, &limits.profiles)?;
-    let profiled = index_of(alloc, &names)?;
-    let mut made = nothing_made(alloc, soc)?;
-    for module in soc.modules.values() {
-        add_module(alloc, &mut made, limits, &profiled, most, module)?;
-    }
-    Ok(made)
+    let profiled = index_of_profiles(alloc, limits)?;
+    made_of(alloc, soc, limits, &profiled, most)
 }

@@ -1,11 +1,12 @@
-use Rattle.std.proofs.Common.{◌≡◌, ◌+◌, ◌∙◌, ◌++◌, ◌∷◌, [], ℕ, List, length, set, max, refl, sym, subst, ap, arith, Some, lit<, length-append}
+use Rattle.std.proofs.Common.{◌≡◌, ◌+◌, ◌^◌, ◌≤◌, ◌∙◌, ◌++◌, ◌∷◌, [], ℕ, List, length, set, max, refl, sym, subst, ap, arith, Some, lit<, length-append}
 use Rattle.std.specs.Prelude.{IfSome}
 use Rattle.std.specs.List.{flat_map}
 use Rattle.resource_table.specs.declared.Placement.{Placement}
 use Rattle.std.specs.Vec.{with_item}
 use Rattle.resource_table.specs.declared.power.Draw.{Draw}
 use Rattle.resource_table.specs.Profiles.{ArePoints}
-use Rattle.resource_table.specs.Jobs.{TestValue, job_value, test_at, cycles_of}
+use Rattle.std.proofs.lemmas.List.{length-map}
+use Rattle.resource_table.specs.Jobs.{TestValue, job_value, test_value, test_at, cycles_of}
 use Rattle.resource_table.specs.Schedules.{TableValue, at_start, end_of, last_end, MayPlace}
 use Rattle.resource_table.specs.Resources.{draws_from, draws_of, marks_of}
 use Rattle.resource_table.specs.declared.timelines.Span.{Span}
@@ -16,6 +17,26 @@ use Rattle.resource_table.proofs.KeptTables.{kept_push, trail_has_room, draws_ha
 use Rattle.resource_table.proofs.KeptMarks.{last_room, last_within, before_last, after_push}
 use Rattle.resource_table.proofs.KeptStarts.{wanted_is}
 use Rattle.resource_table.proofs.table.TableOf.push.Goals as goal
+
+pub index-wanted-requires : goal.index-wanted-requires
+index-wanted-requires g c =
+    let may = subst (λ (t : TableValue). MayPlace t.job t.placed c.args.test c.args.start) (sym c.self.view_is) c.requires in
+    let inside = may.in_job in
+    omega (arith, inside, length-map c.self.inside.own.tests.items test_value, c.self.inside.own.tests.ok.0)
+
+pub index_mut-requires : goal.index_mut-requires
+index_mut-requires g c =
+    let may = subst (λ (t : TableValue). MayPlace t.job t.placed c.args.test c.args.start) (sym c.self.view_is) c.requires in
+    let inside = may.in_job in
+    let long = c.self.invariant.0.ends_long in
+    omega (arith, inside, long, c.self.inside.ends.ok.0)
+
+pub overflow_add-to : goal.overflow_add-to
+overflow_add-to g c =
+    let may = subst (λ (t : TableValue). MayPlace t.job t.placed c.args.test c.args.start) (sym c.self.view_is) c.requires in
+    let wanted = wanted_is c.self.inside.own.tests.items c.args.test c.index-wanted.result.now may.in_job c.index-wanted.ensures in
+    let end : c.args.start + c.index-wanted.result.now.length ≤ 10 ^ 18 = subst (λ (t : TestValue). c.args.start + t.cycles ≤ 10 ^ 18) (sym wanted) may.ends in
+    omega (arith, end)
 
 pub push_draws-requires-clause-room : goal.push_draws-requires-clause-room
 push_draws-requires-clause-room g c =
