@@ -1,5 +1,3 @@
-mod ChipAnswers
-mod Decided
 pub mod Endings
 pub mod Headlines
 mod LiveCounts

@@ -1,5 +1,5 @@
-// Decides how a command ends before anything is written. What was loaded is let go by a call, as the room of a checker is:
-// a value that goes out of scope is taken apart in the function's own proof, part by part.
+// Decides how a command ends before anything is written. Where another file comes after those of a plan or a chip, what was
+// loaded is let go by a call, as the room of a checker is.
 ghost use Rattle.std.specs.Prelude.{◌≡◌, ◌≤◌, ℕ, List, None, Some, IfOk, map, string_bytes};
 ghost use Rattle.soc_model.specs.Chips.{soc_value};
 ghost use Rattle.soc_model.specs.SoundChips.{IsSoundChip};
@@ -10,7 +10,7 @@ ghost use Rattle.plan_text.specs.PlanLines.{plan_text};
 ghost use Rattle.schedule_search.specs.Estimates.{CanAsk, IsAtLeastReady, IsAtMostNow};
 ghost use Rattle.planner.specs.Plans.{IsPlanned};
 ghost use Rattle.plan_model.specs.declared.TheConstants.{WIRES_MOST};
-ghost use Rattle.soctest.specs.Commands.{Print, Widths, MakePlan, Check, Chart, Vectors, TreeBound, IsInRange, command_of, command_value, SplitTests, Shift, Locate};
+ghost use Rattle.soctest.specs.Commands.{Print, Widths, MakePlan, Check, Chart, Vectors, TreeBound, command_of, SplitTests, Shift, Locate};
 ghost use Rattle.commands.specs.Procedures.{asked};
 ghost use Rattle.soctest.specs.Endings.{Closes, IsRunnable};
 ghost use Rattle.soctest.specs.Procedures.{procedure_of};
@@ -45,11 +45,7 @@ fn decide_print<H: Shelf>(alloc: Global, soc: &str, shelf: &mut H) -> Verdict
     ensures follows { Follows (procedure_of (Print soc.now)) (H.held shelf.old) (H.faults shelf.old) (H.faults shelf.new) result }
 {
     match load_chip(alloc, soc, shelf) {
-        Ok(chip) => {
-            let verdict = answered_with(Status::Done, print_soc(alloc, &chip));
-            drop(chip);
-            verdict
-        }
+        Ok(chip) => answered_with(Status::Done, print_soc(alloc, &chip)),
         Err(verdict) => verdict,
     }
 }
@@ -63,11 +59,7 @@ fn decide_widths<H: Shelf>(alloc: Global, soc: &str, wires: u64, shelf: &mut H) 
     ensures follows { Follows (procedure_of (Widths soc.now wires)) (H.held shelf.old) (H.faults shelf.old) (H.faults shelf.new) result }
 {
     match load_chip(alloc, soc, shelf) {
-        Ok(chip) => {
-            let verdict = answered_with(Status::Done, widths_text(alloc, &chip, wires));
-            drop(chip);
-            verdict
-        }
+        Ok(chip) => answered_with(Status::Done, widths_text(alloc, &chip, wires)),
         Err(verdict) => verdict,
     }
 }
@@ -106,11 +98,7 @@ fn decide_plan<H: Shelf>(alloc: Global, soc: &str, limits: &str, shelf: &mut H) 
     ensures follows { Follows (procedure_of (MakePlan soc.now limits.now)) (H.held shelf.old) (H.faults shelf.old) (H.faults shelf.new) result }
 {
     match load_both(alloc, soc, limits, shelf) {
-        Ok(both) => {
-            let verdict = answered_with(Status::Done, text_of_plan(alloc, &both.soc, &both.limits));
-            drop(both);
-            verdict
-        }
+        Ok(both) => answered_with(Status::Done, text_of_plan(alloc, &both.soc, &both.limits)),
         Err(verdict) => verdict,
     }
 }
@@ -128,11 +116,7 @@ fn decide_check<H: Shelf>(
     ensures follows { Follows (procedure_of (Check soc.now limits.now plan.now)) (H.held shelf.old) (H.faults shelf.old) (H.faults shelf.new) result }
 {
     match load_all(alloc, soc, limits, plan, shelf) {
-        Ok(all) => {
-            let verdict = answered_with(Status::Done, accepted_line(alloc, &all.plan));
-            drop(all);
-            verdict
-        }
+        Ok(all) => answered_with(Status::Done, accepted_line(alloc, &all.plan)),
         Err(verdict) => verdict,
     }
 }
@@ -152,9 +136,7 @@ fn decide_chart<H: Shelf>(
     match load_all(alloc, soc, limits, plan, shelf) {
         Ok(all) => {
             good_without_limits();
-            let verdict = answered_with(Status::Done, print_chart(alloc, &all.soc, &all.plan));
-            drop(all);
-            verdict
+            answered_with(Status::Done, print_chart(alloc, &all.soc, &all.plan))
         }
         Err(verdict) => verdict,
     }
@@ -256,54 +238,6 @@ fn decide_shift<H: Shelf>(
     }
 }
 
-/// Decides how a command ends.
-fn decide_command<H: Shelf>(alloc: Global, given: Command<'_>, shelf: &mut H) -> Ending
-    requires { IsInRange given }
-    ensures held_stays { H.held shelf.new ≡ H.held shelf.old }
-    ensures faults_never_fall { H.faults shelf.old ≤ H.faults shelf.new }
-    ensures closes { Closes (procedure_of (command_value given.entry)) (H.held shelf.old) (H.faults shelf.old) (H.faults shelf.new) result }
-    ensures runnable { IsRunnable result }
-{
-    match given {
-        Command::Print { soc } => Ending::Decided(decide_print(alloc, soc, shelf)),
-        Command::Widths { soc, wires } => {
-            Ending::Decided(decide_widths(alloc, soc, wires, shelf))
-        }
-        Command::Plan { soc, limits } => Ending::Decided(decide_plan(alloc, soc, limits, shelf)),
-        Command::Check { soc, limits, plan } => {
-            Ending::Decided(decide_check(alloc, soc, limits, plan, shelf))
-        }
-        Command::Chart { soc, limits, plan } => {
-            Ending::Decided(decide_chart(alloc, soc, limits, plan, shelf))
-        }
-        Command::Vectors {
-            soc,
-            limits,
-            plan,
-            seed,
-        } => decide_vectors(alloc, soc, limits, plan, seed, shelf),
-        Command::Sample { n, seed } => Ending::Decided(decide_sample(alloc, n, seed)),
-        Command::Locate {
-            soc,
-            limits,
-            plan,
-            log,
-        } => Ending::Decided(decide_locate(alloc, soc, limits, plan, log, shelf)),
-        Command::Shift {
-            soc,
-            limits,
-            plan,
-            program,
-        } => Ending::Decided(decide_shift(alloc, soc, limits, plan, program, shelf)),
-        Command::Tree { soc, limits, tree } => {
-            Ending::Decided(decide_tree(alloc, soc, limits, tree, shelf))
-        }
-        Command::Split { soc, limits, most } => {
-            Ending::Decided(decide_split(alloc, soc, limits, most, shelf))
-        }
-    }
-}
-
 /// Decides how the command of these words ends. Words of no command leave the shelf untouched.
 pub fn decide<H: Shelf>(alloc: Global, words: &[String], shelf: &mut H) -> Ending
     ensures held_stays { H.held shelf.new ≡ H.held shelf.old }
@@ -314,7 +248,50 @@ pub fn decide<H: Shelf>(alloc: Global, words: &[String], shelf: &mut H) -> Endin
     ensures patterns { (soc limits : List ℕ) (most : ℕ) → command_of (map string_bytes words.now) ≡ Some (SplitTests soc limits most) → 1 ≤ most }
 {
     match command(words) {
-        Some(given) => decide_command(alloc, given, shelf),
+        Some(Command::Print { soc }) => Ending::Decided(decide_print(alloc, soc, shelf)),
+        Some(Command::Widths { soc, wires }) => Ending::Decided(decide_widths(
+            alloc, soc, wires, shelf,
+        )),
+        Some(Command::Plan { soc, limits }) => Ending::Decided(decide_plan(
+            alloc, soc, limits, shelf,
+        )),
+        Some(Command::Check { soc, limits, plan }) => Ending::Decided(decide_check(
+            alloc, soc, limits, plan, shelf,
+        )),
+        Some(Command::Chart { soc, limits, plan }) => Ending::Decided(decide_chart(
+            alloc, soc, limits, plan, shelf,
+        )),
+        Some(
+            Command::Vectors {
+                soc,
+                limits,
+                plan,
+                seed,
+            },
+        ) => decide_vectors(alloc, soc, limits, plan, seed, shelf),
+        Some(Command::Sample { n, seed }) => Ending::Decided(decide_sample(alloc, n, seed)),
+        Some(
+            Command::Locate {
+                soc,
+                limits,
+                plan,
+                log,
+            },
+        ) => Ending::Decided(decide_locate(alloc, soc, limits, plan, log, shelf)),
+        Some(
+            Command::Shift {
+                soc,
+                limits,
+                plan,
+                program,
+            },
+        ) => Ending::Decided(decide_shift(alloc, soc, limits, plan, program, shelf)),
+        Some(Command::Tree { soc, limits, tree }) => Ending::Decided(decide_tree(
+            alloc, soc, limits, tree, shelf,
+        )),
+        Some(Command::Split { soc, limits, most }) => Ending::Decided(decide_split(
+            alloc, soc, limits, most, shelf,
+        )),
         None => Ending::Decided(bad_words(alloc)),
     }
 }

@@ -62,21 +62,6 @@ fn push_fail(
     push(text, b"\n")
 }
 
-/// The lines of the fails of a log.
-fn fail_lines(
-    alloc: Global,
-    locator: &Locator<'_>,
-    fails: &[(u64, u64)],
-) -> Result<Vec<u8>, NoMemory>
-    ensures { IfOk result (λ text. text.items ≡ whole_text locator.now.soc locator.now.plan fails.now) }
-{
-    let mut text = Vec::new(alloc);
-    for (cycle, wire) in fails {
-        push_fail(&mut text, locator, *cycle, *wire)?;
-    }
-    Ok(text)
-}
-
 /// The text of `locate`: for each fail of a log, its cycle and its wire, the test, the pattern and the cell whose response bit
 /// a good plan reads there, or `none`.
 pub fn locate_text(
@@ -90,5 +75,9 @@ pub fn locate_text(
     ensures { IfOk result (λ text. text.items ≡ whole_text (soc_value soc.now) (plan_value plan.now) fails.now) }
 {
     let locator = Locator::new(alloc, soc, plan)?;
-    fail_lines(alloc, &locator, fails)
+    let mut text = Vec::new(alloc);
+    for (cycle, wire) in fails {
+        push_fail(&mut text, &locator, *cycle, *wire)?;
+    }
+    Ok(text)
 }

@@ -1,12 +1,10 @@
 // The command `split`: tests cut into parts, with a plan of the parts.
-ghost use Rattle.std.specs.Prelude.{◌≡◌, ◌≤◌, ◌++◌, ℕ, List, IfOk, OnOk, IsTrue, codes};
+ghost use Rattle.std.specs.Prelude.{◌≡◌, ◌≤◌, ◌++◌, ℕ, List, IfOk, OnOk, IsTrue};
 ghost use Rattle.soc_model.specs.Chips.{soc_value};
 ghost use Rattle.soc_model.specs.SoundChips.{IsSoundChip};
 ghost use Rattle.plan_model.specs.Plans.{PlanValue};
 ghost use Rattle.plan_model.specs.SoundLimits.{IsSoundLimits};
 ghost use Rattle.plan_model.specs.Views.{limits_value, plan_value};
-ghost use Rattle.soc_printer.specs.SocText.{soc_text};
-ghost use Rattle.limits_text.specs.Texts.{limits_text};
 ghost use Rattle.planner.specs.Plans.{IsPlanned};
 ghost use Rattle.split_plan.specs.Parts.{split_chip, split_limits, split_of as parts_of, split_value};
 ghost use Rattle.soctest.specs.Commands.{SplitTests};
@@ -51,30 +49,16 @@ fn push_parts(text: &mut Vec<u8>, parts: &[Part]) -> Result<(), NoMemory>
     Ok(())
 }
 
-/// Appends the text of a chip under its name.
-fn push_chip(alloc: Global, text: &mut Vec<u8>, soc: &Soc) -> Result<(), NoMemory>
-    ensures { OnOk result (text.new.items ≡ text.old.items ++ codes "soc\n" ++ soc_text (soc_value soc.now)) }
-{
-    extend(text, b"soc\n")?;
-    let chip = print_soc(alloc, soc)?;
-    extend(text, &chip)
-}
-
-/// Appends the text of limits under its name.
-fn push_limits(alloc: Global, text: &mut Vec<u8>, limits: &Limits) -> Result<(), NoMemory>
-    ensures { OnOk result (text.new.items ≡ text.old.items ++ codes "limits\n" ++ limits_text (limits_value limits.now)) }
-{
-    extend(text, b"limits\n")?;
-    let bounds = print_limits(alloc, limits)?;
-    extend(text, &bounds)
-}
-
 /// Appends the texts of a chip and of limits for it, each under its name.
 fn push_both(alloc: Global, text: &mut Vec<u8>, soc: &Soc, limits: &Limits) -> Result<(), NoMemory>
     ensures { OnOk result (text.new.items ≡ text.old.items ++ soc_and_limits (soc_value soc.now) (limits_value limits.now)) }
 {
-    push_chip(alloc, text, soc)?;
-    push_limits(alloc, text, limits)
+    extend(text, b"soc\n")?;
+    let chip = print_soc(alloc, soc)?;
+    extend(text, &chip)?;
+    extend(text, b"limits\n")?;
+    let bounds = print_limits(alloc, limits)?;
+    extend(text, &bounds)
 }
 
 /// The text of the parts of a chip and of a plan for them.

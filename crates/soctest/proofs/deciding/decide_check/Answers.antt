@@ -8,7 +8,7 @@ use Rattle.soctest.proofs.deciding.decide_check.Goals as goal
 pub returns-in-Ok-clause-follows : goal.returns-in-Ok-clause-follows
 returns-in-Ok-clause-follows g c =
     after_all _ _ _ (λ chip bounds value. done_with (accepted_line value)) _ _ (g.H.Shelf.faults c.load_all.new.shelf) _ c.in-Ok.all _ c.load_all.ensures.faults_never_fall c.in-Ok.ensures.loads
-    (done_of (accepted_line (plan_value c.in-Ok.all.plan)) _ _ (g.H.Shelf.faults c.load_all.new.shelf) (g.H.Shelf.faults c.load_all.new.shelf) _ c.accepted_line.ensures.text c.answered_with-verdict.ensures)
+    (done_of (accepted_line (plan_value c.in-Ok.all.plan)) _ _ (g.H.Shelf.faults c.load_all.new.shelf) (g.H.Shelf.faults c.load_all.new.shelf) _ c.accepted_line.ensures.text c.answered_with.ensures)
 
 pub returns-in-Err-clause-follows : goal.returns-in-Err-clause-follows
 returns-in-Err-clause-follows g c = not_all _ _ _ (λ chip bounds value. done_with (accepted_line value)) _ _ _ _ c.in-Err.ensures.loads
