@@ -1,12 +1,10 @@
 -- The live tests of a plan are placed module by module, and found by name.
-use Rattle.std.proofs.Common.{◌≡◌, inl, inr, ℕ, zero, suc, ◌+◌, ◌^◌, ◌≤◌, ◌<◌, Bool, true, false, cond, Option, None, Some, List, [], ◌∷◌, ◌++◌, length, get_or, map, drop, take, position, option_map, refl, sym, ap, subst, ◌∙◌, append_assoc, append-nil, true≢false, arith}
+use Rattle.std.proofs.Common.{◌≡◌, inl, inr, ℕ, zero, suc, ◌+◌, ◌^◌, ◌≤◌, ◌<◌, Bool, true, false, cond, Option, None, Some, List, [], ◌∷◌, ◌++◌, length, get_or, map, drop, position, option_map, refl, sym, ap, subst, ◌∙◌, append_assoc, append-nil, true≢false, arith}
 use Rattle.std.specs.Prelude.{slice_get, find, nat_eq, nat_lt}
 use Rattle.std.specs.List.{filter, position_or_len}
 use Rattle.std.proofs.lemmas.Bool.{cases_Bool, leb-true}
 use Rattle.std.proofs.lemmas.Bool.Decides.{nat_tests}
 use Rattle.std.proofs.lemmas.List.{length-map, map-append}
-use Rattle.std.proofs.Math.Seq.{take-suc}
-use Rattle.std.proofs.lemmas.List.Elements.{filter-append}
 use Rattle.std.proofs.lemmas.List.Folds.{find_at}
 use Rattle.std.proofs.lemmas.Option.{slice_get-map, slice_get-get_or, slice_get_within, get_or_from_slice_get}
 use Rattle.soc_model.specs.declared.Test.{Test}
@@ -169,39 +167,6 @@ placed_live plan l = placed_of (planned_test plan l.place l.core l.test)
 pub placed_are : (soc : SocValue) (plan : PlanValue) → placed_tests soc plan ≡ map (placed_live plan) (live_tests soc)
 unfolding planned
 placed_are soc plan = map_twice placed_of (λ (l : LiveTest). planned_test plan l.place l.core l.test) (live_tests soc)
-
--- one test more of a module
-placed_more : (plan : PlanValue) (place : ℕ) (m : ModuleValue) (ts : List Test) (k : ℕ) (d : Test) → k < length ts → placed_in plan place m (take (k + 1) ts) ≡ placed_in plan place m (take k ts) ++ placed_in plan place m (get_or ts k d ∷ [])
-placed_more plan place m ts k d within =
-    let next : k + 1 ≡ suc k = omega arith in
-    let split = ap (λ n. filter is_live (take n ts)) next ∙ ap (filter is_live) (take-suc ts k d within) ∙ filter-append is_live (take k ts) (get_or ts k d ∷ []) in
-    let place_of = λ (t : Test). placed_of (planned_test plan place m t) in
-    ap (map place_of) split ∙ map-append place_of (filter is_live (take k ts)) (filter is_live (get_or ts k d ∷ []))
-
-placed_one : (plan : PlanValue) (place : ℕ) (m : ModuleValue) (t : Test) → is_live t ≡ true → placed_in plan place m (t ∷ []) ≡ placed_of (planned_test plan place m t) ∷ []
-placed_one plan place m t live = rw live refl
-
-placed_none : (plan : PlanValue) (place : ℕ) (m : ModuleValue) (t : Test) → is_live t ≡ false → placed_in plan place m (t ∷ []) ≡ []
-placed_none plan place m t dead = rw dead refl
-
--- what is added of it, behind those before it
-one_more : (plan : PlanValue) (place : ℕ) (m : ModuleValue) (ts : List Test) (k : ℕ) (d : Test) (first old more : List PlacedTest) → k < length ts
-    → placed_in plan place m (get_or ts k d ∷ []) ≡ more → old ≡ first ++ placed_in plan place m (take k ts) → old ++ more ≡ first ++ placed_in plan place m (take (k + 1) ts)
-one_more plan place m ts k d first old more within is before =
-    ap (λ l. l ++ more) before ∙ append_assoc first (placed_in plan place m (take k ts)) more
-    ∙ ap (λ l. first ++ l) (sym (placed_more plan place m ts k d within ∙ ap (λ l. placed_in plan place m (take k ts) ++ l) is))
-
--- a live test is placed
-pub live_more : (plan : PlanValue) (place : ℕ) (m : ModuleValue) (ts : List Test) (k : ℕ) (d : Test) (first old new : List PlacedTest) (p : PlacedTest) → k < length ts → is_live (get_or ts k d) ≡ true
-    → p ≡ placed_of (planned_test plan place m (get_or ts k d)) → new ≡ old ++ p ∷ [] → old ≡ first ++ placed_in plan place m (take k ts) → new ≡ first ++ placed_in plan place m (take (k + 1) ts)
-live_more plan place m ts k d first old new p within live is added before =
-    added ∙ one_more plan place m ts k d first old (p ∷ []) within (placed_one plan place m (get_or ts k d) live ∙ ap (λ q. q ∷ []) (sym is)) before
-
--- any other isn't
-pub dead_more : (plan : PlanValue) (place : ℕ) (m : ModuleValue) (ts : List Test) (k : ℕ) (d : Test) (first old : List PlacedTest) → k < length ts → is_live (get_or ts k d) ≡ false
-    → old ≡ first ++ placed_in plan place m (take k ts) → old ≡ first ++ placed_in plan place m (take (k + 1) ts)
-dead_more plan place m ts k d first old within dead before =
-    sym (append-nil old) ∙ one_more plan place m ts k d first old [] within (placed_none plan place m (get_or ts k d) dead) before
 
 -- one module more
 pub module_more : (plan : PlanValue) (old new whole : List PlacedTest) (place next : ℕ) (ms : List ModuleValue) (m : ModuleValue) → next ≡ place + 1 → slice_get ms place ≡ Some m
