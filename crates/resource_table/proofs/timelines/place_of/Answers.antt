@@ -1,5 +1,7 @@
-use Rattle.std.proofs.Common.{◌<◌, get_or, length, arith}
-use Rattle.std.proofs.lemmas.Option.{slice_get_within}
+use Rattle.std.proofs.Common.{◌≡◌, ℕ, ◌+◌, ◌<◌, ◌≤◌, List, Some, inl, inr, get_or, length, ap, subst, arith}
+use Rattle.std.specs.Prelude.{slice_get}
+use Rattle.std.proofs.lemmas.Bool.{cases_lt}
+use Rattle.std.proofs.lemmas.Option.{slice_get_within, get_or_from_slice_get}
 use Rattle.resource_table.specs.declared.timelines.Span.{Span}
 use Rattle.resource_table.proofs.Places.{same_item}
 use Rattle.resource_table.proofs.Spans.{same_time}
@@ -13,3 +15,18 @@ returns c =
     let read : Span = get_or spans place (record { from = 0; to = 0 }) in
     let within : place < length spans = (let le = there.1 in omega (arith, le, slice_get_within spans there.0 c.args.span there.2)) in
     same_time spans c.args.span read place there.0 c.requires.ordered c.loop-place.invariant.late there.1 there.2 (same_item spans place (record { from = 0; to = 0 }) read within) c.loop-place-test.false
+
+-- a time that ends otherwise than the one at a place stands behind it
+behind : (spans : List Span) (place at : ℕ) (span : Span) → place ≤ at → slice_get spans at ≡ Some span → ((get_or spans place (record { from = 0; to = 0 })).to ≡ span.to → ⊥) → place + 1 ≤ at
+behind spans place at span le there apart = elim (cases_lt place at) [
+  | inl before ↦ omega (arith, before)
+  | inr late ↦ absurd (apart (let same : at ≡ place = omega (arith, le, late) in ap (λ (s : Span). s.to) (get_or_from_slice_get spans place span (record { from = 0; to = 0 }) (subst (λ (n : ℕ). slice_get spans n ≡ Some span) same there))))
+]
+
+pub loop-place-preserved : goal.loop-place-preserved
+loop-place-preserved c =
+    let there = c.loop-place.invariant.there in
+    record {
+      late = (λ k d le lt. c.loop-place.invariant.late k d (omega (arith, le)) lt);
+      there = (there.0, behind c.args.spans.now c.loop-place.place there.0 c.args.span there.1 there.2 c.loop-place-test.true, there.2);
+    }
