@@ -24,3 +24,9 @@ loop-place-init c = subst (λ (ms : List UsedMode). AreUsedModes (soc_value c.ar
 pub returns : goal.returns
 returns c = all_pairs (soc_value c.args.soc.now) (map bus_value c.args.buses.now) c.loop-place.place c.loop-place.modes.items
     (omega (arith, length-map c.args.soc.now.modules.entries (λ (e : ℕ × Module). module_value e.1), c.len-place-end.ensures.len, c.loop-place-test.false)) c.loop-place.invariant
+
+pub push_mode-requires-clause-place : goal.push_mode-requires-clause-place
+push_mode-requires-clause-place c = omega (arith, length-map c.args.soc.now.modules.entries (λ (e : ℕ × Module). module_value e.1), c.len-place-end.ensures.len, c.loop-place-test.true)
+
+pub push_mode-requires-in-loop-place-clause-place : goal.push_mode-requires-in-loop-place-clause-place
+push_mode-requires-in-loop-place-clause-place c = omega (arith, length-map c.args.soc.now.modules.entries (λ (e : ℕ × Module). module_value e.1), c.len-place-end.ensures.len, c.loop-place-test.true)
