@@ -1,16 +1,17 @@
 -- The cells of a layout, chain by chain.
-use Rattle.std.proofs.Common.{◌≡◌, ℕ, zero, suc, ◌+◌, ◌<◌, Bool, false, List, [], ◌∷◌, ◌++◌, length, get_or, map, take, replicate, refl, ap, ◌∙◌, sym, arith}
+use Rattle.std.proofs.Common.{◌≡◌, ℕ, zero, suc, ◌+◌, ◌<◌, Bool, false, List, [], ◌∷◌, ◌++◌, length, get_or, map, take, replicate, refl, ap, ◌∙◌, sym, subst, arith, inl, inr}
 use Rattle.std.specs.Prelude.{slice_index}
-use Rattle.std.specs.List.{flat_map, sum_by}
-use Rattle.std.proofs.lemmas.List.{length-append, length-map, get_or-map}
+use Rattle.std.specs.List.{All, flat_map, sum, sum_by}
+use Rattle.std.proofs.lemmas.List.{length-append, length-map, get_or-map, get_or_append_left, get_or_push}
+use Rattle.std.proofs.lemmas.Bool.{cases_lt}
 use Rattle.std.proofs.lemmas.List.FromFn.{length-map-range_with_len}
-use Rattle.std.proofs.lemmas.List.Sums.{sum_by-cons}
+use Rattle.std.proofs.lemmas.List.Sums.{sum_by-cons, sum_by_more}
 use Rattle.plan_model.specs.declared.ChainPlan.{ChainPlan}
 use Rattle.plan_model.specs.Cells.{Cell, In, Flop, Out, in_cells, out_cells, flops, dealt}
 use Rattle.plan_model.specs.Views.{chain_value}
 use Rattle.bit_machine.specs.declared.layout.Layout.{Layout}
 use Rattle.bit_machine.specs.Sessions.{zero_bits}
-use Rattle.bit_machine.specs.Layouts.{chain_of, chain_length, layout_cells, IsLong}
+use Rattle.bit_machine.specs.Layouts.{chain_of, chain_length, layout_cells, IsListed, IsLong}
 
 -- ---- lengths
 
@@ -53,7 +54,27 @@ zeros-dealt lengths i o [] = refl
 zeros-dealt lengths i o (c ∷ cs) =
     rw (zeros (chain_of lengths i o (chain_value c)) (chain_length lengths c) (length-chain lengths i o c), zeros-dealt lengths (i + c.ins) (o + c.outs) cs) refl
 
+-- ---- where the scan chains start
+
+-- one scan chain more
+pub starts_more : (lengths starts new : List ℕ) (i start : ℕ) → i < length lengths → start ≡ sum (take i lengths) → length starts ≡ i → ((c : ℕ) → c < i → slice_index starts c ≡ sum (take c lengths)) → new ≡ starts ++ start ∷ []
+    → (start + get_or lengths i 0 ≡ sum (take (i + 1) lengths)) × (length new ≡ i + 1) × ((c : ℕ) → c < i + 1 → slice_index new c ≡ sum (take c lengths))
+starts_more lengths starts new i start within here long each pushed =
+    let more : sum (take (i + 1) lengths) ≡ sum (take i lengths) + get_or lengths i 0 = sum_by_more (λ x. x) lengths i 0 within in
+    let longer : length new ≡ i + 1 = ap length pushed ∙ length-append starts (start ∷ []) ∙ omega (arith, long) in
+    (omega (arith, more, here), longer, each_new)
+  where
+    each_new : (c : ℕ) → c < i + 1 → slice_index new c ≡ sum (take c lengths)
+    each_new c h = elim (cases_lt c i) [
+      | inl before ↦ ap (λ (l : List ℕ). get_or l c 0) pushed ∙ get_or_append_left starts (start ∷ []) 0 c (omega (arith, before, long)) ∙ each c before
+      | inr past ↦ (let last : i ≡ c = omega (arith, past, h) in ap (λ (l : List ℕ). get_or l c 0) pushed ∙ get_or_push starts start 0 c (long ∙ last) ∙ here ∙ ap (λ n. sum (take n lengths)) last)
+    ]
+
 -- ---- one chain of a layout
+
+-- what it keeps, where it is read from a list
+pub chain_listed : (lengths : List ℕ) (chains read : List ChainPlan) (i : ℕ) (c : ChainPlan) → All (IsListed lengths) chains → read ≡ chains → i < length read → c ≡ get_or read i c → IsListed lengths c
+chain_listed lengths chains read i c all is within at = subst (IsListed lengths) (sym at) (subst (λ (cs : List ChainPlan). All (IsListed lengths) cs) (sym is) all i c within)
 
 -- its cells, after the input and output cells of those before it
 pub dealt-at : (lengths : List ℕ) (i o : ℕ) (cs : List ChainPlan) (j : ℕ) (c : ChainPlan) → j < length cs → get_or cs j c ≡ c →

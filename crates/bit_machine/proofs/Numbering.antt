@@ -220,6 +220,10 @@ new_path inputs lengths i o ins outs from scans p loads answers start bits =
     (answers ∙ sym (map_append (response_place lengths) (flat_map (flops lengths) scans) (out_cells o outs) ∙ rw (flop_answers lengths scans, outs_numbers lengths o outs, start) refl))
     (bits ∙ rw (length-map (range_with_len o outs) (λ k. Out k) ∙ length-range_with_len o outs) refl)
 
+-- no chain yet
+pub no_paths : (inputs : ℕ) (lengths : List ℕ) (chains : List (List Cell)) (paths : List Path) → paths ≡ [] → AreNewPaths inputs lengths chains 0 paths
+no_paths inputs lengths chains paths none = rw none (record { long = refl; each = λ j p at. absurd cc })
+
 -- one chain more
 pub paths_more : (inputs : ℕ) (lengths : List ℕ) (chains : List (List Cell)) (n : ℕ) (paths new : List Path) (p : Path) → AreNewPaths inputs lengths chains n paths → new ≡ paths ++ p ∷ [] → IsNewPath inputs lengths (get_or chains n []) p → AreNewPaths inputs lengths chains (n + 1) new
 paths_more inputs lengths chains n paths new p are pushed is = rw pushed (record {

@@ -10,7 +10,7 @@ ghost use Rattle.plan_model.specs.Plans.{PlannedTest, planned};
 ghost use Rattle.plan_model.specs.Right.{IsAt};
 ghost use Rattle.plan_model.specs.Rules.{IsGoodAlone};
 ghost use Rattle.plan_model.specs.Views.{chain_value, plan_value};
-ghost use Rattle.live_tests.specs.Placed.{placed_of};
+ghost use Rattle.live_tests.specs.Placed.{placed_of, placed_tests};
 ghost use Rattle.bit_machine.specs.Chips.{made_content, wires_of};
 ghost use Rattle.bit_machine.specs.Lanes.{AreNewLanes, IsNewLane};
 ghost use Rattle.bit_machine.specs.Placed.{IsInWrapper, IsSelfLane, IsWiredLane};
@@ -167,6 +167,21 @@ impl<'a> Setting<'a> {
         }
     }
 
+    /// The live tests of the chip, as they are placed.
+    fn lanes_of(&self, alloc: Global, placed: &[PlacedTest]) -> Result<Vec<Lane>, NoMemory>
+        requires sound { IsSoundChip (soc_value self.now.soc.now) }
+        requires good { IsGoodAlone (soc_value self.now.soc.now) (plan_value self.now.plan.now) }
+        requires wires { wires_of (plan_value self.now.plan.now) < 2 ^ 64 }
+        requires placed { placed.now ≡ placed_tests (soc_value self.now.soc.now) (plan_value self.now.plan.now) }
+        ensures { IfOk result (λ lanes. AreNewLanes (made_content (soc_value self.now.soc.now) self.now.seed) (planned (soc_value self.now.soc.now) (plan_value self.now.plan.now)) lanes.items) }
+    {
+        let mut lanes = Vec::new(alloc);
+        for test in placed {
+            push(&mut lanes, self.lane_of(alloc, test)?)?;
+        }
+        Ok(lanes)
+    }
+
     /// The live tests of the chip, in its order.
     pub fn lanes(&self, alloc: Global) -> Result<Vec<Lane>, NoMemory>
         requires sound { IsSoundChip (soc_value self.now.soc.now) }
@@ -175,10 +190,6 @@ impl<'a> Setting<'a> {
         ensures { IfOk result (λ lanes. AreNewLanes (made_content (soc_value self.now.soc.now) self.now.seed) (planned (soc_value self.now.soc.now) (plan_value self.now.plan.now)) lanes.items) }
     {
         let placed = PlacedTests::new(alloc, self.soc, self.plan)?;
-        let mut lanes = Vec::new(alloc);
-        for test in placed.tests() {
-            push(&mut lanes, self.lane_of(alloc, test)?)?;
-        }
-        Ok(lanes)
+        self.lanes_of(alloc, placed.tests())
     }
 }

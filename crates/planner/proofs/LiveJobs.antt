@@ -1,12 +1,15 @@
 -- The live tests are added module by module.
-use Rattle.std.proofs.Common.{◌≡◌, ℕ, zero, suc, ◌+◌, Some, List, [], ◌∷◌, ◌++◌, length, map, drop, Option, refl, sym, ap, ◌∙◌, append_assoc, append-nil, ◌≤◌, arith}
+use Rattle.std.proofs.Common.{◌≡◌, ℕ, zero, suc, ◌+◌, Some, List, [], ◌∷◌, ◌++◌, length, map, drop, Option, refl, sym, ap, ◌∙◌, append_assoc, append-nil, ◌≤◌, ◌<◌, true, false, cond, get_or, take, subst, arith}
 use Rattle.std.specs.Prelude.{slice_get}
 use Rattle.std.specs.List.{filter}
 use Rattle.std.proofs.lemmas.List.{map-append}
+use Rattle.std.proofs.lemmas.List.Elements.{filter_more}
+use Rattle.std.proofs.lemmas.Option.{slice_get-get_or}
 use Rattle.soc_model.specs.declared.Test.{Test}
 use Rattle.soc_model.specs.Chips.{ModuleValue, SocValue, LiveTest, is_live, live_of, live_from, parent_place}
 use Rattle.plan_model.specs.Plans.{PlanValue, LimitsValue, bus_place, chains_of, operations_of}
-use Rattle.resource_table.specs.Jobs.{TestValue, JobValue}
+use Rattle.resource_table.specs.declared.JobTest.{JobTest}
+use Rattle.resource_table.specs.Jobs.{TestValue, JobValue, test_value}
 use Rattle.live_tests.specs.Placed.{bus_over}
 use Rattle.planner.specs.Jobs.{steps_of, test_in}
 
@@ -60,6 +63,39 @@ job_same tests tests' before before' power a b =
   where
     the_job : List TestValue → List (ℕ × ℕ) → JobValue
     the_job v w = record { tests = v; before = w; power = power }
+
+-- ---- one test more of a module
+
+pub test_there : (tests read : List Test) (i : ℕ) (d : Test) → read ≡ tests → i < length read → slice_get tests i ≡ Some (get_or read i d)
+test_there tests read i d is within = subst (λ (ts : List Test). slice_get ts i ≡ Some (get_or read i d)) is (slice_get-get_or read i d within)
+
+-- what the tests before a place and the one at it give
+next_live : (f : Test → TestValue) (tests read : List Test) (i : ℕ) (d : Test) → read ≡ tests → i < length read
+    → map f (filter is_live (take (i + 1) tests)) ≡ map f (filter is_live (take i tests)) ++ map f (cond (is_live (get_or read i d)) (get_or read i d ∷ []) [])
+next_live f tests read i d is within =
+    subst (λ (ts : List Test). map f (filter is_live (take (i + 1) ts)) ≡ map f (filter is_live (take i ts)) ++ map f (cond (is_live (get_or read i d)) (get_or read i d ∷ []) [])) is
+    (ap (map f) (filter_more is_live read i d within) ∙ map-append f (filter is_live (take i read)) (cond (is_live (get_or read i d)) (get_or read i d ∷ []) []))
+
+-- a live test
+pub test_added : (f : ℕ → Test → TestValue) (old : List TestValue) (tests read : List Test) (i : ℕ) (d : Test) (place shared : ℕ) (now new : List JobTest) (entry : JobTest) → read ≡ tests → i < length read → shared ≡ place → is_live (get_or read i d) ≡ true
+    → test_value entry ≡ f shared (get_or read i d) → new ≡ now ++ entry ∷ []
+    → map test_value now ≡ old ++ map (f place) (filter is_live (take i tests)) → map test_value new ≡ old ++ map (f place) (filter is_live (take (i + 1) tests))
+test_added f old tests read i d place shared now new entry is within here live made pushed before =
+    let front : List TestValue = map (f place) (filter is_live (take i tests)) in
+    let made' : test_value entry ≡ f place (get_or read i d) = made ∙ ap (λ n. f n (get_or read i d)) here in
+    let next : map (f place) (filter is_live (take (i + 1) tests)) ≡ front ++ f place (get_or read i d) ∷ [] =
+    next_live (f place) tests read i d is within ∙ ap (λ b. front ++ map (f place) (cond b (get_or read i d ∷ []) [])) live in
+    ap (map test_value) pushed ∙ map-append test_value now (entry ∷ []) ∙ ap (λ l. l ++ test_value entry ∷ []) before
+    ∙ ap (λ v. (old ++ front) ++ v ∷ []) made' ∙ append_assoc old front (f place (get_or read i d) ∷ []) ∙ ap (λ l. old ++ l) (sym next)
+
+-- one that isn't live
+pub test_left : (f : Test → TestValue) (old : List TestValue) (tests read : List Test) (i : ℕ) (d : Test) (now new : List JobTest) → read ≡ tests → i < length read → is_live (get_or read i d) ≡ false → new ≡ now
+    → map test_value now ≡ old ++ map f (filter is_live (take i tests)) → map test_value new ≡ old ++ map f (filter is_live (take (i + 1) tests))
+test_left f old tests read i d now new is within idle same before =
+    let front : List TestValue = map f (filter is_live (take i tests)) in
+    let next : map f (filter is_live (take (i + 1) tests)) ≡ front =
+    next_live f tests read i d is within ∙ ap (λ b. front ++ map f (cond b (get_or read i d ∷ []) [])) idle ∙ append-nil front in
+    ap (map test_value) same ∙ before ∙ ap (λ l. old ++ l) (sym next)
 
 -- ---- a test of the job
 

@@ -72,6 +72,11 @@ pairs_next modules place core at =
     let more : take (place + 1) modules ≡ take place modules ++ core ∷ [] = take_more modules place core within ∙ ap (λ (m : ModuleValue). take place modules ++ m ∷ []) (get_or_from_slice_get modules place core core at) in
     ap (flat_map pairs_in) more ∙ flat_map-append pairs_in (take place modules) (core ∷ []) ∙ ap (λ (ps : List (ℕ × Bool)). flat_map pairs_in (take place modules) ++ ps) (nothing_more (pairs_in core)) ∙ sym (append_assoc (flat_map pairs_in (take place modules)) (mode_pair true core) (mode_pair false core))
 
+-- those of all modules
+pub all_pairs : (soc : SocValue) (buses : List BusValue) (place : ℕ) (modes : List UsedMode) → length soc.modules ≤ place → AreUsedModes soc buses (flat_map pairs_in (take place soc.modules)) modes → AreUsedModes soc buses (used_pairs soc) modes
+all_pairs soc buses place modes past are =
+    subst (λ (ps : List (ℕ × Bool)). AreUsedModes soc buses ps modes) (ap (flat_map pairs_in) (take_all place soc.modules past)) are
+
 -- ---- wrappers
 
 -- some width is chosen

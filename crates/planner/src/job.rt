@@ -181,6 +181,33 @@ fn push_live(
     Ok(())
 }
 
+/// The live tests, in the order of the chip, found by the places of all parts.
+fn tests_at(
+    alloc: Global,
+    parts: &JobParts<'_>,
+    places: &PartPlaces,
+) -> Result<Vec<JobTest>, NoMemory>
+    requires sound { IsSoundChip (soc_value parts.now.soc.now) }
+    requires wrapped { Keeps (soc_value parts.now.soc.now) (limits_value parts.now.limits.now) (settled_parts (map bus_value parts.now.buses.now) (map wrapper_value parts.now.wrappers.now)) Wrappers }
+    requires proper { Keeps (soc_value parts.now.soc.now) (limits_value parts.now.limits.now) (settled_parts (map bus_value parts.now.buses.now) (map wrapper_value parts.now.wrappers.now)) Proper }
+    requires places { IsIndex (settled_parts (map bus_value parts.now.buses.now) (map wrapper_value parts.now.wrappers.now)) places.now.buses.entries places.now.wrappers.entries [] }
+    requires profiles { AreProfilePlaces places.now.profiles parts.now.limits.now.profiles.items }
+    ensures { IfOk result (λ tests. map test_value tests.items ≡ map (the_test (soc_value parts.now.soc.now) (limits_value parts.now.limits.now) (settled_parts (map bus_value parts.now.buses.now) (map wrapper_value parts.now.wrappers.now))) (live_tests (soc_value parts.now.soc.now))) }
+{
+    let mut tests = Vec::new(alloc);
+    for place in 0..module_count(parts.soc) {
+        push_live(
+            alloc,
+            &mut tests,
+            parts,
+            places,
+            place,
+            module_at(parts.soc, place),
+        )?;
+    }
+    Ok(tests)
+}
+
 /// The live tests, in the order of the chip.
 fn tests_of(alloc: Global, parts: &JobParts<'_>) -> Result<Vec<JobTest>, NoMemory>
     requires sound { IsSoundChip (soc_value parts.now.soc.now) }
@@ -189,18 +216,9 @@ fn tests_of(alloc: Global, parts: &JobParts<'_>) -> Result<Vec<JobTest>, NoMemor
     ensures { IfOk result (λ tests. map test_value tests.items ≡ map (the_test (soc_value parts.now.soc.now) (limits_value parts.now.limits.now) (settled_parts (map bus_value parts.now.buses.now) (map wrapper_value parts.now.wrappers.now))) (live_tests (soc_value parts.now.soc.now))) }
 {
     let places = part_places(alloc, parts)?;
-    let mut tests = Vec::new(alloc);
-    for place in 0..module_count(parts.soc) {
-        push_live(
-            alloc,
-            &mut tests,
-            parts,
-            &places,
-            place,
-            module_at(parts.soc, place),
-        )?;
-    }
-    Ok(tests)
+    let tests = tests_at(alloc, parts, &places);
+    drop(places);
+    tests
 }
 
 /// The job of the live tests, in the order of the chip, each with the cycles that it takes in the wrappers and the bus that

@@ -66,17 +66,33 @@ fn push_mode(
     push(to, UsedMode { place, scan, width })
 }
 
+/// The modes that are used, of all modules in their order, scan before terminals. The places of buses are those of the
+/// modules on them.
+fn modes_at(
+    alloc: Global,
+    soc: &Soc,
+    buses: &[Bus],
+    places: &IndexMap<u64, usize>,
+) -> Result<Vec<UsedMode>, NoMemory>
+    requires { AreBusPlaces places.now.entries (map bus_value buses.now) }
+    ensures { IfOk result (λ modes. AreUsedModes (soc_value soc.now) (map bus_value buses.now) (used_pairs (soc_value soc.now)) modes.items) }
+{
+    let mut modes = Vec::new(alloc);
+    for place in 0..soc.modules.len() {
+        push_mode(soc, buses, places, place, true, &mut modes)?;
+        push_mode(soc, buses, places, place, false, &mut modes)?;
+    }
+    Ok(modes)
+}
+
 /// The modes that are used, of all modules in their order, scan before terminals.
 fn used_modes(alloc: Global, soc: &Soc, buses: &[Bus]) -> Result<Vec<UsedMode>, NoMemory>
     ensures { IfOk result (λ modes. AreUsedModes (soc_value soc.now) (map bus_value buses.now) (used_pairs (soc_value soc.now)) modes.items) }
 {
     let places = buses_by_module(alloc, buses)?;
-    let mut modes = Vec::new(alloc);
-    for place in 0..soc.modules.len() {
-        push_mode(soc, buses, &places, place, true, &mut modes)?;
-        push_mode(soc, buses, &places, place, false, &mut modes)?;
-    }
-    Ok(modes)
+    let modes = modes_at(alloc, soc, buses, &places);
+    drop(places);
+    modes
 }
 
 /// The wrappers of a plan: for each module and mode that is used, in the order of the chip and scan before terminals, that

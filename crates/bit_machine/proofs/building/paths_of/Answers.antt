@@ -1,12 +1,12 @@
-use Rattle.std.proofs.Common.{◌≡◌, ◌<◌, ◌+◌, ◌∙◌, [], ℕ, sym, ap, subst, length, get_or, take, arith}
+use Rattle.std.proofs.Common.{◌≡◌, ◌<◌, ◌+◌, ◌∙◌, [], ℕ, refl, sym, ap, subst, length, get_or, take, arith}
 use Rattle.std.specs.List.{sum_by}
 use Rattle.std.proofs.lemmas.List.Sums.{sum_by_more}
 use Rattle.plan_model.specs.declared.ChainPlan.{ChainPlan}
 use Rattle.plan_model.specs.Views.{chain_value}
 use Rattle.bit_machine.specs.Layouts.{layout_cells, chain_of}
-use Rattle.bit_machine.specs.Building.{IsNewPath}
-use Rattle.bit_machine.proofs.Layouts.{dealt-at}
-use Rattle.bit_machine.proofs.Numbering.{paths_more}
+use Rattle.bit_machine.specs.Building.{IsNewPath, AreNewPaths}
+use Rattle.bit_machine.proofs.Layouts.{dealt-at, chain_listed}
+use Rattle.bit_machine.proofs.Numbering.{no_paths, paths_more}
 use Rattle.bit_machine.proofs.building.paths_of.Goals as goal
 
 pub loop-chain-preserved : goal.loop-chain-preserved
@@ -30,3 +30,21 @@ loop-chain-preserved c =
           paths_more c.args.inputs c.args.layout.now.lengths.items (layout_cells c.args.layout.now) c.loop-chain.chain-index c.loop-chain.paths.items c.push.new.to.items c.in_ok-path.path c.loop-chain.invariant.paths c.in_ok-push.ensures.ok
           (subst (λ v. IsNewPath c.args.inputs c.args.layout.now.lengths.items v c.in_ok-path.path) (sym same) (c.in_ok-path.ensures o c.loop-chain.invariant.outs));
     }
+
+pub loop-chain-init : goal.loop-chain-init
+loop-chain-init c = record {
+  ins = refl;
+  outs = omega (arith, c.requires.layout.flops);
+  paths = no_paths c.args.inputs c.args.layout.now.lengths.items (layout_cells c.args.layout.now) c.new-paths.result.items c.new-paths.ensures.items;
+}
+
+pub returns : goal.returns
+returns c =
+    let all : c.loop-chain.chain-index ≡ length c.args.layout.now.chains.items = omega (arith, ap length c.deref-chain-items.ensures.value, c.loop-chain-test.false, c.loop-chain.auto.chain-index-end) in
+    subst (λ n. AreNewPaths c.args.inputs c.args.layout.now.lengths.items (layout_cells c.args.layout.now) n c.loop-chain.paths.items) all c.loop-chain.invariant.paths
+
+pub path_of-requires-clause-listed : goal.path_of-requires-clause-listed
+path_of-requires-clause-listed c = (chain_listed c.args.layout.now.lengths.items c.args.layout.now.chains.items c.deref-chain-items.result.now c.loop-chain.chain-index c.chain-item.result c.requires.layout.chains c.deref-chain-items.ensures.value c.loop-chain-test.true c.chain-item.is).listed
+
+pub path_of-requires-clause-long : goal.path_of-requires-clause-long
+path_of-requires-clause-long c = (chain_listed c.args.layout.now.lengths.items c.args.layout.now.chains.items c.deref-chain-items.result.now c.loop-chain.chain-index c.chain-item.result c.requires.layout.chains c.deref-chain-items.ensures.value c.loop-chain-test.true c.chain-item.is).fits

@@ -3,7 +3,7 @@ use Rattle.soc_model.specs.Chips.{soc_value, live_from, live_tests}
 use Rattle.plan_model.specs.Views.{wrapper_value, bus_value, limits_value}
 use Rattle.resource_table.specs.Jobs.{test_value}
 use Rattle.planner.specs.Jobs.{settled_parts, test_of}
-use Rattle.planner.proofs.job.tests_of.Given as goal
+use Rattle.planner.proofs.job.tests_at.Given as goal
 
 abbrev pub invariant-loop-place : goal.invariant-loop-place
 invariant-loop-place l =

@@ -4,7 +4,7 @@ use Rattle.plan_model.specs.Views.{wrapper_value, bus_value, limits_value}
 use Rattle.resource_table.specs.Jobs.{test_value}
 use Rattle.planner.specs.Jobs.{settled_parts, test_of}
 use Rattle.planner.proofs.LiveJobs.{tests_more, tests_all}
-use Rattle.planner.proofs.job.tests_of.Goals as goal
+use Rattle.planner.proofs.job.tests_at.Goals as goal
 
 pub loop-place-preserved : goal.loop-place-preserved
 loop-place-preserved c =
