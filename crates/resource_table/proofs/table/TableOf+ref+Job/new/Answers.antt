@@ -40,3 +40,6 @@ invariant_of-result c =
     let steps : c.count_steps-steps.result ≡ sum_by (λ (t : TestValue). length t.steps) (job_value c.args.job.now).tests = c.count_steps-steps.ensures ∙ ap (sum_by (λ (t : JobTest). length t.power.items)) c.deref.ensures.value ∙ steps_same c.args.job.now.tests.items in
     all_new (job_value c.args.job.now) (job_value c.in_ok-own.field-0.own) c.in_ok-own.ensures.own c.requires c.in_ok-ends.field-0 c.len-tests.result c.count_steps-steps.result tests steps c.in_ok-ends.ensures
     c.in_ok-own.field-0.times c.in_ok-own.ensures.times (map listed c.in_ok-own.field-0.before.items) c.in_ok-own.ensures.before
+
+pub returns-clause-sound : goal.returns-clause-sound
+returns-clause-sound c = (invariant_of-result c).0.sound

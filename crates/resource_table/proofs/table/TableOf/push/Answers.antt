@@ -1,12 +1,12 @@
 use Rattle.std.proofs.Common.{◌≡◌, ◌+◌, ◌^◌, ◌≤◌, ◌∙◌, ◌++◌, ◌∷◌, [], ℕ, List, length, set, max, refl, sym, subst, ap, arith, Some, lit<, length-append}
 use Rattle.std.specs.Prelude.{IfSome}
-use Rattle.std.specs.List.{flat_map}
+use Rattle.std.specs.List.{flat_map, All}
 use Rattle.resource_table.specs.declared.Placement.{Placement}
 use Rattle.std.specs.Vec.{with_item}
 use Rattle.resource_table.specs.declared.power.Draw.{Draw}
 use Rattle.resource_table.specs.Profiles.{ArePoints}
 use Rattle.std.proofs.lemmas.List.{length-map}
-use Rattle.resource_table.specs.Jobs.{TestValue, job_value, test_value, test_at, cycles_of}
+use Rattle.resource_table.specs.Jobs.{TestValue, job_value, test_value, test_at, cycles_of, IsSoundTest, no_test}
 use Rattle.resource_table.specs.Schedules.{TableValue, at_start, end_of, last_end, MayPlace}
 use Rattle.resource_table.specs.Resources.{draws_from, draws_of, marks_of}
 use Rattle.resource_table.specs.declared.timelines.Span.{Span}
@@ -16,6 +16,7 @@ use Rattle.resource_table.proofs.Bounds.{bounded_push, marks_have_room}
 use Rattle.resource_table.proofs.KeptTables.{kept_push, trail_has_room, draws_have_room, length-draws_from}
 use Rattle.resource_table.proofs.KeptMarks.{last_room, last_within, before_last, after_push}
 use Rattle.resource_table.proofs.KeptStarts.{wanted_is}
+use Rattle.soc_model.specs.declared.TheConstants.{NUMBER_WORD_MOST}
 use Rattle.resource_table.proofs.table.TableOf.push.Goals as goal
 
 pub index-wanted-requires : goal.index-wanted-requires
@@ -167,3 +168,17 @@ add_drawn-requires-clause-points g c =
     let earlier : c.len-earlier.result ≡ length (flat_map (draws_of job) placed) = c.len-earlier.ensures ∙ c.self.inside.draws.ok.0 ∙ ap length c.self.invariant.0.draws_are in
     let old : IfSome job.power (λ _. ArePoints (flat_map (draws_of job) placed) (flat_map (marks_of job) placed) c.self.inside.points.items) = subst (λ (v : List Draw). IfSome job.power (λ _. ArePoints v (flat_map (marks_of job) placed) c.self.inside.points.items)) c.self.invariant.0.draws_are c.self.invariant.2.are in
     before_last job placed (at_start c.args.test c.args.start) c.deref-2.result.now c.len-earlier.result draws earlier c.self.inside.points.items c.self.invariant.0.sound old
+
+pub push_draws-requires-clause-start : goal.push_draws-requires-clause-start
+push_draws-requires-clause-start g c =
+    let may = subst (λ (t : TableValue). MayPlace t.job t.placed c.args.test c.args.start) (sym c.self.view_is) c.requires in
+    let wanted = wanted_is c.self.inside.own.tests.items c.args.test c.index-wanted.result.now may.in_job c.index-wanted.ensures in
+    subst (λ (t : TestValue). c.args.start + t.cycles ≤ 10 ^ 18) (sym wanted) may.ends
+
+pub push_draws-requires-clause-steps : goal.push_draws-requires-clause-steps
+push_draws-requires-clause-steps g c =
+    let may = subst (λ (t : TableValue). MayPlace t.job t.placed c.args.test c.args.start) (sym c.self.view_is) c.requires in
+    let wanted = wanted_is c.self.inside.own.tests.items c.args.test c.index-wanted.result.now may.in_job c.index-wanted.ensures in
+    let job = job_value c.self.inside.own in
+    let sound : IsSoundTest job.power (test_value c.index-wanted.result.now) = subst (IsSoundTest job.power) (sym wanted) (c.self.invariant.0.sound.job.tests c.args.test no_test may.in_job) in
+    subst (All (λ (s : ℕ × ℕ). s.0 ≤ NUMBER_WORD_MOST)) (sym c.deref.ensures.value) (λ k d lt. (sound.small k d lt).0)

@@ -52,3 +52,15 @@ returns-clause-empty g c =
 
 pub returns-clause-sound : goal.returns-clause-sound
 returns-clause-sound g c = (invariant_of-self g c).0.sound
+
+-- the tests that are changed are as many as those of the job
+as_many : (own : Job) (read : List JobTest) (placed : List Placement) (t : TableValue) (count : ℕ) → (let now : TableValue = record { job = job_value own; placed = placed } in now) ≡ record { job = t.job; placed = [] } → read ≡ own.tests.items → count ≡ length t.job.tests → count ≡ length read
+as_many own read placed t count view is many = many ∙ sym (ap (λ (v : TableValue). length v.job.tests) view) ∙ length-map own.tests.items test_value ∙ sym (ap length is)
+
+pub send_over-requires-clause-lengths : goal.send_over-requires-clause-lengths
+send_over-requires-clause-lengths g c =
+    as_many c.self.inside.own c.deref_mut.result.now c.self.inside.trail.items c.args.self.now (length c.args.lengths.now) (c.self.view_is ∙ c.pop_to.ensures.table) c.deref_mut.ensures.value c.requires.lengths
+
+pub send_over-requires-clause-buses : goal.send_over-requires-clause-buses
+send_over-requires-clause-buses g c =
+    as_many c.self.inside.own c.deref_mut.result.now c.self.inside.trail.items c.args.self.now (length c.args.buses.now) (c.self.view_is ∙ c.pop_to.ensures.table) c.deref_mut.ensures.value c.requires.buses
