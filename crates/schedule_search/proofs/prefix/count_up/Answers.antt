@@ -23,3 +23,10 @@ loop-test-preserved c =
       free = λ prefix apart are. c.wait_more.ensures.free prefix (apart_one prefix c.args.tests.now i test apart within refl) (inv.free prefix apart are);
       room = c.wait_more.ensures.room ∙ inv.room;
     }
+
+pub wait_more-requires-clause-free : goal.wait_more-requires-clause-free
+wait_more-requires-clause-free c =
+    let i : ℕ = c.loop-test.test-index in
+    let test : ℕ = get_or c.args.tests.now i 0 in
+    let given = c.requires.free in
+    (given.0, apart_one given.0 c.args.tests.now i test given.1 c.loop-test-test.true refl, c.loop-test.invariant.free given.0 given.1 given.2)

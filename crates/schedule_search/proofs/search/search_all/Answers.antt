@@ -1,10 +1,11 @@
-use Rattle.std.proofs.Common.{◌≡◌, ◌∙◌, List, ℕ, length, refl, ap, subst, arith, not}
+use Rattle.std.proofs.Common.{◌≡◌, ◌∙◌, List, ℕ, length, refl, ap, subst, arith, not, sym}
 use Rattle.resource_table.specs.Jobs.{JobValue, job_value}
 use Rattle.resource_table.specs.Schedules.{TableValue}
 use Rattle.schedule_search.specs.Progress.{stand_of}
 use Rattle.schedule_search.specs.Noted.{AreStarts}
 use Rattle.schedule_search.proofs.Counting.{topological_long}
 use Rattle.schedule_search.proofs.Searching.{found}
+use Rattle.schedule_search.specs.Orders.{IsTopological}
 use Rattle.schedule_search.proofs.search.search_all.Goals as goal
 
 pub list_starts-requires-clause-room : goal.list_starts-requires-clause-room
@@ -21,3 +22,9 @@ returns-clause-found g c =
     let same : c.search_orders.new.table.job ≡ job = ap (λ (t : TableValue). t.job) c.search_orders.ensures.table ∙ c.requires.job in
     let starts : AreStarts job best c.list_starts.new.starts.items = subst (λ (j : JobValue). AreStarts j best c.list_starts.new.starts.items) same (subst (λ (l : List ℕ). AreStarts c.search_orders.new.table.job l c.list_starts.new.starts.items) c.deref.ensures.value c.list_starts.ensures.starts) in
     found job c.args.tries.now.budget (stand_of c.search_orders.new.progress) best c.list_starts.new.starts.items c.search_orders.new.progress.cycles (not c.search_orders.new.progress.refused) c.search_orders.ensures.found starts refl refl refl
+
+pub list_starts-requires-clause-topological : goal.list_starts-requires-clause-topological
+list_starts-requires-clause-topological g c =
+    let best : List ℕ = c.search_orders.new.progress.best.items in
+    let same : c.search_orders.new.table.job ≡ job_value c.args.job.now = ap (λ (t : TableValue). t.job) c.search_orders.ensures.table ∙ c.requires.job in
+    subst (λ (l : List ℕ). IsTopological c.search_orders.new.table.job l) (sym c.deref.ensures.value) (subst (λ (j : JobValue). IsTopological j best) (sym same) c.search_orders.ensures.found.topological)

@@ -1,6 +1,8 @@
-use Rattle.std.proofs.Common.{◌∙◌, ap}
+use Rattle.std.proofs.Common.{◌∙◌, ap, ◌<◌, get_or, length, sym, subst}
 use Rattle.resource_table.specs.Schedules.{TableValue}
 use Rattle.schedule_search.proofs.Searching.{next_free, next_placed, noted_more}
+use Rattle.resource_table.specs.Jobs.{JobValue}
+use Rattle.schedule_search.proofs.PlacedOrders.{next_ready}
 use Rattle.schedule_search.proofs.starts.note_rest.Goals as goal
 
 pub place_next-start-requires-clause-new : goal.place_next-start-requires-clause-new
@@ -15,3 +17,8 @@ loop-place-preserved g c = record {
   job = ap (λ (t : TableValue). t.job) c.place_next-start.ensures.table ∙ c.loop-place.invariant.job;
   room = c.push_reserved.ensures.capacity ∙ c.loop-place.invariant.room;
 }
+
+pub place_next-start-requires-clause-in_job : goal.place_next-start-requires-clause-in_job
+place_next-start-requires-clause-in_job g c =
+    let ready = next_ready c.args.table.now.job c.args.order.now c.loop-place.place c.requires.topological c.loop-place-test.true in
+    subst (λ (j : JobValue). get_or c.args.order.now c.loop-place.place 0 < length j.tests) (sym c.loop-place.invariant.job) ready.in_job

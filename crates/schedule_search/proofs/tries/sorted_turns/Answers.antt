@@ -13,3 +13,6 @@ loop-place-preserved c =
 
 pub returns : goal.returns
 returns c = order_from_sort (job_value c.args.job.now) c.loop-place.turns.items c.sort_unstable.new.self.items (c.loop-place.invariant ∙ ap (λ v. map (turn_at (job_value c.args.job.now)) (range_with_len 0 v)) (omega (arith, length-map c.args.job.now.tests.items test_value))) c.sort_unstable.ensures.permutation c.sort_unstable.ensures.sorted
+
+pub cycles_at-requires : goal.cycles_at-requires
+cycles_at-requires c = omega (arith, c.loop-place-test.true, c.len-place-end.ensures, c.args.job.now.tests.ok.0, length-map c.args.job.now.tests.items test_value)

@@ -20,6 +20,7 @@ use Rattle.schedule_search.proofs.Stepping.{at_own, out_own}
 use Rattle.schedule_search.proofs.Taking.{some_free}
 use Rattle.schedule_search.proofs.Explorings.{best_refused, best_entered, best_offered, path_topological, explored_refused, explored_whole, explored_left, explored_entered, turn, followed, child_of, walk_stopped, walk_ended, may_place, one_placed, open_below, none_before_rest, taken_back, none_left, some_left}
 use Rattle.schedule_search.proofs.Lateness.{seen_more}
+use Rattle.std.proofs.lemmas.Bool.{false≢true}
 use Rattle.schedule_search.proofs.walk.+explore.Goals as goal
 
 -- ---- explore
@@ -310,3 +311,26 @@ go_on-returns-else-not-progress-clause-explored g t c =
     let job = job_value c.args.job.now in
     let path : List ℕ = c.args.prefix.now.tests.items in
     followed job c.args.tries.now.budget (length job.tests) path c.append.new.self.tests.items c.args.test (stand_of c.args.progress.now) (stand_of c.explore.new.progress) c.append.ensures.tests_are c.explore.ensures.explored
+
+pub explore-overflow_add-place : goal.explore-overflow_add-place
+explore-overflow_add-place g t c =
+    let less : c.loop-place.place < c.len-count.result = c.loop-place-test.true in
+    let fits : c.len-count.result < 2 ^ 64 = c.len-count.type_inv in
+    omega (arith, less, fits)
+
+pub go_on-undo-requires : goal.go_on-undo-requires
+go_on-undo-requires g t c =
+    let test : ℕ = c.args.test in
+    let grown : c.table.result.now ≡ record c.args.table.now { placed = c.args.table.now.placed ++ at_start test c.noted_start-start.result ∷ [] } = c.table.ensures.value ∙ c.place-frame.ensures.table ∙ ap (λ (t : TableValue). record t { placed = t.placed ++ at_start test c.noted_start-start.result ∷ [] }) c.noted_start-start.ensures.same in
+    let before : c.place-frame.result.before ≡ length c.args.table.now.placed = c.place-frame.ensures.before ∙ ap (λ (t : TableValue). length t.placed) c.noted_start-start.ensures.same in
+    let after : length c.explore.new.table.placed ≡ length (c.args.table.now.placed ++ at_start test c.noted_start-start.result ∷ []) = ap (λ (t : TableValue). length t.placed) (c.explore.ensures.table ∙ grown) in
+    omega (arith, before, after, length-append c.args.table.now.placed (at_start test c.noted_start-start.result ∷ []))
+
+pub go_on-returns-else-not-progress-clause-out : goal.go_on-returns-else-not-progress-clause-out
+go_on-returns-else-not-progress-clause-out g t c = λ going. absurd (false≢true (sym going ∙ c.if-not-progress.false))
+
+pub go_on-go_back-requires-clause-in_range : goal.go_on-go_back-requires-clause-in_range
+go_on-go_back-requires-clause-in_range g t c = (subst IsSoundJob c.requires.job c.requires.sound.job).in_range
+
+pub explore-returns-clause-best_room : goal.explore-returns-clause-best_room
+explore-returns-clause-best_room g t c = c.loop-place.invariant.best_room ∙ ap (λ (p : Progress). vec_capacity p.best) (c.enter.ensures.entered c.if-not-enter.false).1
