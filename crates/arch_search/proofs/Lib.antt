@@ -1,3 +1,5 @@
 pub mod OtherBuses
 pub mod Listing
 pub mod Sent
+pub mod Beginnings
+pub mod Wires

@@ -1,12 +1,12 @@
 -- The tests that are listed for a search, module by module.
-use Rattle.std.proofs.Common.{◌≡◌, cond, ℕ, suc, ◌+◌, ◌<◌, ◌≤◌, Option, None, Some, List, [], ◌∷◌, length, get_or, take, drop, map, arith, sym, ap, ◌∙◌, subst, length-append, drop-cons}
+use Rattle.std.proofs.Common.{◌≡◌, cond, ℕ, suc, ◌+◌, ◌<◌, ◌≤◌, Option, None, Some, List, [], ◌∷◌, ◌++◌, length, get_or, take, drop, map, arith, sym, ap, ◌∙◌, subst, length-append, drop-cons}
 use Rattle.std.specs.Prelude.{IfSome, slice_get, if◌then◌else◌}
 use Rattle.std.specs.List.{All, Contains, filter}
 use Rattle.std.proofs.Math.ListN.{drop_of_length-le}
-use Rattle.std.proofs.lemmas.List.{length-map}
+use Rattle.std.proofs.lemmas.List.{length-map, length_push}
 use Rattle.std.proofs.lemmas.List.Filters.{length-filter_more}
 use Rattle.std.proofs.lemmas.Option.{slice_get_within, slice_get-get_or, get_or_from_slice_get}
-use Rattle.std.proofs.lemmas.List.Elements.{All-contains}
+use Rattle.std.proofs.lemmas.List.Elements.{All-contains, All-push}
 use Rattle.plan_model.proofs.Lists.{at_contains}
 use Rattle.soc_model.specs.declared.Test.{Test}
 use Rattle.soc_model.specs.Chips.{ModuleValue, LiveTest, live_of, live_from, is_live}
@@ -17,7 +17,7 @@ use Rattle.resource_table.proofs.Befores.{before_from, before_has}
 use Rattle.arch_search.specs.declared.problem.TestTimes.{TestTimes}
 use Rattle.arch_search.specs.Problems.{IsTimed}
 
-in_more : (m : Option ℕ) (modules more : ℕ) → modules ≤ more → IfSome m (λ m. m < modules) → IfSome m (λ m. m < more)
+pub in_more : (m : Option ℕ) (modules more : ℕ) → modules ≤ more → IfSome m (λ m. m < modules) → IfSome m (λ m. m < more)
 in_more None modules more grows within = tt
 in_more (Some m) modules more grows within = omega (arith, grows, within)
 
@@ -75,3 +75,11 @@ live_more tests items i d count next before same within so is =
     let so' : count ≡ before + length (filter is_live (take i items)) = rw same so in
     let all : next ≡ before + length (filter is_live (take (i + 1) items)) = omega (arith, more, so', is) in
     rw same at all
+
+-- ---- one more of a list
+
+pub long_more : {X : Type 0} (more old : List X) (x : X) (i : ℕ) → more ≡ old ++ x ∷ [] → length old ≡ i → length more ≡ i + 1
+long_more more old x i is so = omega (arith, ap length is, length_push old x, so)
+
+pub all_more : {X : Type 0} (P : X → Type 0) (more old : List X) (x : X) → more ≡ old ++ x ∷ [] → All P old → P x → All P more
+all_more P more old x is all one = subst (λ l. All P l) (sym is) (All-push P old x all one)

@@ -1,5 +1,6 @@
 use Rattle.std.proofs.Common.{◌≡◌, ℕ, Bool, Option, Some, sym, ap, subst}
 use Rattle.std.specs.Prelude.{IfSome, slice_get}
+use Rattle.std.proofs.lemmas.Option.{slice_get_within}
 use Rattle.soc_model.specs.Chips.{ModuleValue, module_value}
 use Rattle.plan_model.specs.Cells.{IsProper}
 use Rattle.plan_model.specs.Plans.{WrapperValue}
@@ -34,3 +35,6 @@ tam_duration-requires-clause-proper c =
 pub tam_duration-requires-clause-work : goal.tam_duration-requires-clause-work
 tam_duration-requires-clause-work c =
     tam_work-le c.args.table.now.soc c.requires.table.sound c.args.place c.requires.test_there.0 (module_value c.args.«module».now) c.args.test.now c.requires.module_there c.requires.test_there.1 c.requires.is_live c.requires.tam
+
+pub wrapper-requires-clause-place : goal.wrapper-requires-clause-place
+wrapper-requires-clause-place c = slice_get_within c.args.table.now.soc.modules c.args.place (module_value c.args.«module».now) c.requires.module_there

@@ -21,3 +21,6 @@ loop-test-preserved c =
 
 pub returns-clause-short : goal.returns-clause-short
 returns-clause-short c = λ yes. short_all c.loop-test.room.cycles.items c.loop-test.test c.loop-test.left (omega (arith, c.loop-test.invariant.room.cycles, c.loop-test-test.false)) c.loop-test.invariant.last c.loop-test.invariant.short
+
+pub returns-then-not-assign-clause-room : goal.returns-then-not-assign-clause-room
+returns-then-not-assign-clause-room c = c.assign.ensures.room (length c.args.problem.now.tests.items) c.args.problem.now.wires c.loop-test.invariant.room

@@ -1,5 +1,5 @@
-use Rattle.std.proofs.Common.{arith, ◌<◌, ◌++◌, ◌∷◌, [], ◌∙◌, sym, ap, length, take, map, get_or}
-use Rattle.std.proofs.lemmas.List.{map-append, take_more}
+use Rattle.std.proofs.Common.{arith, ◌<◌, ◌≤◌, ◌++◌, ◌∷◌, [], ◌∙◌, sym, ap, length, take, map, get_or}
+use Rattle.std.proofs.lemmas.List.{map-append, take_all, take_more}
 use Rattle.bus_model.specs.Buses.{arch_value, no_bus, bus_time_of}
 use Rattle.bus_model.proofs.Views.{value_at, value_length}
 use Rattle.bus_model.proofs.SoundLemmas.{sound_item}
@@ -21,3 +21,10 @@ loop-bus-preserved c =
     let time = c.bus_time.ensures ∙ ap (bus_time_of c.args.table.now) (sym read) in
     let more = ap (map (bus_time_of c.args.table.now)) (take_more A c.loop-bus.bus-index no_bus (omega arith)) ∙ map-append (bus_time_of c.args.table.now) (take c.loop-bus.bus-index A) (get_or A c.loop-bus.bus-index no_bus ∷ []) in
     c.in_ok-push.ensures.ok ∙ (ap (λ xs. xs ++ c.bus_time.result ∷ []) c.loop-bus.invariant ∙ (ap (λ t. map (bus_time_of c.args.table.now) (take c.loop-bus.bus-index A) ++ t ∷ []) time ∙ sym more))
+
+pub returns : goal.returns
+returns c =
+    let A = arch_value c.args.arch.now in
+    let items = c.deref-bus-items.ensures.value in
+    let past : length c.args.arch.now.buses.items ≤ c.loop-bus.bus-index = rw (← items) c.loop-bus-test.false in
+    c.loop-bus.invariant ∙ ap (map (bus_time_of c.args.table.now)) (take_all c.loop-bus.bus-index A (omega (arith, past, value_length c.args.arch.now.buses.items)))

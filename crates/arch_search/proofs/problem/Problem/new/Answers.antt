@@ -1,4 +1,4 @@
-use Rattle.std.proofs.Common.{◌≡◌, ◌∙◌, ◌<◌, ◌≤◌, ℕ, length, map, sym, ap, subst, arith}
+use Rattle.std.proofs.Common.{◌≡◌, ◌∙◌, ◌<◌, ◌≤◌, ℕ, List, length, map, sym, ap, subst, arith}
 use Rattle.std.specs.List.{All}
 use Rattle.std.proofs.lemmas.List.{length-map}
 use Rattle.soc_model.specs.Chips.{SocValue, soc_value, module_value}
@@ -31,3 +31,9 @@ returns c =
         are = λ test within. c.in_ok-before.ensures.lists test (subst (λ (n : ℕ). test < n) (sym own) within) ∙ ap (tests_before test) c.deref.ensures.value;
       };
     }
+
+pub all_before-requires : goal.all_before-requires
+all_before-requires c =
+    let own : c.len.result ≡ length (map test_value c.args.job.now.tests.items) = omega (arith, length-map c.args.job.now.tests.items test_value, c.len.ensures) in
+    subst (λ (l : List (ℕ × ℕ)). All (λ (p : ℕ × ℕ). (p.0 < c.len.result) × (p.1 < c.len.result)) l) (sym c.deref.ensures.value)
+    (subst (λ (n : ℕ). All (λ (p : ℕ × ℕ). (p.0 < n) × (p.1 < n)) c.args.job.now.before.items) (sym own) c.requires.job.in_range)
