@@ -1,5 +1,5 @@
 -- The live tests of a plan, module by module and test by test.
-use Rattle.std.proofs.Common.{◌≡◌, ℕ, suc, ◌+◌, ◌≤◌, Bool, true, false, Some, List, [], ◌∷◌, ◌++◌, length, map, take, drop, refl, ap, ◌∙◌, sym, arith, append-nil, append_assoc}
+use Rattle.std.proofs.Common.{◌≡◌, ℕ, suc, ◌+◌, ◌<◌, ◌≤◌, Bool, true, false, Some, List, [], ◌∷◌, ◌++◌, length, map, take, drop, refl, ap, ◌∙◌, sym, arith, append-nil, append_assoc}
 use Rattle.std.specs.Prelude.{slice_get}
 use Rattle.std.specs.List.{filter, flat_map, list_any}
 use Rattle.std.proofs.Math.Seq.{split_at, drop-cons}
@@ -38,6 +38,10 @@ pub passing_room : {X Y : Type 0} (f : X → Y) (p : X → Bool) (xs : List X) (
 passing_room f p xs k x at passes =
     let e = ap length (passing_split f p xs k x at passes) in
     omega (arith, simp length-append at e)
+
+-- where what passes has room behind `done`, the next one does
+pub passing_within : {X Y : Type 0} (f : X → Y) (p : X → Bool) (xs : List X) (k : ℕ) (x : X) (done next n : ℕ) → slice_get xs k ≡ Some x → p x ≡ true → next ≡ done + length (map f (filter p (take k xs))) → done + length (map f (filter p xs)) ≤ n → next < n
+passing_within f p xs k x done next n at passes is room = omega (arith, passing_room f p xs k x at passes, is, room)
 
 -- ---- names
 

@@ -1,14 +1,21 @@
 -- The sizes of the checker's room against those of a chip.
-use Rattle.std.proofs.Common.{◌≡◌, ℕ, ◌+◌, ◌*◌, ◌≤◌, Some, List, [], ◌∷◌, ◌++◌, Result, Ok, Err, Bool, true, false, length, take, arith, inl, inr}
+use Rattle.std.proofs.Common.{◌≡◌, ℕ, ◌+◌, ◌*◌, ◌≤◌, Some, List, [], ◌∷◌, ◌++◌, Result, Ok, Err, Bool, true, false, length, take, ap, ◌∙◌, arith, inl, inr, Vec, Global}
 use Rattle.std.specs.Prelude.{slice_get, IfOk, OnOk}
 use Rattle.std.specs.List.{flat_map, filter, sum_by}
 use Rattle.std.proofs.lemmas.Bool.{cases_Bool}
-use Rattle.std.proofs.lemmas.List.{length-append}
+use Rattle.std.specs.Vec.{with_items}
+use Rattle.std.proofs.lemmas.List.{length-append, with_items_is}
 use Rattle.std.proofs.lemmas.List.Sums.{sum_by_more}
 use Rattle.std.proofs.lemmas.Option.{slice_get_within, get_or_from_slice_get}
 use Rattle.soc_model.specs.Chips.{ModuleValue, SocValue, is_live, live_tests}
 use Rattle.plan_model.specs.Rules.{mode_pair, uses_mode}
 use Rattle.plan_checker.specs.Room.{RoomValue, HasRoom}
+
+-- ---- a written list
+
+-- as many numbers written over a list leave it as long
+pub with_long : {X : Type 0} (v : Vec X Global) (xs : List X) → length xs ≡ length v.items → length (with_items v xs).items ≡ length v.items
+with_long v xs e = ap length (with_items_is v xs (omega (arith, e, v.ok.0))) ∙ e
 
 -- ---- pairs
 

@@ -1,6 +1,6 @@
 -- The verdict on a plan from what the stages answer for their rules.
 use Rattle.std.proofs.Common.{◌≡◌, ℕ, ◌+◌, ◌<◌, Option, Some, None, refl, ap, ◌∙◌, sym, subst, arith, inl, inr}
-use Rattle.std.specs.Prelude.{nat_eq, if◌then◌else◌}
+use Rattle.std.specs.Prelude.{IfNone, nat_eq, if◌then◌else◌}
 use Rattle.std.proofs.lemmas.Bool.{cases_lt}
 use Rattle.plan_checker.specs.FaultValues.{fault_value}
 use Rattle.plan_checker.specs.declared.PlanFault.{PlanFault}
@@ -78,3 +78,8 @@ good_here soc limits plan kept Cycles = kept Cycles (omega arith)
 pub last_stage : (soc : SocValue) (limits : LimitsValue) (plan : PlanValue) (r : Rule) (o : Option PlanFault) → KeptTo soc limits plan (rank_of r) → IsStage soc limits plan r o → IsVerdict soc limits plan (rank_of r + 1) o
 last_stage soc limits plan r None before stage = kept_more soc limits plan r before stage
 last_stage soc limits plan r (Some f) before stage = fault_here soc limits plan r f before stage
+
+-- the last verdict says that the plan is good
+pub good_verdict : (soc : SocValue) (limits : LimitsValue) (plan : PlanValue) (o : Option PlanFault) → IsVerdict soc limits plan 13 o → IfNone o (IsGood soc limits plan)
+good_verdict soc limits plan None kept = good_here soc limits plan kept
+good_verdict soc limits plan (Some f) fault = tt

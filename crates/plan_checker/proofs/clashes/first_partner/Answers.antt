@@ -1,9 +1,13 @@
-use Rattle.std.proofs.Common.{subst, arith, inl, inr}
+use Rattle.std.proofs.Common.{None, subst, arith, inl, inr}
 use Rattle.std.proofs.lemmas.Bool.{cases_eq}
-use Rattle.std.proofs.lemmas.Option.{slice_get_within}
+use Rattle.std.proofs.lemmas.Option.{slice_get_within, slice_get-get_or}
+use Rattle.live_tests.specs.declared.placed.PlacedTest.{PlacedTest}
 use Rattle.plan_checker.specs.Clashes.{keeps_apart, Clash}
 use Rattle.plan_checker.proofs.LeastPairs.{clash_gives}
 use Rattle.plan_checker.proofs.clashes.first_partner.Goals as goal
+
+none : PlacedTest
+none = record { id = record { «module» = 0; test = 0 }; place = 0; bus = None; start = 0; end = 0; power = 0 }
 
 pub loop-second-preserved : goal.loop-second-preserved
 loop-second-preserved c = λ k before clash. elim (cases_eq k c.loop-second.second) [
@@ -15,3 +19,7 @@ loop-second-preserved c = λ k before clash. elim (cases_eq k c.loop-second.seco
 
 pub returns-clause-none : goal.returns-clause-none
 returns-clause-none c = λ j clash. c.loop-second.invariant j (omega (arith, c.loop-second-test.false, slice_get_within c.args.placed.now j clash.b clash.at')) clash
+
+pub meet_at-requires : goal.meet_at-requires
+unfolding none
+meet_at-requires c = c.requires.slots c.loop-second.second _ (slice_get-get_or c.args.placed.now c.loop-second.second none c.loop-second-test.true)

@@ -1,4 +1,4 @@
-use Rattle.std.proofs.Common.{◌≡◌, ◌+◌, ◌++◌, List, ◌∷◌, [], ◌≤◌, true, false, Some, length, get_or, take, sym, ap, ◌∙◌, append_assoc, arith}
+use Rattle.std.proofs.Common.{◌≡◌, ◌+◌, ◌++◌, List, ◌∷◌, [], ◌<◌, ◌≤◌, true, false, Some, length, get_or, take, sym, ap, ◌∙◌, append_assoc, arith}
 use Rattle.std.specs.Prelude.{slice_get}
 use Rattle.std.proofs.lemmas.Bool.{lt-ltb}
 use Rattle.std.proofs.lemmas.List.{take_more_set, length-append}
@@ -8,7 +8,7 @@ use Rattle.soc_model.specs.Chips.{is_live, module_value}
 use Rattle.plan_model.specs.Plans.{planned_test}
 use Rattle.plan_model.specs.Views.{plan_value}
 use Rattle.live_tests.specs.Placed.{placed_in, placed_of}
-use Rattle.plan_checker.proofs.Filling.{front_taken, passing_room}
+use Rattle.plan_checker.proofs.Filling.{front_taken, passing_room, passing_within}
 use Rattle.plan_checker.proofs.placed.fill_module.Goals as goal
 
 none : Test
@@ -43,3 +43,23 @@ loop-test-preserved c =
       count = omega (arith, c.loop-test.invariant.count, simp length-append at (ap length more));
       filled = take_more_set c.loop-test.placed c.loop-test.next c.placed_of.result (omega arith) ∙ rw (c.loop-test.invariant.filled, more) (append_assoc (take c.args.done c.args.placed.now) (placed_in plan c.args.place m (take c.loop-test.test-index m.tests)) (c.placed_of.result ∷ []));
     }
+
+pub offset_bounds-placed-next : goal.offset_bounds-placed-next
+unfolding none
+offset_bounds-placed-next c =
+    let m = module_value c.args.«module».now in
+    let t = get_or c.deref-test-items.result.now c.loop-test.test-index none in
+    let at : slice_get m.tests c.loop-test.test-index ≡ Some t = ap (λ (l : List Test). slice_get l c.loop-test.test-index) (sym c.deref-test-items.ensures.value) ∙ slice_get-get_or c.deref-test-items.result.now c.loop-test.test-index none c.loop-test-test.true in
+    let live : is_live t ≡ true = lt-ltb 0 _ (omega (arith, c.if-test-eq0.false)) in
+    let within : c.loop-test.next < length c.args.placed.now = passing_within (λ (t : Test). placed_of (planned_test (plan_value c.args.from.now.plan.now) c.args.place m t)) is_live m.tests c.loop-test.test-index _ c.args.done c.loop-test.next (length c.args.placed.now) at live c.loop-test.invariant.count c.requires.room in
+    omega (arith, within, c.loop-test.auto.placed)
+
+pub overflow_add-next : goal.overflow_add-next
+unfolding none
+overflow_add-next c =
+    let m = module_value c.args.«module».now in
+    let t = get_or c.deref-test-items.result.now c.loop-test.test-index none in
+    let at : slice_get m.tests c.loop-test.test-index ≡ Some t = ap (λ (l : List Test). slice_get l c.loop-test.test-index) (sym c.deref-test-items.ensures.value) ∙ slice_get-get_or c.deref-test-items.result.now c.loop-test.test-index none c.loop-test-test.true in
+    let live : is_live t ≡ true = lt-ltb 0 _ (omega (arith, c.if-test-eq0.false)) in
+    let within : c.loop-test.next < length c.args.placed.now = passing_within (λ (t : Test). placed_of (planned_test (plan_value c.args.from.now.plan.now) c.args.place m t)) is_live m.tests c.loop-test.test-index _ c.args.done c.loop-test.next (length c.args.placed.now) at live c.loop-test.invariant.count c.requires.room in
+    omega (arith, within, c.loop-test.auto.placed)

@@ -33,3 +33,12 @@ returns-clause-new c = each_all (IsUnlisted (numbers (soc_value c.args.soc.now))
 
 pub returns-clause-marked : goal.returns-clause-marked
 returns-clause-marked c = rw (take_all c.loop-number.number-index c.args.listed.now (omega arith)) at c.loop-number.invariant.marked
+
+pub bounds-marks-place-in-loop-number : goal.bounds-marks-place-in-loop-number
+bounds-marks-place-in-loop-number c = slice_get_within c.loop-number.marks c.known_place-place.result _ (c.loop-number.invariant.marked c.known_place-place.result _ c.known_place-place.ensures)
+
+pub offset_bounds-marks-place-in-loop-number : goal.offset_bounds-marks-place-in-loop-number
+offset_bounds-marks-place-in-loop-number c = omega (arith, slice_get_within c.loop-number.marks c.known_place-place.result _ (c.loop-number.invariant.marked c.known_place-place.result _ c.known_place-place.ensures))
+
+pub offset_bounds-marks-place : goal.offset_bounds-marks-place
+offset_bounds-marks-place c = omega (arith, slice_get_within c.loop-number.marks c.known_place-place.result _ (c.loop-number.invariant.marked c.known_place-place.result _ c.known_place-place.ensures))

@@ -1,7 +1,7 @@
 use Rattle.std.proofs.Common.{◌≡◌, ℕ, Some, List, get_or, take, refl, sym, ◌∙◌, subst, arith, true≢false}
 use Rattle.std.specs.Prelude.{slice_get}
 use Rattle.std.proofs.lemmas.List.{take_all}
-use Rattle.std.proofs.lemmas.Option.{slice_get-get_or}
+use Rattle.std.proofs.lemmas.Option.{slice_get_within, slice_get-get_or}
 use Rattle.indexmap.specs.IndexSet.{keys}
 use Rattle.soc_model.specs.declared.TestId.{TestId}
 use Rattle.plan_checker.specs.Starting.{AreStarts, IsOnce}
@@ -38,3 +38,15 @@ returns-clause-kept c = each_all (IsOnce (keys c.args.names.now)) c.args.starts.
 
 pub returns-clause-filled : goal.returns-clause-filled
 returns-clause-filled c = subst (λ (l : List (TestId × ℕ)). AreStarts (keys c.args.names.now) l c.loop-id.room) (take_all c.loop-id.id-index c.args.starts.now (omega arith)) c.loop-id.invariant.filled
+
+pub bounds-room-place : goal.bounds-room-place
+bounds-room-place c = slice_get_within c.loop-id.room c.in-Some.place _ (c.loop-id.invariant.filled c.in-Some.place _ c.in-Some.ensures.found)
+
+pub bounds-room-place-in-loop-id : goal.bounds-room-place-in-loop-id
+bounds-room-place-in-loop-id c = slice_get_within c.loop-id.room c.in-Some.place _ (c.loop-id.invariant.filled c.in-Some.place _ c.in-Some.ensures.found)
+
+pub offset_bounds-room-place : goal.offset_bounds-room-place
+offset_bounds-room-place c = omega (arith, slice_get_within c.loop-id.room c.in-Some.place _ (c.loop-id.invariant.filled c.in-Some.place _ c.in-Some.ensures.found))
+
+pub offset_bounds-room-place-in-loop-id : goal.offset_bounds-room-place-in-loop-id
+offset_bounds-room-place-in-loop-id c = omega (arith, slice_get_within c.loop-id.room c.in-Some.place _ (c.loop-id.invariant.filled c.in-Some.place _ c.in-Some.ensures.found))

@@ -4,6 +4,7 @@ use Rattle.soc_model.specs.Chips.{soc_value}
 use Rattle.plan_model.specs.Views.{limits_value, plan_value}
 use Rattle.plan_checker.proofs.Laying.{layout}
 use Rattle.plan_checker.proofs.Loads.{placed_apart, placed_named, load_is}
+use Rattle.plan_checker.proofs.RoomSizes.{with_long}
 use Rattle.plan_checker.proofs.verdict.check_placed.Goals as goal
 
 pub fill_profiles-requires-clause-named : goal.fill_profiles-requires-clause-named
@@ -31,3 +32,24 @@ fill_profiles-requires-clause-apart c = placed_apart (soc_value c.args.from.now.
 
 pub check_ends-requires-clause-apart : goal.check_ends-requires-clause-apart
 check_ends-requires-clause-apart c = placed_apart (soc_value c.args.from.now.soc.now) (plan_value c.args.from.now.plan.now) c.fill_tests.new.placed c.requires.placing.sound c.fill_tests.ensures
+
+pub returns-in-None-clause-long : goal.returns-in-None-clause-long
+returns-in-None-clause-long c = record {
+  parents = with_long c.args.rooms.now.parents c.fill_parents.new.parents (c.fill_parents.auto.parents ∙ ap length c.deref_mut-parents.ensures.value);
+  tests = with_long c.args.rooms.now.tests c.fill_tests.new.placed (c.fill_tests.auto.placed ∙ ap length c.deref_mut-placed.ensures.value);
+  begins = with_long c.args.rooms.now.begins c.fill_begins.new.begins (c.fill_begins.auto.begins ∙ ap length c.deref_mut-begins.ensures.value);
+  ends = with_long c.args.rooms.now.ends c.check_meetings.new.ends (c.check_meetings.auto.ends ∙ ap length c.deref_mut.ensures.value);
+  profiles = with_long c.args.rooms.now.profiles c.fill_profiles.new.profiles (c.fill_profiles.auto.profiles ∙ ap length c.deref_mut-profiles.ensures.value);
+}
+
+pub returns-in-Some-clause-long : goal.returns-in-Some-clause-long
+returns-in-Some-clause-long c = record {
+  parents = with_long c.args.rooms.now.parents c.fill_parents.new.parents (c.fill_parents.auto.parents ∙ ap length c.deref_mut-parents.ensures.value);
+  tests = with_long c.args.rooms.now.tests c.fill_tests.new.placed (c.fill_tests.auto.placed ∙ ap length c.deref_mut-placed.ensures.value);
+  begins = with_long c.args.rooms.now.begins c.fill_begins.new.begins (c.fill_begins.auto.begins ∙ ap length c.deref_mut-begins.ensures.value);
+  ends = with_long c.args.rooms.now.ends c.check_meetings.new.ends (c.check_meetings.auto.ends ∙ ap length c.deref_mut.ensures.value);
+  profiles = with_long c.args.rooms.now.profiles c.fill_profiles.new.profiles (c.fill_profiles.auto.profiles ∙ ap length c.deref_mut-profiles.ensures.value);
+}
+
+pub check_ends-requires-clause-space : goal.check_ends-requires-clause-space
+check_ends-requires-clause-space c = rw (c.fill_tests.auto.placed ∙ ap length c.deref_mut-placed.ensures.value) c.requires.events_fit
