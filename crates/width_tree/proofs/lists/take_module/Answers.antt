@@ -1,4 +1,5 @@
-use Rattle.std.proofs.Common.{◌≡◌, ◌+◌, ◌<◌, get_or, length, sym, arith}
+use Rattle.std.proofs.Common.{◌≡◌, ◌+◌, ◌<◌, get_or, length, sym, ◌∙◌, arith}
+use Rattle.std.proofs.lemmas.Bool.{false≢true}
 use Rattle.std.proofs.lemmas.Option.{get_or_from_slice_get}
 use Rattle.plan_model.specs.Certificates.{HasTamTest}
 use Rattle.width_tree.specs.Tables.{chip_of}
@@ -9,9 +10,7 @@ use Rattle.width_tree.proofs.lists.take_module.Goals as goal
 pub returns-in-None-clause-breach : goal.returns-in-None-clause-breach
 returns-in-None-clause-breach c = λ m at keeps.
     let number : get_or c.args.modules.now c.args.place 0 ≡ m = get_or_from_slice_get c.args.modules.now c.args.place m 0 at in
-    let none = rw number at c.in-None.ensures.exact in
-    let tam = keeps.tam in
-    absurd cc
+    absurd (false≢true (rw number at c.in-None.ensures.exact ∙ keeps.tam))
 
 pub returns-then-marks-at-clause-breach : goal.returns-then-marks-at-clause-breach
 returns-then-marks-at-clause-breach c = λ m at keeps.
