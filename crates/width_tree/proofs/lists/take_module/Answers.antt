@@ -1,17 +1,16 @@
-use Rattle.std.proofs.Common.{◌≡◌, ◌+◌, ◌<◌, get_or, length, sym, arith}
+use Rattle.std.proofs.Common.{◌≡◌, ◌+◌, ◌<◌, get_or, length, sym, ◌∙◌, arith}
+use Rattle.std.proofs.lemmas.Bool.{false≢true}
 use Rattle.std.proofs.lemmas.Option.{get_or_from_slice_get}
 use Rattle.plan_model.specs.Certificates.{HasTamTest}
 use Rattle.width_tree.specs.Tables.{chip_of}
-use Rattle.width_tree.proofs.BusLists.{bus_kept, bus_taken, marked_breaks, few_breaks, is_few, is_much}
+use Rattle.width_tree.proofs.BusLists.{bus_kept, bus_taken, marked_breaks, few_breaks, is_few, is_much, stamped_older}
 use Rattle.width_tree.specs.Cases.{interval_at}
 use Rattle.width_tree.proofs.lists.take_module.Goals as goal
 
 pub returns-in-None-clause-breach : goal.returns-in-None-clause-breach
 returns-in-None-clause-breach c = λ m at keeps.
     let number : get_or c.args.modules.now c.args.place 0 ≡ m = get_or_from_slice_get c.args.modules.now c.args.place m 0 at in
-    let none = rw number at c.in-None.ensures.exact in
-    let tam = keeps.tam in
-    absurd cc
+    absurd (false≢true (rw number at c.in-None.ensures.exact ∙ keeps.tam))
 
 pub returns-then-marks-at-clause-breach : goal.returns-then-marks-at-clause-breach
 returns-then-marks-at-clause-breach c = λ m at keeps.
@@ -34,3 +33,6 @@ returns-else-not-are_too_wide-clause-kept c = λ m at.
       bus_kept (chip_of c.args.table.now) c.args.table.now.wires c.args.intervals.now c.args.modules.now c.args.place m c.in-Some.at c.args.marks.now c.args.stamp c.args.least at c.requires.so_far there.0 tam c.if-marks-at.false (is_much c.args.table.now.wires (c.args.least.low + (interval_at c.args.intervals.now c.in-Some.at).low) c.if-not-are_too_wide.ensures),
       bus_taken (chip_of c.args.table.now) c.args.table.now.wires c.args.intervals.now c.args.modules.now c.args.place m c.in-Some.at c.args.marks.now c.args.stamp c.args.least _ at c.requires.so_far there.0 room c.min.ensures c.min-in-Some.ensures,
     )
+
+pub returns-else-not-are_too_wide-clause-older : goal.returns-else-not-are_too_wide-clause-older
+returns-else-not-are_too_wide-clause-older c = stamped_older c.args.marks.now c.in-Some.at c.args.stamp

@@ -1,6 +1,7 @@
 use Rattle.std.proofs.Common.{sym, ap, arith}
 use Rattle.width_tree.specs.Trees.{node_value}
 use Rattle.width_tree.specs.Tables.{chip_of}
+use Rattle.width_tree.proofs.TableFacts.{place_within}
 use Rattle.width_tree.proofs.Turns.{split_goes, awaits_behind}
 use Rattle.width_tree.proofs.walk.go_on.Goals as goal
 
@@ -15,3 +16,7 @@ returns c = record {
   few = omega (arith, c.next_branch.ensures.few);
   goes_on = λ left b. c.next_branch.ensures.goes_on left (awaits_behind (chip_of c.args.table.now) c.args.table.now.wires c.args.table.now.times.now c.args.turns.now c.args.depth c.args.widths.now.intervals.items c.args.node.now left c.in_default.not-Split b);
 }
+
+pub begin_split-requires-clause-place : goal.begin_split-requires-clause-place
+begin_split-requires-clause-place c =
+    place_within (chip_of c.args.table.now) c.requires.table.sound c.in-Split.«module» c.in-Some.place (sym c.in-Some.ensures)

@@ -1,10 +1,13 @@
-use Rattle.std.proofs.Common.{◌≡◌, ◌∙◌, ◌+◌, ◌-◌, ◌++◌, ◌∷◌, ℕ, length, take, List, [], ap, length-append, sym, subst, arith, refl, None}
+use Rattle.std.proofs.Common.{◌≡◌, ◌∙◌, ◌+◌, ◌-◌, ◌++◌, ◌∷◌, ℕ, length, take, List, [], ap, length-append, sym, subst, arith, refl, None, map}
 use Rattle.std.specs.Prelude.{IfSome}
 use Rattle.std.specs.List.{flat_map}
 use Rattle.resource_table.specs.declared.Placement.{Placement}
 use Rattle.resource_table.specs.Resources.{draws_of, marks_of}
 use Rattle.std.specs.Vec.{with_item}
-use Rattle.std.proofs.lemmas.List.{length-map}
+use Rattle.std.proofs.lemmas.List.{length-map, append-nil}
+use Rattle.smallvec.specs.SmallVec.{SmallVec}
+use Rattle.resource_table.specs.Befores.{listed, AreListed}
+use Rattle.resource_table.specs.Kept.{IsKept, IsProfiled, IsBounded}
 use Rattle.resource_table.specs.declared.power.Draw.{Draw}
 use Rattle.resource_table.specs.Profiles.{ArePoints}
 use Rattle.resource_table.specs.Jobs.{TestValue, job_value, test_value, test_at, cycles_of}
@@ -104,3 +107,15 @@ remove_time-requires g c =
     let wanted = wanted_is c.self.inside.own.tests.items c.in-Some.last.test c.index-gone.result.now inside c.index-gone.ensures in
     subst (λ (t : TestValue). MayRemove c.self.inside.times t (let s : Span = record { from = c.in-Some.last.start; to = c.in-Some.last.start + t.cycles } in s)) (sym wanted)
     (may_remove (job_value c.self.inside.own) c.pop.new.self.items c.in-Some.last inside c.self.inside.times (subst (λ (v : List Placement). AreTimes (job_value c.self.inside.own) v c.self.inside.times) c.in-Some.ensures.items c.self.invariant.3))
+
+-- where nothing was placed the trail is as it was
+same_trail : (old new : SmallVec Placement) → old.items ≡ new.items ++ [] → new.capacity ≡ old.capacity → old ≡ new
+same_trail old new items capacity =
+    ap (λ (v : List Placement). (let trail : SmallVec Placement = record { items = v; capacity = old.capacity } in trail)) (items ∙ append-nil new.items)
+    ∙ ap (λ (n : ℕ). (let trail : SmallVec Placement = record { items = new.items; capacity = n } in trail)) (sym capacity)
+
+pub invariant_of-self-in_default : goal.invariant_of-self-in_default
+invariant_of-self-in_default g c =
+    let own = c.self.inside in
+    subst (λ (v : SmallVec Placement). IsKept (job_value own.own) v own.ends own.lasts own.draws × AreListed (job_value own.own) (map listed own.before.items) × IsProfiled (job_value own.own) v own.draws own.points × AreTimes (job_value own.own) v.items own.times × IsBounded (job_value own.own) v.items own.bounds)
+    (same_trail own.trail c.pop.new.self c.in_default.ensures.items c.in_default.ensures.capacity) c.self.invariant
