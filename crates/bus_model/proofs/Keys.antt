@@ -1,5 +1,5 @@
 -- The order in which the start solution takes the modules.
-use Rattle.std.proofs.Common.{◌≡◌, ℕ, zero, suc, ◌+◌, ◌<◌, ◌≤◌, ◌⊎◌, inl, inr, Bool, true, false, cond, List, [], ◌∷◌, ◌++◌, length, get_or, map, All, nat_eq, refl, sym, ◌∙◌, ap, subst, arith}
+use Rattle.std.proofs.Common.{◌≡◌, ℕ, zero, suc, ◌+◌, ◌<◌, ◌≤◌, ◌⊎◌, inl, inr, Bool, true, false, cond, List, [], ◌∷◌, ◌++◌, length, get_or, take, map, All, nat_eq, refl, sym, ◌∙◌, ap, subst, arith}
 use Rattle.std.specs.List.{AllPairs}
 use Rattle.std.specs.List.Sorted.{IsPermutation, IsSorted}
 use Rattle.std.specs.Cmp.{IsTotalOrder, nat_cmp_is}
@@ -9,7 +9,7 @@ use Rattle.std.specs.declared.cmp.Ordering.{Ordering}
 use Rattle.std.specs.declared.cmp.Reverse.{Reverse}
 use Rattle.std.proofs.lemmas.Cmp.{nat_cmp_total, on_total, then_total, back_total}
 use Rattle.std.proofs.lemmas.Map.Keys.{ge_from_not_lt}
-use Rattle.std.proofs.lemmas.List.{map-append, get_or-map, length-map}
+use Rattle.std.proofs.lemmas.List.{map-append, get_or-map, length-map, take_more}
 use Rattle.std.proofs.lemmas.List.Sums.{sum_by_push, sum_by-cons, get_or-le-sum_by}
 use Rattle.std.proofs.lemmas.List.Sorted.{sorted_far, ranks_by, IsPermutation-map, sum_by-IsPermutation, All-permutation}
 use Rattle.std.proofs.lemmas.List.Elements.{All-push, All-nil}
@@ -175,3 +175,9 @@ start_order-from_sorted table keys sorted times once moved up = record { once = 
         subst (λ a. StandsBefore table a (get_or (map place_of sorted) j d)) (sym ei)
         (subst (λ b. StandsBefore table (place_of ki) b) (sym ej)
         (pair_stands table ki kj (have i (no_key d) (omega arith)) (have j (no_key d) k) differ far))
+
+-- the places of one key more
+pub places_more : (keys : List Key) (i p : ℕ) (d : Key) (more old : List ℕ) → more ≡ old ++ p ∷ [] → old ≡ map place_of (take i keys) → i < length keys → p ≡ place_of (get_or keys i d) → more ≡ map place_of (take (i + 1) keys)
+places_more keys i p d more old is so less here =
+    is ∙ (ap (λ (l : List ℕ). l ++ p ∷ []) so ∙ (ap (λ (v : ℕ). map place_of (take i keys) ++ v ∷ []) here
+    ∙ sym (ap (map place_of) (take_more keys i d less) ∙ map-append place_of (take i keys) (get_or keys i d ∷ []))))

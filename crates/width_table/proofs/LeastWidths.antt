@@ -3,7 +3,7 @@ use Rattle.std.proofs.Common.{◌≡◌, ℕ, zero, suc, ◌+◌, ◌-◌, ◌^�
 use Rattle.std.specs.Prelude.{slice_get, map}
 use Rattle.std.proofs.lemmas.Bool.{cases_lt, cases_eq}
 use Rattle.std.specs.List.{All}
-use Rattle.std.proofs.lemmas.List.{length-append, length-map, length-replicate}
+use Rattle.std.proofs.lemmas.List.{length-append, length-map, length-replicate, map-append, take_more}
 use Rattle.plan_model.proofs.Lists.{from_map}
 use Rattle.plan_model.specs.Bounds.{least_from_one}
 use Rattle.plan_model.proofs.FirstAndLeast.{least-le, least-ge}
@@ -17,8 +17,8 @@ use Rattle.soc_model.specs.Chips.{ModuleValue, SocValue}
 use Rattle.plan_model.specs.Cells.{ChainValue}
 use Rattle.wrapper_design.specs.Design.{mode_of, design}
 use Rattle.width_table.specs.Times.{mode_time, time, time_in, least_time}
-use Rattle.std.proofs.lemmas.Option.{slice_get_within, slice_get-get_or}
-use Rattle.std.proofs.Common.{get_or}
+use Rattle.std.proofs.lemmas.Option.{slice_get_within, slice_get-get_or, get_or_from_slice_get}
+use Rattle.std.proofs.Common.{get_or, take}
 
 pub chosen_first : (f : ℕ → ℕ) → IsChosen f 1 1
 chosen_first f = record { some = omega arith; within = omega arith; least = λ u a b. let e : u ≡ 1 = omega arith in let s : f u ≡ f 1 = ap f e in omega arith; first = λ u a b. absurd (omega arith) }
@@ -193,6 +193,23 @@ push_row ms w k rows m r e here h new = λ p n s at at'. elim (get_push rows r p
 ] where
   same_at : (ms : List ModuleValue) (k p : ℕ) (m n : ModuleValue) → slice_get ms k ≡ Some m → k ≡ p → slice_get ms p ≡ Some n → m ≡ n
   same_at ms k p m n here i at = let t : slice_get ms k ≡ Some n = ap (slice_get ms) i ∙ at in cc
+
+pub push_sum : (scan terminals : List Choice) (sums : List ℕ) (k : ℕ) (d e : Choice) → length sums ≡ k → AreSums scan terminals sums → AreSums scan terminals (sums ++ ((get_or scan k d).cycles + (get_or terminals k e).cycles) ∷ [])
+push_sum scan terminals sums k d e long so = record {
+  each = λ i t a b at at-a at-b. elim (get_push sums ((get_or scan k d).cycles + (get_or terminals k e).cycles) i t at) [
+    | inl last ↦
+        let here : i ≡ k = last.0 ∙ long in
+        let one : (get_or scan k d).cycles ≡ a.cycles = ap (λ (c : Choice). c.cycles) (ap (λ (j : ℕ). get_or scan j d) (sym here) ∙ get_or_from_slice_get scan i a d at-a) in
+        let other : (get_or terminals k e).cycles ≡ b.cycles = ap (λ (c : Choice). c.cycles) (ap (λ (j : ℕ). get_or terminals j e) (sym here) ∙ get_or_from_slice_get terminals i b e at-b) in
+        omega (arith, last.1, one, other)
+    | inr old ↦ so.each i t a b old at-a at-b
+  ];
+}
+
+pub push_width : (choices : List Choice) (i w : ℕ) (d : Choice) (more widths : List ℕ) → more ≡ widths ++ w ∷ [] → widths ≡ map width_of (take i choices) → i < length choices → w ≡ (get_or choices i d).width → more ≡ map width_of (take (i + 1) choices)
+push_width choices i w d more widths is so less here =
+    is ∙ ap (λ (l : List ℕ). l ++ w ∷ []) so ∙ ap (λ (v : ℕ). map width_of (take i choices) ++ v ∷ []) here
+    ∙ sym (ap (map width_of) (take_more choices i d less) ∙ map-append width_of (take i choices) (get_or choices i d ∷ []))
 
 item_there : {X : Type 0} (xs : List X) (k : ℕ) → k < length xs → (x : X) × (slice_get xs k ≡ Some x)
 item_there [] k h = absurd (omega arith)

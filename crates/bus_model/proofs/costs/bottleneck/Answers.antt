@@ -1,5 +1,6 @@
-use Rattle.std.proofs.Common.{arith, ◌≡◌, ◌<◌, sym, ap, subst, length}
+use Rattle.std.proofs.Common.{arith, ◌≡◌, ◌∙◌, ◌<◌, sym, ap, subst, length}
 use Rattle.std.specs.List.{IsFirstMaxByKey}
+use Rattle.std.proofs.lemmas.List.Sums.{best_none}
 use Rattle.bus_model.specs.Buses.{bus_time_of, arch_value, no_bus}
 use Rattle.bus_model.proofs.Views.{value_at, value_length}
 use Rattle.bus_model.proofs.SoundLemmas.{sound_item}
@@ -14,6 +15,14 @@ bus_time-most-requires c =
 pub bus_time-time-requires : goal.bus_time-time-requires
 bus_time-time-requires c =
     sound_item c.args.table.now c.args.arch.now.buses.items c.loop-i.i c.index-in-loop-i.result.now c.requires (omega arith) c.index-in-loop-i.ensures
+
+pub loop-i-init : goal.loop-i-init
+loop-i-init c =
+    let some : 0 < length c.args.arch.now.buses.items = omega (arith, c.if-count-eq0.false, c.len-count.ensures, c.args.arch.now.buses.ok.0) in
+    record {
+      first = best_none (bus_time_of c.args.table.now) (arch_value c.args.arch.now);
+      time = c.bus_time-most.ensures ∙ ap (bus_time_of c.args.table.now) (sym (value_at c.args.arch.now.buses.items 0 c.index.result.now no_bus some c.index.ensures));
+    }
 
 pub loop-i-preserved : goal.loop-i-preserved
 loop-i-preserved c =

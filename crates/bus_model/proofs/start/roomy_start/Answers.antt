@@ -1,4 +1,4 @@
-use Rattle.std.proofs.Common.{arith, ℕ, Bool, true, ◌≡◌, ◌-◌, ◌∙◌, sym, ap, length, map, nat_eq}
+use Rattle.std.proofs.Common.{arith, ℕ, Bool, true, false, ◌≡◌, ◌<◌, ◌-◌, ◌∙◌, sym, ap, length, map, nat_eq}
 use Rattle.std.proofs.lemmas.List.{length-map}
 use Rattle.bus_model.specs.Buses.{arch_value, spread_of}
 use Rattle.bus_model.specs.Sound.{wires_used}
@@ -37,3 +37,10 @@ returns-clause-value c =
   where
     no_length : (n : ℕ) (b : Bool) → b ≡ nat_eq n 0 → b ≡ true → n ≡ 0
     no_length n b e h = grind arith
+
+pub spread-requires-clause-bus : goal.spread-requires-clause-bus
+spread-requires-clause-bus c =
+    λ _. omega (arith, ap length c.in_ok-arch.ensures, length-map c.args.order.now one_wire, some_length (length c.args.order.now) c.is_empty.result c.is_empty.ensures c.if-not-is_empty.true)
+  where
+    some_length : (n : ℕ) (b : Bool) → b ≡ nat_eq n 0 → b ≡ false → 0 < n
+    some_length n b e h = grind arith

@@ -1,6 +1,7 @@
-use Rattle.std.proofs.Common.{◌≤◌, ◌∙◌, ap, arith, length}
+use Rattle.std.proofs.Common.{◌≤◌, ◌∙◌, ℕ, ap, arith, length}
 use Rattle.std.specs.List.{sum_by}
-use Rattle.std.proofs.lemmas.List.{length_push}
+use Rattle.std.proofs.lemmas.List.{length-map, length_push}
+use Rattle.soc_model.specs.declared.Module.{Module}
 use Rattle.soc_model.specs.Chips.{SocValue}
 use Rattle.soc_model.specs.Chips.{module_value, soc_value}
 use Rattle.plan_model.proofs.Sums.{item-le-sum_by}
@@ -26,3 +27,9 @@ loop-place-preserved c =
       as_many = ap length c.in_ok-push.ensures.items ∙ length_push _ _ ∙ omega (arith, i.as_many);
       rows = rw c.in_ok-push.ensures.items (push_row (soc_value c.args.soc.now).modules c.args.wires c.loop-place.place c.loop-place.rows.items (module_value c.module_at.result.now) c.in_ok-row.row i.as_many c.module_at.ensures i.rows (record { times = c.in_ok-row.ensures.times; scan = c.in_ok-row.ensures.scan; terminals = c.in_ok-row.ensures.terminals }));
     }
+
+pub module_at-requires : goal.module_at-requires
+module_at-requires c = omega (arith, c.loop-place-test.true, c.len-modules.ensures.len, length-map c.args.soc.now.modules.entries (λ (e : ℕ × Module). module_value e.1))
+
+pub returns-clause-as_many : goal.returns-clause-as_many
+returns-clause-as_many c = omega (arith, c.loop-place.invariant.as_many, c.loop-place.auto.place-end, c.loop-place-test.false, c.len-modules.ensures.len, length-map c.args.soc.now.modules.entries (λ (e : ℕ × Module). module_value e.1))
