@@ -1,9 +1,10 @@
 -- The nodes of a chip's live tests, without precedences.
-use Rattle.std.proofs.Common.{◌≡◌, inl, inr, ℕ, ◌+◌, ◌*◌, ◌≤◌, ◌^◌, max, Some, List, [], ◌∷◌, ◌++◌, length, get_or, map, refl, sym, ap, ◌∙◌, arith}
+use Rattle.std.proofs.Common.{◌≡◌, inl, inr, ℕ, ◌+◌, ◌*◌, ◌<◌, ◌≤◌, ◌^◌, max, Some, true, false, List, [], ◌∷◌, ◌++◌, length, get_or, take, map, refl, sym, ap, subst, ◌∙◌, append-nil, append_assoc, arith}
 use Rattle.std.specs.Prelude.{slice_get}
 use Rattle.std.specs.List.{All, filter, flat_map}
 use Rattle.std.proofs.lemmas.Bool.{cases_Bool}
-use Rattle.std.proofs.lemmas.List.{length-map, map-append}
+use Rattle.std.proofs.lemmas.List.{length-map, map-append, take_more}
+use Rattle.std.proofs.lemmas.List.Elements.{filter-append}
 use Rattle.std.proofs.lemmas.Option.{slice_get-map, slice_get-get_or}
 use Rattle.std.proofs.Math.Nat.{mul-le-mul_left}
 use Rattle.soc_model.specs.declared.Test.{Test}
@@ -127,3 +128,40 @@ nodes_found soc limits nodes sound some same linked = record {
 pub node_count : (soc : SocValue) (w : ℕ) (nodes : List Node) → node_values nodes ≡ live_nodes soc w → length nodes ≡ length (live_ids soc)
 node_count soc w nodes are =
     sym (length-map nodes node_value) ∙ sym (length-map (node_values nodes) (λ (n : NodeValue). n.id)) ∙ ap (λ (ns : List NodeValue). length (ids_of ns)) are ∙ ap length (live_ids_are soc w)
+
+-- ---- the nodes of a module, one by one
+
+-- a node that was made for a test
+pub node_made : (w : ℕ) (m : ModuleValue) (t : Test) (n : Node) → n.id ≡ record { «module» = m.number; test = t.number } → n.time ≡ lower_time m t w → n.before.items ≡ [] → node_value n ≡ node_in w m t
+node_made w m t n id time before = rw (id, time, before) refl
+
+taken : (w : ℕ) (m : ModuleValue) (old : List NodeValue) (nodes new : List Node) (tests : List Test) (i : ℕ) (d : Test) (n : Node) → i < length tests → is_live (get_or tests i d) ≡ true → node_value n ≡ node_in w m (get_or tests i d) → new ≡ nodes ++ n ∷ []
+    → node_values nodes ≡ old ++ map (node_in w m) (filter is_live (take i tests)) → node_values new ≡ old ++ map (node_in w m) (filter is_live (take (i + 1) tests))
+taken w m old nodes new tests i d n within live made pushed before =
+    let here : map (node_in w m) (filter is_live (get_or tests i d ∷ [])) ≡ node_value n ∷ [] = rw live (ap (λ v. v ∷ []) (sym made)) in
+    let more : map (node_in w m) (filter is_live (take (i + 1) tests)) ≡ map (node_in w m) (filter is_live (take i tests)) ++ node_value n ∷ [] =
+    ap (λ l. map (node_in w m) (filter is_live l)) (take_more tests i d within) ∙ ap (map (node_in w m)) (filter-append is_live (take i tests) (get_or tests i d ∷ []))
+    ∙ map-append (node_in w m) (filter is_live (take i tests)) (filter is_live (get_or tests i d ∷ [])) ∙ ap (λ l. map (node_in w m) (filter is_live (take i tests)) ++ l) here in
+    ap node_values pushed ∙ map-append node_value nodes (n ∷ []) ∙ ap (λ l. l ++ node_value n ∷ []) before ∙ append_assoc old (map (node_in w m) (filter is_live (take i tests))) (node_value n ∷ []) ∙ ap (λ l. old ++ l) (sym more)
+
+left : (w : ℕ) (m : ModuleValue) (old : List NodeValue) (nodes : List Node) (tests : List Test) (i : ℕ) (d : Test) → i < length tests → is_live (get_or tests i d) ≡ false
+    → node_values nodes ≡ old ++ map (node_in w m) (filter is_live (take i tests)) → node_values nodes ≡ old ++ map (node_in w m) (filter is_live (take (i + 1) tests))
+left w m old nodes tests i d within idle before =
+    let here : filter is_live (get_or tests i d ∷ []) ≡ [] = rw idle refl in
+    let more : filter is_live (take (i + 1) tests) ≡ filter is_live (take i tests) =
+    ap (filter is_live) (take_more tests i d within) ∙ filter-append is_live (take i tests) (get_or tests i d ∷ []) ∙ ap (λ l. filter is_live (take i tests) ++ l) here ∙ append-nil (filter is_live (take i tests)) in
+    before ∙ ap (λ l. old ++ map (node_in w m) l) (sym more)
+
+-- a live test has its node behind the others
+pub node_taken : (w : ℕ) (m : ModuleValue) (old : List NodeValue) (nodes new : List Node) (items tests : List Test) (i : ℕ) (d : Test) (n : Node) → items ≡ tests → i < length items → is_live (get_or items i d) ≡ true → node_value n ≡ node_in w m (get_or items i d) → new ≡ nodes ++ n ∷ []
+    → node_values nodes ≡ old ++ map (node_in w m) (filter is_live (take i tests)) → node_values new ≡ old ++ map (node_in w m) (filter is_live (take (i + 1) tests))
+node_taken w m old nodes new items tests i d n same within live made pushed before =
+    subst (λ (l : List Test). node_values new ≡ old ++ map (node_in w m) (filter is_live (take (i + 1) l))) same
+    (taken w m old nodes new items i d n within live made pushed (subst (λ (l : List Test). node_values nodes ≡ old ++ map (node_in w m) (filter is_live (take i l))) (sym same) before))
+
+-- any other test has none
+pub node_left : (w : ℕ) (m : ModuleValue) (old : List NodeValue) (nodes : List Node) (items tests : List Test) (i : ℕ) (d : Test) → items ≡ tests → i < length items → is_live (get_or items i d) ≡ false
+    → node_values nodes ≡ old ++ map (node_in w m) (filter is_live (take i tests)) → node_values nodes ≡ old ++ map (node_in w m) (filter is_live (take (i + 1) tests))
+node_left w m old nodes items tests i d same within idle before =
+    subst (λ (l : List Test). node_values nodes ≡ old ++ map (node_in w m) (filter is_live (take (i + 1) l))) same
+    (left w m old nodes items i d within idle (subst (λ (l : List Test). node_values nodes ≡ old ++ map (node_in w m) (filter is_live (take i l))) (sym same) before))

@@ -267,6 +267,10 @@ none_right soc limits nodes sums count are = record { right = λ i s at. absurd 
 pub none_begun : (sums : List Sum) (count : ℕ) → sums ≡ replicate count Unknown → (i : ℕ) → slice_get sums i ≡ Some Begun → ⊥
 none_begun sums count are i at = nothing count i Begun (ap (λ (l : List Sum). slice_get l i) (sym are) ∙ at) begun_unknown
 
+-- nothing stands in an empty list of sums
+pub none_found : (sums : List ℕ) (i s : ℕ) → sums ≡ [] → slice_get sums i ≡ Some s → ⊥
+none_found sums i s is at = let none = ap (λ (l : List ℕ). slice_get l i) (sym is) ∙ at in cc
+
 pub sums_more : (soc : SocValue) (limits : LimitsValue) (nodes : List NodeValue) (sums new : List ℕ) (test sum : ℕ) → length sums ≡ test → new ≡ sums ++ sum ∷ [] → ((i s : ℕ) → slice_get sums i ≡ Some s → HasSum soc limits nodes i s) → HasSum soc limits nodes test sum → (i s : ℕ) → slice_get new i ≡ Some s → HasSum soc limits nodes i s
 sums_more soc limits nodes sums new test sum long pushed old has i s at = by (from_append sums (sum ∷ []) i s (ap (λ (l : List ℕ). slice_get l i) (sym pushed) ∙ at))
   where

@@ -1,7 +1,8 @@
 -- The first live test that passes the limit on power: there is at most one, and one or none.
-use Rattle.std.proofs.Common.{◌≡◌, ◌⊎◌, inl, inr, ℕ, zero, suc, ◌+◌, ◌<◌, List, [], ◌∷◌, ◌++◌, Option, None, Some, map, option_map, slice_get, nat_lt, refl, sym, ◌∙◌, ap, subst, arith}
+use Rattle.std.proofs.Common.{◌≡◌, ◌⊎◌, inl, inr, ℕ, zero, suc, ◌+◌, ◌<◌, List, [], ◌∷◌, ◌++◌, Option, None, Some, true, length, get_or, drop, map, option_map, slice_get, nat_lt, refl, sym, ◌∙◌, ap, subst, arith}
 use Rattle.std.specs.Prelude.{find, IfSome, MatchOption}
 use Rattle.std.specs.List.{filter}
+use Rattle.std.proofs.Math.Seq.{drop-cons}
 use Rattle.std.proofs.lemmas.Bool.{cases_order}
 use Rattle.soc_model.specs.declared.Test.{Test}
 use Rattle.soc_model.specs.declared.TestId.{TestId}
@@ -157,3 +158,21 @@ module_passes_not profiles most m rest left r whole goes is none before =
 pub no_module_passes : (profiles : List ProfileValue) (most : ℕ) (left : List ModuleValue) (whole : Option (TestId × ℕ)) → left ≡ [] → first_passing profiles most (live_from 0 left) ≡ whole → None ≡ whole
 unfolding live_from
 no_module_passes profiles most left whole none before = ap (λ ms. first_passing profiles most (live_from 0 ms)) (sym none) ∙ before
+
+-- ---- test by test
+
+-- a live test that doesn't pass is left behind
+left_behind : (profiles : List ProfileValue) (most place : ℕ) (m : ModuleValue) (tests : List Test) (i : ℕ) (d : Test) (whole : Option (TestId × ℕ)) → i < length tests → is_live (get_or tests i d) ≡ true → passing profiles most (live_at place m (get_or tests i d)) ≡ None
+    → whole ≡ first_passing profiles most (map (live_at place m) (filter is_live (drop i tests))) → whole ≡ first_passing profiles most (map (live_at place m) (filter is_live (drop (i + 1) tests)))
+left_behind profiles most place m tests i d whole within live none before =
+    let next : suc i ≡ i + 1 = omega arith in
+    let goes : drop i tests ≡ get_or tests i d ∷ drop (i + 1) tests = drop-cons tests i d within ∙ ap (λ n. get_or tests i d ∷ drop n tests) next in
+    let kept : filter is_live (get_or tests i d ∷ drop (i + 1) tests) ≡ get_or tests i d ∷ filter is_live (drop (i + 1) tests) = rw live refl in
+    before ∙ ap (λ l. first_passing profiles most (map (live_at place m) (filter is_live l))) goes ∙ ap (λ l. first_passing profiles most (map (live_at place m) l)) kept
+    ∙ ap (λ o. or_first o (first_passing profiles most (map (live_at place m) (filter is_live (drop (i + 1) tests))))) none
+
+pub test_passes_not : (profiles : List ProfileValue) (most place : ℕ) (m : ModuleValue) (items tests : List Test) (i : ℕ) (d : Test) (whole : Option (TestId × ℕ)) → items ≡ tests → i < length items → is_live (get_or items i d) ≡ true → passing profiles most (live_at place m (get_or items i d)) ≡ None
+    → whole ≡ first_passing profiles most (map (live_at place m) (filter is_live (drop i tests))) → whole ≡ first_passing profiles most (map (live_at place m) (filter is_live (drop (i + 1) tests)))
+test_passes_not profiles most place m items tests i d whole same within live none before =
+    subst (λ (l : List Test). whole ≡ first_passing profiles most (map (live_at place m) (filter is_live (drop (i + 1) l)))) same
+    (left_behind profiles most place m items i d whole within live none (subst (λ (l : List Test). whole ≡ first_passing profiles most (map (live_at place m) (filter is_live (drop i l)))) (sym same) before))

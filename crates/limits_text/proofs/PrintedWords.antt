@@ -1,5 +1,7 @@
 -- The words of printed limits.
-use Rattle.std.proofs.Common.{◌≡◌, ℕ, ◌+◌, ◌<◌, ◌≤◌, ◌^◌, List, [], ◌∷◌, ◌++◌, length, codes, decimal, refl, ◌∙◌, ap, arith, append_assoc}
+use Rattle.std.proofs.Common.{◌≡◌, ℕ, ◌+◌, ◌<◌, ◌≤◌, ◌^◌, List, [], ◌∷◌, ◌++◌, length, get_or, take, codes, decimal, refl, sym, ◌∙◌, ap, arith, append_assoc}
+use Rattle.std.specs.List.{flat_map}
+use Rattle.std.proofs.lemmas.List.{flat_map_more, take_more}
 use Rattle.std.proofs.lemmas.Fmt.{decimal_nonempty}
 use Rattle.outside.specs.Words.{words_left, AllInWord, IsEnd, Word}
 use Rattle.outside.proofs.DecimalLemmas.{decimal_in_word}
@@ -80,3 +82,13 @@ step_fields_words line (s ∷ steps) rest small end =
     ends : (steps : List (ℕ × ℕ)) → IsEnd (step_fields steps ++ rest)
     ends [] = end
     ends (t ∷ steps) = refl
+
+-- ---- the steps of a profile, one by one
+
+pub steps_more : (old so_far from new : List ℕ) (steps : List (ℕ × ℕ)) (i : ℕ) → i < length steps → so_far ≡ old ++ step_fields (take i steps) → from ≡ so_far ++ spaced_number (get_or steps i (0, 0)).0 → new ≡ from ++ spaced_number (get_or steps i (0, 0)).1
+    → new ≡ old ++ step_fields (take (i + 1) steps)
+steps_more old so_far from new steps i within before first second =
+    let f = λ (s : ℕ × ℕ). spaced_number s.0 ++ spaced_number s.1 in
+    let s = get_or steps i (0, 0) in
+    second ∙ ap (λ l. l ++ spaced_number s.1) (first ∙ ap (λ l. l ++ spaced_number s.0) before) ∙ append_assoc (old ++ step_fields (take i steps)) (spaced_number s.0) (spaced_number s.1)
+    ∙ flat_map_more f old (take i steps) s ∙ ap (λ l. old ++ flat_map f l) (sym (take_more steps i (0, 0) within))

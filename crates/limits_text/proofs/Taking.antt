@@ -14,9 +14,9 @@ use Rattle.std.proofs.lemmas.Option.{slice_get-get_or, slice_get_within, get_or_
 use Rattle.plan_model.proofs.Lists.{contains_at}
 use Rattle.limits_text.proofs.SoundText.{push_cases}
 use Rattle.indexmap.proofs.IndexTableLemmas.Probe.{pigeonhole}
-use Rattle.limits_text.specs.Orders.{is_in, holds_back, one_if, held, copies, Counts, IsKept, GoesOn, IsOrdered, IsTaking}
+use Rattle.limits_text.specs.Orders.{is_in, holds_back, one_if, held, copies, Counts, IsKept, GoesOn, IsOrdered, IsTaking, AreMarked}
 use Rattle.limits_text.proofs.Complete.{some_same}
-use Rattle.limits_text.proofs.GraphSteps.{set_at, set_other, eq_true, eq_false}
+use Rattle.limits_text.proofs.GraphSteps.{set_at, set_other, set_length, eq_true, eq_false}
 
 -- ---- places in lists
 
@@ -474,3 +474,24 @@ test_small pairs count counts order done test u less is = u.kept.within done tes
 pub listed : (lists : List Neighbours) (pairs : List (ℕ × ℕ)) (count test : ℕ) (here : Neighbours) (tests : List ℕ) → length lists ≡ count → ((i : ℕ) → i < count → slice_index_or (map tests_of lists) i [] ≡ after i pairs) → test < count → here ≡ get_or lists test here → tests ≡ tests_of here → tests ≡ after test pairs
 listed lists pairs count test here tests long are small is same =
     same ∙ ap tests_of is ∙ sym (get_or-map tests_of lists test here [] (omega (arith, small, long))) ∙ are test small
+
+-- ---- marks
+
+-- one test more of an order is marked
+pub marked_more : (gone : List Bool) (order : List ℕ) (i count : ℕ) → i < length order → (length gone ≡ count) × AreMarked gone (take i order)
+    → (length (slice_set gone (get_or order i 0) true) ≡ count) × AreMarked (slice_set gone (get_or order i 0) true) (take (i + 1) order)
+marked_more gone order i count within before = (set_length gone test true ∙ before.0, λ k less. by k (omega (arith, less, set_length gone test true)) (cases_eq k test))
+  where
+    test : ℕ
+    test = get_or order i 0
+
+    more : (k : ℕ) → is_in (take (i + 1) order) k ≡ (is_in (take i order) k || (nat_eq k test || false))
+    more k = ap (λ l. is_in l k) (take_more order i 0 within) ∙ list_any-append (nat_eq k) (take i order) (test ∷ [])
+
+    by : (k : ℕ) → k < length gone → (k ≡ test) ⊎ (k ≡ test → ⊥) → slice_index_or (slice_set gone test true) k false ≡ is_in (take (i + 1) order) k
+    by k less (inl same) =
+        set_at gone test k true false (omega (arith, less, same)) same
+        ∙ sym (more k ∙ or_there (is_in (take i order) k) (nat_eq k test || false) (or_here (nat_eq k test) false (eq_true k test same)))
+    by k less (inr apart) =
+        set_other gone test k true false apart ∙ before.1 k less
+        ∙ sym (more k ∙ ap (λ b. is_in (take i order) k || (b || false)) (eq_false k test apart) ∙ or_false_right (is_in (take i order) k))

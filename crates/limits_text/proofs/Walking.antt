@@ -6,7 +6,7 @@ use Rattle.std.proofs.Math.Seq.{drop-cons}
 use Rattle.std.proofs.lemmas.Grind.{common_steps}
 use Rattle.std.proofs.lemmas.Bool.{cases_eq}
 use Rattle.std.proofs.lemmas.List.Elements.{All-get_or, All-from_get_or}
-use Rattle.std.proofs.lemmas.Option.{slice_get_within}
+use Rattle.std.proofs.lemmas.Option.{slice_get_within, slice_get-get_or}
 use Rattle.soc_model.proofs.Places.{slice_get-from_position}
 use Rattle.plan_model.proofs.Finding.{none_passes}
 use Rattle.limits_text.specs.Orders.{is_in, least_before, Counts, ComesAgain}
@@ -220,3 +220,17 @@ walk_ends next start walk test meets w found = record {
 -- the same of what the code looks through
 pub seen_none : (test : ℕ) (walk seen : List ℕ) (o : Option ℕ) → seen ≡ walk → o ≡ position (nat_eq test) seen → o ≡ None → position (nat_eq test) walk ≡ None
 seen_none test walk seen o same found none = ap (position (nat_eq test)) (sym same) ∙ sym found ∙ none
+
+-- ---- the walk back
+
+-- one test more on the way back
+pub back_more : (walk cycle new : List ℕ) (back x : ℕ) → (length cycle ≡ back) × ((k : ℕ) → k < back → slice_get cycle k ≡ slice_get walk (length walk - 1 - k)) → new ≡ cycle ++ x ∷ [] → slice_get walk (length walk - 1 - back) ≡ Some x
+    → (length new ≡ back + 1) × ((k : ℕ) → k < back + 1 → slice_get new k ≡ slice_get walk (length walk - 1 - k))
+back_more walk cycle new back x before pushed at = (ap length pushed ∙ length-append cycle (x ∷ []) ∙ ap (λ n. n + 1) before.0, λ k less. by k less (cases_eq k back))
+  where
+    by : (k : ℕ) → k < back + 1 → (k ≡ back) ⊎ (k ≡ back → ⊥) → slice_get new k ≡ slice_get walk (length walk - 1 - k)
+    by k less (inl same) =
+        ap (λ (l : List ℕ). slice_get l k) pushed ∙ ap (slice_get (cycle ++ x ∷ [])) (same ∙ sym before.0) ∙ at_end cycle x ∙ sym at ∙ ap (λ n. slice_get walk (length walk - 1 - n)) (sym same)
+    by k less (inr apart) =
+        let front : slice_get cycle k ≡ Some (get_or cycle k 0) = slice_get-get_or cycle k 0 (omega (arith, less, apart, before.0)) in
+        ap (λ (l : List ℕ). slice_get l k) pushed ∙ at_front cycle (x ∷ []) k (get_or cycle k 0) front ∙ sym front ∙ before.1 k (omega (arith, less, apart))
