@@ -61,7 +61,7 @@ exchange_from-fewer-requires g t c κs within_measure =
     let job_then : c.table.result.now.job ≡ job = ap (λ (v : TableValue). v.job) grown ∙ job_is in
     let more : c.args.place + 1 < length now = omega (arith, inside, c.if-place-order.false, ap length same) in
     let measure : length now - (c.args.place + 1) < length order - c.args.place = omega (arith, inside, ap length same) in
-    search rules
+    (search rules, (within_measure, (more, (job_then, (placed, (small, topological))))))
 
 pub returns-clause-none_helps : goal.returns-clause-none_helps
 returns-clause-none_helps g t c =

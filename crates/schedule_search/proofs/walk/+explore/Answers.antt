@@ -9,7 +9,7 @@ use Rattle.schedule_search.specs.Orders.{IsReady, IsTopological}
 use Rattle.schedule_search.specs.Walks.{may_follow, IsOpen}
 use Rattle.schedule_search.specs.Prefixes.{outside, followers, IsAt, IsOut}
 use Rattle.schedule_search.specs.Taken.{IsTurn}
-use Rattle.schedule_search.specs.Late.{IsSeen}
+use Rattle.schedule_search.specs.Late.{AreInTime, IsSeen}
 use Rattle.schedule_search.specs.Progress.{stand_of, AtMostFirst, NoneBefore}
 use Rattle.resource_table.proofs.Placed.{each_last}
 use Rattle.schedule_search.proofs.PlacedOrders.{takes_placed}
@@ -123,10 +123,8 @@ explore-go_on-requires g t c κs within_measure =
     let opened : IsOpen job (now ++ test ∷ []) = open_below c.args.table.now job path (now ++ test ∷ []) c.args.end c.enter.new.progress.cycles test c.requires.job c.requires.placed (c.is_over.ensures.in_time c.if-is_over.false) most c.requires.opened (ap (λ (l : List ℕ). l ++ test ∷ []) now_is) in
     let none_before : NoneBefore job (now ++ test ∷ []) c.loop-place.progress.best.items = subst (λ (l : List ℕ). NoneBefore job (l ++ test ∷ []) c.loop-place.progress.best.items) (sym now_is) (subst (λ (n : ℕ). NoneBefore job (path ++ n ∷ []) c.loop-place.progress.best.items) test_is (inv.none_before place (omega arith) within')) in
     let measure : (length job.tests - length now) * 2 < (length job.tests - length path) * 2 + 1 = omega (arith, ap length now_is) in
-    let going = inv.going in
-    let within = inv.within in
-    let best = inv.best in
-    search rules
+    let in_time : AreInTime c.loop-place.table c.enter.new.progress.cycles = subst (λ (v : TableValue). AreInTime v c.enter.new.progress.cycles) (sym inv.table) (c.is_over.ensures.in_time c.if-is_over.false) in
+    (search rules, (within_measure.0, (within_measure.1, (job_is, (sound, (c.requires.tries, (c.requires.estimates, (placed, (out, (in_time, (best_room, (inv.going, (inv.within, (opened, (inv.best, none_before)))))))))))))))
 
 pub explore-returns-then-progress-clause-explored : goal.explore-returns-then-progress-clause-explored
 explore-returns-then-progress-clause-explored g t c =
@@ -268,7 +266,7 @@ go_on-explore-requires g t c κs within_measure =
     let opened : IsOpen job more = subst (IsOpen job) (sym more_is) c.requires.opened in
     let none_before : NoneBefore job more c.args.progress.now.best.items = subst (λ (l : List ℕ). NoneBefore job l c.args.progress.now.best.items) (sym more_is) c.requires.none_before in
     let measure : (length job.tests - length more) * 2 + 1 < (length job.tests - length path) * 2 = omega (arith, long, at.left) in
-    search rules
+    (search rules, (within_measure.0, (within_measure.1, (job_is, (sound, (c.requires.tries, (c.requires.estimates, (placed, (at, (seen, (c.requires.best_room, (c.requires.going, (c.requires.within, (opened, (c.requires.best, none_before)))))))))))))))
 
 pub go_on-go_back-requires-clause-at : goal.go_on-go_back-requires-clause-at
 go_on-go_back-requires-clause-at g t c = at_own (job_value c.args.job.now) c.append.new.self.tests.items c.explore.new.prefix (c.explore.ensures.at c.if-not-progress.true)
@@ -334,3 +332,6 @@ go_on-go_back-requires-clause-in_range g t c = (subst IsSoundJob c.requires.job 
 
 pub explore-returns-clause-best_room : goal.explore-returns-clause-best_room
 explore-returns-clause-best_room g t c = c.loop-place.invariant.best_room ∙ ap (λ (p : Progress). vec_capacity p.best) (c.enter.ensures.entered c.if-not-enter.false).1
+
+pub go_on-seen_beside-seen-requires-clause-in_job : goal.go_on-seen_beside-seen-requires-clause-in_job
+go_on-seen_beside-seen-requires-clause-in_job g t c = (each_last (IsReady (job_value c.args.job.now)) c.args.prefix.now.tests.items c.args.test c.requires.out.ready).in_job
