@@ -1,17 +1,23 @@
 -- What a loop over buses or tests has, one of them on.
 use Rattle.std.proofs.Common.{◌≡◌, ◌∙◌, ℕ, ◌+◌, ◌<◌, ◌≤◌, Bool, true, false, cond, List, [], ◌∷◌, ◌++◌, length, get_or, take, drop, map, ap, sym, append_assoc, arith}
 use Rattle.std.specs.List.{filter, sum, sum_by}
-use Rattle.std.proofs.lemmas.List.{append-nil, drop_more}
+use Rattle.std.proofs.lemmas.List.{append-nil, at_drop_all, drop_more}
 use Rattle.std.proofs.lemmas.List.Elements.{filter_more}
 use Rattle.std.proofs.lemmas.List.Sums.{sum-map, sum_by-drop_more}
 use Rattle.plan_model.specs.declared.Bus.{Bus}
 use Rattle.live_tests.specs.declared.placed.PlacedTest.{PlacedTest}
 use Rattle.picture.specs.declared.panels.Drawn.{Drawn}
+use Rattle.picture.specs.declared.panels.Panel.{Panel}
+use Rattle.picture.specs.Marks.{bus_text, bus_texts}
 use Rattle.picture.specs.Rectangles.{drawn_over, free_lane, lane_ends, laned, wires_from, with_end}
 
 -- what stands in front of the rest has the next one behind it
 in_front : {X : Type 0} (old new : List X) (x : X) (rest whole : List X) → new ≡ old ++ x ∷ [] → old ++ (x ∷ rest) ≡ whole → new ++ rest ≡ whole
 in_front old new x rest whole added so_far = ap (λ l. l ++ rest) added ∙ append_assoc old (x ∷ []) rest ∙ so_far
+
+-- and where none is left, it is the whole
+pub all_in_front : {X Y : Type 0} (old : List Y) (f : List X → List Y) (xs : List X) (i : ℕ) (whole : List Y) → length xs ≤ i → f [] ≡ [] → old ++ f (drop i xs) ≡ whole → old ≡ whole
+all_in_front old f xs i whole past none so_far = sym (ap (λ l. old ++ l) (at_drop_all f xs i past ∙ none) ∙ append-nil old) ∙ so_far
 
 -- ---- buses
 
@@ -41,6 +47,12 @@ wires_left bs i first b whole less there so_far = let next = left_more bs i b le
 -- a bus that is left is within all wires
 pub wire_within : (bs : List Bus) (i first : ℕ) (b : Bus) (whole : ℕ) → i < length bs → b ≡ get_or bs i b → first + sum (map (λ (b : Bus). b.width) (drop i bs)) ≡ whole → first + b.width ≤ whole
 wire_within bs i first b whole less there so_far = let next = left_more bs i b less there in omega (arith, next, so_far)
+
+-- the texts of the buses that are left
+pub texts_more : (p : Panel) (bs : List (ℕ × ℕ)) (i : ℕ) (d : ℕ × ℕ) (old new whole : List ℕ) → i < length bs → new ≡ old ++ bus_text p i (get_or bs i d) → old ++ bus_texts p i (drop i bs) ≡ whole → new ++ bus_texts p (i + 1) (drop (i + 1) bs) ≡ whole
+texts_more p bs i d old new whole less added so_far =
+    let rest = bus_texts p (i + 1) (drop (i + 1) bs) in
+    ap (λ l. l ++ rest) added ∙ append_assoc old (bus_text p i (get_or bs i d)) rest ∙ ap (λ (l : List (ℕ × ℕ)). old ++ bus_texts p i l) (sym (drop_more bs i d less)) ∙ so_far
 
 -- ---- tests
 
