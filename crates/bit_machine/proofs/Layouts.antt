@@ -2,7 +2,7 @@
 use Rattle.std.proofs.Common.{◌≡◌, ℕ, zero, suc, ◌+◌, ◌<◌, Bool, false, List, [], ◌∷◌, ◌++◌, length, get_or, map, take, replicate, refl, ap, ◌∙◌, sym, subst, arith, inl, inr}
 use Rattle.std.specs.Prelude.{slice_index}
 use Rattle.std.specs.List.{All, flat_map, sum, sum_by}
-use Rattle.std.proofs.lemmas.List.{length-append, length-map, get_or-map, get_or_append_left, get_or_push}
+use Rattle.std.proofs.lemmas.List.{length-append, length-map, get_or-map, get_or_append_left, get_or_push, take_more}
 use Rattle.std.proofs.lemmas.Bool.{cases_lt}
 use Rattle.std.proofs.lemmas.List.FromFn.{length-map-range_with_len}
 use Rattle.std.proofs.lemmas.List.Sums.{sum_by-cons, sum_by_more}
@@ -11,6 +11,7 @@ use Rattle.plan_model.specs.Cells.{Cell, In, Flop, Out, in_cells, out_cells, flo
 use Rattle.plan_model.specs.Views.{chain_value}
 use Rattle.bit_machine.specs.declared.layout.Layout.{Layout}
 use Rattle.bit_machine.specs.Sessions.{zero_bits}
+use Rattle.bit_machine.proofs.Numbering.{map_append}
 use Rattle.bit_machine.specs.Layouts.{chain_of, chain_length, layout_cells, IsListed, IsLong}
 
 -- ---- lengths
@@ -53,6 +54,13 @@ pub zeros-dealt : (lengths : List ℕ) (i o : ℕ) (cs : List ChainPlan) → zer
 zeros-dealt lengths i o [] = refl
 zeros-dealt lengths i o (c ∷ cs) =
     rw (zeros (chain_of lengths i o (chain_value c)) (chain_length lengths c) (length-chain lengths i o c), zeros-dealt lengths (i + c.ins) (o + c.outs) cs) refl
+
+-- ---- item by item
+
+-- one item more
+pub mapped_more : {X Y : Type 0} (f : X → Y) (xs : List X) (k : ℕ) (x : X) (now new : List Y) (y : Y) → k < length xs → x ≡ get_or xs k x → now ≡ map f (take k xs) → y ≡ f x → new ≡ now ++ y ∷ [] → new ≡ map f (take (k + 1) xs)
+mapped_more f xs k x now new y within at before made pushed =
+    pushed ∙ rw (before, made) (sym (ap (map f) (take_more xs k x within) ∙ map_append f (take k xs) (get_or xs k x ∷ []) ∙ ap (λ v. map f (take k xs) ++ f v ∷ []) (sym at)))
 
 -- ---- where the scan chains start
 
