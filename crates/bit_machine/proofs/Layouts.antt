@@ -1,11 +1,11 @@
 -- The cells of a layout, chain by chain.
-use Rattle.std.proofs.Common.{◌≡◌, ℕ, zero, suc, ◌+◌, ◌<◌, Bool, false, List, [], ◌∷◌, ◌++◌, length, get_or, map, take, replicate, refl, ap, ◌∙◌, sym, subst, arith, inl, inr}
+use Rattle.std.proofs.Common.{◌≡◌, ℕ, zero, suc, ◌+◌, ◌≤◌, ◌<◌, Bool, false, List, [], ◌∷◌, ◌++◌, length, get_or, map, take, replicate, refl, ap, ◌∙◌, sym, subst, arith, inl, inr}
 use Rattle.std.specs.Prelude.{slice_index}
 use Rattle.std.specs.List.{All, flat_map, sum, sum_by}
 use Rattle.std.proofs.lemmas.List.{length-append, length-map, get_or-map, get_or_append_left, get_or_push, take_more}
 use Rattle.std.proofs.lemmas.Bool.{cases_lt}
 use Rattle.std.proofs.lemmas.List.FromFn.{length-map-range_with_len}
-use Rattle.std.proofs.lemmas.List.Sums.{sum_by-cons, sum_by_more}
+use Rattle.std.proofs.lemmas.List.Sums.{sum_by-cons, sum_by_more, sum_by_more_le}
 use Rattle.plan_model.specs.declared.ChainPlan.{ChainPlan}
 use Rattle.plan_model.specs.Cells.{Cell, In, Flop, Out, in_cells, out_cells, flops, dealt}
 use Rattle.plan_model.specs.Views.{chain_value}
@@ -83,6 +83,12 @@ starts_more lengths starts new i start within here long each pushed =
 -- what it keeps, where it is read from a list
 pub chain_listed : (lengths : List ℕ) (chains read : List ChainPlan) (i : ℕ) (c : ChainPlan) → All (IsListed lengths) chains → read ≡ chains → i < length read → c ≡ get_or read i c → IsListed lengths c
 chain_listed lengths chains read i c all is within at = subst (IsListed lengths) (sym at) (subst (λ (cs : List ChainPlan). All (IsListed lengths) cs) (sym is) all i c within)
+
+-- what those before it and it have together is no more than what all have
+pub chain_within : (f : ChainPlan → ℕ) (chains read : List ChainPlan) (i : ℕ) (c : ChainPlan) → read ≡ chains → i < length read → c ≡ get_or read i c → sum_by f (take i chains) + f c ≤ sum_by f chains
+chain_within f chains read i c is within at =
+    let here : get_or chains i c ≡ c = sym (subst (λ (cs : List ChainPlan). c ≡ get_or cs i c) is at) in
+    subst (λ (d : ChainPlan). sum_by f (take i chains) + f d ≤ sum_by f chains) here (sum_by_more_le f chains i c (subst (λ (cs : List ChainPlan). i < length cs) is within))
 
 -- its cells, after the input and output cells of those before it
 pub dealt-at : (lengths : List ℕ) (i o : ℕ) (cs : List ChainPlan) (j : ℕ) (c : ChainPlan) → j < length cs → get_or cs j c ≡ c →
