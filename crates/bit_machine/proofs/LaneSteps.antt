@@ -1,12 +1,12 @@
 -- One live test, chain by chain.
-use Rattle.std.proofs.Common.{◌≡◌, ℕ, zero, suc, ◌+◌, ◌-◌, ◌≤◌, ◌<◌, ◌⊎◌, Bool, true, false, Some, List, [], ◌∷◌, length, get_or, map, drop, set, refl, ap, sym, subst, ◌∙◌, arith, inl, inr}
-use Rattle.std.specs.Prelude.{slice_get, slice_index, nat_lt, ◌&&◌, ◌%◌}
+use Rattle.std.proofs.Common.{◌≡◌, ◌≢◌, ℕ, zero, suc, ◌+◌, ◌-◌, ◌≤◌, ◌<◌, ◌⊎◌, Bool, true, false, Some, List, [], ◌∷◌, length, get_or, map, drop, set, refl, ap, sym, subst, ◌∙◌, arith, inl, inr}
+use Rattle.std.specs.Prelude.{slice_get, slice_index, nat_lt, ◌&&◌, ◌%◌, if◌then◌else◌}
 use Rattle.std.specs.Global.{Vec}
 use Rattle.std.specs.List.{zip, list_all}
 use Rattle.std.specs.Vec.{with_item}
-use Rattle.std.proofs.lemmas.List.{length-map, map-set, length-set, get_or-map}
+use Rattle.std.proofs.lemmas.List.{length-map, map-set, length-set, get_or-map, get_or-set_same, get_or-set_other}
 use Rattle.std.proofs.lemmas.Option.{slice_get-get_or, get_or_from_slice_get, slice_get_within}
-use Rattle.std.proofs.lemmas.Bool.{cases_lt, lt-ltb, le-ltb}
+use Rattle.std.proofs.lemmas.Bool.{cases_lt, cases_eq, lt-ltb, le-ltb}
 use Rattle.plan_model.specs.Cells.{Cell, in_length}
 use Rattle.plan_model.specs.Plans.{PlannedTest}
 use Rattle.plan_model.specs.Runs.{Content, chain_at, next_bits, wanted}
@@ -14,7 +14,10 @@ use Rattle.bit_machine.specs.Chips.{chain_holds, holds}
 use Rattle.bit_machine.specs.Packed.{is_set}
 use Rattle.bit_machine.specs.Paths.{made_from, path_bits, path_stimulus, path_response, is_answered, IsPath}
 use Rattle.plan_model.specs.Moments.{phase_ops, moment_operation, moment_ahead, moment_behind, wanted_by, ArePhases}
-use Rattle.bit_machine.specs.Lanes.{lane_bits, lane_on, loaded_bit, ArePages, IsSound, IsNow, IsSameTest, IsWired, IsLane}
+use Rattle.bit_machine.specs.Lanes.{lane_bits, lane_on, loaded_bit, IsPageWord, ArePages, IsSound, IsNow, IsSameTest, IsWired, IsLane}
+use Rattle.bit_machine.specs.Numbers.{line_bit, IsLineWord}
+use Rattle.bit_machine.specs.declared.made.Line.{Line}
+use Rattle.bit_machine.specs.declared.lane.Page.{Page}
 use Rattle.bit_machine.specs.declared.path.Path.{Path}
 use Rattle.bit_machine.specs.declared.lane.Lane.{Lane}
 
@@ -247,3 +250,19 @@ path_holds_next content t lane k n before here j h = elim (cases_lt j n) [
   | inl less ↦ before j less
   | inr past ↦ let same : n ≡ j = omega arith in rw (← same) here
 ]
+
+-- ---- the words of a page
+
+-- a word of the line is one of the page
+pub page_word : (line : Line) (base : ℕ) (page : Page) (loads : List ℕ) (word : ℕ) → ((n : ℕ) → line_bit line n ≡ made_from base page.pattern n 0) → IsLineWord line loads page.first word → IsPageWord base page loads word
+page_word line base page loads word bits is i h = is i h ∙ ap (λ b. if nat_lt (page.first + i) (length loads) then b else false) (bits (slice_index loads (page.first + i)))
+
+-- one word more
+pub words_more : (line : Line) (first : ℕ) (paths : List Path) (words : List ℕ) (n : ℕ) (q : Path) (word : ℕ) → n < length words → IsLineWord line (get_or paths n q).loads first word →
+    ((j : ℕ) (p : Path) → j < n → slice_get paths j ≡ Some p → IsLineWord line p.loads first (slice_index words j)) → (j : ℕ) (p : Path) → j < n + 1 → slice_get paths j ≡ Some p → IsLineWord line p.loads first (slice_index (set words n word) j)
+words_more line first paths words n q word h here before j p less there = go (cases_eq j n) where
+  go : (j ≡ n) ⊎ (j ≢ n) → IsLineWord line p.loads first (slice_index (set words n word) j)
+  go (inl same) =
+      let own : get_or paths n q ≡ p = get_or_from_slice_get paths n p q (subst (λ j. slice_get paths j ≡ Some p) same there) in
+      rw (same, get_or-set_same words n word 0 h, ← own) here
+  go (inr other) = rw (get_or-set_other words n j word 0 other) (before j p (omega (arith, less, other)) there)

@@ -1,16 +1,17 @@
 -- The cells of a layout, chain by chain.
-use Rattle.std.proofs.Common.{◌≡◌, ℕ, zero, suc, ◌+◌, ◌<◌, Bool, false, List, [], ◌∷◌, ◌++◌, length, get_or, map, take, replicate, refl, ap, ◌∙◌, sym, subst, arith, inl, inr}
+use Rattle.std.proofs.Common.{◌≡◌, ℕ, zero, suc, ◌+◌, ◌≤◌, ◌<◌, Bool, false, List, [], ◌∷◌, ◌++◌, length, get_or, map, take, replicate, refl, ap, ◌∙◌, sym, subst, arith, inl, inr}
 use Rattle.std.specs.Prelude.{slice_index}
 use Rattle.std.specs.List.{All, flat_map, sum, sum_by}
-use Rattle.std.proofs.lemmas.List.{length-append, length-map, get_or-map, get_or_append_left, get_or_push}
+use Rattle.std.proofs.lemmas.List.{length-append, length-map, get_or-map, get_or_append_left, get_or_push, take_more}
 use Rattle.std.proofs.lemmas.Bool.{cases_lt}
 use Rattle.std.proofs.lemmas.List.FromFn.{length-map-range_with_len}
-use Rattle.std.proofs.lemmas.List.Sums.{sum_by-cons, sum_by_more}
+use Rattle.std.proofs.lemmas.List.Sums.{sum_by-cons, sum_by_more, sum_by_more_le}
 use Rattle.plan_model.specs.declared.ChainPlan.{ChainPlan}
 use Rattle.plan_model.specs.Cells.{Cell, In, Flop, Out, in_cells, out_cells, flops, dealt}
 use Rattle.plan_model.specs.Views.{chain_value}
 use Rattle.bit_machine.specs.declared.layout.Layout.{Layout}
 use Rattle.bit_machine.specs.Sessions.{zero_bits}
+use Rattle.bit_machine.proofs.Numbering.{map_append}
 use Rattle.bit_machine.specs.Layouts.{chain_of, chain_length, layout_cells, IsListed, IsLong}
 
 -- ---- lengths
@@ -54,6 +55,13 @@ zeros-dealt lengths i o [] = refl
 zeros-dealt lengths i o (c ∷ cs) =
     rw (zeros (chain_of lengths i o (chain_value c)) (chain_length lengths c) (length-chain lengths i o c), zeros-dealt lengths (i + c.ins) (o + c.outs) cs) refl
 
+-- ---- item by item
+
+-- one item more
+pub mapped_more : {X Y : Type 0} (f : X → Y) (xs : List X) (k : ℕ) (x : X) (now new : List Y) (y : Y) → k < length xs → x ≡ get_or xs k x → now ≡ map f (take k xs) → y ≡ f x → new ≡ now ++ y ∷ [] → new ≡ map f (take (k + 1) xs)
+mapped_more f xs k x now new y within at before made pushed =
+    pushed ∙ rw (before, made) (sym (ap (map f) (take_more xs k x within) ∙ map_append f (take k xs) (get_or xs k x ∷ []) ∙ ap (λ v. map f (take k xs) ++ f v ∷ []) (sym at)))
+
 -- ---- where the scan chains start
 
 -- one scan chain more
@@ -75,6 +83,12 @@ starts_more lengths starts new i start within here long each pushed =
 -- what it keeps, where it is read from a list
 pub chain_listed : (lengths : List ℕ) (chains read : List ChainPlan) (i : ℕ) (c : ChainPlan) → All (IsListed lengths) chains → read ≡ chains → i < length read → c ≡ get_or read i c → IsListed lengths c
 chain_listed lengths chains read i c all is within at = subst (IsListed lengths) (sym at) (subst (λ (cs : List ChainPlan). All (IsListed lengths) cs) (sym is) all i c within)
+
+-- what those before it and it have together is no more than what all have
+pub chain_within : (f : ChainPlan → ℕ) (chains read : List ChainPlan) (i : ℕ) (c : ChainPlan) → read ≡ chains → i < length read → c ≡ get_or read i c → sum_by f (take i chains) + f c ≤ sum_by f chains
+chain_within f chains read i c is within at =
+    let here : get_or chains i c ≡ c = sym (subst (λ (cs : List ChainPlan). c ≡ get_or cs i c) is at) in
+    subst (λ (d : ChainPlan). sum_by f (take i chains) + f d ≤ sum_by f chains) here (sum_by_more_le f chains i c (subst (λ (cs : List ChainPlan). i < length cs) is within))
 
 -- its cells, after the input and output cells of those before it
 pub dealt-at : (lengths : List ℕ) (i o : ℕ) (cs : List ChainPlan) (j : ℕ) (c : ChainPlan) → j < length cs → get_or cs j c ≡ c →

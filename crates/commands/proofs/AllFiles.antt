@@ -11,11 +11,19 @@ use Rattle.commands.specs.declared.Verdict.{Verdict}
 use Rattle.commands.specs.declared.loading.Both.{Both}
 use Rattle.commands.specs.declared.loading.Accepted.{Accepted}
 use Rattle.commands.specs.Readings.{IsRead, RefusesChip, SaysLimits, RefusesLimits, SaysAccepted, RefusesPlan}
-use Rattle.commands.specs.Procedures.{Procedure, nothing, with_limits, with_accepted, with_both, with_all}
+use Rattle.commands.specs.Procedures.{Procedure, nothing, with_chip, with_limits, with_accepted, with_both, with_all}
 use Rattle.commands.specs.Decides.{Follows, BothRead, LoadsBoth, AreRead, LoadsAll}
-use Rattle.commands.proofs.FileStages.{after_file, covered, covers_read, covers_nothing}
+use Rattle.commands.proofs.FileStages.{after_file, covered, covers_read, covers_nothing, no_value}
 
 -- ---- a chip and limits
+
+-- a verdict without a chip is one without both
+pub without_chip : (soc limits : List ℕ) (held : Option Files) (before after : ℕ) (verdict : Verdict) (result : Result Both Verdict) →
+    Follows (with_chip soc (λ chip. nothing)) held before after verdict → result ≡ Err verdict → LoadsBoth soc limits held before after result
+without_chip soc limits held before after verdict result d is =
+    let both : Follows (with_both soc limits (λ chip bounds. nothing)) held before after verdict =
+    no_value Soc SaysChip RefusesChip soc (λ chip. with_limits chip limits (λ bounds. nothing)) held before after verdict d in
+    subst (LoadsBoth soc limits held before after) (sym is) both
 
 -- a verdict without limits is one without both
 pub without_limits : (soc limits : List ℕ) (held : Option Files) (before mid after : ℕ) (chip : SocValue) (verdict : Verdict) (result : Result Both Verdict) → before ≤ mid → IfSome held (λ files. IsRead Soc SaysChip (get files soc) chip) →

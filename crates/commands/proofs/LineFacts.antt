@@ -1,7 +1,10 @@
 -- Texts without a line feed, and with one at the end.
-use Rattle.std.proofs.Common.{lit≤, Result, Ok, Err, OnOk, ◌≡◌, ℕ, ◌+◌, ◌%◌, ◌^◌, ◌<◌, ◌≤◌, List, [], ◌∷◌, ◌++◌, Bool, true, false, decimal, refl, ◌∙◌, arith}
+use Rattle.std.proofs.Common.{lit≤, Result, Ok, Err, OnOk, ◌≡◌, ℕ, ◌+◌, ◌%◌, ◌^◌, ◌<◌, ◌≤◌, List, [], ◌∷◌, ◌++◌, Bool, true, false, decimal, length, get_or, take, refl, sym, ap, ◌∙◌, append_assoc, arith}
 use Rattle.std.specs.Prelude.{not, ◌&&◌, nat_eq, codes, IsTrue}
 use Rattle.std.proofs.lemmas.Grind.{common_steps}
+use Rattle.std.specs.List.{flat_map}
+use Rattle.std.proofs.lemmas.List.{append-nil, take_more}
+use Rattle.std.proofs.lemmas.List.Concat.{flat_map-append}
 use Rattle.std.proofs.lemmas.List.Folds.{list_all-append}
 use Rattle.std.proofs.lemmas.Fmt.{decimal_by_steps_wide}
 use Rattle.outside.specs.Decimal.{dotted_numbers}
@@ -55,3 +58,17 @@ dotted_plain (Err e) old new a b small few h = tt
 
 pub line_from : (xs line : List ℕ) → line ≡ xs ++ 10 ∷ [] → IsTrue (no_feed xs) → IsTrue (is_line line)
 line_from xs line e plain = rw e (line_of xs plain)
+
+-- ---- texts that are appended
+
+-- what was appended before stands before
+pub behind : (t' t s x y : List ℕ) → t' ≡ t ++ y → t ≡ s ++ x → t' ≡ s ++ (x ++ y)
+behind t' t s x y last first = last ∙ ap (λ l. l ++ y) first ∙ append_assoc s x y
+
+-- one item more, of each of which a text is appended
+pub flat_more : {X : Type 0} (f : X → List ℕ) (xs : List X) (i : ℕ) (d : X) (start old new : List ℕ) → i < length xs → old ≡ start ++ flat_map f (take i xs) → new ≡ old ++ f (get_or xs i d) → new ≡ start ++ flat_map f (take (i + 1) xs)
+flat_more f xs i d start old new less so_far added =
+    added ∙ ap (λ l. l ++ f (get_or xs i d)) so_far ∙ append_assoc start (flat_map f (take i xs)) (f (get_or xs i d))
+    ∙ ap (λ l. start ++ (flat_map f (take i xs) ++ l)) (sym (append-nil (f (get_or xs i d))))
+    ∙ ap (λ l. start ++ l) (sym (flat_map-append f (take i xs) (get_or xs i d ∷ [])))
+    ∙ ap (λ l. start ++ flat_map f l) (sym (take_more xs i d less))

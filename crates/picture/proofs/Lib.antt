@@ -2,5 +2,6 @@ pub mod AllDrawn
 pub mod Apart
 pub mod Joining
 pub mod LanesApart
+mod OneMore
 pub mod PartsOfPlans
 pub mod Starts

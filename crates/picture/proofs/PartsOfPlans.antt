@@ -1,6 +1,8 @@
 -- What a good plan says of the tests that a picture is drawn from.
-use Rattle.std.proofs.Common.{◌≡◌, ℕ, ◌+◌, ◌-◌, ◌≤◌, Option, None, Some, List, [], ◌++◌, map, refl, sym, ap, ◌∙◌, arith}
-use Rattle.std.specs.Prelude.{slice_get}
+use Rattle.std.proofs.Common.{◌≡◌, ◌≢◌, Bool, false, ℕ, zero, suc, ◌+◌, ◌-◌, ◌≤◌, Option, None, Some, List, [], ◌++◌, map, refl, sym, ap, ◌∙◌, arith}
+use Rattle.std.specs.Prelude.{slice_get, codes, nat_eq, if◌then◌else◌}
+use Rattle.std.proofs.lemmas.Bool.Decides.{nat_tests}
+use Rattle.std.proofs.lemmas.List.{append-nil}
 use Rattle.std.proofs.lemmas.Option.{slice_get_within, get_or_from_slice_get}
 use Rattle.std.proofs.Math.Path.{fun_ext}
 use Rattle.soc_model.specs.Chips.{SocValue}
@@ -18,7 +20,7 @@ use Rattle.power_events.specs.Loads.{drawn, drawn_by, load_steps}
 use Rattle.picture.specs.declared.Parts.{Parts}
 use Rattle.picture.specs.Laws.{AreParts}
 use Rattle.picture.specs.Panels.{below, wires_panel}
-use Rattle.picture.specs.PictureText.{bottom_of, inner_text, lanes_of, lanes_text, limit_text, lines_text, load_text, plan_steps, power_text, self_tests, wires_text}
+use Rattle.picture.specs.PictureText.{bottom_of, frame_text, head_text, inner_text, lanes_of, lanes_text, limit_text, lines_text, load_text, picture_text, plan_steps, power_text, self_tests, wires_text}
 use Rattle.picture.specs.Rectangles.{bus_wires, laned, wired}
 use Rattle.picture.proofs.Joining.{behind}
 
@@ -87,3 +89,25 @@ inner_is soc limits plan parts power cycles bound end t4 t3 t2 t1 t0 p power_is 
     let s' = power_text (below lanes + 24) plan.cycles limits.power (plan_steps soc limits plan) in
     let n' = lines_text plan.cycles plan.bound.cycles (bottom_of (below lanes) plan.cycles limits.power) in
     behind t4 t1 t0 w' (l' ++ (s' ++ n')) (behind t4 t2 t1 l' (s' ++ n') (behind t4 t3 t2 s' n' (e4 ∙ ap (λ v. t3 ++ v) n) (e3 ∙ ap (λ v. t2 ++ v) s)) (e2 ∙ ap (λ v. t1 ++ v) l)) (e1 ∙ ap (λ v. t0 ++ v) w)
+
+-- the frame, what is in it, and the end
+pub picture_is : (soc : SocValue) (limits : LimitsValue) (plan : PlanValue) (parts : Parts) (t0 t1 t2 t3 t4 : List ℕ) → AreParts soc limits plan parts → t0 ≡ [] → t1 ≡ t0 ++ head_text (parts.bottom + 12) → t2 ≡ t1 ++ frame_text parts.wires →
+    t3 ≡ t2 ++ (if nat_eq plan.cycles 0 then [] else inner_text soc limits plan) → t4 ≡ t3 ++ codes "</svg>\n" → t4 ≡ picture_text soc limits plan
+picture_is soc limits plan parts t0 t1 t2 t3 t4 p none head frame inner end =
+    let within = (if nat_eq plan.cycles 0 then [] else inner_text soc limits plan) in
+    let rest = within ++ codes "</svg>\n" in
+    behind t4 t1 t0 (head_text (parts.bottom + 12)) (frame_text parts.wires ++ rest) (behind t4 t2 t1 (frame_text parts.wires) rest (behind t4 t3 t2 within (codes "</svg>\n") end inner) frame) head
+    ∙ ap (λ l. l ++ (head_text (parts.bottom + 12) ++ (frame_text parts.wires ++ rest))) none
+    ∙ ap (λ (bottom : ℕ). head_text (bottom + 12) ++ (frame_text parts.wires ++ rest)) p.bottom
+    ∙ ap (λ wires. head_text (bottom_of (below (lanes_of soc limits plan)) plan.cycles limits.power + 12) ++ (frame_text wires ++ rest)) p.wires
+
+not_zero : (n : ℕ) → n ≢ 0 → nat_eq n 0 ≡ false
+not_zero n some = grind (arith, nat_tests)
+
+-- a plan of some cycles, and one of none
+pub some_cycles : (n : ℕ) (old new text : List ℕ) → n ≢ 0 → new ≡ old ++ text → new ≡ old ++ (if nat_eq n 0 then [] else text)
+some_cycles n old new text some is = is ∙ ap (λ (b : Bool). old ++ (if b then [] else text)) (sym (not_zero n some))
+
+pub no_cycles : (n : ℕ) (old text : List ℕ) → n ≡ 0 → old ≡ old ++ (if nat_eq n 0 then [] else text)
+no_cycles zero old text none = sym (append-nil old)
+no_cycles (suc n) old text none = absurd (omega arith)

@@ -1,8 +1,10 @@
 pub mod Endings
 pub mod Headlines
+mod Joining
 mod LiveCounts
 pub mod LogFiles
 mod MadeLimits
+mod NamedTests
 pub mod PartsServed
 pub mod ProgramAnswers
 mod Rows

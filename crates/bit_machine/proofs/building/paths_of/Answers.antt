@@ -5,7 +5,7 @@ use Rattle.plan_model.specs.declared.ChainPlan.{ChainPlan}
 use Rattle.plan_model.specs.Views.{chain_value}
 use Rattle.bit_machine.specs.Layouts.{layout_cells, chain_of}
 use Rattle.bit_machine.specs.Building.{IsNewPath, AreNewPaths}
-use Rattle.bit_machine.proofs.Layouts.{dealt-at, chain_listed}
+use Rattle.bit_machine.proofs.Layouts.{dealt-at, chain_listed, chain_within}
 use Rattle.bit_machine.proofs.Numbering.{no_paths, paths_more}
 use Rattle.bit_machine.proofs.building.paths_of.Goals as goal
 
@@ -48,3 +48,23 @@ path_of-requires-clause-listed c = (chain_listed c.args.layout.now.lengths.items
 
 pub path_of-requires-clause-long : goal.path_of-requires-clause-long
 path_of-requires-clause-long c = (chain_listed c.args.layout.now.lengths.items c.args.layout.now.chains.items c.deref-chain-items.result.now c.loop-chain.chain-index c.chain-item.result c.requires.layout.chains c.deref-chain-items.ensures.value c.loop-chain-test.true c.chain-item.is).fits
+
+pub overflow_add-ins_from : goal.overflow_add-ins_from
+overflow_add-ins_from c =
+    let part = chain_within (λ (c : ChainPlan). c.ins) c.args.layout.now.chains.items c.deref-chain-items.result.now c.loop-chain.chain-index c.chain-item.result c.deref-chain-items.ensures.value c.loop-chain-test.true c.chain-item.is in
+    omega (arith, part, c.loop-chain.invariant.ins, c.requires.ins)
+
+pub overflow_add-outs_from : goal.overflow_add-outs_from
+overflow_add-outs_from c =
+    let part = chain_within (λ (c : ChainPlan). c.outs) c.args.layout.now.chains.items c.deref-chain-items.result.now c.loop-chain.chain-index c.chain-item.result c.deref-chain-items.ensures.value c.loop-chain-test.true c.chain-item.is in
+    omega (arith, part, c.loop-chain.invariant.outs, c.requires.outs, c.requires.fits)
+
+pub path_of-requires-clause-ins : goal.path_of-requires-clause-ins
+path_of-requires-clause-ins c =
+    let part = chain_within (λ (c : ChainPlan). c.ins) c.args.layout.now.chains.items c.deref-chain-items.result.now c.loop-chain.chain-index c.chain-item.result c.deref-chain-items.ensures.value c.loop-chain-test.true c.chain-item.is in
+    omega (arith, part, c.loop-chain.invariant.ins, c.requires.ins)
+
+pub path_of-requires-clause-outs : goal.path_of-requires-clause-outs
+path_of-requires-clause-outs c =
+    let part = chain_within (λ (c : ChainPlan). c.outs) c.args.layout.now.chains.items c.deref-chain-items.result.now c.loop-chain.chain-index c.chain-item.result c.deref-chain-items.ensures.value c.loop-chain-test.true c.chain-item.is in
+    omega (arith, part, c.loop-chain.invariant.outs, c.requires.outs, c.requires.fits)

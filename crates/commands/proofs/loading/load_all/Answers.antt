@@ -1,5 +1,6 @@
-use Rattle.std.proofs.Common.{rules, ◌≡◌, Err}
-use Rattle.commands.proofs.AllFiles.{without_both, without_plan}
+use Rattle.std.proofs.Common.{rules, ◌≡◌, ◌∙◌, ap, Err, refl}
+use Rattle.std.proofs.lemmas.Result.{err_from_is_err_and}
+use Rattle.commands.proofs.AllFiles.{all_read, without_both, without_plan}
 use Rattle.commands.proofs.loading.load_all.Goals as goal
 
 pub returns-in_err-both-clause-loads : goal.returns-in_err-both-clause-loads
@@ -9,6 +10,12 @@ returns-in_err-both-clause-loads g c =
 
 pub returns-in_err-plan-clause-loads : goal.returns-in_err-plan-clause-loads
 returns-in_err-plan-clause-loads g c =
-    let is : c.from_residual-in_err-plan.result ≡ Err c.in_err-plan.field-0.0 = search rules in
+    let gives = err_from_is_err_and c.from_residual-in_err-plan.result c.from_residual-in_err-plan.ensures.1 in
+    let is : c.from_residual-in_err-plan.result ≡ Err c.in_err-plan.field-0.0 = gives.1 ∙ ap Err gives.2 in
     let none = rw c.load_both.ensures.held_stays at c.in_err-plan.ensures.loads in
     without_plan _ _ _ _ _ (g.H.Shelf.faults c.load_both.new.shelf) _ c.in_ok-both.both c.in_err-plan.field-0.0 _ c.load_both.ensures.faults_never_fall c.in_ok-both.ensures.loads none is
+
+pub returns-clause-loads : goal.returns-clause-loads
+returns-clause-loads g c =
+    let value = rw c.load_both.ensures.held_stays at c.in_ok-plan.ensures.loads in
+    all_read _ _ _ _ c.in_ok-both.both _ refl refl c.in_ok-both.ensures.loads value

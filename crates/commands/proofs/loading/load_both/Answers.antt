@@ -1,9 +1,16 @@
-use Rattle.std.proofs.Common.{rules, ◌≡◌, Err}
-use Rattle.commands.proofs.AllFiles.{without_limits}
+use Rattle.std.proofs.Common.{rules, ◌≡◌, ◌∙◌, ap, Err}
+use Rattle.std.proofs.lemmas.Result.{err_from_is_err_and}
+use Rattle.commands.proofs.AllFiles.{without_chip, without_limits}
 use Rattle.commands.proofs.loading.load_both.Goals as goal
 
 pub returns-in_err-limits-clause-loads : goal.returns-in_err-limits-clause-loads
 returns-in_err-limits-clause-loads g c =
-    let is : c.from_residual-in_err-limits.result ≡ Err c.in_err-limits.field-0.0 = search rules in
+    let gives = err_from_is_err_and c.from_residual-in_err-limits.result c.from_residual-in_err-limits.ensures.1 in
+    let is : c.from_residual-in_err-limits.result ≡ Err c.in_err-limits.field-0.0 = gives.1 ∙ ap Err gives.2 in
     let none = rw c.load_chip.ensures.held_stays at c.in_err-limits.ensures.loads in
     without_limits _ _ _ _ (g.H.Shelf.faults c.load_chip.new.shelf) _ _ c.in_err-limits.field-0.0 _ c.load_chip.ensures.faults_never_fall c.in_ok-soc.ensures.loads none is
+
+pub returns-in_err-soc-clause-loads : goal.returns-in_err-soc-clause-loads
+returns-in_err-soc-clause-loads g c =
+    let is : c.from_residual.result ≡ Err c.in_err-soc.field-0.0 = search rules in
+    without_chip _ _ _ _ _ c.in_err-soc.field-0.0 _ c.in_err-soc.ensures.loads is

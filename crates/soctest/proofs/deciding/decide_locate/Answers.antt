@@ -1,3 +1,4 @@
+use Rattle.std.proofs.Common.{◌∙◌}
 use Rattle.soc_model.specs.Chips.{soc_value}
 use Rattle.plan_model.specs.Views.{limits_value, plan_value}
 use Rattle.commands.proofs.AllFiles.{after_all, not_all}
@@ -14,3 +15,6 @@ returns-in-Err-clause-follows g c = not_all _ _ _ (after_plan c.args.log.now) _ 
 
 pub answer_log-verdict-requires-clause-good : goal.answer_log-verdict-requires-clause-good
 answer_log-verdict-requires-clause-good g c = c.good_without_limits.ensures.alone (soc_value c.in-Ok.all.soc) (limits_value c.in-Ok.all.limits) (plan_value c.in-Ok.all.plan) c.in-Ok.ensures.accepted.0
+
+pub returns-in-Ok-clause-held_stays : goal.returns-in-Ok-clause-held_stays
+returns-in-Ok-clause-held_stays g c = c.answer_log-verdict.ensures.held_stays ∙ c.load_all.ensures.held_stays

@@ -1,6 +1,21 @@
+use Rattle.std.proofs.Common.{◌≡◌, None, List, ℕ, refl}
+use Rattle.soc_model.specs.Chips.{soc_value}
+use Rattle.plan_model.specs.Plans.{PlanValue}
+use Rattle.plan_model.specs.Views.{limits_value}
+use Rattle.plan_text.specs.PlanLines.{plan_text}
+use Rattle.planner.specs.Plans.{IsPlanned}
 use Rattle.soctest.specs.Procedures.{done_with_plan}
-use Rattle.commands.proofs.AllFiles.{not_both}
+use Rattle.commands.proofs.AllFiles.{after_both, not_both}
+use Rattle.commands.proofs.FileStages.{gives_text, unless_any}
 use Rattle.soctest.proofs.deciding.decide_plan.Goals as goal
+
+pub returns-in-Ok-clause-follows : goal.returns-in-Ok-clause-follows
+returns-in-Ok-clause-follows g c =
+    let chip = soc_value c.in-Ok.both.soc in
+    let bounds = limits_value c.in-Ok.both.limits in
+    after_both _ _ done_with_plan _ _ (g.H.Shelf.faults c.load_both.new.shelf) _ c.in-Ok.both _ c.load_both.ensures.faults_never_fall c.in-Ok.ensures.loads
+    (unless_any None (λ (text : List ℕ). (value : PlanValue) × IsPlanned chip bounds value × (text ≡ plan_text value)) _ (g.H.Shelf.faults c.load_both.new.shelf) (g.H.Shelf.faults c.load_both.new.shelf) _
+    (gives_text None (λ (text : List ℕ). (value : PlanValue) × IsPlanned chip bounds value × (text ≡ plan_text value)) c.text_of_plan.result c.answered_with.result refl c.text_of_plan.ensures c.answered_with.ensures))
 
 pub returns-in-Err-clause-follows : goal.returns-in-Err-clause-follows
 returns-in-Err-clause-follows g c = not_both _ _ done_with_plan _ _ _ _ c.in-Err.ensures.loads

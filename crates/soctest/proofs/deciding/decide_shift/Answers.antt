@@ -1,3 +1,4 @@
+use Rattle.std.proofs.Common.{◌∙◌}
 use Rattle.commands.specs.Procedures.{done_with}
 use Rattle.soctest.specs.Procedures.{with_program}
 use Rattle.soctest.specs.ShiftPrograms.{accepted_program}
@@ -11,3 +12,6 @@ returns-in-Ok-clause-follows g c =
 
 pub returns-in-Err-clause-follows : goal.returns-in-Err-clause-follows
 returns-in-Err-clause-follows g c = not_all _ _ _ (λ chip bounds value. with_program chip value c.args.program.now (λ shifts. done_with (accepted_program chip value shifts))) _ _ _ _ c.in-Err.ensures.loads
+
+pub returns-in-Ok-clause-held_stays : goal.returns-in-Ok-clause-held_stays
+returns-in-Ok-clause-held_stays g c = c.answer_program_file-verdict.ensures.held_stays ∙ c.load_all.ensures.held_stays

@@ -1,3 +1,4 @@
+use Rattle.std.proofs.Common.{◌∙◌}
 use Rattle.commands.proofs.AllFiles.{after_both, not_both}
 use Rattle.soctest.specs.Procedures.{with_bound}
 use Rattle.soctest.proofs.deciding.decide_tree.Goals as goal
@@ -9,3 +10,6 @@ returns-in-Ok-clause-follows g c =
 
 pub returns-in-Err-clause-follows : goal.returns-in-Err-clause-follows
 returns-in-Err-clause-follows g c = not_both _ _ (with_bound c.args.tree.now) _ _ _ _ c.in-Err.ensures.loads
+
+pub returns-in-Ok-clause-held_stays : goal.returns-in-Ok-clause-held_stays
+returns-in-Ok-clause-held_stays g c = c.answer_tree-verdict.ensures.held_stays ∙ c.load_both.ensures.held_stays

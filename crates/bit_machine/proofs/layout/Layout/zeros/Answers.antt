@@ -2,7 +2,7 @@ use Rattle.std.proofs.Common.{◌≤◌, ◌∙◌, sym, ap, map, length, replic
 use Rattle.std.proofs.lemmas.List.{take_all}
 use Rattle.plan_model.specs.declared.ChainPlan.{ChainPlan}
 use Rattle.bit_machine.specs.Layouts.{chain_length}
-use Rattle.bit_machine.proofs.Layouts.{zeros-dealt}
+use Rattle.bit_machine.proofs.Layouts.{zeros-dealt, mapped_more}
 use Rattle.bit_machine.proofs.layout.Layout.zeros.Goals as goal
 
 pub returns : goal.returns
@@ -10,3 +10,9 @@ returns c =
     let past : length c.args.self.now.chains.items ≤ c.loop-chain.chain-index = rw c.deref-chain-items.ensures.value at c.loop-chain-test.false in
     c.loop-chain.invariant ∙ ap (map (λ (h : ChainPlan). replicate (chain_length c.args.self.now.lengths.items h) false)) (take_all c.loop-chain.chain-index c.args.self.now.chains.items past)
     ∙ sym (zeros-dealt c.args.self.now.lengths.items 0 0 c.args.self.now.chains.items)
+
+pub loop-chain-preserved : goal.loop-chain-preserved
+loop-chain-preserved c =
+    let e = c.deref-chain-items.ensures.value in
+    mapped_more (λ (h : ChainPlan). replicate (chain_length c.args.self.now.lengths.items h) false) c.args.self.now.chains.items c.loop-chain.chain-index c.chain-item.result c.loop-chain.all.items c.push.new.to.items _ (rw e at c.loop-chain-test.true) (rw e at c.chain-item.is)
+    c.loop-chain.invariant (c.in_ok-zeros.ensures ∙ ap (λ n. replicate n false) (c.length_of-cells.ensures ∙ ap (λ lengths. chain_length lengths c.chain-item.result) c.deref.ensures.value)) c.in_ok-push.ensures.ok

@@ -1,7 +1,7 @@
-use Rattle.std.proofs.Common.{◌+◌, ap, sym, subst, length, List, refl, arith}
+use Rattle.std.proofs.Common.{◌+◌, ap, sym, subst, length, List, refl, arith, ◌∙◌}
 use Rattle.std.specs.Vec.{with_items}
 use Rattle.std.proofs.lemmas.List.{with_items_is}
-use Rattle.bit_machine.specs.Machines.{AreLanes, AreNow}
+use Rattle.bit_machine.specs.Machines.{AreLanes, AreNow, lanes_state}
 use Rattle.bit_machine.specs.declared.lane.Lane.{Lane}
 use Rattle.bit_machine.proofs.Assigning.{next_some, next_machine}
 use Rattle.bit_machine.proofs.machine.Machine.advance.Goals as goal
@@ -18,3 +18,8 @@ returns-then-next-self-clause-machine c = λ content tests is.
 
 pub returns-else-next-self-clause-machine : goal.returns-else-next-self-clause-machine
 returns-else-next-self-clause-machine c = λ content tests is. c.stand.ensures.machine content tests is.lanes is.wires
+
+pub returns-then-next-self-clause-state : goal.returns-then-next-self-clause-state
+returns-then-next-self-clause-state c =
+    let items = with_items_is c.args.self.now.lanes c.stand_all.new.lanes (omega (arith, c.stand_all.ensures.long, ap length c.deref_mut.ensures.value, c.args.self.now.lanes.ok.0)) in
+    ap lanes_state items ∙ c.stand_all.ensures.state ∙ ap lanes_state c.deref_mut.ensures.value

@@ -1,7 +1,7 @@
 use Rattle.std.proofs.Common.{◌∙◌, ap, sym, subst, length, List, ℕ, Option, arith}
 use Rattle.std.specs.Vec.{with_items}
 use Rattle.std.proofs.lemmas.List.{with_items_is}
-use Rattle.bit_machine.specs.Machines.{FitLanes, AreLanes, AreNow, AreOnWires}
+use Rattle.bit_machine.specs.Machines.{FitLanes, AreLanes, AreNow, AreOnWires, lanes_state}
 use Rattle.bit_machine.specs.declared.lane.Lane.{Lane}
 use Rattle.bit_machine.proofs.Assigning.{lanes_fit, users_stand, stood}
 use Rattle.bit_machine.proofs.machine.Machine.stand.Goals as goal
@@ -24,3 +24,8 @@ returns-clause-machine c = λ content tests are on.
     (c.assign.ensures.users content tests (subst (AreLanes content tests) (sym c.deref-2.ensures.value) are) (subst (λ (us : List (Option ℕ)). AreOnWires tests (length us)) (sym c.deref_mut.ensures.value) on)) are
     (subst (AreLanes content tests) (sym items) (c.stand_all.ensures.lanes content tests (subst (AreLanes content tests) (sym c.deref_mut-2.ensures.value) are)))
     (subst (λ (ls : List Lane). AreNow ls c.args.cycle) (sym items) c.stand_all.ensures.now) on
+
+pub returns-clause-state : goal.returns-clause-state
+returns-clause-state c =
+    let items = with_items_is c.args.self.now.lanes c.stand_all.new.lanes (omega (arith, c.stand_all.ensures.long, ap length c.deref_mut-2.ensures.value, c.args.self.now.lanes.ok.0)) in
+    ap lanes_state items ∙ c.stand_all.ensures.state ∙ ap lanes_state c.deref_mut-2.ensures.value

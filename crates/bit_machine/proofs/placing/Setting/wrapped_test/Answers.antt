@@ -1,10 +1,13 @@
-use Rattle.std.proofs.Common.{◌∙◌, ◌+◌, ap, refl, map, arith}
+use Rattle.std.proofs.Common.{◌∙◌, ◌+◌, ap, refl, map, arith, ◌<◌, ◌^◌, sym, subst, length, List}
 use Rattle.soc_model.specs.Chips.{module_value}
 use Rattle.plan_model.specs.Plans.{si_of, so_of}
 use Rattle.plan_model.specs.Cells.{chain_cells}
 use Rattle.plan_model.specs.Views.{plan_value, chain_value}
 use Rattle.bit_machine.proofs.LaneSteps.{slice_at}
 use Rattle.bit_machine.proofs.PlacedLanes.{the_test, same_wired, paths_are, terminals, first_is, width_is}
+use Rattle.std.specs.List.{sum}
+use Rattle.plan_model.specs.declared.Bus.{Bus}
+use Rattle.live_tests.proofs.BusWidths.{widths_are}
 use Rattle.bit_machine.proofs.placing.Setting.wrapped_test.Goals as goal
 
 pub paths_of-requires-clause-ins : goal.paths_of-requires-clause-ins
@@ -37,3 +40,13 @@ returns c = λ test there.
       page = refl;
       pages = omega (arith, c.in_ok-pages.ensures, c.len.ensures, c.in_ok-paths.paths.ok.0);
     })
+
+pub first_wire-requires-clause-bus : goal.first_wire-requires-clause-bus
+first_wire-requires-clause-bus c = omega (arith, ap length c.deref.ensures.value, c.requires.bus)
+
+pub first_wire-requires-clause-fit : goal.first_wire-requires-clause-fit
+first_wire-requires-clause-fit c =
+    subst (λ (buses : List Bus). sum (map (λ (b : Bus). b.width) buses) < 2 ^ 64) (sym c.deref.ensures.value) (subst (λ widths. sum widths < 2 ^ 64) (sym (widths_are c.args.self.now.plan.now.buses.items)) c.requires.wires)
+
+pub index-requires : goal.index-requires
+index-requires c = omega (arith, c.requires.bus, c.args.self.now.plan.now.buses.ok.0)

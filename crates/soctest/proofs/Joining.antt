@@ -1,0 +1,14 @@
+-- Texts that are appended one behind the other.
+use Rattle.std.proofs.Common.{◌≡◌, ℕ, List, ◌++◌, ap, ◌∙◌, append_assoc}
+
+-- what was appended before stands before
+behind : (t' t s x y : List ℕ) → t' ≡ t ++ y → t ≡ s ++ x → t' ≡ s ++ (x ++ y)
+behind t' t s x y last first = last ∙ ap (λ l. l ++ y) first ∙ append_assoc s x y
+
+-- what a text is that was put
+pub put : (t' t x y : List ℕ) → t' ≡ t ++ x → x ≡ y → t' ≡ t ++ y
+put t' t x y added is = added ∙ ap (λ l. t ++ l) is
+
+-- four texts
+pub four : (t0 t1 t2 t3 t4 a b c d : List ℕ) → t1 ≡ t0 ++ a → t2 ≡ t1 ++ b → t3 ≡ t2 ++ c → t4 ≡ t3 ++ d → t4 ≡ t0 ++ (a ++ b ++ c ++ d)
+four t0 t1 t2 t3 t4 a b c d first second third fourth = behind t4 t3 t0 (a ++ b ++ c) d fourth (behind t3 t2 t0 (a ++ b) c third (behind t2 t1 t0 a b second first))
