@@ -1,5 +1,8 @@
 -- What is seen of a sink in memory.
-use Rattle.std.specs.Prelude.{ℕ, ◌-◌, ◌++◌, length, List, min, take, Bool, not, ◌||◌, ◌&&◌, nat_eq}
+use Rattle.std.specs.Prelude.{◌≡◌, ℕ, ◌-◌, ◌++◌, length, List, min, take, Bool, not, ◌||◌, ◌&&◌, nat_eq}
+use Rattle.std.specs.Bool.{OnTrue, OnFalse}
+use Rattle.outside.specs.declared.sink.Put.{Put}
+use Rattle.outside.specs.declared.sink.Put.TheVariants.{Taken, Failed}
 use Rattle.outside.specs.Counts.{next_count, is_listed}
 
 -- what was written, how many bytes it takes in all and in one put, the numbers of the puts that are to fail, and the
@@ -31,3 +34,8 @@ after_failing s = record s { calls = next_count s.calls; faults = next_count s.f
 -- the sink after a put that took its share of the piece
 abbrev pub after_taking : SinkState → List ℕ → SinkState
 after_taking s piece = record s { written = s.written ++ take (share_of s piece) piece; calls = next_count s.calls }
+
+-- a put of this piece, with its answer and the sink after it
+pub record IsPut (s : SinkState) (piece : List ℕ) (answer : Put) (after : SinkState) : Type 0 where
+  pub fails : OnTrue (fails_now s piece) ((answer ≡ Failed) × (after ≡ after_failing s))
+  pub takes : OnFalse (fails_now s piece) ((answer ≡ Taken (share_of s piece)) × (after ≡ after_taking s piece))

@@ -2,7 +2,7 @@
 ghost use Rattle.std.specs.Prelude.{◌≡◌, ◌∷◌, ◌++◌, ◌<◌, ◌≤◌, [], OnOk, OnErr, IfOk, length, take, Some, ℕ};
 ghost use Rattle.std.specs.Bool.{OnTrue, OnFalse};
 ghost use Rattle.outside.specs.Held.{Rose, Appended};
-ghost use Rattle.outside.specs.SinkState.{share_of, after_taking, after_failing, fails_now};
+ghost use Rattle.outside.specs.SinkState.{share_of, after_taking, after_failing, fails_now, IsPut};
 
 use crate::NoMemory;
 use crate::growing::push;
@@ -79,10 +79,13 @@ impl MemSink {
 
 impl Sink for MemSink {
     ghost use Rattle.std.specs.Prelude.{Some};
+    ghost use Rattle.outside.specs.SinkState.{IsPut};
 
     ghost written = { λ s. Some s.written };
 
     ghost faults = { λ s. s.faults };
+
+    ghost is_put = { λ s piece answer after. IsPut s piece answer after };
 
     /// A listed put, and one of a piece that is not empty where no room is left, is `Failed` and one fault more. Any
     /// other put takes as many bytes as the piece has, one put may take and there is room for, and raises no fault.
@@ -95,6 +98,7 @@ impl Sink for MemSink {
         ensures progress { (n : ℕ) → result ≡ Put.Taken n → 0 < length piece.now → 0 < n }
         ensures failed { result ≡ Put.Failed → Rose self.old.faults self.new.faults }
         ensures failed_writes_nothing { result ≡ Put.Failed → Some self.new.written ≡ Some self.old.written }
+        ensures put { IsPut self.old piece.now result self.new }
 
         // What this one adds.
         ensures fails { OnTrue (fails_now self.old piece.now) (result ≡ Put.Failed) }

@@ -1,6 +1,6 @@
 // A writer of the system, as standard output. No contract can say what it received.
 ghost use Rattle.std.specs.Prelude.{◌≡◌, ◌≢◌, ◌≤◌, ◌<◌, length, IfSome, ℕ};
-ghost use Rattle.outside.specs.Counts.{next_count};
+ghost use Rattle.outside.specs.Counts.{next_count, IsCounted};
 ghost use Rattle.outside.specs.Held.{Rose};
 
 use crate::sink::{Put, Sink};
@@ -34,10 +34,13 @@ impl<W: Write + Drop> RealSink<W> {
 
 impl<W: Write + Drop> Sink for RealSink<W> {
     ghost use Rattle.std.specs.Prelude.{None};
+    ghost use Rattle.outside.specs.Counts.{IsCounted};
 
     ghost written = { λ _. None };
 
     ghost faults = { λ s. s };
+
+    ghost is_put = { λ s piece answer after. IsCounted s answer after };
 
     /// One write and one flush. An error of either, and a write of no byte of a piece that has some, is `Failed` and
     /// one fault more, up to the last value of the count.
@@ -47,6 +50,7 @@ impl<W: Write + Drop> Sink for RealSink<W> {
         ensures within_piece { (n : ℕ) → result ≡ Put.Taken n → n ≤ length piece.now }
         ensures progress { (n : ℕ) → result ≡ Put.Taken n → 0 < length piece.now → 0 < n }
         ensures failed { result ≡ Put.Failed → Rose self.old self.new }
+        ensures put { IsCounted self.old result self.new }
 
         // What this one adds.
         ensures fault_counted { result ≡ Put.Failed → self.new ≡ next_count self.old }

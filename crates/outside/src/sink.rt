@@ -1,6 +1,7 @@
 // Where output is written to.
 ghost use Rattle.std.specs.Prelude.{◌≡◌, ℕ, ◌<◌, ◌≤◌, List, [], Option, length, IsOk, OnOk, OnErr, take};
 ghost use Rattle.outside.specs.Held.{Rose, Appended, AppendedFront, AppendedShorter};
+ghost use Rattle.outside.specs.Puts.{PutDownTo, PutUntilFailed};
 
 /// How a put ended.
 #[derive(Clone, Copy, PartialEq, Eq, Debug)]
@@ -15,12 +16,16 @@ pub enum Put {
 #[derive(Clone, Copy, PartialEq, Eq, Debug)]
 pub struct WriteFault;
 
-/// Takes bytes. It has two meanings: what was written, where it tells that; and the number of faults that it met,
-/// which never falls.
+/// Takes bytes. It has three meanings: what was written, where it tells that; the number of faults that it met, which
+/// never falls; and what a put is: from which state, of which piece and with which answer it comes to which state.
 pub trait Sink {
+    ghost use Rattle.outside.specs.declared.sink.Put.{Put};
+
     ghost written: { Self → Option (List ℕ) };
 
     ghost faults: { Self → ℕ };
+
+    ghost is_put: { Self → List ℕ → Put → Self → Type 0 };
 
     /// Writes bytes from the front of the piece, after all that was written before.
     ///
@@ -35,13 +40,15 @@ pub trait Sink {
         ensures progress { (n : ℕ) → result ≡ Put.Taken n → 0 < length piece.now → 0 < n }
 
         ensures failed { result ≡ Put.Failed → Rose (faults self.old) (faults self.new) }
-        ensures failed_writes_nothing { result ≡ Put.Failed → written self.new ≡ written self.old };
+        ensures failed_writes_nothing { result ≡ Put.Failed → written self.new ≡ written self.old }
+
+        ensures put { is_put self.old piece.now result self.new };
 }
 
 /// Writes all the bytes, in as many puts as the sink wants, and makes no put where no byte is left. It takes no memory.
 ///
 /// `WriteFault` comes only where the number of faults rose. Some front of the bytes is then written, and not all of them:
-/// after the last byte nothing more is put.
+/// after the last byte nothing more is put, nor after a put that failed.
 pub fn put_all<K: Sink>(out: &mut K, bytes: &[u8]) -> Result<(), WriteFault>
     ensures faults_never_fall { K.faults out.old ≤ K.faults out.new }
     ensures all { OnOk result (Appended (K.written out.old) bytes.now (K.written out.new)) }
@@ -52,6 +59,10 @@ pub fn put_all<K: Sink>(out: &mut K, bytes: &[u8]) -> Result<(), WriteFault>
     // With no bytes the sink is not called.
     ensures nothing_is_ok { bytes.now ≡ [] → IsOk result }
     ensures nothing_put { bytes.now ≡ [] → out.new ≡ out.old }
+
+    // Each put is of all that is left, which is not empty: the last one took the last byte, or failed.
+    ensures puts { OnOk result (PutDownTo K.is_put out.old bytes.now out.new []) }
+    ensures puts_until_failed { OnErr result (PutUntilFailed K.is_put out.old bytes.now out.new) }
 {
     let mut at = 0usize;
     while at < bytes.len() {
