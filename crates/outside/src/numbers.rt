@@ -1,5 +1,5 @@
 // Decimal numbers, read and written.
-ghost use Rattle.std.specs.Prelude.{◌≡◌, ◌++◌, ◌≤◌, length, OnOk, OnErr, decimal};
+ghost use Rattle.std.specs.Prelude.{◌≡◌, ◌++◌, ◌≤◌, length, take, OnOk, OnErr, decimal};
 ghost use Rattle.outside.specs.Decimal.{number_of, spaced_number, dotted_numbers};
 
 use crate::NoMemory;
@@ -69,18 +69,42 @@ pub fn push_number(to: &mut Vec<u8>, n: u128) -> Result<(), NoMemory>
     extend(to, buffer.format(n).as_bytes())
 }
 
-/// Appends a space and the decimal text of a number. After `NoMemory` the text may have the space.
+/// Appends a space and the decimal text of a number. After `NoMemory` the text is as it was.
 pub fn push_spaced(to: &mut Vec<u8>, n: u64) -> Result<(), NoMemory>
-    ensures { OnOk result (to.new.items ≡ to.old.items ++ spaced_number n) }
+    ensures ok { OnOk result (to.new.items ≡ to.old.items ++ spaced_number n) }
+    ensures err { OnErr result (to.new.items ≡ to.old.items) }
 {
     push(to, b' ')?;
     let mut buffer = Buffer::new();
-    extend(to, buffer.format(n).as_bytes())
+    match extend(to, buffer.format(n).as_bytes()) {
+        Ok(()) => Ok(()),
+        Err(NoMemory) => {
+            to.pop();
+            Err(NoMemory)
+        }
+    }
 }
 
-/// Appends two numbers with a dot between them, as those of a module and of its test.
+/// Appends two numbers with a dot between them, as those of a module and of its test. After `NoMemory` the text is as it
+/// was.
 pub fn push_dotted(to: &mut Vec<u8>, first: u64, second: u64) -> Result<(), NoMemory>
-    ensures { OnOk result (to.new.items ≡ to.old.items ++ dotted_numbers first second) }
+    ensures ok { OnOk result (to.new.items ≡ to.old.items ++ dotted_numbers first second) }
+    ensures err { OnErr result (to.new.items ≡ to.old.items) }
+{
+    let length = to.len();
+    match push_dotted_parts(to, first, second) {
+        Ok(()) => Ok(()),
+        Err(NoMemory) => {
+            to.truncate(length);
+            Err(NoMemory)
+        }
+    }
+}
+
+/// The same part by part: after `NoMemory` those that found room may stand behind the text.
+fn push_dotted_parts(to: &mut Vec<u8>, first: u64, second: u64) -> Result<(), NoMemory>
+    ensures ok { OnOk result (to.new.items ≡ to.old.items ++ dotted_numbers first second) }
+    ensures err { OnErr result (take (length to.old.items) to.new.items ≡ to.old.items) }
 {
     push_number(to, u128::from(first))?;
     extend(to, b".")?;
