@@ -64,12 +64,20 @@ pub planned_operations : (plan : PlanValue) (l : LiveTest) → (planned_test pla
 unfolding planned_test
 planned_operations plan l = refl
 
-pub short_planned : (soc : SocValue) (limits : LimitsValue) (plan : PlanValue) (i : ℕ) (t : PlannedTest) → IsWithinSize soc → IsGood soc limits plan → IsAt (planned soc plan) i t → length t.operations ≤ WORK_MOST
-short_planned soc limits plan i t fits good at =
+-- in any plan with a proper wrapper for each pair that wants one
+short_in_any : (soc : SocValue) (plan : PlanValue) (i : ℕ) (t : PlannedTest) → IsWithinSize soc → Each (HasWrapper plan) (used_pairs soc) → Each (HasProperCells soc) plan.wrappers → IsAt (planned soc plan) i t → length t.operations ≤ WORK_MOST
+short_in_any soc plan i t fits have proper at =
     let o : Origin soc plan i t = origin soc plan i t at in
-    let part : length (operations_of o.l.core o.l.test (chains_of plan o.l.core o.l.test)) ≤ test_work o.l.core o.l.test = short_test soc plan i o.l (good Wrappers).1 (good Proper) o.at in
+    let part : length (operations_of o.l.core o.l.test (chains_of plan o.l.core o.l.test)) ≤ test_work o.l.core o.l.test = short_test soc plan i o.l have proper o.at in
     let same : length t.operations ≡ length (operations_of o.l.core o.l.test (chains_of plan o.l.core o.l.test)) = ap (λ (v : PlannedTest). length v.operations) (sym o.is) ∙ ap length (planned_operations plan o.l) in
     omega (arith, part, same, test_work-le soc i o.l o.at, work-le soc fits)
 
+pub any_early_end : (soc : SocValue) (plan : PlanValue) (i : ℕ) (t : PlannedTest) → IsWithinSize soc → Each (HasWrapper plan) (used_pairs soc) → Each (HasProperCells soc) plan.wrappers → IsAt (planned soc plan) i t → t.start ≤ START_MOST → end_of t ≤ PLAN_NUMBER_MOST
+any_early_end soc plan i t fits have proper at begins = omega (arith, begins, short_in_any soc plan i t fits have proper at)
+
+-- so in a good plan
+pub short_planned : (soc : SocValue) (limits : LimitsValue) (plan : PlanValue) (i : ℕ) (t : PlannedTest) → IsWithinSize soc → IsGood soc limits plan → IsAt (planned soc plan) i t → length t.operations ≤ WORK_MOST
+short_planned soc limits plan i t fits good at = short_in_any soc plan i t fits (good Wrappers).1 (good Proper) at
+
 pub early_end : (soc : SocValue) (limits : LimitsValue) (plan : PlanValue) (i : ℕ) (t : PlannedTest) → IsWithinSize soc → IsGood soc limits plan → IsAt (planned soc plan) i t → t.start ≤ START_MOST → end_of t ≤ PLAN_NUMBER_MOST
-early_end soc limits plan i t fits good at begins = omega (arith, begins, short_planned soc limits plan i t fits good at)
+early_end soc limits plan i t fits good at begins = any_early_end soc plan i t fits (good Wrappers).1 (good Proper) at begins

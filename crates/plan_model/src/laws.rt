@@ -34,12 +34,13 @@ pub fn good_without_limits()
 {}
 
 /// No test is longer than its part of the chip's work, wherever there are wrappers and each is proper. So in a good plan of
-/// a chip whose size fits no test takes more cycles than the work of a chip may be, and one that starts within the starts
-/// of plans ends within the numbers of plans.
+/// a chip whose size fits no test takes more cycles than the work of a chip may be. One that starts within the starts of
+/// plans ends within the numbers of plans, whether or not the plan keeps the other rules.
 pub fn tests_are_short()
     ensures work { (soc : SocValue) (plan : PlanValue) (i : ℕ) (l : LiveTest) → Each (HasWrapper plan) (used_pairs soc) → Each (HasProperCells soc) plan.wrappers → slice_get (live_tests soc) i ≡ Some l → length (operations_of l.core l.test (chains_of plan l.core l.test)) ≤ test_work l.core l.test }
     ensures lengths { (soc : SocValue) (limits : LimitsValue) (plan : PlanValue) (i : ℕ) (t : PlannedTest) → IsWithinSize soc → IsGood soc limits plan → IsAt (planned soc plan) i t → length t.operations ≤ WORK_MOST }
     ensures ends { (soc : SocValue) (limits : LimitsValue) (plan : PlanValue) (i : ℕ) (t : PlannedTest) → IsWithinSize soc → IsGood soc limits plan → IsAt (planned soc plan) i t → t.start ≤ START_MOST → end_of t ≤ PLAN_NUMBER_MOST }
+    ensures any_ends { (soc : SocValue) (plan : PlanValue) (i : ℕ) (t : PlannedTest) → IsWithinSize soc → Each (HasWrapper plan) (used_pairs soc) → Each (HasProperCells soc) plan.wrappers → IsAt (planned soc plan) i t → t.start ≤ START_MOST → end_of t ≤ PLAN_NUMBER_MOST }
 {}
 
 /// No proper wrapper on so many wires makes a test shorter than its lower time; that of a self test is its cycles.
