@@ -6,3 +6,4 @@ pub mod Readings
 pub mod Settled
 pub mod Texts
 pub mod Trusted
+pub mod TopCalls

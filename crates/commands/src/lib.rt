@@ -7,6 +7,7 @@ ghost use Rattle.std.specs.Prelude.{◌≡◌};
 mod laws;
 mod lines;
 mod loading;
+mod top_calls;
 mod words;
 mod writing;
 
@@ -16,6 +17,7 @@ pub use loading::{
     Accepted, Both, answered_with, bad_words, load_accepted_plan, load_all, load_both, load_chip,
     load_file, load_limits, refused_with,
 };
+pub use top_calls::{TopCall, top_call};
 pub use words::words_after_name;
 pub use writing::write_verdict;
 

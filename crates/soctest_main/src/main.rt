@@ -1,17 +1,33 @@
-// The program: the words of its command line, over the files of the system and standard output.
+// The program: the words of its command line go to the top call that takes them, over the files of the system, standard output
+// and standard error.
 #![tactic(auto)]
 
-use commands::{Status, words_after_name};
+use commands::{Status, TopCall, top_call, words_after_name};
 use outside::{RealShelf, RealSink};
+use plan_improver::improve;
+use plan_picture::draw;
 use soctest::soctest;
 use std::process::ExitCode;
 
+/// Runs the command of these words.
+fn run(rt: &HostRuntime, words: &[String]) -> Status {
+    let alloc = rt.alloc();
+    let mut shelf = RealShelf::new(rt);
+    let mut out = RealSink::new(rt.stdout());
+    match top_call(words) {
+        TopCall::Improve { words } => {
+            let mut told = RealSink::new(rt.stderr());
+            improve(alloc, words, &mut shelf, &mut out, &mut told)
+        }
+        TopCall::Picture { words } => draw(alloc, words, &mut shelf, &mut out),
+        TopCall::Soctest { words } => soctest(alloc, words, &mut shelf, &mut out),
+    }
+}
+
 fn main(rt: HostRuntime) -> ExitCode {
-    let Some(words) = words_after_name(&rt) else {
-        return ExitCode::from(Status::NoMemory.number());
+    let status = match words_after_name(&rt) {
+        Some(words) => run(&rt, words.as_slice()),
+        None => Status::NoMemory,
     };
-    let mut shelf = RealShelf::new(&rt);
-    let mut sink = RealSink::new(rt.stdout());
-    let status = soctest(rt.alloc(), words.as_slice(), &mut shelf, &mut sink);
     ExitCode::from(status.number())
 }
