@@ -3,7 +3,7 @@
 ghost use Rattle.std.specs.Prelude.{◌≡◌, ℕ, ◌+◌, ◌≤◌, None, OnOk, IfOk, IfErr, IfSome, IsOk, length, vec_capacity};
 ghost use Rattle.std.specs.List.{All, filter};
 ghost use Rattle.soc_model.specs.declared.TestId.{TestId};
-ghost use Rattle.soc_model.specs.Chips.{soc_value, is_live, live_tests};
+ghost use Rattle.soc_model.specs.Chips.{SocValue, soc_value, is_live, live_tests};
 ghost use Rattle.soc_model.specs.SoundChips.{IsSoundChip};
 ghost use Rattle.plan_model.specs.declared.TheConstants.{START_MOST};
 ghost use Rattle.plan_model.specs.Views.{limits_value, plan_value};
@@ -181,7 +181,8 @@ impl Scratch {
 
 /// Whether the plan is good and its certificate accepted. Then it runs right for every content, and no good plan has
 /// fewer cycles than its certificate claims. Else the error is the first rule that the plan breaks, in their order, with
-/// what shows that first, and last the fault of the certificate. It takes no memory, and the room serves again.
+/// what shows that first, and last the fault of the certificate. It takes no memory, and the room serves again: every chip that it
+/// had room for, it still has room for.
 pub fn check_plan(
     soc: &Soc,
     limits: &Limits,
@@ -198,6 +199,7 @@ pub fn check_plan(
     ensures right { OnOk result ((content : Content) → IsRight (soc_value soc.now) (limits_value limits.now) (plan_value plan.now) content) }
     ensures bound { OnOk result (IsBound (soc_value soc.now) (limits_value limits.now) (plan_value plan.now).bound.cycles) }
     ensures room { HasRoom (soc_value soc.now) room.new }
+    ensures serves { (chip : SocValue) → HasRoom chip room.old → HasRoom chip room.new }
 {
     good_plans_run_right();
     faults_are_exact();

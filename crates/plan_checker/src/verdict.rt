@@ -105,7 +105,7 @@ fn check_tests(
     ensures paired { IfNone result (keys wrappers.new ≡ map pair_of (plan_value plan.now).wrappers) }
     ensures named { IfNone result (keys names.new ≡ live_ids (soc_value soc.now)) }
     ensures started { IfNone result (AreStarts (live_ids (soc_value soc.now)) plan.now.starts.items starts.new) }
-    ensures pairs_left { length (used_pairs (soc_value soc.now)) ≤ length (keys wrappers.new) + spare wrappers.new }
+    ensures pairs_left { length (keys wrappers.old) + spare wrappers.old ≤ length (keys wrappers.new) + spare wrappers.new }
     ensures names_left { length (keys names.old) + spare names.old ≤ length (keys names.new) + spare names.new }
 {
     match check_wrappers(soc, plan, marks, wrappers) {
@@ -200,7 +200,7 @@ pub(crate) fn check_rules(
     requires events_fit { length rooms.old.placed.tests.items * EVENTS_EACH ≤ vec_capacity rooms.old.placed.events }
     ensures good { IfNone result (IsGood (soc_value soc.now) (limits_value limits.now) (plan_value plan.now)) }
     ensures fault { IfSome result (λ f. IsFault (soc_value soc.now) (limits_value limits.now) (plan_value plan.now) (fault_value f)) }
-    ensures pairs_left { length (used_pairs (soc_value soc.now)) ≤ length (keys rooms.new.wrappers) + spare rooms.new.wrappers }
+    ensures pairs_left { length (keys rooms.old.wrappers) + spare rooms.old.wrappers ≤ length (keys rooms.new.wrappers) + spare rooms.new.wrappers }
     ensures names_left { length (keys rooms.old.names) + spare rooms.old.names ≤ length (keys rooms.new.names) + spare rooms.new.names }
     ensures starts_long { length rooms.new.starts.items ≡ length rooms.old.starts.items }
     ensures events_left { length rooms.old.placed.tests.items * EVENTS_EACH ≤ vec_capacity rooms.new.placed.events }

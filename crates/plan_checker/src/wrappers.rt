@@ -101,7 +101,7 @@ fn take_wrappers(
     ensures kept { IfNone result (Each (IsFitting (soc_value soc.now) (plan_value plan.now)) (map wrapper_value wrappers.now)) }
     ensures filled { IfNone result (keys room.new ≡ map pair_of (map wrapper_value wrappers.now)) }
     ensures first { IfSome result (λ p. (n : ℕ) × (w : WrapperValue) × IsFirstBreach (IsFitting (soc_value soc.now) (plan_value plan.now)) (map wrapper_value wrappers.now) n w × (p ≡ pair_of w)) }
-    ensures space_left { length (used_pairs (soc_value soc.now)) ≤ length (keys room.new) + spare room.new }
+    ensures space_left { spare room.old ≤ length (keys room.new) + spare room.new }
 {
     for wrapper in wrappers {
         if !is_used(soc, wrapper.module, wrapper.scan) {
@@ -170,7 +170,7 @@ pub(crate) fn check_wrappers(
     requires space { length (used_pairs (soc_value soc.now)) ≤ length (keys room.old) + spare room.old }
     ensures stage { (limits : LimitsValue) → IsStage (soc_value soc.now) limits (plan_value plan.now) Wrappers result }
     ensures filled { IfNone result (keys room.new ≡ map pair_of (plan_value plan.now).wrappers) }
-    ensures space_left { length (used_pairs (soc_value soc.now)) ≤ length (keys room.new) + spare room.new }
+    ensures space_left { length (keys room.old) + spare room.old ≤ length (keys room.new) + spare room.new }
 {
     room.clear();
     match take_wrappers(soc, plan, &plan.wrappers, marks, room) {

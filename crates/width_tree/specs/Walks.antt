@@ -68,7 +68,7 @@ pub record RoomValue : Type 0 where
   pub modules : ℕ
   pub nodes : ℕ
 
--- room for the modules of the chip and the nodes of the tree
+-- room for the modules of the chip and at least the nodes of the tree
 pub record HasRoom (soc : SocValue) (t : TreeValue) (room : RoomValue) : Type 0 where
   pub modules : room.modules ≡ length soc.modules
-  pub nodes : room.nodes ≡ length t.nodes
+  pub nodes : length t.nodes ≤ room.nodes

@@ -83,7 +83,7 @@ impl TreeRoom {
         })
     }
 
-    /// Room for this chip and this tree.
+    /// Room for this chip and this tree, and for every tree with no more nodes.
     pub fn new(alloc: Global, soc: &Soc, tree: &Tree) -> Result<TreeRoom, NoMemory>
         ensures { IfOk result (HasRoom (soc_value soc.now) (tree_value tree.now)) }
     {
@@ -136,7 +136,7 @@ fn fill_widths(table: &Table<'_>, widths: &mut Widths)
     widths.total = fill_slices(table, &mut widths.intervals, &mut widths.areas);
 }
 
-/// The check over rooms that are as long as they have to be.
+/// The check over rooms that are long enough.
 fn check_in(
     soc: &Soc,
     wires: u64,
@@ -156,7 +156,7 @@ fn check_in(
     requires intervals { length widths.old.intervals.items ≡ length (soc_value soc.now).modules }
     requires areas { length widths.old.areas.items ≡ length (soc_value soc.now).modules }
     requires marks { length marks.old ≡ length (soc_value soc.now).modules }
-    requires turns { length turns.old ≡ length tree.now.nodes.items }
+    requires turns { length tree.now.nodes.items ≤ length turns.old }
     ensures checked { (t : WidthTree) → nodes_of t ≡ map node_value tree.now.nodes.items → IsChecked (soc_value soc.now) wires tree.now.claimed (cases_of (soc_value soc.now) (root_case (soc_value soc.now) wires) t) result }
     ensures intervals { length widths.new.intervals.items ≡ length widths.old.intervals.items }
     ensures areas { length widths.new.areas.items ≡ length widths.old.areas.items }
@@ -177,7 +177,8 @@ fn check_in(
 /// Whether a tree is accepted, for a sound chip and sound limits. Ok comes exactly where every node keeps its rule and every
 /// leaf that shows a number of cycles shows at least the claim; then no good plan has fewer cycles than the claim.
 /// `BadNode` and `Less` come for the first node that isn't as it should be: `BadNode` exactly where it breaks its rule,
-/// `Less` exactly where it keeps it and what it shows is less than the claim. No memory is taken, and the room serves again.
+/// `Less` exactly where it keeps it and what it shows is less than the claim. No memory is taken, and the room serves again:
+/// it stays as large as it was, so that it does for every tree over a chip of as many modules with no more nodes.
 pub fn check_tree(
     soc: &Soc,
     limits: &Limits,

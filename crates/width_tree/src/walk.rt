@@ -220,7 +220,7 @@ pub fn check_nodes(
     requires widths { AreWidths table.now.wires (length (chip_of table.now).modules) table.now.times.now widths.old }
     requires marks { length marks.old ≡ length (chip_of table.now).modules }
     requires older { AreOlder 1 marks.old }
-    requires room { length turns.old ≡ length tree.now.nodes.items }
+    requires room { length tree.now.nodes.items ≤ length turns.old }
     requires tree { IsOneTree (map node_value tree.now.nodes.items) }
     ensures widths { AreWidths table.now.wires (length (chip_of table.now).modules) table.now.times.now widths.new }
     ensures checked { (t : WidthTree) → nodes_of t ≡ map node_value tree.now.nodes.items → IsChecked (chip_of table.now) table.now.wires tree.now.claimed (cases_of (chip_of table.now) widths.old.intervals.items t) result }

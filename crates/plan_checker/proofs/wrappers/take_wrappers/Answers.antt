@@ -41,7 +41,7 @@ put_pair-requires-clause-space c =
     let long : length (map wrapper_value c.args.wrappers.now) ≡ length c.args.wrappers.now = length_values wrapper_value c.args.wrappers.now in
     let fit : c.loop-wrapper.wrapper-index + 1 ≤ length (used_pairs (soc_value c.args.soc.now)) = new_fit pair_of (map wrapper_value c.args.wrappers.now) (used_pairs (soc_value c.args.soc.now)) (c.loop-wrapper.wrapper-index + 1) (wrapper_value c.wrapper-item.result) (omega arith) (λ m x less at. (each m x less at).new) (λ m x less at. (each m x less at).used) in
     let taken : length (map pair_of (take c.loop-wrapper.wrapper-index (map wrapper_value c.args.wrappers.now))) ≡ c.loop-wrapper.wrapper-index = length_values pair_of (take c.loop-wrapper.wrapper-index (map wrapper_value c.args.wrappers.now)) ∙ length-take-le c.loop-wrapper.wrapper-index (map wrapper_value c.args.wrappers.now) (omega arith) in
-    omega (arith, c.loop-wrapper.invariant.space, ap length c.loop-wrapper.invariant.filled)
+    omega (arith, fit, taken, c.requires.space, c.loop-wrapper.invariant.space, ap length c.loop-wrapper.invariant.filled)
 
 pub loop-wrapper-preserved : goal.loop-wrapper-preserved
 loop-wrapper-preserved c =
