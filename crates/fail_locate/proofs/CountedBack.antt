@@ -1,5 +1,5 @@
 -- The spot of a cycle and a wire is what is read there: counting back to the last Capture finds it.
-use Rattle.std.proofs.Common.{◌≡◌, ℕ, zero, suc, ◌+◌, ◌-◌, ◌≤◌, ◌<◌, ◌⊎◌, true, ltb, Option, Some, None, List, [], ◌∷◌, ◌++◌, length, get_or, take, reverse, refl, ap, ◌∙◌, sym, arith, inl, inr}
+use Rattle.std.proofs.Common.{◌≡◌, ℕ, zero, suc, ◌+◌, ◌-◌, ◌≤◌, ◌<◌, ◌⊎◌, true, ltb, Option, Some, None, List, [], ◌∷◌, ◌++◌, length, get_or, take, reverse, refl, ap, ◌∙◌, sym, subst, arith, inl, inr}
 use Rattle.std.specs.Prelude.{slice_get, Bool}
 use Rattle.std.proofs.Math.Seq.{take-suc}
 use Rattle.std.proofs.lemmas.List.{reverse-append, get_or_past}
@@ -8,22 +8,24 @@ use Rattle.std.proofs.lemmas.Bool.{lt-ltb, ltb-true, cases_Bool, cases_lt}
 use Rattle.soc_model.specs.declared.TestId.{TestId}
 use Rattle.soc_model.specs.Chips.{SocValue}
 use Rattle.plan_model.specs.Cells as cells
-use Rattle.plan_model.specs.Cells.{out_length}
+use Rattle.plan_model.specs.Cells.{is_read, out_length}
 use Rattle.plan_model.specs.Operations.{Operation, Setup, Shift, Capture, SelfTest, ahead}
-use Rattle.plan_model.specs.Plans.{PlanValue, PlannedTest, planned, uses, of_first}
+use Rattle.plan_model.specs.Plans.{LimitsValue, PlanValue, PlannedTest, planned, uses, of_first}
 use Rattle.plan_model.specs.Right.{IsAt, IsReadAt, IsRight}
-use Rattle.plan_model.specs.Rules.{IsGoodAlone, bare_limits}
-use Rattle.plan_model.specs.Runs.{chain_at, operation_at}
+use Rattle.plan_model.specs.Rules.{IsGood, IsGoodAlone, bare_limits}
+use Rattle.plan_model.specs.Runs.{Content, chain_at, operation_at}
 use Rattle.plan_model.proofs.ChainsInTheRun.{AreApart, uses_wire}
 use Rattle.plan_model.proofs.LoadsAndReads.{at_start_plus, begun_at, chain_is}
 use Rattle.plan_model.proofs.PlannedTests.{of_first_is}
 use Rattle.plan_model.proofs.TestsInGoodPlans.{Uses, uses_is, apart}
 use Rattle.plan_model.proofs.GoodPlansRunRight.{every_good_plan_is_right}
+use Rattle.plan_model.proofs.GoodWithoutLimits.{good_alone}
 use Rattle.fail_locate.specs.declared.Cell.{Cell}
 use Rattle.fail_locate.specs.declared.Cell.TheVariants.{Flop, Out}
 use Rattle.fail_locate.specs.declared.Spot.{Spot}
+use Rattle.fail_locate.specs.Laws.{SpotsAreReads}
 use Rattle.fail_locate.specs.SpotAt.{since_capture, named_cell, spot_since, spot_of, spot_at}
-use Rattle.fail_locate.specs.Spots.{IsSpot, IsNoSpot, cell_value}
+use Rattle.fail_locate.specs.Spots.{IsSpot, IsShown, IsNoSpot, cell_value}
 use Rattle.fail_locate.proofs.FoundSpots.{no_bits}
 
 -- ---- counting back
@@ -206,3 +208,56 @@ no_spot soc plan c w none = elim (of_first_cases (uses c w) (spot_of c w) None (
     | inr r ↦ absurd (none f.0 r.pattern f.1 r.cell f.2 r.read)
   ]
 ]
+
+-- ---- both ways
+
+-- a cell that is read is one that a spot names
+named_read : (x : cells.Cell) → is_read x ≡ true → (cell : Cell) × (cell_value cell ≡ x)
+named_read (cells.In number) read = absurd cc
+named_read (cells.Flop chain place) read = (Flop chain place, refl)
+named_read (cells.Out number) read = (Out number, refl)
+
+-- what is read is a spot
+read_spot : (soc : SocValue) (limits : LimitsValue) (plan : PlanValue) (c w : ℕ) → IsGood soc limits plan → (i k : ℕ) (t : PlannedTest) (x : cells.Cell) → IsAt (planned soc plan) i t → IsReadAt t k x c w → (spot : Spot) × IsSpot soc plan c w spot
+read_spot soc limits plan c w good i k t x at read =
+    let right : IsRight soc limits plan no_bits = every_good_plan_is_right soc limits plan no_bits good in
+    let n = named_read x ((right.reads.shows i t k x c w at read).0) in
+    (record { test = t.id; pattern = k; cell = n.0 }, record { place = i; test = t; at = at; name = refl; read = subst (λ (x : cells.Cell). IsReadAt t k x c w) (sym n.1) read })
+
+-- a spot that is found is what is read
+is_spot : (soc : SocValue) (limits : LimitsValue) (plan : PlanValue) (c w : ℕ) (spot : Spot) → IsGood soc limits plan → spot_at soc plan c w ≡ Some spot → IsSpot soc plan c w spot
+is_spot soc limits plan c w spot good found = elim (of_first_cases (uses c w) (spot_of c w) None (planned soc plan)) [
+  | inl is ↦ let wrong : None ≡ Some spot = sym is ∙ found in absurd cc
+  | inr f ↦ elim (unread f.1 c w (uses_is c w f.1 f.3)) [
+    | inl no' ↦ let wrong : None ≡ Some spot = sym no' ∙ sym f.4 ∙ found in absurd cc
+    | inr r ↦
+        let s = read_spot soc limits plan c w good f.0 r.pattern f.1 r.cell f.2 r.read in
+        let same : s.0 ≡ spot = same_Some s.0 spot (spot_is soc plan c w s.0 (good_alone soc limits plan good) s.1 ∙ found) in
+        subst (λ (s : Spot). IsSpot soc plan c w s) same s.1
+  ]
+]
+
+-- and its bit is shown
+is_shown : (soc : SocValue) (limits : LimitsValue) (plan : PlanValue) (content : Content) (c w : ℕ) (spot : Spot) → IsGood soc limits plan → IsSpot soc plan c w spot → IsShown soc plan content c w spot
+is_shown soc limits plan content c w spot good is =
+    let right : IsRight soc limits plan content = every_good_plan_is_right soc limits plan content good in
+    record {
+      spot_is = is;
+      bit = (right.reads.shows is.place is.test spot.pattern (cell_value spot.cell) c w is.at is.read).1 ∙ ap (λ (id : TestId). content.response id spot.pattern (cell_value spot.cell)) (sym is.name);
+    }
+
+-- nothing is read where there is no spot
+none_read : (soc : SocValue) (limits : LimitsValue) (plan : PlanValue) (c w : ℕ) → IsGood soc limits plan → spot_at soc plan c w ≡ None → IsNoSpot soc plan c w
+none_read soc limits plan c w good none i k t x at read =
+    let s = read_spot soc limits plan c w good i k t x at read in
+    let wrong : Some s.0 ≡ None = spot_is soc plan c w s.0 (good_alone soc limits plan good) s.1 ∙ none in
+    absurd cc
+
+pub finds_reads : SpotsAreReads
+finds_reads soc limits plan content c w good = record {
+  found = λ spot. (
+    λ found. is_shown soc limits plan content c w spot good (is_spot soc limits plan c w spot good found),
+    λ shows. sym (spot_is soc plan c w spot (good_alone soc limits plan good) shows.spot_is),
+  );
+  none = (none_read soc limits plan c w good, λ none. sym (no_spot soc plan c w none));
+}

@@ -1,6 +1,6 @@
 // What a log says, and what is read at a cycle on a wire, is settled. Each law is the contract of a function that does
 // nothing: a caller learns it by the call.
-ghost use Rattle.fail_locate.specs.Laws.{SpotsAreOne};
+ghost use Rattle.fail_locate.specs.Laws.{SpotsAreOne, SpotsAreReads};
 ghost use Rattle.fail_locate.specs.LogAnswers.{EachLogHasAnAnswer, LogsAreNotRefused, LogsRefusedOnce, SayOneLog};
 
 /// A text says the fails of at most one log.
@@ -26,4 +26,11 @@ pub fn each_log_has_an_answer()
 /// A good plan shows at most one response bit at a cycle on a wire.
 pub fn spots_are_one()
     ensures { SpotsAreOne }
+{}
+
+/// The spot that counting back finds at a cycle on a wire, by which the lines of a log are told, is the response bit that the
+/// run of a good plan reads there, for every content: the test, the pattern and the cell exactly where the run shows that
+/// bit, and none exactly where it reads nothing.
+pub fn spots_are_reads()
+    ensures { SpotsAreReads }
 {}

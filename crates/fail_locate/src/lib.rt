@@ -11,6 +11,7 @@ mod wired;
 
 pub use laws::{
     each_log_has_an_answer, logs_are_not_refused, logs_refused_once, say_one_log, spots_are_one,
+    spots_are_reads,
 };
 pub use locator::Locator;
 pub use log::read_log;

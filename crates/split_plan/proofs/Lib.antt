@@ -5,5 +5,6 @@ pub mod PartsAsTests
 pub mod Precedences
 pub mod Profiles
 pub mod PartLaws
+pub mod PartContents
 pub mod Counting
 pub mod Making

@@ -1,10 +1,12 @@
--- What holds of the parts: each pattern is in exactly one, parts are runs of patterns in order, and each is a test of the
--- chip of parts.
-use Rattle.std.specs.Prelude.{◌≡◌, ◌⊎◌, ℕ, ◌+◌, ◌<◌, ◌≤◌, Some, List, length, slice_get}
+-- What holds of the parts: each pattern is in exactly one, parts are runs of patterns in order, each is a test of the chip of
+-- parts, and each content of the chip that is cut is one of the parts.
+use Rattle.std.specs.Prelude.{◌≡◌, ◌⊎◌, ℕ, ◌+◌, ◌-◌, ◌<◌, ◌≤◌, Some, List, length, slice_get}
 use Rattle.soc_model.specs.declared.TestId.{TestId}
 use Rattle.soc_model.specs.declared.Which.TheVariants.{Tests, Work}
 use Rattle.soc_model.specs.Chips.{SocValue, LiveTest, live_tests, id_of}
 use Rattle.soc_model.specs.Sizes.{IsFirstPassed}
+use Rattle.plan_model.specs.Cells.{Cell}
+use Rattle.plan_model.specs.Runs.{Content}
 use Rattle.split_plan.specs.declared.Part.{Part}
 use Rattle.split_plan.specs.declared.SplitFault.{SplitFault}
 use Rattle.split_plan.specs.declared.SplitFault.TheVariants.{Limit, NoMemory}
@@ -49,6 +51,16 @@ pub record AreParts (soc parts : SocValue) (list : List Part) : Type 0 where
   pub each : (i : ℕ) (p : Part) → slice_get list i ≡ Some p → IsPart soc parts i p
   -- of two parts of a test the earlier one has the earlier patterns
   pub order : (i j : ℕ) (p q : Part) → i < j → slice_get list i ≡ Some p → slice_get list j ≡ Some q → p.whole ≡ q.whole → p.last < q.first
+
+-- A content of the parts has the patterns of a content of the chip that is cut: pattern `k` of a part is that of its test with
+-- the number `first + k - 1`. Its bits at first may be any.
+pub record HasPatternsOf (parts : List Part) (whole content : Content) : Type 0 where
+  pub stimulus : (i : ℕ) (p : Part) (k : ℕ) (x : Cell) → slice_get parts i ≡ Some p → 1 ≤ k → content.stimulus p.part k x ≡ whole.stimulus p.whole (p.first + k - 1) x
+  pub response : (i : ℕ) (p : Part) (k : ℕ) (x : Cell) → slice_get parts i ≡ Some p → 1 ≤ k → content.response p.part k x ≡ whole.response p.whole (p.first + k - 1) x
+
+-- for each content of the chip that is cut there is one of the parts with its patterns
+abbrev pub EachContentInParts : List Part → Type 0
+EachContentInParts parts = (whole : Content) → (content : Content) × HasPatternsOf parts whole content
 
 -- the limit that the chip of parts passes first, of tests or of work; want of memory may come at any time
 abbrev pub IsRefusal : SocValue → SplitFault → Type 0

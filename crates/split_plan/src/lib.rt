@@ -7,7 +7,7 @@ ghost use Rattle.soc_model.specs.Chips.{soc_value};
 ghost use Rattle.soc_model.specs.SoundChips.{IsSoundChip};
 ghost use Rattle.plan_model.specs.SoundLimits.{IsSoundLimits};
 ghost use Rattle.plan_model.specs.Views.{limits_value};
-ghost use Rattle.split_plan.specs.Laws.{AreParts, EachPatternOnce, IsRefusal};
+ghost use Rattle.split_plan.specs.Laws.{AreParts, EachContentInParts, EachPatternOnce, IsRefusal};
 ghost use Rattle.split_plan.specs.Parts.{split_chip, split_of, split_value};
 
 mod bounds;
@@ -82,6 +82,7 @@ fn made(alloc: Global, soc: &Soc, limits: &Limits, most: u64) -> Result<Split, N
 
 /// Cuts each live test over the wires into parts of `most` patterns, the last of those that are left; any other test is one
 /// part. The parts of a test that is cut draw the most that it draws at any cycle, have no profile, and keep their order.
+/// Whatever patterns the tests have, the parts can have them: there is a content of the parts for each of the chip.
 ///
 /// `Limit` comes exactly where the chip of parts passes a limit on its size: the first, with its number, which is found before
 /// a part is made. Only tests and work can be too many.
@@ -95,6 +96,7 @@ pub fn split_soc(alloc: Global, soc: &Soc, limits: &Limits, most: u64) -> Result
     ensures once { IfOk result (λ split. EachPatternOnce (soc_value soc.now) split.parts.items) }
     ensures tests { IfOk result (λ split. AreParts (soc_value soc.now) (soc_value split.soc) split.parts.items) }
     ensures refused { IfErr result (IsRefusal (split_chip (limits_value limits.now) most (soc_value soc.now))) }
+    ensures contents { IfOk result (λ split. EachContentInParts split.parts.items) }
 {
     check_numbers(soc, most)?;
     match made(alloc, soc, limits, most) {

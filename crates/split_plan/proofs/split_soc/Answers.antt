@@ -5,10 +5,11 @@ use Rattle.plan_model.specs.SoundLimits.{IsSoundLimits}
 use Rattle.plan_model.specs.Views.{limits_value}
 use Rattle.split_plan.specs.declared.Split.{Split}
 use Rattle.split_plan.specs.declared.SplitFault.{SplitFault}
-use Rattle.split_plan.specs.Laws.{AreParts, EachPatternOnce, IsRefusal}
+use Rattle.split_plan.specs.Laws.{AreParts, EachContentInParts, EachPatternOnce, IsRefusal}
 use Rattle.split_plan.specs.Parts.{SplitValue, split_chip}
 use Rattle.split_plan.proofs.ChipOfParts.{split_sound}
 use Rattle.split_plan.proofs.Profiles.{limits_sound}
+use Rattle.split_plan.proofs.PartContents.{contents}
 use Rattle.split_plan.proofs.PartLaws.{each_once, are_parts}
 use Rattle.split_plan.proofs.split_soc.Goals as goal
 
@@ -38,3 +39,7 @@ returns-in-Ok-clause-once c =
 pub returns-in-Ok-clause-tests : goal.returns-in-Ok-clause-tests
 returns-in-Ok-clause-tests c =
     subst (λ (s : SplitValue). AreParts (soc_value c.args.soc.now) s.soc s.parts) (sym c.in-Ok.ensures) (are_parts (limits_value c.args.limits.now) c.args.most (soc_value c.args.soc.now) c.requires.most c.requires.chip)
+
+pub returns-in-Ok-clause-contents : goal.returns-in-Ok-clause-contents
+returns-in-Ok-clause-contents c =
+    subst (λ (s : SplitValue). EachContentInParts s.parts) (sym c.in-Ok.ensures) (contents (limits_value c.args.limits.now) c.args.most (soc_value c.args.soc.now) c.requires.chip)
