@@ -24,7 +24,7 @@ planned_bus : (soc : SocValue) (plan : PlanValue) (i : ℕ) (t : PlannedTest) �
 unfolding planned_test
 planned_bus soc plan i t o = ap (λ (t : PlannedTest). t.bus) o.is
 
-bus_there : (soc : SocValue) (limits : LimitsValue) (plan : PlanValue) → IsGood soc limits plan → (i : ℕ) (t : PlannedTest) → IsAt (planned soc plan) i t → t.tam ≡ true → (r : ℕ × ℕ) × (slice_get (bus_wires plan) t.bus ≡ Some r)
+pub bus_there : (soc : SocValue) (limits : LimitsValue) (plan : PlanValue) → IsGood soc limits plan → (i : ℕ) (t : PlannedTest) → IsAt (planned soc plan) i t → t.tam ≡ true → (r : ℕ × ℕ) × (slice_get (bus_wires plan) t.bus ≡ Some r)
 bus_there soc limits plan good i t at tam =
     let o : Origin soc plan i t = origin soc plan i t at in
     let own : o.l.test.tam ≡ true = sym (planned_tam plan o.l.place o.l.core o.l.test) ∙ ap (λ (t : PlannedTest). t.tam) o.is ∙ tam in

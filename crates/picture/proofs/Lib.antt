@@ -4,4 +4,5 @@ pub mod Joining
 pub mod LanesApart
 mod OneMore
 pub mod PartsOfPlans
+pub mod SelfTests
 pub mod Starts

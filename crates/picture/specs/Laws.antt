@@ -1,17 +1,18 @@
 -- What a picture is drawn from, and what holds of its rectangles and steps.
-use Rattle.std.specs.Prelude.{◌≡◌, ℕ, ◌≤◌, ◌^◌, Some, List, [], length, map, slice_get}
+use Rattle.std.specs.Prelude.{◌≡◌, ℕ, ◌+◌, ◌≤◌, ◌^◌, Some, List, [], length, map, slice_get}
 use Rattle.std.specs.List.{filter}
+use Rattle.std.specs.List.Sorted.{IsPermutation}
 use Rattle.soc_model.specs.Chips.{SocValue}
-use Rattle.plan_model.specs.Plans.{LimitsValue, PlanValue}
+use Rattle.plan_model.specs.Plans.{LimitsValue, PlanValue, PlannedTest, users}
 use Rattle.plan_model.specs.Rules.{IsGood}
 use Rattle.plan_model.specs.SoundLimits.{IsSoundLimits}
 use Rattle.live_tests.specs.declared.placed.PlacedTest.{PlacedTest}
-use Rattle.live_tests.specs.Placed.{placed_tests}
+use Rattle.live_tests.specs.Placed.{placed_of, placed_tests}
 use Rattle.picture.specs.declared.Parts.{Parts}
 use Rattle.picture.specs.declared.panels.Drawn.{Drawn}
 use Rattle.picture.specs.Panels.{below, wires_panel}
 use Rattle.picture.specs.PictureText.{bottom_of, lanes_of, plan_steps, self_tests}
-use Rattle.picture.specs.Rectangles.{bus_wires, covers, drawn_test, is_wired, laned, wired}
+use Rattle.picture.specs.Rectangles.{bus_wires, covers, drawn_over, drawn_test, is_self, is_wired, laned, wired}
 
 -- no two rectangles have a cycle of a row in common: of a wire, or of a lane
 abbrev pub AreApart : List Drawn → Type 0
@@ -20,6 +21,20 @@ AreApart drawn = (cycle row : ℕ) → length (filter (covers cycle row) drawn) 
 -- the rectangles are those of the tests over the wires, each once, in their order
 abbrev pub AreDrawn : List Drawn → List PlacedTest → Type 0
 AreDrawn drawn tests = map drawn_test drawn ≡ filter is_wired tests
+
+-- A cycle of a wire has a rectangle exactly where the run of the plan uses it: at each cycle the rectangles that have a wire are those of
+-- the tests that use it, which are active then and have it on their bus, in the order of the chip.
+abbrev pub ShowsUse : List Drawn → List PlannedTest → Type 0
+ShowsUse drawn tests = (cycle wire : ℕ) → map drawn_test (filter (covers cycle wire) drawn) ≡ map placed_of (users tests cycle wire)
+
+-- a rectangle over all cycles of its test, in one lane
+abbrev pub IsInLane : Drawn → Type 0
+IsInLane d = (lane : ℕ) × (d ≡ drawn_over d.test lane (lane + 1))
+
+-- the rectangles in the lanes are those of the self tests, each once, in any order
+pub record AreLaned (drawn : List Drawn) (tests : List PlacedTest) : Type 0 where
+  pub once : IsPermutation (filter is_self tests) (map drawn_test drawn)
+  pub in_lanes : (i : ℕ) (d : Drawn) → slice_get drawn i ≡ Some d → IsInLane d
 
 -- under a limit no step is above it
 abbrev pub StaysWithin : LimitsValue → List (ℕ × ℕ) → Type 0

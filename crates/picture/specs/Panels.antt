@@ -10,7 +10,7 @@ scaled part all size = if nat_eq all 0 then 0 else min (part * size / all) size
 
 -- where a cycle begins, of so many cycles beside each other
 abbrev pub column : (cycle cycles : ℕ) → ℕ
-column cycle cycles = 80 + scaled cycle cycles 1000
+column cycle cycles = 120 + scaled cycle cycles 1000
 
 -- where a row of a panel begins
 abbrev pub row_line : Panel → (row : ℕ) → ℕ

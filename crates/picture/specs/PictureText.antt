@@ -10,6 +10,7 @@ use Rattle.picture.specs.declared.panels.Panel.{Panel}
 use Rattle.picture.specs.declared.panels.Drawn.{Drawn}
 use Rattle.picture.specs.Panels.{below, column, lanes_panel, scaled, wires_panel}
 use Rattle.picture.specs.Marks.{bus_texts, label_at, label_end, test_text}
+use Rattle.picture.specs.Scale.{scale_text}
 use Rattle.picture.specs.Rectangles.{bus_wires, by_start, is_self, lane_ends, laned, wired}
 
 -- ---- the head
@@ -18,30 +19,31 @@ abbrev pub style_text : List ℕ
 style_text =
     codes "<style>\nrect{stroke:#333;stroke-width:.5}\n.a{fill:#fff3c4}.b{fill:#cde7cd}.c{fill:#a9c6e8}.d{fill:#c79fc6}\n" ++
     codes ".w{fill:#fff;stroke:#999}.p{fill:#ddd;stroke:#333;stroke-width:.5}.l{stroke:#000;stroke-dasharray:4 3}\n" ++
+    codes ".g{stroke:#000;stroke-opacity:.2;pointer-events:none}\n" ++
     codes "text{fill:#111;pointer-events:none}.m{text-anchor:middle}.e{text-anchor:end}\n</style>\n"
 
 -- of a picture of such a height
 unfoldable pub head_text : (height : ℕ) → List ℕ
 head_text height =
-    codes "<svg xmlns='http://www.w3.org/2000/svg' width='1100' height='" ++ (decimal height ++
-    (codes "' viewBox='0 0 1100 " ++ (decimal height ++
+    codes "<svg xmlns='http://www.w3.org/2000/svg' width='1140' height='" ++ (decimal height ++
+    (codes "' viewBox='0 0 1140 " ++ (decimal height ++
     (codes "' font-family='sans-serif' font-size='10'>\n" ++ (style_text ++
-    (codes "<rect class='w' width='1100' height='" ++ (decimal height ++ codes "'/>\n")))))))
+    (codes "<rect class='w' width='1140' height='" ++ (decimal height ++ codes "'/>\n")))))))
 
 -- the frame of the wires
 unfoldable pub frame_text : Panel → List ℕ
-frame_text p = codes "<rect class='w' x='80' y='40' width='1000' height='" ++ (decimal p.height ++ (codes "'><title>wires " ++ (decimal p.rows ++ codes "</title></rect>\n")))
+frame_text p = codes "<rect class='w' x='120' y='40' width='1000' height='" ++ (decimal p.height ++ (codes "'><title>wires " ++ (decimal p.rows ++ codes "</title></rect>\n")))
 
 -- ---- the wires and the lanes
 
-unfoldable pub wires_text : Panel → List (ℕ × ℕ) → List PlacedTest → List ℕ
-wires_text p buses tests = bus_texts p 0 buses ++ flat_map (test_text p) (wired buses tests)
+unfoldable pub wires_text : SocValue → Panel → List (ℕ × ℕ) → List PlacedTest → List ℕ
+wires_text soc p buses tests = bus_texts p 0 buses ++ flat_map (test_text soc p) (wired buses tests)
 
 abbrev pub lanes_name : (lanes top : ℕ) → List ℕ
-lanes_name lanes top = if nat_eq lanes 0 then [] else label_at (codes "e") 74 (top + 12) ++ codes "self tests</text>\n"
+lanes_name lanes top = if nat_eq lanes 0 then [] else label_at (codes "e") 114 (top + 12) ++ codes "self tests</text>\n"
 
-unfoldable pub lanes_text : Panel → List Drawn → List ℕ
-lanes_text p drawn = lanes_name p.rows p.top ++ flat_map (test_text p) drawn
+unfoldable pub lanes_text : SocValue → Panel → List Drawn → List ℕ
+lanes_text soc p drawn = lanes_name p.rows p.top ++ flat_map (test_text soc p) drawn
 
 -- ---- what is drawn
 
@@ -55,15 +57,15 @@ step_text top cycles most s = codes "H" ++ (decimal (column s.0 cycles) ++ (code
 
 -- the steps of a load over so many cycles
 unfoldable pub load_text : (top cycles most : ℕ) → List (ℕ × ℕ) → List ℕ
-load_text top cycles most steps = codes "<path class='p' d='M80 " ++ (decimal (top + 100) ++ (flat_map (step_text top cycles most) steps ++ codes "'/>\n"))
+load_text top cycles most steps = codes "<path class='p' d='M120 " ++ (decimal (top + 100) ++ (flat_map (step_text top cycles most) steps ++ codes "'/>\n"))
 
 -- the limit
 unfoldable pub limit_text : (top most : ℕ) → List ℕ
 limit_text top most =
-    codes "<path class='l' d='M80 " ++ (decimal top ++ (codes "H1080'/>\n" ++
-    (label_at (codes "e") 74 (top + 4) ++ (codes "power limit</text>\n" ++
-    (label_at (codes "e") 74 (top + 16) ++ (decimal most ++ (label_end ++
-    (label_at (codes "e") 74 (top + 100) ++ codes "0</text>\n"))))))))
+    codes "<path class='l' d='M120 " ++ (decimal top ++ (codes "H1120'/>\n" ++
+    (label_at (codes "e") 114 (top + 4) ++ (codes "power limit</text>\n" ++
+    (label_at (codes "e") 114 (top + 16) ++ (decimal most ++ (label_end ++
+    (label_at (codes "e") 114 (top + 100) ++ codes "0</text>\n"))))))))
 
 unfoldable pub power_text : (top cycles : ℕ) → Option ℕ → List (ℕ × ℕ) → List ℕ
 power_text top cycles None steps = []
@@ -73,7 +75,7 @@ power_text top cycles (Some most) steps = load_text top cycles most steps ++ lim
 
 -- the number of the bound stands on the side of its line that has more room
 abbrev pub bound_side : (x : ℕ) → List ℕ
-bound_side x = if nat_le 580 x then label_at (codes "e") (x - 4) 32 else label_at (codes "s") (x + 4) 32
+bound_side x = if nat_le 620 x then label_at (codes "e") (x - 4) 32 else label_at (codes "s") (x + 4) 32
 
 unfoldable pub bound_text : (x bound : ℕ) → List ℕ
 bound_text x bound = bound_side x ++ (codes "bound " ++ (decimal bound ++ label_end))
@@ -81,8 +83,8 @@ bound_text x bound = bound_side x ++ (codes "bound " ++ (decimal bound ++ label_
 -- that of the bound at a place, both down to the end of the picture
 unfoldable pub lines_at : (x cycles bound bottom : ℕ) → List ℕ
 lines_at x cycles bound bottom =
-    codes "<path class='l' d='M1080 16V" ++ (decimal bottom ++ (codes "M" ++ (decimal x ++ (codes " 32V" ++ (decimal bottom ++ (codes "'/>\n" ++
-    (label_at (codes "e") 1076 16 ++ (codes "cycles " ++ (decimal cycles ++ (label_end ++ bound_text x bound))))))))))
+    codes "<path class='l' d='M1120 16V" ++ (decimal bottom ++ (codes "M" ++ (decimal x ++ (codes " 32V" ++ (decimal bottom ++ (codes "'/>\n" ++
+    (label_at (codes "e") 1116 16 ++ (codes "cycles " ++ (decimal cycles ++ (label_end ++ bound_text x bound))))))))))
 
 abbrev pub lines_text : (cycles bound bottom : ℕ) → List ℕ
 lines_text cycles bound bottom = lines_at (column bound cycles) cycles bound bottom
@@ -110,14 +112,15 @@ bottom_of end cycles (Some most) = if nat_eq cycles 0 then end else end + 124
 unfoldable pub inner_text : SocValue → LimitsValue → PlanValue → List ℕ
 inner_text soc limits plan =
     let lanes = lanes_of soc limits plan in
-    wires_text (wires_panel plan.cycles limits.wires) (bus_wires plan) (placed_tests soc plan) ++
-    (lanes_text lanes (laned [] (self_tests soc plan)) ++
+    let bottom = bottom_of (below lanes) plan.cycles limits.power in
+    wires_text soc (wires_panel plan.cycles limits.wires) (bus_wires plan) (placed_tests soc plan) ++
+    (lanes_text soc lanes (laned [] (self_tests soc plan)) ++
     (power_text (below lanes + 24) plan.cycles limits.power (plan_steps soc limits plan) ++
-    lines_text plan.cycles plan.bound.cycles (bottom_of (below lanes) plan.cycles limits.power)))
+    (scale_text plan.cycles bottom ++ lines_text plan.cycles plan.bound.cycles bottom)))
 
--- The frame, and in a plan of any cycles what is in it.
+-- The frame, and in a plan of any cycles what is in it; the numbers of the scale have 24 units below all else.
 abbrev pub picture_text : SocValue → LimitsValue → PlanValue → List ℕ
 picture_text soc limits plan =
-    head_text (bottom_of (below (lanes_of soc limits plan)) plan.cycles limits.power + 12) ++
+    head_text (bottom_of (below (lanes_of soc limits plan)) plan.cycles limits.power + 24) ++
     (frame_text (wires_panel plan.cycles limits.wires) ++
     ((if nat_eq plan.cycles 0 then [] else inner_text soc limits plan) ++ codes "</svg>\n"))

@@ -19,6 +19,7 @@ mod laws;
 mod marks;
 mod panels;
 mod rectangles;
+mod scale;
 mod sections;
 
 pub use laws::good_plans_draw_right;
@@ -29,6 +30,7 @@ use panels::{Drawn, Panel, below, lanes_panel, wires_panel};
 use plan_model::{Limits, Plan, good_without_limits};
 use power_events::power_steps;
 use rectangles::{bus_wires, lane_count, self_lanes, wired};
+use scale::push_scale;
 use sections::{push_frame, push_head, push_lanes, push_lines, push_power};
 use soc_model::Soc;
 use std::alloc::Global;
@@ -132,38 +134,44 @@ fn parts_of(alloc: Global, soc: &Soc, limits: &Limits, plan: &Plan) -> Result<Pa
 #[tactic(auto, unfolding(crate::specs::PictureText::wires_text))]
 fn push_wires(
     text: &mut Vec<u8>,
+    soc: &Soc,
     panel: &Panel,
     buses: &[(u64, u64)],
     drawn: &[Drawn],
 ) -> Result<(), NoMemory>
-    ensures { (tests : List the_placed) → drawn.now ≡ the_wired buses.now tests → OnOk result (text.new.items ≡ text.old.items ++ wires_text panel.now buses.now tests) }
+    ensures { (tests : List the_placed) → drawn.now ≡ the_wired buses.now tests → OnOk result (text.new.items ≡ text.old.items ++ wires_text (soc_value soc.now) panel.now buses.now tests) }
 {
     push_buses(text, panel, buses)?;
-    push_tests(text, panel, drawn)
+    push_tests(text, soc, panel, drawn)
 }
 
 /// Appends all that is in the frame.
 fn push_inner(
     text: &mut Vec<u8>,
+    soc: &Soc,
     parts: &Parts,
     power: Option<u64>,
     cycles: u64,
     bound: u64,
 ) -> Result<(), NoMemory>
-    requires { parts.now.lanes.top + parts.now.lanes.height ≤ 2 ^ 33 }
-    ensures { (soc : SocValue) (limits : LimitsValue) (plan : PlanValue) → AreParts soc limits plan parts.now → power ≡ limits.power → cycles ≡ plan.cycles → bound ≡ plan.bound.cycles → OnOk result (text.new.items ≡ text.old.items ++ inner_text soc limits plan) }
+    requires lanes { parts.now.lanes.top + parts.now.lanes.height ≤ 2 ^ 33 }
+    requires small { parts.now.bottom ≤ 2 ^ 34 }
+    ensures { (limits : LimitsValue) (plan : PlanValue) → AreParts (soc_value soc.now) limits plan parts.now → power ≡ limits.power → cycles ≡ plan.cycles → bound ≡ plan.bound.cycles → OnOk result (text.new.items ≡ text.old.items ++ inner_text (soc_value soc.now) limits plan) }
 {
-    push_wires(text, &parts.wires, &parts.buses, &parts.wired)?;
-    push_lanes(text, &parts.lanes, &parts.laned)?;
+    push_wires(text, soc, &parts.wires, &parts.buses, &parts.wired)?;
+    push_lanes(text, soc, &parts.lanes, &parts.laned)?;
     push_power(text, below(&parts.lanes) + 24, cycles, power, &parts.steps)?;
+    push_scale(text, cycles, parts.bottom)?;
     push_lines(text, cycles, bound, parts.bottom)
 }
 
-/// The picture of a good plan of a sound chip under sound limits, as SVG of 1,100 units from left to right. The wires stand below
-/// each other, with the frames of their buses; a rectangle for each test lies over the wires of its bus, from its start to its
-/// end, with its name in it where there is room, and told in full as its title. Below are the self tests, by their starts,
-/// each in the first lane that is free then; and, where power has a limit, the steps of what all tests draw, under the
-/// line of the limit. Lines with numbers mark the last cycle and the bound. A plan of 0 cycles is the frame alone.
+/// The picture of a good plan of a sound chip under sound limits, as SVG of 1,140 units from left to right. The wires stand below
+/// each other, with the frames of their buses, and beside each its place and how many wires it has; a rectangle for each test
+/// lies over the wires of its bus, from its start to its end, with its numbers and the name of its module in it where there is
+/// room, and told in full as its title. Below are the self tests, by their starts, each in the first lane that is free then;
+/// and, where power has a limit, the steps of what all tests draw, under the line of the limit. Thin lines stand at round
+/// cycles, with a scale of their numbers below all. Lines with numbers mark the last cycle and the bound. A plan of 0 cycles
+/// is the frame alone.
 /// `NoMemory` where there is none.
 pub fn print_picture(
     alloc: Global,
@@ -178,11 +186,12 @@ pub fn print_picture(
 {
     let parts = parts_of(alloc, soc, limits, plan)?;
     let mut text = Vec::new(alloc);
-    push_head(&mut text, parts.bottom + 12)?;
+    push_head(&mut text, parts.bottom + 24)?;
     push_frame(&mut text, &parts.wires)?;
     if plan.cycles != 0 {
         push_inner(
             &mut text,
+            soc,
             &parts,
             limits.power,
             plan.cycles,

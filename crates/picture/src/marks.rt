@@ -1,13 +1,14 @@
 // The parts of a picture's text: rectangles, labels, and what they say.
-ghost use Rattle.std.specs.Prelude.{◌≡◌, ◌++◌, ◌≤◌, ◌<◌, ◌^◌, length, decimal, OnOk};
+ghost use Rattle.std.specs.Prelude.{◌≡◌, [], ◌++◌, ◌≤◌, ◌<◌, ◌^◌, length, decimal, codes, nat_eq, OnOk, if◌then◌else◌};
 ghost use Rattle.std.specs.List.{flat_map};
-ghost use Rattle.picture.specs.Marks.{box_text, bus_frame, bus_name, bus_text, bus_texts, fill, has_room as the_room, is_high as the_high, label_at, label_end, middle as the_middle, name_text, sides, test_text, title_text};
+ghost use Rattle.soc_model.specs.Chips.{soc_value};
+ghost use Rattle.picture.specs.Marks.{box_text, bus_frame, bus_label as the_bus_label, bus_name, bus_text, bus_texts, escaped, fill, has_room as the_room, id_size as the_id_size, is_high as the_high, label_at, label_end, label_text, middle as the_middle, name_at as the_name, named_test, sides, spaced_name, test_label, test_text, title_text};
 
 use crate::panels::{Drawn, Outline, Panel, Rectangle, outline_of};
 use itoa::Buffer;
 use live_tests::PlacedTest;
 use outside::{NoMemory, extend, push, push_dotted, push_number};
-use soc_model::TestId;
+use soc_model::{Soc, TestId, module_at};
 
 /// Appends a text and a number.
 pub fn push_entry(text: &mut Vec<u8>, name: &[u8], number: u64) -> Result<(), NoMemory>
@@ -66,20 +67,77 @@ fn is_high(outline: &Outline) -> bool
 }
 
 /// How many digits a number has.
-fn digits(n: u64) -> u128
+pub fn digits(n: u64) -> u64
     ensures is { result ≡ length (decimal n) }
-    ensures small { result < 2 ^ 64 }
+    ensures few { result ≤ 20 }
 {
     let mut buffer = Buffer::new();
-    buffer.format(n).len() as u128
+    buffer.format(n).len() as u64
 }
 
-/// Whether the name of a test has room in a rectangle.
-fn has_room(outline: &Outline, id: TestId) -> bool
-    ensures { result ≡ the_room outline.now id }
+/// How many characters the numbers of a test and of its module are, with a dot between them.
+fn id_size(id: TestId) -> u64
+    ensures is { result ≡ the_id_size id }
+    ensures few { result ≤ 41 }
 {
-    let name = 7 * (digits(id.module) + digits(id.test) + 1);
-    name <= u128::from(outline.width) && is_high(outline)
+    digits(id.module) + digits(id.test) + 1
+}
+
+/// Whether so many characters have room in a rectangle.
+fn has_room(outline: &Outline, characters: u128) -> bool
+    requires { characters ≤ 2 ^ 66 }
+    ensures { result ≡ the_room outline.now characters }
+{
+    7 * characters <= u128::from(outline.width) && is_high(outline)
+}
+
+/// The name of the module at a place, empty where it has none.
+#[tactic(auto, unfolding(crate::specs::Marks::name_at))]
+fn name_at(soc: &Soc, place: usize) -> &[u8]
+    ensures { result.now ≡ the_name (soc_value soc.now) place }
+{
+    if place >= soc.modules.len() {
+        return &[];
+    }
+    &module_at(soc, place).name
+}
+
+/// Appends a byte of a name, as the text of an element of XML.
+fn push_escaped(text: &mut Vec<u8>, byte: u8) -> Result<(), NoMemory>
+    ensures { OnOk result (text.new.items ≡ text.old.items ++ escaped byte) }
+{
+    if byte == b'&' {
+        return extend(text, b"&amp;");
+    }
+    if byte == b'<' {
+        return extend(text, b"&lt;");
+    }
+    if byte == b'>' {
+        return extend(text, b"&gt;");
+    }
+    push(text, byte)
+}
+
+/// Appends all bytes of a name.
+fn push_bytes(text: &mut Vec<u8>, name: &[u8]) -> Result<(), NoMemory>
+    ensures { OnOk result (text.new.items ≡ text.old.items ++ flat_map escaped name.now) }
+{
+    for byte in name {
+        push_escaped(text, *byte)?;
+    }
+    Ok(())
+}
+
+/// Appends a name behind a space, and nothing where there is none.
+#[tactic(auto, unfolding(crate::specs::Marks::spaced_name))]
+fn push_spaced_name(text: &mut Vec<u8>, name: &[u8]) -> Result<(), NoMemory>
+    ensures { OnOk result (text.new.items ≡ text.old.items ++ spaced_name name.now) }
+{
+    if name.is_empty() {
+        return Ok(());
+    }
+    extend(text, b" ")?;
+    push_bytes(text, name)
 }
 
 /// Appends one of four fills, by the place of a module.
@@ -89,12 +147,13 @@ fn push_fill(text: &mut Vec<u8>, place: usize) -> Result<(), NoMemory>
     push(text, b'a' + (place % 4) as u8)
 }
 
-/// Appends what a reader is told of a test.
+/// Appends what a reader is told of a test of a module of that name.
 #[tactic(auto, unfolding(crate::specs::Marks::title_text))]
-fn push_title(text: &mut Vec<u8>, test: &PlacedTest) -> Result<(), NoMemory>
-    ensures { OnOk result (text.new.items ≡ text.old.items ++ title_text test.now) }
+fn push_title(text: &mut Vec<u8>, name: &[u8], test: &PlacedTest) -> Result<(), NoMemory>
+    ensures { OnOk result (text.new.items ≡ text.old.items ++ title_text name.now test.now) }
 {
     push_entry(text, b"<title>module ", test.id.module)?;
+    push_spaced_name(text, name)?;
     push_entry(text, b", test ", test.id.test)?;
     push_entry(text, b": start ", test.start)?;
     push_entry(text, b", end ", test.end)?;
@@ -103,47 +162,114 @@ fn push_title(text: &mut Vec<u8>, test: &PlacedTest) -> Result<(), NoMemory>
 
 /// Appends the rectangle of a test.
 #[tactic(auto, unfolding(crate::specs::Marks::box_text))]
-fn push_box(text: &mut Vec<u8>, outline: &Outline, test: &PlacedTest) -> Result<(), NoMemory>
-    ensures { OnOk result (text.new.items ≡ text.old.items ++ box_text outline.now test.now) }
+fn push_box(
+    text: &mut Vec<u8>,
+    outline: &Outline,
+    name: &[u8],
+    test: &PlacedTest,
+) -> Result<(), NoMemory>
+    ensures { OnOk result (text.new.items ≡ text.old.items ++ box_text outline.now name.now test.now) }
 {
     extend(text, b"<rect class='")?;
     push_fill(text, test.place)?;
     push_sides(text, outline)?;
-    push_title(text, test)
+    push_title(text, name, test)
 }
 
-/// Appends the name of a test in its rectangle, where there is room.
-#[tactic(auto, unfolding(crate::specs::Marks::name_text))]
-fn push_name(text: &mut Vec<u8>, outline: &Outline, id: TestId) -> Result<(), NoMemory>
-    ensures { OnOk result (text.new.items ≡ text.old.items ++ name_text outline.now id) }
+/// Appends the label of a test, in the middle of its rectangle.
+#[tactic(auto, unfolding(crate::specs::Marks::test_label))]
+fn push_test_label(
+    text: &mut Vec<u8>,
+    outline: &Outline,
+    id: TestId,
+    name: &[u8],
+) -> Result<(), NoMemory>
+    ensures { OnOk result (text.new.items ≡ text.old.items ++ test_label outline.now id name.now) }
 {
-    if !has_room(outline, id) {
-        return Ok(());
-    }
     let x = middle(outline.x, outline.width);
     let y = middle(outline.y, outline.height) + 4;
     push_label(text, b"m", x, y)?;
     push_dotted(text, id.module, id.test)?;
+    push_spaced_name(text, name)?;
     end_label(text)
 }
 
-/// Appends a test in a panel.
-pub fn push_test(text: &mut Vec<u8>, panel: &Panel, drawn: &Drawn) -> Result<(), NoMemory>
-    ensures { OnOk result (text.new.items ≡ text.old.items ++ test_text panel.now drawn.now) }
+/// Appends the label of a test where there is room, with the name of its module or without.
+#[tactic(auto, unfolding(crate::specs::Marks::label_text))]
+fn push_label_within(
+    text: &mut Vec<u8>,
+    outline: &Outline,
+    id: TestId,
+    name: &[u8],
+) -> Result<(), NoMemory>
+    ensures { OnOk result (text.new.items ≡ text.old.items ++ label_text outline.now id name.now) }
 {
-    let outline = outline_of(panel, &drawn.rectangle);
-    push_box(text, &outline, &drawn.test)?;
-    push_name(text, &outline, drawn.test.id)
-}
-
-/// Appends tests in a panel.
-pub fn push_tests(text: &mut Vec<u8>, panel: &Panel, drawn: &[Drawn]) -> Result<(), NoMemory>
-    ensures { OnOk result (text.new.items ≡ text.old.items ++ flat_map (test_text panel.now) drawn.now) }
-{
-    for one in drawn {
-        push_test(text, panel, one)?;
+    let alone = u128::from(id_size(id));
+    if has_room(outline, alone + 1 + name.len() as u128) {
+        return push_test_label(text, outline, id, name);
+    }
+    if has_room(outline, alone) {
+        return push_test_label(text, outline, id, &[]);
     }
     Ok(())
+}
+
+/// Appends a test of a module of that name.
+fn push_named_test(
+    text: &mut Vec<u8>,
+    outline: &Outline,
+    name: &[u8],
+    test: &PlacedTest,
+) -> Result<(), NoMemory>
+    ensures { OnOk result (text.new.items ≡ text.old.items ++ named_test outline.now name.now test.now) }
+{
+    push_box(text, outline, name, test)?;
+    push_label_within(text, outline, test.id, name)
+}
+
+/// Appends a test of a chip in a panel.
+fn push_test(text: &mut Vec<u8>, soc: &Soc, panel: &Panel, drawn: &Drawn) -> Result<(), NoMemory>
+    ensures { OnOk result (text.new.items ≡ text.old.items ++ test_text (soc_value soc.now) panel.now drawn.now) }
+{
+    let outline = outline_of(panel, &drawn.rectangle);
+    let name = name_at(soc, drawn.test.place);
+    push_named_test(text, &outline, name, &drawn.test)
+}
+
+/// Appends tests of a chip in a panel.
+pub fn push_tests(
+    text: &mut Vec<u8>,
+    soc: &Soc,
+    panel: &Panel,
+    drawn: &[Drawn],
+) -> Result<(), NoMemory>
+    ensures { OnOk result (text.new.items ≡ text.old.items ++ flat_map (test_text (soc_value soc.now) panel.now) drawn.now) }
+{
+    for one in drawn {
+        push_test(text, soc, panel, one)?;
+    }
+    Ok(())
+}
+
+/// Appends the word behind a number of wires.
+fn push_wires_word(text: &mut Vec<u8>, wires: u64) -> Result<(), NoMemory>
+    ensures { OnOk result (text.new.items ≡ text.old.items ++ (if nat_eq wires 1 then codes " wire" else codes " wires")) }
+{
+    if wires == 1 {
+        return extend(text, b" wire");
+    }
+    extend(text, b" wires")
+}
+
+/// Appends the place of a bus, and how many wires it has.
+#[tactic(auto, unfolding(crate::specs::Marks::bus_label))]
+fn push_bus_label(text: &mut Vec<u8>, place: usize, wires: u64) -> Result<(), NoMemory>
+    ensures { OnOk result (text.new.items ≡ text.old.items ++ the_bus_label place wires) }
+{
+    extend(text, b"bus ")?;
+    push_number(text, place as u128)?;
+    push_entry(text, b", ", wires)?;
+    push_wires_word(text, wires)
 }
 
 /// Appends the frame of the bus at a place, with so many wires.
@@ -158,24 +284,27 @@ fn push_frame(
 {
     extend(text, b"<rect class='w")?;
     push_sides(text, outline)?;
-    extend(text, b"<title>bus ")?;
-    push_number(text, place as u128)?;
-    push_entry(text, b", width ", wires)?;
+    extend(text, b"<title>")?;
+    push_bus_label(text, place, wires)?;
     extend(text, b"</title></rect>\n")
 }
 
-/// Appends the place of a bus beside its frame, where there is room.
+/// Appends the label of a bus beside its frame, where there is room.
 #[tactic(auto, unfolding(crate::specs::Marks::bus_name))]
-fn push_bus_name(text: &mut Vec<u8>, outline: &Outline, place: usize) -> Result<(), NoMemory>
-    ensures { OnOk result (text.new.items ≡ text.old.items ++ bus_name outline.now place) }
+fn push_bus_name(
+    text: &mut Vec<u8>,
+    outline: &Outline,
+    place: usize,
+    wires: u64,
+) -> Result<(), NoMemory>
+    ensures { OnOk result (text.new.items ≡ text.old.items ++ bus_name outline.now place wires) }
 {
     if !is_high(outline) {
         return Ok(());
     }
     let y = middle(outline.y, outline.height) + 4;
-    push_label(text, b"e", 74, y)?;
-    extend(text, b"bus ")?;
-    push_number(text, place as u128)?;
+    push_label(text, b"e", 114, y)?;
+    push_bus_label(text, place, wires)?;
     end_label(text)
 }
 
@@ -196,8 +325,9 @@ fn push_bus(
         last,
     };
     let outline = outline_of(panel, &all);
-    push_frame(text, &outline, place, last.saturating_sub(first))?;
-    push_bus_name(text, &outline, place)
+    let width = last.saturating_sub(first);
+    push_frame(text, &outline, place, width)?;
+    push_bus_name(text, &outline, place, width)
 }
 
 /// Appends all buses.

@@ -54,10 +54,10 @@ pub fn scaled(part: u64, all: u64, size: u32) -> u32
 /// Where a cycle begins, of so many beside each other.
 pub fn column(cycle: u64, cycles: u64) -> u64
     ensures is { result ≡ the_column cycle cycles }
-    ensures left { 80 ≤ result }
-    ensures right { result ≤ 1080 }
+    ensures left { 120 ≤ result }
+    ensures right { result ≤ 1120 }
 {
-    80 + u64::from(scaled(cycle, cycles, 1_000))
+    120 + u64::from(scaled(cycle, cycles, 1_000))
 }
 
 /// Where a row of a panel begins.

@@ -1,11 +1,13 @@
 // The parts of a picture, from its head to its lines.
 ghost use Rattle.std.specs.Prelude.{◌≡◌, ◌++◌, ◌≤◌, ◌^◌, OnOk};
 ghost use Rattle.std.specs.List.{flat_map};
+ghost use Rattle.soc_model.specs.Chips.{soc_value};
 ghost use Rattle.picture.specs.PictureText.{bound_side, bound_text, frame_text, head_text, lanes_name, lanes_text, limit_text, lines_at, lines_text, load_line as the_load_line, load_text, power_text, step_text, style_text};
 
 use crate::marks::{end_label, push_entry, push_label, push_tests};
 use crate::panels::{Drawn, Panel, column, scaled};
 use outside::{NoMemory, extend, push_number};
+use soc_model::Soc;
 
 /// Appends how the classes look.
 fn push_style(text: &mut Vec<u8>) -> Result<(), NoMemory>
@@ -21,6 +23,10 @@ fn push_style(text: &mut Vec<u8>) -> Result<(), NoMemory>
     )?;
     extend(
         text,
+        b".g{stroke:#000;stroke-opacity:.2;pointer-events:none}\n",
+    )?;
+    extend(
+        text,
         b"text{fill:#111;pointer-events:none}.m{text-anchor:middle}.e{text-anchor:end}\n</style>\n",
     )
 }
@@ -32,13 +38,13 @@ pub fn push_head(text: &mut Vec<u8>, height: u64) -> Result<(), NoMemory>
 {
     push_entry(
         text,
-        b"<svg xmlns='http://www.w3.org/2000/svg' width='1100' height='",
+        b"<svg xmlns='http://www.w3.org/2000/svg' width='1140' height='",
         height,
     )?;
-    push_entry(text, b"' viewBox='0 0 1100 ", height)?;
+    push_entry(text, b"' viewBox='0 0 1140 ", height)?;
     extend(text, b"' font-family='sans-serif' font-size='10'>\n")?;
     push_style(text)?;
-    push_entry(text, b"<rect class='w' width='1100' height='", height)?;
+    push_entry(text, b"<rect class='w' width='1140' height='", height)?;
     extend(text, b"'/>\n")
 }
 
@@ -49,7 +55,7 @@ pub fn push_frame(text: &mut Vec<u8>, panel: &Panel) -> Result<(), NoMemory>
 {
     push_entry(
         text,
-        b"<rect class='w' x='80' y='40' width='1000' height='",
+        b"<rect class='w' x='120' y='40' width='1000' height='",
         u64::from(panel.height),
     )?;
     push_entry(text, b"'><title>wires ", panel.rows)?;
@@ -63,17 +69,22 @@ fn push_lanes_name(text: &mut Vec<u8>, lanes: u64, top: u32) -> Result<(), NoMem
     if lanes == 0 {
         return Ok(());
     }
-    push_label(text, b"e", 74, u128::from(top) + 12)?;
+    push_label(text, b"e", 114, u128::from(top) + 12)?;
     extend(text, b"self tests</text>\n")
 }
 
 /// Appends the self tests in their lanes.
 #[tactic(auto, unfolding(crate::specs::PictureText::lanes_text))]
-pub fn push_lanes(text: &mut Vec<u8>, panel: &Panel, drawn: &[Drawn]) -> Result<(), NoMemory>
-    ensures { OnOk result (text.new.items ≡ text.old.items ++ lanes_text panel.now drawn.now) }
+pub fn push_lanes(
+    text: &mut Vec<u8>,
+    soc: &Soc,
+    panel: &Panel,
+    drawn: &[Drawn],
+) -> Result<(), NoMemory>
+    ensures { OnOk result (text.new.items ≡ text.old.items ++ lanes_text (soc_value soc.now) panel.now drawn.now) }
 {
     push_lanes_name(text, panel.rows, panel.top)?;
-    push_tests(text, panel, drawn)
+    push_tests(text, soc, panel, drawn)
 }
 
 /// Where a load stands, up to 100 units below the line of the limit at `top`.
@@ -129,7 +140,7 @@ fn push_load(
     requires { top ≤ 2 ^ 40 }
     ensures { OnOk result (text.new.items ≡ text.old.items ++ load_text top cycles most steps.now) }
 {
-    push_entry(text, b"<path class='p' d='M80 ", top + 100)?;
+    push_entry(text, b"<path class='p' d='M120 ", top + 100)?;
     push_steps(text, top, cycles, most, steps)?;
     extend(text, b"'/>\n")
 }
@@ -140,14 +151,14 @@ fn push_limit(text: &mut Vec<u8>, top: u64, most: u64) -> Result<(), NoMemory>
     requires { top ≤ 2 ^ 40 }
     ensures { OnOk result (text.new.items ≡ text.old.items ++ limit_text top most) }
 {
-    push_entry(text, b"<path class='l' d='M80 ", top)?;
-    extend(text, b"H1080'/>\n")?;
-    push_label(text, b"e", 74, u128::from(top + 4))?;
+    push_entry(text, b"<path class='l' d='M120 ", top)?;
+    extend(text, b"H1120'/>\n")?;
+    push_label(text, b"e", 114, u128::from(top + 4))?;
     extend(text, b"power limit</text>\n")?;
-    push_label(text, b"e", 74, u128::from(top + 16))?;
+    push_label(text, b"e", 114, u128::from(top + 16))?;
     push_number(text, u128::from(most))?;
     end_label(text)?;
-    push_label(text, b"e", 74, u128::from(top + 100))?;
+    push_label(text, b"e", 114, u128::from(top + 100))?;
     extend(text, b"0</text>\n")
 }
 
@@ -174,11 +185,11 @@ pub fn push_power(
 
 /// Appends the begin of the bound's label, on the side of its line that has more room.
 fn push_side(text: &mut Vec<u8>, x: u64) -> Result<(), NoMemory>
-    requires left { 80 ≤ x }
-    requires right { x ≤ 1080 }
+    requires left { 120 ≤ x }
+    requires right { x ≤ 1120 }
     ensures { OnOk result (text.new.items ≡ text.old.items ++ bound_side x) }
 {
-    if x >= 580 {
+    if x >= 620 {
         push_label(text, b"e", u128::from(x - 4), 32)
     } else {
         push_label(text, b"s", u128::from(x + 4), 32)
@@ -188,8 +199,8 @@ fn push_side(text: &mut Vec<u8>, x: u64) -> Result<(), NoMemory>
 /// Appends the label of the bound.
 #[tactic(auto, unfolding(crate::specs::PictureText::bound_text))]
 fn push_bound(text: &mut Vec<u8>, x: u64, bound: u64) -> Result<(), NoMemory>
-    requires left { 80 ≤ x }
-    requires right { x ≤ 1080 }
+    requires left { 120 ≤ x }
+    requires right { x ≤ 1120 }
     ensures { OnOk result (text.new.items ≡ text.old.items ++ bound_text x bound) }
 {
     push_side(text, x)?;
@@ -206,15 +217,15 @@ fn push_lines_at(
     bound: u64,
     bottom: u64,
 ) -> Result<(), NoMemory>
-    requires left { 80 ≤ x }
-    requires right { x ≤ 1080 }
+    requires left { 120 ≤ x }
+    requires right { x ≤ 1120 }
     ensures { OnOk result (text.new.items ≡ text.old.items ++ lines_at x cycles bound bottom) }
 {
-    push_entry(text, b"<path class='l' d='M1080 16V", bottom)?;
+    push_entry(text, b"<path class='l' d='M1120 16V", bottom)?;
     push_entry(text, b"M", x)?;
     push_entry(text, b" 32V", bottom)?;
     extend(text, b"'/>\n")?;
-    push_label(text, b"e", 1076, 16)?;
+    push_label(text, b"e", 1116, 16)?;
     push_entry(text, b"cycles ", cycles)?;
     end_label(text)?;
     push_bound(text, x, bound)

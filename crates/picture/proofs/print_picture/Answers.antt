@@ -14,7 +14,7 @@ returns c =
     let plan = plan_value c.args.plan.now in
     let t2 = c.push_frame.new.text.items in
     let inner : c.if-plan-ne0.text.items ≡ c.push_frame.new.text.items ++ (if nat_eq c.args.plan.now.cycles 0 then [] else inner_text (soc_value c.args.soc.now) (limits_value c.args.limits.now) (plan_value c.args.plan.now)) = elim c.if-plan-ne0.branch [
-      | then-plan-ne0+in_ok-push_inner w ↦ rw w.text-is (some_cycles c.args.plan.now.cycles t2 w.push_inner.new.text.items (inner_text soc limits plan) w.if-plan-ne0.true (w.in_ok-push_inner.ensures soc limits plan c.in_ok-parts.ensures refl refl refl))
+      | then-plan-ne0+in_ok-push_inner w ↦ rw w.text-is (some_cycles c.args.plan.now.cycles t2 w.push_inner.new.text.items (inner_text soc limits plan) w.if-plan-ne0.true (w.in_ok-push_inner.ensures limits plan c.in_ok-parts.ensures refl refl refl))
       | else-plan-ne0 w ↦ rw w.text-is (no_cycles c.args.plan.now.cycles t2 (inner_text soc limits plan) w.if-plan-ne0.false)
     ] in
     record { text = picture_is soc limits plan c.in_ok-parts.parts c.new-text.result.items c.push_head.new.text.items t2 c.if-plan-ne0.text.items c.extend.new.to.items c.in_ok-parts.ensures c.new-text.ensures.items c.in_ok-push_head.ensures c.in_ok-push_frame.ensures inner c.in_ok-extend.ensures.ok }

@@ -13,4 +13,4 @@ returns c =
     let t2 = c.push_entry-2.new.text.items in
     let t3 = c.extend.new.to.items in
     let p = c.args.panel.now in
-    on_ok_weaker c.extend.result (λ pushed. rw (← c.from.ensures) (behind t3 t1 t0 (codes "<rect class='w' x='80' y='40' width='1000' height='" ++ decimal c.from.result) (codes "'><title>wires " ++ decimal p.rows ++ (codes "</title></rect>\n")) (behind t3 t2 t1 (codes "'><title>wires " ++ decimal p.rows) (codes "</title></rect>\n") (pushed) c.in_ok-push_entry-2.ensures) c.in_ok-push_entry.ensures)) c.extend.ensures.ok
+    on_ok_weaker c.extend.result (λ pushed. rw (← c.from.ensures) (behind t3 t1 t0 (codes "<rect class='w' x='120' y='40' width='1000' height='" ++ decimal c.from.result) (codes "'><title>wires " ++ decimal p.rows ++ (codes "</title></rect>\n")) (behind t3 t2 t1 (codes "'><title>wires " ++ decimal p.rows) (codes "</title></rect>\n") (pushed) c.in_ok-push_entry-2.ensures) c.in_ok-push_entry.ensures)) c.extend.ensures.ok
