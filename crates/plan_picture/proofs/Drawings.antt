@@ -2,12 +2,12 @@
 use Rattle.std.proofs.Common.{ℕ, List, [], Option, None, Some, subst, true}
 use Rattle.std.specs.FinMap.{get}
 use Rattle.outside.specs.Held.{Files, Appended}
-use Rattle.plan_model.specs.Plans.{LimitsValue, PlanValue}
+use Rattle.plan_model.specs.Plans.{LimitsValue, PlanValue, planned}
 use Rattle.soc_model.specs.Chips.{SocValue}
 use Rattle.plan_text.specs.Answers.{SaysPlan}
 use Rattle.plan_model.specs.Rules.{IsGood}
 use Rattle.live_tests.specs.Placed.{placed_tests}
-use Rattle.picture.specs.Laws.{AreApart, AreDrawn, StaysWithin}
+use Rattle.picture.specs.Laws.{AreApart, AreDrawn, AreLaned, ShowsUse, StaysWithin}
 use Rattle.picture.specs.PictureText.{picture_text, plan_steps, self_tests}
 use Rattle.picture.specs.Rectangles.{bus_wires, laned, wired}
 use Rattle.commands.specs.declared.FileKind.TheVariants.{Plan}
@@ -34,6 +34,8 @@ pub record PictureLaws : Type 0 where
   pub apart : (soc : SocValue) (limits : LimitsValue) (plan : PlanValue) → IsGood soc limits plan → AreApart (wired (bus_wires plan) (placed_tests soc plan))
   pub lanes : (soc : SocValue) (limits : LimitsValue) (plan : PlanValue) → IsGood soc limits plan → AreApart (laned [] (self_tests soc plan))
   pub within : (soc : SocValue) (limits : LimitsValue) (plan : PlanValue) → IsGood soc limits plan → StaysWithin limits (plan_steps soc limits plan)
+  pub used : (soc : SocValue) (limits : LimitsValue) (plan : PlanValue) → IsGood soc limits plan → ShowsUse (wired (bus_wires plan) (placed_tests soc plan)) (planned soc plan)
+  pub self_drawn : (soc : SocValue) (limits : LimitsValue) (plan : PlanValue) → IsGood soc limits plan → AreLaned (laned [] (self_tests soc plan)) (placed_tests soc plan)
 
 drawn : TrustLaws → PictureLaws → (files : Files) (names : FilesNamed) (text : List ℕ) (old new : Option (List ℕ)) → Answers (procedure_of names) files Done text → Appended old text new → IsDrawn files names old new
 drawn laws pictures files names text old new answer put =
@@ -50,6 +52,8 @@ drawn laws pictures files names text old new answer put =
       bound = laws.bound b.0 b.1 (c.0).bound b.3.says.sound.some_wire c.1.says.1.1;
       drawn = pictures.drawn b.0 b.1 c.0 c.1.says.1.0;
       apart = pictures.apart b.0 b.1 c.0 c.1.says.1.0;
+      used = pictures.used b.0 b.1 c.0 c.1.says.1.0;
+      self_drawn = pictures.self_drawn b.0 b.1 c.0 c.1.says.1.0;
       lanes = pictures.lanes b.0 b.1 c.0 c.1.says.1.0;
       within = pictures.within b.0 b.1 c.0 c.1.says.1.0;
       written = rw c.2.1 at put;

@@ -2,12 +2,12 @@
 use Rattle.std.specs.Prelude.{◌≡◌, ℕ, List, [], ◌∷◌, Option, None, Some}
 use Rattle.outside.specs.Held.{Files, Appended}
 use Rattle.soc_model.specs.Chips.{SocValue}
-use Rattle.plan_model.specs.Plans.{LimitsValue, PlanValue}
+use Rattle.plan_model.specs.Plans.{LimitsValue, PlanValue, planned}
 use Rattle.plan_model.specs.Runs.{Content}
 use Rattle.plan_model.specs.Right.{IsRight}
 use Rattle.plan_model.specs.Rules.{IsBound}
 use Rattle.live_tests.specs.Placed.{placed_tests}
-use Rattle.picture.specs.Laws.{AreApart, AreDrawn, StaysWithin}
+use Rattle.picture.specs.Laws.{AreApart, AreDrawn, AreLaned, ShowsUse, StaysWithin}
 use Rattle.picture.specs.PictureText.{picture_text, plan_steps, self_tests}
 use Rattle.picture.specs.Rectangles.{bus_wires, laned, wired}
 use Rattle.commands.specs.declared.Status.{Status}
@@ -37,9 +37,10 @@ files_of _ = None
 abbrev pub procedure_of : FilesNamed → Procedure
 procedure_of files = with_all files.soc files.limits files.plan (λ chip bounds value. done_with (picture_text chip bounds value))
 
--- What a plan is that is drawn: it runs right for every content, no good plan of its chip under its limits ends before its
--- bound, each test over the wires has its rectangle, no two rectangles have a cycle of a wire in common, nor of a lane, and no step of power is above the limit; the picture
--- is written.
+-- What a plan is that is drawn: it runs right for every content, and no good plan of its chip under its limits ends before its
+-- bound. Each test over the wires has its rectangle, and each self test, in a lane. A cycle of a wire has a rectangle exactly
+-- where the run uses it, no two rectangles have a cycle of a wire or of a lane in common, and no step of power is above the
+-- limit. The picture is written.
 pub record IsDrawn (files : Files) (names : FilesNamed) (old new : Option (List ℕ)) : Type 0 where
   pub chip : SocValue
   pub bounds : LimitsValue
@@ -51,6 +52,8 @@ pub record IsDrawn (files : Files) (names : FilesNamed) (old new : Option (List 
   pub bound : IsBound chip bounds value.bound.cycles
   pub drawn : AreDrawn (wired (bus_wires value) (placed_tests chip value)) (placed_tests chip value)
   pub apart : AreApart (wired (bus_wires value) (placed_tests chip value))
+  pub used : ShowsUse (wired (bus_wires value) (placed_tests chip value)) (planned chip value)
+  pub self_drawn : AreLaned (laned [] (self_tests chip value)) (placed_tests chip value)
   pub lanes : AreApart (laned [] (self_tests chip value))
   pub within : StaysWithin bounds (plan_steps chip bounds value)
   pub written : Appended old (picture_text chip bounds value) new

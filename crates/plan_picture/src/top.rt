@@ -94,7 +94,8 @@ pub fn draw<H: Shelf, K: Sink>(
     ensures complete { Complete true (asked procedure_of (files_of (map string_bytes words.now))) (H.held shelf.old) (Rose (H.faults shelf.old) (H.faults shelf.new)) (Rose (K.faults out.old) (K.faults out.new)) (K.written out.old) result (K.written out.new) }
     ensures finishes { Finishes (asked procedure_of (files_of (map string_bytes words.now))) (H.held shelf.old) (Rose (H.faults shelf.old) (H.faults shelf.new)) (Rose (K.faults out.old) (K.faults out.new)) result }
 
-    // The headline: a plan that is drawn runs right, its bound is one, its rectangles are apart, and its power stays within the limit.
+    // The headline: a plan that is drawn runs right, its bound is one, its rectangles are the tests and are apart, cover the cycles
+    // of wires that the run uses and no others, and its power stays within the limit.
     ensures headline { Headline (files_of (map string_bytes words.now)) (H.held shelf.old) (K.written out.old) result (K.written out.new) }
 {
     good_plans_run_right();
