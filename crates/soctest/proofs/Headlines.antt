@@ -1,6 +1,6 @@
 -- A plan that is printed or accepted runs right, its bound is one, and it is for the chip and the limits in the held files.
 use Rattle.std.proofs.Common.{◌≡◌, ℕ, ◌≤◌, List, Option, Some, refl, ap, ◌∙◌, subst, arith}
-use Rattle.std.specs.FinMap.{get}
+use Rattle.std.specs.FinMap.{empty, get}
 use Rattle.outside.specs.Held.{Files, Appended}
 use Rattle.soc_model.specs.Chips.{SocValue}
 use Rattle.plan_model.specs.Plans.{PlanValue}
@@ -25,7 +25,10 @@ use Rattle.soctest.specs.LogReadings.{RefusesFails, with_log}
 use Rattle.soctest.specs.LocateText.{locate_text}
 use Rattle.soctest.specs.ShiftPrograms.{SaysRight, RefusesProgram, accepted_program}
 use Rattle.soctest.specs.Procedures.{with_program, done_with_plan, done_with_sample, run_refusal, sample_refusal, procedure_of}
-use Rattle.soctest.specs.Headlines.{AreFailsIn, TellsProgram, Trusts, Headline}
+use Rattle.soctest.specs.Endings.{Closes, WritesEnding}
+use Rattle.soctest.specs.declared.ending.Ending.{Ending}
+use Rattle.soctest.specs.Headlines.{AreFailsIn, IsSummedUp, TellsProgram, Trusts, Headline, SampleHeadline}
+use Rattle.soctest.proofs.Endings.{ends}
 use Rattle.soctest.proofs.LogFiles.{after_plan}
 use Rattle.soctest.proofs.TreeFiles.{shown}
 use Rattle.soctest.proofs.PartsServed.{parts_printed}
@@ -82,3 +85,10 @@ pub headline : TrustLaws → (command : Option CommandValue) → ((soc limits : 
 headline laws command range held sb sa kb ka old new end ends files given is names done =
     let a = done_answer (asked procedure_of command) held sb sa kb ka old new end files ends is done in
     trusted laws files given (λ soc limits most same. range soc limits most (names ∙ ap Some same)) a.0 old new (subst (λ c. Answers (asked procedure_of c) files Done a.0) names a.1) a.2
+
+-- `sample` reads no file, so that its end is as over any files
+pub sample_headline : TrustLaws → (command : Option CommandValue) (sb sa kb ka : ℕ) (old new : Option (List ℕ)) (end : Status) (e : Ending) →
+    ((n seed : ℕ) → command ≡ Some (Sample n seed) → (held : Option Files) → Closes (procedure_of (Sample n seed)) held sb sa e) → WritesEnding e kb ka old end new → SampleHeadline command old end new
+sample_headline laws command sb sa kb ka old new end e closes written n seed is done =
+    headline laws (Some (Sample n seed)) (λ soc limits most same. absurd cc) (Some empty) sb sa kb ka old new end
+    (ends (procedure_of (Sample n seed)) (Some empty) sb sa kb ka old new end e (closes n seed is (Some empty)) written) empty (Sample n seed) refl refl done

@@ -32,6 +32,10 @@ AreFailsIn files log fails = IsRead Log SaysLog (get files log) fails
 abbrev pub TellsProgram : Files → (program : List ℕ) → SocValue → PlanValue → List ℕ → Type 0
 TellsProgram files program chip value text = (shifts : ProgramValue) × IsRead Program (SaysRight chip value) (get files program) shifts × (text ≡ accepted_program chip value shifts)
 
+-- the plan that is summed up is one of the made chip under the limits for it
+abbrev pub IsSummedUp : (n seed : ℕ) → Option (List ℕ) → Option (List ℕ) → Type 0
+IsSummedUp n seed old new = IsTrustworthy (λ chip. chip ≡ made_chip n seed) (λ chip bounds. bounds ≡ sample_limits) IsMade (λ chip value text. text ≡ sample_text n seed chip value) old new
+
 -- what the commands over a plan or a bound promise of it, over the files that they name
 abbrev pub Trusts : CommandValue → Files → Option (List ℕ) → Option (List ℕ) → Type 0
 Trusts (Print soc) files old new = Unit {0}
@@ -40,7 +44,7 @@ Trusts (MakePlan soc limits) files old new = IsTrustworthy (IsChipIn files soc) 
 Trusts (Check soc limits plan) files old new = IsTrustworthy (IsChipIn files soc) (AreLimitsIn files limits) (IsPlanIn files plan) (λ chip value text. text ≡ accepted_line value) old new
 Trusts (Chart soc limits plan) files old new = IsTrustworthy (IsChipIn files soc) (AreLimitsIn files limits) (IsPlanIn files plan) (λ chip value text. text ≡ chart_text chip value) old new
 Trusts (Vectors soc limits plan seed) files old new = IsTrustworthy (IsChipIn files soc) (AreLimitsIn files limits) (IsPlanIn files plan) (λ chip value text. text ≡ vector_text chip value (made_content chip seed)) old new
-Trusts (Sample n seed) files old new = IsTrustworthy (λ chip. chip ≡ made_chip n seed) (λ chip bounds. bounds ≡ sample_limits) IsMade (λ chip value text. text ≡ sample_text n seed chip value) old new
+Trusts (Sample n seed) files old new = IsSummedUp n seed old new
 Trusts (Shift soc limits plan program) files old new = IsTrustworthy (IsChipIn files soc) (AreLimitsIn files limits) (IsPlanIn files plan) (TellsProgram files program) old new
 Trusts (Locate soc limits plan log) files old new =
     IsTrustworthy (IsChipIn files soc) (AreLimitsIn files limits) (IsPlanIn files plan) (λ chip value text. (fails : List (ℕ × ℕ)) × AreFailsIn files log fails × (text ≡ locate_text chip value fails)) old new
@@ -51,3 +55,7 @@ Trusts (SplitTests soc limits most) files old new = IsTrustworthySplit files soc
 abbrev pub Headline : Option CommandValue → Option Files → Option (List ℕ) → Status → Option (List ℕ) → Type 0
 Headline command held old end new =
     (files : Files) (given : CommandValue) → held ≡ Some files → command ≡ Some given → end ≡ Done → Trusts given files old new
+
+-- That of `sample`, which reads no file: it holds also where the shelf tells nothing.
+abbrev pub SampleHeadline : Option CommandValue → Option (List ℕ) → Status → Option (List ℕ) → Type 0
+SampleHeadline command old end new = (n seed : ℕ) → command ≡ Some (Sample n seed) → end ≡ Done → IsSummedUp n seed old new

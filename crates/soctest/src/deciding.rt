@@ -1,6 +1,7 @@
 // Decides how a command ends before anything is written. Where another file comes after those of a plan or a chip, what was
 // loaded is let go by a call, as the room of a checker is.
-ghost use Rattle.std.specs.Prelude.{◌≡◌, ◌≤◌, ℕ, List, None, Some, IfOk, map, string_bytes};
+ghost use Rattle.std.specs.Prelude.{◌≡◌, ◌≤◌, ℕ, List, Option, None, Some, IfOk, map, string_bytes};
+ghost use Rattle.outside.specs.Held.{Files};
 ghost use Rattle.soc_model.specs.Chips.{soc_value};
 ghost use Rattle.soc_model.specs.SoundChips.{IsSoundChip};
 ghost use Rattle.plan_model.specs.Plans.{PlanValue};
@@ -10,7 +11,7 @@ ghost use Rattle.plan_text.specs.PlanLines.{plan_text};
 ghost use Rattle.schedule_search.specs.Estimates.{CanAsk, IsAtLeastReady, IsAtMostNow};
 ghost use Rattle.planner.specs.Plans.{IsPlanned};
 ghost use Rattle.plan_model.specs.declared.TheConstants.{WIRES_MOST};
-ghost use Rattle.soctest.specs.Commands.{Print, Widths, MakePlan, Check, Chart, Vectors, TreeBound, command_of, SplitTests, Shift, Locate};
+ghost use Rattle.soctest.specs.Commands.{Print, Widths, MakePlan, Check, Chart, Vectors, Sample, TreeBound, command_of, SplitTests, Shift, Locate};
 ghost use Rattle.commands.specs.Procedures.{asked};
 ghost use Rattle.soctest.specs.Endings.{Closes, IsRunnable};
 ghost use Rattle.soctest.specs.Procedures.{procedure_of};
@@ -246,6 +247,7 @@ pub fn decide<H: Shelf>(alloc: Global, words: &[String], shelf: &mut H) -> Endin
     ensures runnable { IsRunnable result }
     ensures untouched { command_of (map string_bytes words.now) ≡ None → shelf.new ≡ shelf.old }
     ensures patterns { (soc limits : List ℕ) (most : ℕ) → command_of (map string_bytes words.now) ≡ Some (SplitTests soc limits most) → 1 ≤ most }
+    ensures sampled { (n seed : ℕ) → command_of (map string_bytes words.now) ≡ Some (Sample n seed) → (held : Option Files) → Closes (procedure_of (Sample n seed)) held (H.faults shelf.old) (H.faults shelf.new) result }
 {
     match command(words) {
         Some(Command::Print { soc }) => Ending::Decided(decide_print(alloc, soc, shelf)),

@@ -5,7 +5,7 @@ ghost use Rattle.commands.specs.Procedures.{asked};
 ghost use Rattle.commands.specs.Ends.{MayAnswer, Ends, OneLine, EndsByWords, Complete, Finishes, SaysBadWords};
 ghost use Rattle.soctest.specs.Commands.{command_of};
 ghost use Rattle.soctest.specs.Procedures.{procedure_of, fixes_text};
-ghost use Rattle.soctest.specs.Headlines.{Headline};
+ghost use Rattle.soctest.specs.Headlines.{Headline, SampleHeadline};
 
 use crate::deciding::decide;
 use crate::ending::write_ending;
@@ -46,6 +46,9 @@ pub fn soctest<H: Shelf, K: Sink>(
     // The headline: a plan that is printed or accepted, by any command, runs right, and its bound is one; so is the bound of a
     // tree that is accepted, and a plan of parts loads and reads each pattern of the chip that was cut exactly once.
     ensures headline { Headline (command_of (map string_bytes words.now)) (H.held shelf.old) (K.written out.old) result (K.written out.new) }
+
+    // That of `sample` asks nothing of the shelf.
+    ensures headline_of_sample { SampleHeadline (command_of (map string_bytes words.now)) (K.written out.old) result (K.written out.new) }
 {
     good_plans_run_right();
     certificates_are_bounds();
