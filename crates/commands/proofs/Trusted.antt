@@ -57,14 +57,14 @@ both_done files soc limits text next answer =
     let b = stage_done Limits (SaysLimits a.0) (RefusesLimits a.0) (λ bounds. Answers (next a.0 bounds) files) (get files limits) text a.2 in
     (a.0, b.0, a.1, b.1, b.2)
 
--- an accepted plan, of which a command writes a text
-pub accepted : TrustLaws → (files : Files) (soc limits plan : List ℕ) (Tells : SocValue → PlanValue → List ℕ → Type 0) (next : SocValue → LimitsValue → PlanValue → Procedure) →
-    ((chip : SocValue) (bounds : LimitsValue) (value : PlanValue) (text : List ℕ) → Answers (next chip bounds value) files Done text → Tells chip value text) →
+-- an accepted plan, of which a command writes a text that tells what it should of a good plan
+pub accepted_good : TrustLaws → (files : Files) (soc limits plan : List ℕ) (Tells : SocValue → PlanValue → List ℕ → Type 0) (next : SocValue → LimitsValue → PlanValue → Procedure) →
+    ((chip : SocValue) (bounds : LimitsValue) (value : PlanValue) (text : List ℕ) → IsGood chip bounds value → Answers (next chip bounds value) files Done text → Tells chip value text) →
     (text : List ℕ) (old new : Option (List ℕ)) → Answers (with_all soc limits plan next) files Done text → Appended old text new → IsTrustworthy (IsChipIn files soc) (AreLimitsIn files limits) (IsPlanIn files plan) Tells old new
-accepted laws files soc limits plan Tells next tells text old new answer put =
+accepted_good laws files soc limits plan Tells next tells text old new answer put =
     let b = both_done files soc limits text (λ chip bounds. with_accepted chip bounds plan (next chip bounds)) answer in
     let c = stage_done Plan (SaysAccepted b.0 b.1) (RefusesPlan b.0 b.1) (λ value. Answers (next b.0 b.1 value) files) (get files plan) text b.4 in
-    go b.0 b.1 c.0 b.2 b.3 c.1 (tells b.0 b.1 c.0 text c.2)
+    go b.0 b.1 c.0 b.2 b.3 c.1 (tells b.0 b.1 c.0 text c.1.says.1.0 c.2)
   where
     go : (chip : SocValue) (bounds : LimitsValue) (value : PlanValue) → IsRead Soc SaysChip (get files soc) chip → IsRead Limits (SaysLimits chip) (get files limits) bounds → IsRead Plan (SaysAccepted chip bounds) (get files plan) value → Tells chip value text → IsTrustworthy (IsChipIn files soc) (AreLimitsIn files limits) (IsPlanIn files plan) Tells old new
     go chip bounds value a b c of_plan = record {
@@ -80,6 +80,12 @@ accepted laws files soc limits plan Tells next tells text old new answer put =
       tells = of_plan;
       written = put;
     }
+
+-- the same, where the text needs no more than its answer
+pub accepted : TrustLaws → (files : Files) (soc limits plan : List ℕ) (Tells : SocValue → PlanValue → List ℕ → Type 0) (next : SocValue → LimitsValue → PlanValue → Procedure) →
+    ((chip : SocValue) (bounds : LimitsValue) (value : PlanValue) (text : List ℕ) → Answers (next chip bounds value) files Done text → Tells chip value text) →
+    (text : List ℕ) (old new : Option (List ℕ)) → Answers (with_all soc limits plan next) files Done text → Appended old text new → IsTrustworthy (IsChipIn files soc) (AreLimitsIn files limits) (IsPlanIn files plan) Tells old new
+accepted laws files soc limits plan Tells next tells = accepted_good laws files soc limits plan Tells next (λ chip bounds value text good. tells chip bounds value text)
 
 -- a good plan with an accepted certificate that a command makes, of which a text is written
 pub made : TrustLaws → (IsChip : SocValue → Type 0) (AreLimits : SocValue → LimitsValue → Type 0) (Tells : SocValue → PlanValue → List ℕ → Type 0) (chip : SocValue) (bounds : LimitsValue) (value : PlanValue) (text : List ℕ) (old new : Option (List ℕ)) →

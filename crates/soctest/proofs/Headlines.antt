@@ -3,12 +3,14 @@ use Rattle.std.proofs.Common.{◌≡◌, ℕ, ◌≤◌, List, Option, Some, ref
 use Rattle.std.specs.FinMap.{empty, get}
 use Rattle.outside.specs.Held.{Files, Appended}
 use Rattle.soc_model.specs.Chips.{SocValue}
-use Rattle.plan_model.specs.Plans.{PlanValue}
+use Rattle.plan_model.specs.Plans.{LimitsValue, PlanValue}
+use Rattle.plan_model.specs.Rules.{IsGood}
 use Rattle.plan_text.specs.PlanLines.{plan_text}
 use Rattle.chart.specs.ChartText.{chart_text}
 use Rattle.bit_machine.specs.Chips.{made_content}
 use Rattle.tester_vectors.specs.VectorText.{vector_text}
 use Rattle.sample_maker.specs.Samples.{made_chip}
+use Rattle.fail_locate.specs.Laws.{SpotsAreReads}
 use Rattle.fail_locate.specs.LogAnswers.{SaysLog}
 use Rattle.commands.specs.declared.FileKind.TheVariants.{Log, Program}
 use Rattle.commands.specs.declared.Status.{Status}
@@ -17,7 +19,7 @@ use Rattle.commands.specs.Procedures.{Unless, asked, with_both, done_with}
 use Rattle.commands.specs.Answers.{Answers}
 use Rattle.commands.specs.Ends.{MayAnswer, Ends}
 use Rattle.commands.specs.Trusted.{IsChipIn, AreLimitsIn, IsMade, IsTrustworthy}
-use Rattle.commands.proofs.Trusted.{TrustLaws, stage_done, both_done, accepted, made, not_refused, done_answer}
+use Rattle.commands.proofs.Trusted.{TrustLaws, stage_done, both_done, accepted, accepted_good, made, not_refused, done_answer}
 use Rattle.soctest.specs.Commands.{CommandValue, Print, Widths, MakePlan, Check, Chart, Vectors, Sample, TreeBound, SplitTests, Shift, Locate}
 use Rattle.soctest.specs.Samples.{sample_limits, sample_text}
 use Rattle.soctest.specs.Texts.{accepted_line}
@@ -27,7 +29,7 @@ use Rattle.soctest.specs.ShiftPrograms.{SaysRight, RefusesProgram, accepted_prog
 use Rattle.soctest.specs.Procedures.{with_program, done_with_plan, done_with_sample, run_refusal, sample_refusal, procedure_of}
 use Rattle.soctest.specs.Endings.{Closes, WritesEnding}
 use Rattle.soctest.specs.declared.ending.Ending.{Ending}
-use Rattle.soctest.specs.Headlines.{AreFailsIn, IsSummedUp, TellsProgram, Trusts, Headline, SampleHeadline}
+use Rattle.soctest.specs.Headlines.{IsSummedUp, TellsFails, TellsProgram, Trusts, Headline, SampleHeadline}
 use Rattle.soctest.proofs.Endings.{ends}
 use Rattle.soctest.proofs.LogFiles.{after_plan}
 use Rattle.soctest.proofs.TreeFiles.{shown}
@@ -54,41 +56,41 @@ told_program files program chip value text answer =
     (d.0, d.1, d.2.1)
 
 -- the fails of a log, of which the lines are written
-located : (files : Files) (log : List ℕ) (chip : SocValue) (value : PlanValue) (text : List ℕ) → Answers (with_log log (λ fails. done_with (locate_text chip value fails))) files Done text → (fails : List (ℕ × ℕ)) × AreFailsIn files log fails × (text ≡ locate_text chip value fails)
-located files log chip value text answer =
+located : SpotsAreReads → (files : Files) (log : List ℕ) (chip : SocValue) (bounds : LimitsValue) (value : PlanValue) (text : List ℕ) → IsGood chip bounds value → Answers (with_log log (λ fails. done_with (locate_text chip value fails))) files Done text → TellsFails files log chip value text
+located reads files log chip bounds value text good answer =
     let a = stage_done Log SaysLog RefusesFails (λ fails. Answers (done_with (locate_text chip value fails)) files) (get files log) text answer in
-    (a.0, a.1, a.2.1)
+    (a.0, a.1, a.2.1, λ content cycle wire. reads chip bounds value content cycle wire good)
 
 -- each command
-trusted : TrustLaws → (files : Files) (command : CommandValue) → ((soc limits : List ℕ) (most : ℕ) → command ≡ SplitTests soc limits most → 1 ≤ most) → (text : List ℕ) (old new : Option (List ℕ)) → Answers (procedure_of command) files Done text → Appended old text new → Trusts command files old new
-trusted laws files (Print soc) range text old new answer put = tt
-trusted laws files (Widths soc wires) range text old new answer put = tt
-trusted laws files (MakePlan soc limits) range text old new answer put = printed laws files soc limits text old new answer put
-trusted laws files (Check soc limits plan) range text old new answer put =
+trusted : TrustLaws → SpotsAreReads → (files : Files) (command : CommandValue) → ((soc limits : List ℕ) (most : ℕ) → command ≡ SplitTests soc limits most → 1 ≤ most) → (text : List ℕ) (old new : Option (List ℕ)) → Answers (procedure_of command) files Done text → Appended old text new → Trusts command files old new
+trusted laws reads files (Print soc) range text old new answer put = tt
+trusted laws reads files (Widths soc wires) range text old new answer put = tt
+trusted laws reads files (MakePlan soc limits) range text old new answer put = printed laws files soc limits text old new answer put
+trusted laws reads files (Check soc limits plan) range text old new answer put =
     accepted laws files soc limits plan (λ chip value t. t ≡ accepted_line value) (λ chip bounds value. done_with (accepted_line value)) (λ chip bounds value text a. a.1) text old new answer put
-trusted laws files (Chart soc limits plan) range text old new answer put =
+trusted laws reads files (Chart soc limits plan) range text old new answer put =
     accepted laws files soc limits plan (λ chip value t. t ≡ chart_text chip value) (λ chip bounds value. done_with (chart_text chip value)) (λ chip bounds value text a. a.1) text old new answer put
-trusted laws files (Vectors soc limits plan seed) range text old new answer put =
+trusted laws reads files (Vectors soc limits plan seed) range text old new answer put =
     accepted laws files soc limits plan (λ chip value t. t ≡ vector_text chip value (made_content chip seed)) (λ chip bounds value. Unless (run_refusal value) (done_with (vector_text chip value (made_content chip seed))))
     (λ chip bounds value text a. (not_refused files (run_refusal value) (done_with (vector_text chip value (made_content chip seed))) text a).1) text old new answer put
-trusted laws files (Sample n seed) range text old new answer put = sampled laws files n seed text old new (not_refused files (sample_refusal n) (done_with_sample n seed) text answer) put
-trusted laws files (Shift soc limits plan program) range text old new answer put =
+trusted laws reads files (Sample n seed) range text old new answer put = sampled laws files n seed text old new (not_refused files (sample_refusal n) (done_with_sample n seed) text answer) put
+trusted laws reads files (Shift soc limits plan program) range text old new answer put =
     accepted laws files soc limits plan (TellsProgram files program) (λ chip bounds value. with_program chip value program (λ shifts. done_with (accepted_program chip value shifts)))
     (λ chip bounds value text a. told_program files program chip value text a) text old new answer put
-trusted laws files (Locate soc limits plan log) range text old new answer put =
-    accepted laws files soc limits plan (λ chip value t. (fails : List (ℕ × ℕ)) × AreFailsIn files log fails × (t ≡ locate_text chip value fails)) (after_plan log) (λ chip bounds value text a. located files log chip value text a) text old new answer put
-trusted laws files (TreeBound soc limits tree) range text old new answer put = shown files soc limits tree text old new answer put
-trusted laws files (SplitTests soc limits most) range text old new answer put = parts_printed laws files soc limits most (range soc limits most refl) text old new answer put
+trusted laws reads files (Locate soc limits plan log) range text old new answer put =
+    accepted_good laws files soc limits plan (TellsFails files log) (after_plan log) (λ chip bounds value text good a. located reads files log chip bounds value text good a) text old new answer put
+trusted laws reads files (TreeBound soc limits tree) range text old new answer put = shown files soc limits tree text old new answer put
+trusted laws reads files (SplitTests soc limits most) range text old new answer put = parts_printed laws files soc limits most (range soc limits most refl) text old new answer put
 
-pub headline : TrustLaws → (command : Option CommandValue) → ((soc limits : List ℕ) (most : ℕ) → command ≡ Some (SplitTests soc limits most) → 1 ≤ most) → (held : Option Files) (sb sa kb ka : ℕ) (old new : Option (List ℕ)) (end : Status) →
+pub headline : TrustLaws → SpotsAreReads → (command : Option CommandValue) → ((soc limits : List ℕ) (most : ℕ) → command ≡ Some (SplitTests soc limits most) → 1 ≤ most) → (held : Option Files) (sb sa kb ka : ℕ) (old new : Option (List ℕ)) (end : Status) →
     Ends (MayAnswer (asked procedure_of command) held sb sa) kb ka old end new → Headline command held old end new
-headline laws command range held sb sa kb ka old new end ends files given is names done =
+headline laws reads command range held sb sa kb ka old new end ends files given is names done =
     let a = done_answer (asked procedure_of command) held sb sa kb ka old new end files ends is done in
-    trusted laws files given (λ soc limits most same. range soc limits most (names ∙ ap Some same)) a.0 old new (subst (λ c. Answers (asked procedure_of c) files Done a.0) names a.1) a.2
+    trusted laws reads files given (λ soc limits most same. range soc limits most (names ∙ ap Some same)) a.0 old new (subst (λ c. Answers (asked procedure_of c) files Done a.0) names a.1) a.2
 
 -- `sample` reads no file, so that its end is as over any files
-pub sample_headline : TrustLaws → (command : Option CommandValue) (sb sa kb ka : ℕ) (old new : Option (List ℕ)) (end : Status) (e : Ending) →
+pub sample_headline : TrustLaws → SpotsAreReads → (command : Option CommandValue) (sb sa kb ka : ℕ) (old new : Option (List ℕ)) (end : Status) (e : Ending) →
     ((n seed : ℕ) → command ≡ Some (Sample n seed) → (held : Option Files) → Closes (procedure_of (Sample n seed)) held sb sa e) → WritesEnding e kb ka old end new → SampleHeadline command old end new
-sample_headline laws command sb sa kb ka old new end e closes written n seed is done =
-    headline laws (Some (Sample n seed)) (λ soc limits most same. absurd cc) (Some empty) sb sa kb ka old new end
+sample_headline laws reads command sb sa kb ka old new end e closes written n seed is done =
+    headline laws reads (Some (Sample n seed)) (λ soc limits most same. absurd cc) (Some empty) sb sa kb ka old new end
     (ends (procedure_of (Sample n seed)) (Some empty) sb sa kb ka old new end e (closes n seed is (Some empty)) written) empty (Sample n seed) refl refl done

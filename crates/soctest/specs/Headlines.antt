@@ -4,11 +4,13 @@ use Rattle.std.specs.FinMap.{get}
 use Rattle.outside.specs.Held.{Files}
 use Rattle.soc_model.specs.Chips.{SocValue}
 use Rattle.plan_model.specs.Plans.{PlanValue}
+use Rattle.plan_model.specs.Runs.{Content}
 use Rattle.plan_text.specs.PlanLines.{plan_text}
 use Rattle.chart.specs.ChartText.{chart_text}
 use Rattle.bit_machine.specs.Chips.{made_content}
 use Rattle.tester_vectors.specs.VectorText.{vector_text}
 use Rattle.sample_maker.specs.Samples.{made_chip}
+use Rattle.fail_locate.specs.Laws.{FindsReads}
 use Rattle.fail_locate.specs.LogAnswers.{SaysLog}
 use Rattle.shift_program.specs.Programs.{ProgramValue}
 use Rattle.commands.specs.declared.FileKind.TheVariants.{Log, Program}
@@ -28,6 +30,11 @@ use Rattle.soctest.specs.SplitEnds.{IsTrustworthySplit}
 abbrev pub AreFailsIn : Files → (log : List ℕ) → List (ℕ × ℕ) → Type 0
 AreFailsIn files log fails = IsRead Log SaysLog (get files log) fails
 
+-- the text has a line for each fail of a file's log, by the bit that the run reads at that cycle on that wire, for every content
+abbrev pub TellsFails : Files → (log : List ℕ) → SocValue → PlanValue → List ℕ → Type 0
+TellsFails files log chip value text =
+    (fails : List (ℕ × ℕ)) × AreFailsIn files log fails × (text ≡ locate_text chip value fails) × ((content : Content) (cycle wire : ℕ) → FindsReads chip value content cycle wire)
+
 -- the text is that of a file's program, which is right for its test in the plan and takes at least the test's cycles
 abbrev pub TellsProgram : Files → (program : List ℕ) → SocValue → PlanValue → List ℕ → Type 0
 TellsProgram files program chip value text = (shifts : ProgramValue) × IsRead Program (SaysRight chip value) (get files program) shifts × (text ≡ accepted_program chip value shifts)
@@ -46,8 +53,7 @@ Trusts (Chart soc limits plan) files old new = IsTrustworthy (IsChipIn files soc
 Trusts (Vectors soc limits plan seed) files old new = IsTrustworthy (IsChipIn files soc) (AreLimitsIn files limits) (IsPlanIn files plan) (λ chip value text. text ≡ vector_text chip value (made_content chip seed)) old new
 Trusts (Sample n seed) files old new = IsSummedUp n seed old new
 Trusts (Shift soc limits plan program) files old new = IsTrustworthy (IsChipIn files soc) (AreLimitsIn files limits) (IsPlanIn files plan) (TellsProgram files program) old new
-Trusts (Locate soc limits plan log) files old new =
-    IsTrustworthy (IsChipIn files soc) (AreLimitsIn files limits) (IsPlanIn files plan) (λ chip value text. (fails : List (ℕ × ℕ)) × AreFailsIn files log fails × (text ≡ locate_text chip value fails)) old new
+Trusts (Locate soc limits plan log) files old new = IsTrustworthy (IsChipIn files soc) (AreLimitsIn files limits) (IsPlanIn files plan) (TellsFails files log) old new
 Trusts (TreeBound soc limits tree) files old new = IsShownBound files soc limits tree old new
 Trusts (SplitTests soc limits most) files old new = IsTrustworthySplit files soc limits most old new
 

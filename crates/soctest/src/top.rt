@@ -10,6 +10,7 @@ ghost use Rattle.soctest.specs.Headlines.{Headline, SampleHeadline};
 use crate::deciding::decide;
 use crate::ending::write_ending;
 use commands::{Status, files_say_one_thing};
+use fail_locate::spots_are_reads;
 use outside::{Shelf, Sink};
 use plan_model::{certificates_are_bounds, good_plans_run_right};
 use shift_program::{
@@ -53,6 +54,7 @@ pub fn soctest<H: Shelf, K: Sink>(
     good_plans_run_right();
     certificates_are_bounds();
     files_say_one_thing();
+    spots_are_reads();
     faultless_programs_are_right();
     program_faults_are_exact();
     program_texts_have_one_answer();

@@ -37,9 +37,9 @@ returns-clause-finishes g c =
 
 pub returns-clause-headline : goal.returns-clause-headline
 returns-clause-headline g c =
-    headline (record { right = c.good_plans_run_right.ensures; bound = c.certificates_are_bounds.ensures.accepted }) (command_of (map string_bytes c.args.words.now)) c.decide-ending.ensures.patterns (g.H.Shelf.held c.args.shelf.now) (g.H.Shelf.faults c.args.shelf.now) (g.H.Shelf.faults c.decide-ending.new.shelf) (g.K.Sink.faults c.args.out.now) (g.K.Sink.faults c.write_ending.new.out) (g.K.Sink.written c.args.out.now) (g.K.Sink.written c.write_ending.new.out) c.write_ending.result
+    headline (record { right = c.good_plans_run_right.ensures; bound = c.certificates_are_bounds.ensures.accepted }) c.spots_are_reads.ensures (command_of (map string_bytes c.args.words.now)) c.decide-ending.ensures.patterns (g.H.Shelf.held c.args.shelf.now) (g.H.Shelf.faults c.args.shelf.now) (g.H.Shelf.faults c.decide-ending.new.shelf) (g.K.Sink.faults c.args.out.now) (g.K.Sink.faults c.write_ending.new.out) (g.K.Sink.written c.args.out.now) (g.K.Sink.written c.write_ending.new.out) c.write_ending.result
     (ends (asked procedure_of (command_of (map string_bytes c.args.words.now))) (g.H.Shelf.held c.args.shelf.now) (g.H.Shelf.faults c.args.shelf.now) (g.H.Shelf.faults c.decide-ending.new.shelf) (g.K.Sink.faults c.args.out.now) (g.K.Sink.faults c.write_ending.new.out) (g.K.Sink.written c.args.out.now) (g.K.Sink.written c.write_ending.new.out) c.write_ending.result c.decide-ending.result c.decide-ending.ensures.closes c.write_ending.ensures.written)
 
 pub returns-clause-headline_of_sample : goal.returns-clause-headline_of_sample
 returns-clause-headline_of_sample g c =
-    sample_headline (record { right = c.good_plans_run_right.ensures; bound = c.certificates_are_bounds.ensures.accepted }) (command_of (map string_bytes c.args.words.now)) (g.H.Shelf.faults c.args.shelf.now) (g.H.Shelf.faults c.decide-ending.new.shelf) (g.K.Sink.faults c.args.out.now) (g.K.Sink.faults c.write_ending.new.out) (g.K.Sink.written c.args.out.now) (g.K.Sink.written c.write_ending.new.out) c.write_ending.result c.decide-ending.result c.decide-ending.ensures.sampled c.write_ending.ensures.written
+    sample_headline (record { right = c.good_plans_run_right.ensures; bound = c.certificates_are_bounds.ensures.accepted }) c.spots_are_reads.ensures (command_of (map string_bytes c.args.words.now)) (g.H.Shelf.faults c.args.shelf.now) (g.H.Shelf.faults c.decide-ending.new.shelf) (g.K.Sink.faults c.args.out.now) (g.K.Sink.faults c.write_ending.new.out) (g.K.Sink.written c.args.out.now) (g.K.Sink.written c.write_ending.new.out) c.write_ending.result c.decide-ending.result c.decide-ending.ensures.sampled c.write_ending.ensures.written
