@@ -4,5 +4,6 @@ pub mod Joining
 pub mod LanesApart
 mod OneMore
 pub mod PartsOfPlans
+pub mod Readable
 pub mod SelfTests
 pub mod Starts

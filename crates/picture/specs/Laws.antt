@@ -1,5 +1,5 @@
 -- What a picture is drawn from, and what holds of its rectangles and steps.
-use Rattle.std.specs.Prelude.{◌≡◌, ℕ, ◌+◌, ◌≤◌, ◌^◌, Some, List, [], length, map, slice_get}
+use Rattle.std.specs.Prelude.{◌≡◌, ℕ, ◌+◌, ◌≤◌, ◌^◌, Bool, ◌&&◌, not, nat_eq, Some, List, [], length, map, slice_get}
 use Rattle.std.specs.List.{filter}
 use Rattle.std.specs.List.Sorted.{IsPermutation}
 use Rattle.soc_model.specs.Chips.{SocValue}
@@ -11,6 +11,7 @@ use Rattle.live_tests.specs.Placed.{placed_of, placed_tests}
 use Rattle.picture.specs.declared.Parts.{Parts}
 use Rattle.picture.specs.declared.panels.Drawn.{Drawn}
 use Rattle.picture.specs.Panels.{below, wires_panel}
+use Rattle.picture.specs.Scale.{mark_step, marks_by}
 use Rattle.picture.specs.PictureText.{bottom_of, lanes_of, plan_steps, self_tests}
 use Rattle.picture.specs.Rectangles.{bus_wires, covers, drawn_over, drawn_test, is_self, is_wired, laned, wired}
 
@@ -39,6 +40,15 @@ pub record AreLaned (drawn : List Drawn) (tests : List PlacedTest) : Type 0 wher
 -- under a limit no step is above it
 abbrev pub StaysWithin : LimitsValue → List (ℕ × ℕ) → Type 0
 StaysWithin limits steps = (most i : ℕ) (s : ℕ × ℕ) → limits.power ≡ Some most → slice_get steps i ≡ Some s → s.1 ≤ most
+
+-- in the text of an element, a byte that neither begins nor ends a tag
+abbrev pub is_plain : ℕ → Bool
+is_plain b = not (nat_eq b 60) && not (nat_eq b 62)
+
+-- five to ten cycles are marked
+pub record HasFewMarks (cycles : ℕ) : Type 0 where
+  pub five : 5 ≤ length (marks_by (mark_step cycles) cycles)
+  pub ten : length (marks_by (mark_step cycles) cycles) ≤ 10
 
 -- the placed tests of a good plan
 pub record AreTestsOf (soc : SocValue) (limits : LimitsValue) (plan : PlanValue) (tests : List PlacedTest) : Type 0 where
