@@ -13,6 +13,10 @@ pub enum TopCall<'a> {
     Picture {
         words: &'a [String],
     },
+    /// That of `simulate`, with the words behind this one.
+    Simulate {
+        words: &'a [String],
+    },
     /// That of the eleven commands, with all words. It also takes words that are no command.
     Soctest {
         words: &'a [String],
@@ -32,6 +36,9 @@ pub fn top_call(words: &[String]) -> TopCall<'_>
     }
     if first.as_str() == "picture" {
         return TopCall::Picture { words: behind };
+    }
+    if first.as_str() == "simulate" {
+        return TopCall::Simulate { words: behind };
     }
     TopCall::Soctest { words }
 }

@@ -6,6 +6,7 @@ use commands::{Status, TopCall, top_call, words_after_name};
 use outside::{RealShelf, RealSink};
 use plan_improver::improve;
 use plan_picture::draw;
+use plan_simulator::simulate;
 use soctest::soctest;
 use std::process::ExitCode;
 
@@ -20,6 +21,7 @@ fn run(rt: &HostRuntime, words: &[String]) -> Status {
             improve(alloc, words, &mut shelf, &mut out, &mut told)
         }
         TopCall::Picture { words } => draw(alloc, words, &mut shelf, &mut out),
+        TopCall::Simulate { words } => simulate(alloc, words, &mut shelf, &mut out),
         TopCall::Soctest { words } => soctest(alloc, words, &mut shelf, &mut out),
     }
 }

@@ -1,0 +1,4 @@
+pub mod CaptureCounts
+pub mod RightLoads
+pub mod Stepping
+pub mod Answering

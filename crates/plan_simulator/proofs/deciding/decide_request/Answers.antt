@@ -1,0 +1,23 @@
+use Rattle.std.proofs.Common.{◌≡◌, ℕ, List}
+use Rattle.soc_model.specs.Chips.{soc_value}
+use Rattle.plan_model.specs.Views.{limits_value, plan_value}
+use Rattle.commands.specs.Procedures.{Unless, done_with}
+use Rattle.commands.proofs.FileStages.{unless_any}
+use Rattle.commands.proofs.AllFiles.{not_all, after_all}
+use Rattle.plan_simulator.specs.Runs.{simulated_text}
+use Rattle.plan_simulator.specs.Requests.{run_refusal}
+use Rattle.plan_simulator.proofs.deciding.decide_request.Goals as goal
+
+pub simulated-verdict-requires-clause-good : goal.simulated-verdict-requires-clause-good
+simulated-verdict-requires-clause-good g c = c.good_without_limits.ensures.alone (soc_value c.in-Ok.all.soc) (limits_value c.in-Ok.all.limits) (plan_value c.in-Ok.all.plan) c.in-Ok.ensures.accepted.0
+
+pub simulated-verdict-requires-clause-narrow : goal.simulated-verdict-requires-clause-narrow
+simulated-verdict-requires-clause-narrow g c = c.good_without_limits.ensures.narrow (soc_value c.in-Ok.all.soc) (limits_value c.in-Ok.all.limits) (plan_value c.in-Ok.all.plan) c.in-Ok.ensures.limits c.in-Ok.ensures.accepted.0
+
+pub returns-in-Ok-clause-follows : goal.returns-in-Ok-clause-follows
+returns-in-Ok-clause-follows g c =
+    after_all _ _ _ (λ chip bounds value. Unless (run_refusal value) (done_with (simulated_text chip value c.args.request.now.seed))) _ _ (g.H.Shelf.faults c.load_all.new.shelf) _ c.in-Ok.all _ c.load_all.ensures.faults_never_fall c.in-Ok.ensures.loads
+    (unless_any (run_refusal (plan_value c.in-Ok.all.plan)) (λ (text : List ℕ). text ≡ simulated_text (soc_value c.in-Ok.all.soc) (plan_value c.in-Ok.all.plan) c.args.request.now.seed) _ (g.H.Shelf.faults c.load_all.new.shelf) (g.H.Shelf.faults c.load_all.new.shelf) c.simulated-verdict.result c.simulated-verdict.ensures)
+
+pub returns-in-Err-clause-follows : goal.returns-in-Err-clause-follows
+returns-in-Err-clause-follows g c = not_all _ _ _ (λ chip bounds value. Unless (run_refusal value) (done_with (simulated_text chip value c.args.request.now.seed))) _ _ _ _ c.in-Err.ensures.loads

@@ -1,0 +1,92 @@
+// A whole chip is stepped through its plan.
+ghost use Rattle.std.specs.Prelude.{◌≡◌, ℕ, ◌+◌, ◌*◌, ◌<◌, ◌≤◌, length, max, nat_lt, IfOk};
+ghost use Rattle.soc_model.specs.Chips.{SocValue, soc_value};
+ghost use Rattle.soc_model.specs.SoundChips.{IsSoundChip};
+ghost use Rattle.plan_model.specs.Plans.{PlanValue, planned};
+ghost use Rattle.plan_model.specs.Rules.{IsGoodAlone};
+ghost use Rattle.plan_model.specs.Views.{plan_value};
+ghost use Rattle.bit_machine.specs.Chips.{wires_of, made_content};
+ghost use Rattle.plan_simulator.specs.Runs.{captures_in, right_loads_in, too_many};
+ghost use Rattle.tester_vectors.specs.declared.TheConstants.{RUN_MOST};
+ghost use Rattle.plan_simulator.specs.Steps.{IsAfter};
+
+use bit_machine::{Chip, Report};
+use live_tests::first_wire;
+use outside::NoMemory;
+use plan_model::Plan;
+use soc_model::Soc;
+use std::alloc::Global;
+use tester_vectors::RUN_MOST;
+
+/// So many bits 0.
+fn zero_bits(alloc: Global, count: usize) -> Result<Vec<bool>, NoMemory>
+    ensures { IfOk result (λ bits. length bits.items ≡ count) }
+{
+    vec![in alloc; false; count].map_err(|_| NoMemory)
+}
+
+/// The wires of all buses of a plan.
+fn all_wires(plan: &Plan) -> usize
+    requires { wires_of (plan_value plan.now) ≤ 256 }
+    ensures { result ≡ wires_of (plan_value plan.now) }
+{
+    first_wire(&plan.buses, plan.buses.len())
+}
+
+/// Cycles times wires; without wires, times 1.
+fn wire_cycles(cycles: u64, wires: usize) -> u128
+    ensures { result ≡ cycles * max 1 wires }
+{
+    u128::from(cycles) * (wires.max(1) as u128)
+}
+
+/// Whether a run of so many cycles times wires is too long.
+fn is_too_long(cells: u128) -> bool
+    ensures { result ≡ nat_lt RUN_MOST cells }
+{
+    cells > RUN_MOST
+}
+
+/// The cycles of a plan times its wires, where these are too many for a run.
+pub(crate) fn too_many_cells(plan: &Plan) -> Option<u128>
+    requires { wires_of (plan_value plan.now) ≤ 256 }
+    ensures { result ≡ too_many (plan_value plan.now) }
+{
+    let cells = wire_cycles(plan.cycles, all_wires(plan));
+    if is_too_long(cells) {
+        Some(cells)
+    } else {
+        None
+    }
+}
+
+/// One cycle of a chip, whose wires carry what its tests want. Each list has a bit for each wire: what is driven, and what is
+/// shown.
+fn run_cycle(chip: &mut Chip<'_>, drive: &mut [bool], read: &mut [bool])
+    requires left { chip.old.cycle < chip.old.plan.cycles }
+    requires driven { length drive.old ≡ wires_of chip.old.plan }
+    requires shown { length read.old ≡ wires_of chip.old.plan }
+    ensures { (soc : SocValue) (plan : PlanValue) (seed cycle : ℕ) → IsGoodAlone soc plan → IsAfter soc plan seed cycle chip.old → IsAfter soc plan seed (cycle + 1) chip.new }
+{
+    chip.want(drive);
+    chip.cycle(drive, read);
+}
+
+/// Steps a chip with the made contents of a seed through its whole plan, and reports what it did.
+pub(crate) fn run(alloc: Global, soc: &Soc, plan: &Plan, seed: u64) -> Result<Report, NoMemory>
+    requires sound { IsSoundChip (soc_value soc.now) }
+    requires good { IsGoodAlone (soc_value soc.now) (plan_value plan.now) }
+    requires narrow { wires_of (plan_value plan.now) ≤ 256 }
+    ensures cycle { IfOk result (λ report. report.cycle ≡ (plan_value plan.now).cycles) }
+    ensures captures { IfOk result (λ report. report.captures ≡ captures_in (planned (soc_value soc.now) (plan_value plan.now)) (plan_value plan.now).cycles) }
+    ensures right_loads { IfOk result (λ report. report.right_loads ≡ right_loads_in (made_content (soc_value soc.now) seed) (planned (soc_value soc.now) (plan_value plan.now)) (plan_value plan.now).cycles) }
+{
+    let wires = all_wires(plan);
+    let mut drive = zero_bits(alloc, wires)?;
+    let mut read = zero_bits(alloc, wires)?;
+    let mut chip = Chip::new(alloc, soc, plan, seed)?;
+    for _cycle in 0..plan.cycles {
+        run_cycle(&mut chip, &mut drive, &mut read);
+    }
+    Ok(chip.report())
+}
