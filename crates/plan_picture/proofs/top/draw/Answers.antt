@@ -35,5 +35,5 @@ returns-clause-finishes g c =
 
 pub returns-clause-headline : goal.returns-clause-headline
 returns-clause-headline g c =
-    headline (record { right = c.good_plans_run_right.ensures; bound = c.certificates_are_bounds.ensures.accepted }) (record { drawn = c.good_plans_draw_right.ensures.drawn; apart = c.good_plans_draw_right.ensures.apart; lanes = c.good_plans_draw_right.ensures.lanes; within = c.good_plans_draw_right.ensures.within; used = c.good_plans_draw_right.ensures.used; self_drawn = c.good_plans_draw_right.ensures.self_tests }) (files_of (map string_bytes c.args.words.now)) (g.H.Shelf.held c.args.shelf.now) (g.H.Shelf.faults c.args.shelf.now) (g.H.Shelf.faults c.decide-verdict.new.shelf) (g.K.Sink.faults c.args.out.now) (g.K.Sink.faults c.write_verdict.new.out) (g.K.Sink.written c.args.out.now) (g.K.Sink.written c.write_verdict.new.out) c.write_verdict.result
+    headline (record { right = c.good_plans_run_right.ensures; bound = c.certificates_are_bounds.ensures.accepted }) (record { drawn = c.good_plans_draw_right.ensures.drawn; apart = c.good_plans_draw_right.ensures.apart; lanes = c.good_plans_draw_right.ensures.lanes; within = c.good_plans_draw_right.ensures.within; used = c.good_plans_draw_right.ensures.used; self_drawn = c.good_plans_draw_right.ensures.self_drawn }) (files_of (map string_bytes c.args.words.now)) (g.H.Shelf.held c.args.shelf.now) (g.H.Shelf.faults c.args.shelf.now) (g.H.Shelf.faults c.decide-verdict.new.shelf) (g.K.Sink.faults c.args.out.now) (g.K.Sink.faults c.write_verdict.new.out) (g.K.Sink.written c.args.out.now) (g.K.Sink.written c.write_verdict.new.out) c.write_verdict.result
     (ends (asked procedure_of (files_of (map string_bytes c.args.words.now))) (g.H.Shelf.held c.args.shelf.now) (g.H.Shelf.faults c.args.shelf.now) (g.H.Shelf.faults c.decide-verdict.new.shelf) (g.K.Sink.faults c.args.out.now) (g.K.Sink.faults c.write_verdict.new.out) (g.K.Sink.written c.args.out.now) (g.K.Sink.written c.write_verdict.new.out) c.write_verdict.result c.decide-verdict.result c.decide-verdict.ensures.decides c.write_verdict.ensures.written)
