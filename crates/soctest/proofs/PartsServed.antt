@@ -24,6 +24,7 @@ use Rattle.split_plan.specs.declared.Part.{Part}
 use Rattle.split_plan.specs.Laws.{IsInOnePart, IsPart}
 use Rattle.split_plan.specs.Parts.{split_chip, split_limits, split_parts, split_of}
 use Rattle.split_plan.proofs.Lists.{at_map}
+use Rattle.split_plan.proofs.PartContents.{contents}
 use Rattle.split_plan.proofs.PartLaws.{each_once, are_parts}
 use Rattle.soctest.specs.declared.Command.{Command}
 use Rattle.soctest.specs.declared.Command.TheVariants as command
@@ -191,6 +192,7 @@ parts_printed laws files soc limits most some text old new answer put =
       limits_read = b;
       right = λ content. laws.right (split_chip bounds most chip) (split_limits bounds most chip) value content planned.good;
       each = served chip bounds most value some (sound_chip a.bytes chip a.says) (λ content. laws.right (split_chip bounds most chip) (split_limits bounds most chip) value content planned.good);
+      contents = contents bounds most chip (sound_chip a.bytes chip a.says);
       bound = laws.bound (split_chip bounds most chip) (split_limits bounds most chip) value.bound b.says.sound.some_wire planned.accepted;
       written = subst (λ t. Appended old t new) is put;
     }

@@ -1,6 +1,6 @@
 -- What a plan of parts promises for the chip that was cut: each pattern of each of its live tests is loaded and read exactly
 -- once.
-use Rattle.std.specs.Prelude.{◌≡◌, ℕ, ◌+◌, ◌-◌, ◌≤◌, true, false, List, Option, Some, slice_get}
+use Rattle.std.specs.Prelude.{◌≡◌, ℕ, ◌+◌, ◌≤◌, true, false, List, Option, Some, slice_get}
 use Rattle.std.specs.List.{Contains}
 use Rattle.outside.specs.Held.{Files, Appended}
 use Rattle.soc_model.specs.declared.TestId.{TestId}
@@ -13,14 +13,10 @@ use Rattle.plan_model.specs.Right.{IsAt, IsReadAt, TestsItself, IsRight}
 use Rattle.plan_model.specs.Rules.{IsBound}
 use Rattle.split_plan.specs.declared.Part.{Part}
 use Rattle.split_plan.specs.Laws.{HasPattern}
+pub use Rattle.split_plan.specs.Laws.{HasPatternsOf, EachContentInParts}
 use Rattle.split_plan.specs.Parts.{split_chip, split_limits, split_parts, split_of}
 use Rattle.commands.specs.Trusted.{IsChipIn, AreLimitsIn}
 use Rattle.soctest.specs.SplitText.{split_text}
-
--- A content of the parts has the patterns of a content of the chip that was cut; its bits at first may be any.
-pub record HasPatternsOf (parts : List Part) (whole content : Content) : Type 0 where
-  pub stimulus : (i : ℕ) (p : Part) (k : ℕ) (x : Cell) → slice_get parts i ≡ Some p → 1 ≤ k → content.stimulus p.part k x ≡ whole.stimulus p.whole (p.first + k - 1) x
-  pub response : (i : ℕ) (p : Part) (k : ℕ) (x : Cell) → slice_get parts i ≡ Some p → 1 ≤ k → content.response p.part k x ≡ whole.response p.whole (p.first + k - 1) x
 
 -- Pattern `n` of a test is loaded and read: Capture `k` of the part at place `i` comes at one cycle and finds the stimulus, and
 -- each bit of the response is shown at one cycle on one wire.
@@ -51,7 +47,8 @@ pub record IsServedOnce (whole content : Content) (tests : List PlannedTest) (pa
 
 -- What a plan of parts is that is printed: the chip that is cut and its limits were read from the held files; the plan runs
 -- right on the chip of parts for every content, and so loads and reads each pattern of each live test of the chip that was
--- cut exactly once; no good plan of the chip of parts ends before its bound; and its text was written.
+-- cut exactly once, with each content of that chip, which is one of the parts; no good plan of the chip of parts ends before its
+-- bound; and its text was written.
 pub record IsTrustworthySplit (files : Files) (soc limits : List ℕ) (most : ℕ) (old new : Option (List ℕ)) : Type 0 where
   pub chip : SocValue
   pub bounds : LimitsValue
@@ -60,5 +57,6 @@ pub record IsTrustworthySplit (files : Files) (soc limits : List ℕ) (most : �
   pub limits_read : AreLimitsIn files limits chip bounds
   pub right : (content : Content) → IsRight (split_chip bounds most chip) (split_limits bounds most chip) value content
   pub each : (whole content : Content) → HasPatternsOf (split_parts bounds most chip) whole content → (i : ℕ) (l : LiveTest) (n : ℕ) → slice_get (live_tests chip) i ≡ Some l → 1 ≤ n → n ≤ l.test.patterns → IsServedOnce whole content (planned (split_chip bounds most chip) value) (split_parts bounds most chip) l n
+  pub contents : EachContentInParts (split_parts bounds most chip)
   pub bound : IsBound (split_chip bounds most chip) (split_limits bounds most chip) value.bound.cycles
   pub written : Appended old (split_text (split_of chip bounds most) value) new
