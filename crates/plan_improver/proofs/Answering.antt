@@ -6,6 +6,7 @@ use Rattle.soc_model.specs.Chips.{SocValue}
 use Rattle.plan_model.specs.Plans.{LimitsValue, PlanValue}
 use Rattle.plan_text.specs.PlanLines.{plan_text}
 use Rattle.plan_text.specs.Answers.{SaysPlan}
+use Rattle.plan_text.specs.Laws.{PrintedPlansAreRead}
 use Rattle.commands.specs.declared.FileKind.TheVariants.{Plan}
 use Rattle.commands.specs.declared.Status.{Status}
 use Rattle.commands.specs.declared.Status.TheVariants.{Done}
@@ -29,8 +30,8 @@ pub settled_asked : FilesSayOneThing → (request : Option RequestValue) → IsS
 settled_asked laws None = tt
 settled_asked laws (Some r) = settled_all laws false r.soc r.limits r.plan (λ chip bounds given. done_with_any (Improved r.tries chip bounds given)) (λ chip bounds given. left_open (Improved r.tries chip bounds given))
 
-improves : TrustLaws → (files : Files) (r : RequestValue) (text : List ℕ) (old new : Option (List ℕ)) → Answers (procedure_of r) files Done text → Appended old text new → Improves r files old new
-improves laws files r text old new answer put =
+improves : TrustLaws → PrintedPlansAreRead → (files : Files) (r : RequestValue) (text : List ℕ) (old new : Option (List ℕ)) → Answers (procedure_of r) files Done text → Appended old text new → Improves r files old new
+improves laws reads files r text old new answer put =
     let b = both_done files r.soc r.limits text (λ chip bounds. with_accepted chip bounds r.plan (λ given. done_with_any (Improved r.tries chip bounds given))) answer in
     let c = stage_done Plan (SaysAccepted b.0 b.1) (RefusesPlan b.0 b.1) (λ given. Answers (done_with_any (Improved r.tries b.0 b.1 given)) files) (get files r.plan) text b.4 in
     record {
@@ -45,9 +46,10 @@ improves laws files r text old new answer put =
       right = λ content. laws.right b.0 b.1 c.2.1.0 content c.2.1.1.good;
       bound = laws.bound b.0 b.1 c.2.1.0.bound b.3.says.sound.some_wire c.2.1.1.accepted;
       written = subst (λ (t : List ℕ). Appended old t new) c.2.1.2 put;
+      reads_back = reads c.2.1.0 (c.2.1.1.in_range c.1.says.0.small_starts);
     }
 
-pub headline : TrustLaws → (request : Option RequestValue) (held : Option Files) (sb sa kb ka : ℕ) (old new : Option (List ℕ)) (end : Status) → Ends (MayAnswer (asked procedure_of request) held sb sa) kb ka old end new → Headline request held old end new
-headline laws request held sb sa kb ka old new end ends files given is named done =
+pub headline : TrustLaws → PrintedPlansAreRead → (request : Option RequestValue) (held : Option Files) (sb sa kb ka : ℕ) (old new : Option (List ℕ)) (end : Status) → Ends (MayAnswer (asked procedure_of request) held sb sa) kb ka old end new → Headline request held old end new
+headline laws reads request held sb sa kb ka old new end ends files given is named done =
     let a = done_answer (asked procedure_of request) held sb sa kb ka old new end files ends is done in
-    improves laws files given a.0 old new (subst (λ (q : Option RequestValue). Answers (asked procedure_of q) files Done a.0) named a.1) a.2
+    improves laws reads files given a.0 old new (subst (λ (q : Option RequestValue). Answers (asked procedure_of q) files Done a.0) named a.1) a.2

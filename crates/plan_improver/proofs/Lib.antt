@@ -1,5 +1,6 @@
 pub mod Answering
 pub mod OtherBounds
 pub mod Widths
+pub mod InRange
 pub mod Raised
 pub mod Telling

@@ -7,6 +7,7 @@ use Rattle.plan_model.specs.Runs.{Content}
 use Rattle.plan_model.specs.Right.{IsRight}
 use Rattle.plan_model.specs.Rules.{IsBound}
 use Rattle.plan_text.specs.PlanLines.{plan_text}
+use Rattle.plan_text.specs.Answers.{SaysPlan}
 use Rattle.commands.specs.declared.Status.{Status}
 use Rattle.commands.specs.declared.Status.TheVariants.{Done}
 use Rattle.commands.specs.Trusted.{IsChipIn, AreLimitsIn, IsPlanIn}
@@ -14,7 +15,8 @@ use Rattle.plan_improver.specs.Improved.{IsImproved}
 use Rattle.plan_improver.specs.Requests.{RequestValue}
 
 -- For the chip and the limits in the files, the plan that is written is improved from the one in its file; it runs right for
--- every content and ends in exactly the cycles that it states, and no good plan ends before its bound.
+-- every content and ends in exactly the cycles that it states, and no good plan ends before its bound. What is written reads
+-- back as that plan.
 pub record Improves (request : RequestValue) (files : Files) (old new : Option (List ℕ)) : Type 0 where
   pub chip : SocValue
   pub bounds : LimitsValue
@@ -27,6 +29,7 @@ pub record Improves (request : RequestValue) (files : Files) (old new : Option (
   pub right : (content : Content) → IsRight chip bounds value content
   pub bound : IsBound chip bounds value.bound.cycles
   pub written : Appended old (plan_text value) new
+  pub reads_back : SaysPlan (plan_text value) value
 
 -- so where the call ends with Done, and the shelf tells what it holds
 abbrev pub Headline : Option RequestValue → Option Files → Option (List ℕ) → Status → Option (List ℕ) → Type 0

@@ -5,6 +5,7 @@ use Rattle.plan_model.specs.Plans.{LimitsValue, BoundValue, PlanValue}
 use Rattle.plan_model.specs.Rules.{IsGood}
 use Rattle.plan_model.specs.Certificates.{IsAccepted}
 use Rattle.bound_certificate.specs.Best.{IsBestBound}
+use Rattle.plan_text.specs.Grammar.{AreSmallStarts, IsInRange}
 
 -- the greater of a given bound and of the best one at so many cycles; of equal ones the given one
 pub record IsGreaterBound (soc : SocValue) (limits : LimitsValue) (cycles : ℕ) (given bound : BoundValue) : Type 0 where
@@ -31,3 +32,5 @@ pub record IsImproved (soc : SocValue) (limits : LimitsValue) (tries : ℕ) (giv
   pub at_most : plan.cycles ≤ given.cycles
   pub same : plan.cycles ≡ given.cycles → plan ≡ record given { bound = plan.bound }
   pub untried : tries ≡ 0 → plan ≡ record given { bound = plan.bound }
+  -- every number is in the range of a plan's text, where the given plan's starts are
+  pub in_range : AreSmallStarts given.starts → IsInRange plan

@@ -142,7 +142,7 @@ fn is_accepted(alloc: Global, soc: &Soc, limits: &Limits, plan: &Plan) -> Result
     }
 }
 
-/// The plan of what was found, where it is good and ends before so many cycles.
+/// The plan of what was found, where it is good and ends before so many cycles. Its starts are small enough for a plan's text.
 pub(crate) fn better_plan(
     alloc: Global,
     soc: &Soc,
@@ -156,6 +156,7 @@ pub(crate) fn better_plan(
     requires chip { table.now.soc ≡ soc_value soc.now }
     requires lent { IsLent found.now }
     ensures good { IfOk result (λ plan. IfSome plan (λ p. IsGood (soc_value soc.now) (limits_value limits.now) (plan_value p))) }
+    ensures small_starts { IfOk result (λ plan. IfSome plan (λ p. AreSmallStarts (plan_value p).starts)) }
     ensures fewer { IfOk result (λ plan. IfSome plan (λ p. p.cycles < cycles)) }
 {
     let Some(plan) = plan_of(alloc, soc, table, found)? else {

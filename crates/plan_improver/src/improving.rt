@@ -10,12 +10,14 @@ ghost use Rattle.plan_model.specs.Faults.{IsFaultless};
 ghost use Rattle.plan_model.specs.Runs.{Content};
 ghost use Rattle.plan_model.specs.Right.{IsRight};
 ghost use Rattle.plan_model.specs.Views.{limits_value, plan_value, bound_value};
+ghost use Rattle.plan_text.specs.Grammar.{AreSmallStarts};
 ghost use Rattle.plan_improver.specs.declared.progress.TheConstants.{TOLD_FROM};
 ghost use Rattle.plan_improver.specs.Grounds.{AreGrounds};
 ghost use Rattle.plan_improver.specs.Improved.{IsGreaterBound, IsRaised, IsImproved};
 ghost use Rattle.plan_improver.specs.Told.{MayTell};
 
 use crate::candidate::{better_plan, no_bound};
+use crate::laws::faultless_plans_are_in_range;
 use crate::progress::{line_room, run_told};
 use arch_search::{Problem, Search};
 use bound_certificate::best_bound;
@@ -148,6 +150,7 @@ fn searched_on<T: Sink>(
     requires limits { IsSoundLimits (soc_value soc.now) (limits_value limits.now) }
     requires grounds { AreGrounds (soc_value soc.now) grounds.now }
     ensures good { IfOk result (λ plan. IfSome plan (λ p. IsGood (soc_value soc.now) (limits_value limits.now) (plan_value p))) }
+    ensures small_starts { IfOk result (λ plan. IfSome plan (λ p. AreSmallStarts (plan_value p).starts)) }
     ensures fewer { IfOk result (λ plan. IfSome plan (λ p. p.cycles < given.now.cycles)) }
     ensures faults_never_fall { T.faults told.old ≤ T.faults told.new }
     ensures quiet { tries < TOLD_FROM → told.new ≡ told.old }
@@ -184,6 +187,7 @@ fn searched<T: Sink>(
     requires limits { IsSoundLimits (soc_value soc.now) (limits_value limits.now) }
     requires given { IsFaultless (soc_value soc.now) (limits_value limits.now) (plan_value given.now) }
     ensures good { IfOk result (λ plan. IfSome plan (λ p. IsGood (soc_value soc.now) (limits_value limits.now) (plan_value p))) }
+    ensures small_starts { IfOk result (λ plan. IfSome plan (λ p. AreSmallStarts (plan_value p).starts)) }
     ensures fewer { IfOk result (λ plan. IfSome plan (λ p. p.cycles < given.now.cycles)) }
     ensures faults_never_fall { T.faults told.old ≤ T.faults told.new }
     ensures quiet { tries < TOLD_FROM → told.new ≡ told.old }
@@ -202,8 +206,9 @@ fn searched<T: Sink>(
 
 /// A plan of no more cycles than the given one has, for the same chip and limits, after so many tries of a search that draws
 /// from a seed; the given plan where none is better. It is good, so that it runs right for every content, and its bound is
-/// the greater of the given one and of the best one at its cycles. From 100,000 tries on `told` is told each tenth of them,
-/// with the best cycles so far; a `told` that fails changes nothing else. `NoMemory` where there is none.
+/// the greater of the given one and of the best one at its cycles. Every number of it is in the range of a plan's text, where
+/// the given plan's starts are. From 100,000 tries on `told` is told each tenth of them, with the best cycles so far; a `told`
+/// that fails changes nothing else. `NoMemory` where there is none.
 pub fn improved<T: Sink>(
     alloc: Global,
     soc: &Soc,
@@ -223,6 +228,7 @@ pub fn improved<T: Sink>(
     ensures told { MayTell tries (T.written told.old) (T.written told.new) }
 {
     good_plans_run_right();
+    faultless_plans_are_in_range();
     let found = searched(alloc, soc, limits, &given, tries, seed, told)?;
     let bound = mem::replace(&mut given.bound, no_bound());
     match found {

@@ -7,6 +7,7 @@
 mod candidate;
 mod deciding;
 mod improving;
+mod laws;
 mod progress;
 mod top;
 mod words;

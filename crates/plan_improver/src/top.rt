@@ -11,6 +11,7 @@ use crate::deciding::decide;
 use commands::{Status, files_say_one_thing, write_verdict};
 use outside::{Shelf, Sink};
 use plan_model::{certificates_are_bounds, good_plans_run_right};
+use plan_text::printed_plans_are_read;
 use std::alloc::Global;
 
 /// Improves the plan that the words name, for the chip and under the limits that they name, and writes what comes of it.
@@ -42,13 +43,14 @@ pub fn improve<H: Shelf, K: Sink, T: Sink>(
     ensures finishes { Finishes (asked procedure_of (request_of (map string_bytes words.now))) (H.held shelf.old) (Rose (H.faults shelf.old) (H.faults shelf.new)) (Rose (K.faults out.old) (K.faults out.new)) result }
     ensures bad_words { SaysBadWords (K.written out.old) result (K.written out.new) }
 
-    // The headline: the plan that is written is good and no worse than the one that was given; it runs right, and its bound
-    // is one.
+    // The headline: the plan that is written is good and no worse than the one that was given; it runs right, its bound is
+    // one, and its text reads back as that plan.
     ensures headline { Headline (request_of (map string_bytes words.now)) (H.held shelf.old) (K.written out.old) result (K.written out.new) }
 {
     good_plans_run_right();
     certificates_are_bounds();
     files_say_one_thing();
+    printed_plans_are_read();
     let verdict = decide(alloc, words, shelf, told);
     write_verdict(verdict, out)
 }

@@ -5,6 +5,7 @@ use Rattle.plan_model.specs.declared.Bound.{Bound}
 use Rattle.plan_model.specs.declared.Plan.{Plan}
 use Rattle.plan_model.specs.Rules.{IsGood}
 use Rattle.plan_model.specs.Views.{bound_value, limits_value, plan_value}
+use Rattle.plan_text.specs.Grammar.{AreSmallStarts}
 use Rattle.plan_improver.specs.Improved.{IsRaised}
 use Rattle.plan_improver.proofs.OtherBounds.{good_bounded}
 use Rattle.plan_improver.proofs.Raised.{better, kept}
@@ -27,14 +28,15 @@ with_greater_bound-requires-in-None-clause-good g c = good_bounded (soc_value c.
 
 pub returns-in_ok-better-in-Some-clause-improved : goal.returns-in_ok-better-in-Some-clause-improved
 returns-in_ok-better-in-Some-clause-improved g c =
-    better (soc_value c.args.soc.now) (limits_value c.args.limits.now) c.args.tries (plan_value c.args.given) (plan_value c.in-Some.plan) (plan_value c.in_ok-better-in-Some.better)
+    better (soc_value c.args.soc.now) (limits_value c.args.limits.now) (c.faultless_plans_are_in_range.ensures (soc_value c.args.soc.now) (limits_value c.args.limits.now) c.requires.sound c.requires.limits) c.args.tries (plan_value c.args.given) (plan_value c.in-Some.plan) (plan_value c.in_ok-better-in-Some.better)
     (subst (λ (b : Bound). IsRaised (soc_value c.args.soc.now) (limits_value c.args.limits.now) (plan_value c.in-Some.plan) (bound_value b) (plan_value c.in_ok-better-in-Some.better)) c.replace-bound.ensures.value c.in_ok-better-in-Some.ensures)
     (of_some c.in_ok-found.found c.in-Some.plan (λ p. p.cycles < c.args.given.cycles) c.in-Some.is c.in_ok-found.ensures.fewer)
+    (of_some c.in_ok-found.found c.in-Some.plan (λ p. AreSmallStarts (plan_value p).starts) c.in-Some.is c.in_ok-found.ensures.small_starts)
     (some_tried c.in_ok-found.found c.in-Some.plan c.args.tries c.in-Some.is c.in_ok-found.ensures.untried)
 
 pub returns-in_ok-kept-in-None-clause-improved : goal.returns-in_ok-kept-in-None-clause-improved
 returns-in_ok-kept-in-None-clause-improved g c =
-    kept (soc_value c.args.soc.now) (limits_value c.args.limits.now) c.args.tries (plan_value c.args.given) (plan_value c.in_ok-kept-in-None.kept) (bound_value c.replace-bound.new.dest)
+    kept (soc_value c.args.soc.now) (limits_value c.args.limits.now) (c.faultless_plans_are_in_range.ensures (soc_value c.args.soc.now) (limits_value c.args.limits.now) c.requires.sound c.requires.limits) c.args.tries (plan_value c.args.given) (plan_value c.in_ok-kept-in-None.kept) (bound_value c.replace-bound.new.dest)
     (subst (λ (b : Bound). IsRaised (soc_value c.args.soc.now) (limits_value c.args.limits.now) (record (plan_value c.args.given) { bound = bound_value c.replace-bound.new.dest }) (bound_value b) (plan_value c.in_ok-kept-in-None.kept)) c.replace-bound.ensures.value c.in_ok-kept-in-None.ensures)
 
 pub returns-in_ok-better-in-Some-clause-right : goal.returns-in_ok-better-in-Some-clause-right

@@ -27,4 +27,4 @@ returns-clause-finishes g c = finishes false (asked procedure_of (request_of (ma
 
 pub returns-clause-headline : goal.returns-clause-headline
 returns-clause-headline g c =
-    headline (record { right = c.good_plans_run_right.ensures; bound = c.certificates_are_bounds.ensures.accepted }) (request_of (map string_bytes c.args.words.now)) (g.H.Shelf.held c.args.shelf.now) (g.H.Shelf.faults c.args.shelf.now) (g.H.Shelf.faults c.decide-verdict.new.shelf) (g.K.Sink.faults c.args.out.now) (g.K.Sink.faults c.write_verdict.new.out) (g.K.Sink.written c.args.out.now) (g.K.Sink.written c.write_verdict.new.out) c.write_verdict.result (ends (asked procedure_of (request_of (map string_bytes c.args.words.now))) (g.H.Shelf.held c.args.shelf.now) (g.H.Shelf.faults c.args.shelf.now) (g.H.Shelf.faults c.decide-verdict.new.shelf) (g.K.Sink.faults c.args.out.now) (g.K.Sink.faults c.write_verdict.new.out) (g.K.Sink.written c.args.out.now) (g.K.Sink.written c.write_verdict.new.out) c.write_verdict.result c.decide-verdict.result c.decide-verdict.ensures.decides c.write_verdict.ensures.written)
+    headline (record { right = c.good_plans_run_right.ensures; bound = c.certificates_are_bounds.ensures.accepted }) c.printed_plans_are_read.ensures (request_of (map string_bytes c.args.words.now)) (g.H.Shelf.held c.args.shelf.now) (g.H.Shelf.faults c.args.shelf.now) (g.H.Shelf.faults c.decide-verdict.new.shelf) (g.K.Sink.faults c.args.out.now) (g.K.Sink.faults c.write_verdict.new.out) (g.K.Sink.written c.args.out.now) (g.K.Sink.written c.write_verdict.new.out) c.write_verdict.result (ends (asked procedure_of (request_of (map string_bytes c.args.words.now))) (g.H.Shelf.held c.args.shelf.now) (g.H.Shelf.faults c.args.shelf.now) (g.H.Shelf.faults c.decide-verdict.new.shelf) (g.K.Sink.faults c.args.out.now) (g.K.Sink.faults c.write_verdict.new.out) (g.K.Sink.written c.args.out.now) (g.K.Sink.written c.write_verdict.new.out) c.write_verdict.result c.decide-verdict.result c.decide-verdict.ensures.decides c.write_verdict.ensures.written)
