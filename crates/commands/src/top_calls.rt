@@ -6,21 +6,13 @@ ghost use Rattle.commands.specs.TopCalls.{top_call_of, top_call_value};
 #[derive(Clone, Copy)]
 pub enum TopCall<'a> {
     /// That of `improve`, with the words behind this one.
-    Improve {
-        words: &'a [String],
-    },
+    Improve { words: &'a [String] },
     /// That of `picture`, with the words behind this one.
-    Picture {
-        words: &'a [String],
-    },
+    Picture { words: &'a [String] },
     /// That of `simulate`, with the words behind this one.
-    Simulate {
-        words: &'a [String],
-    },
+    Simulate { words: &'a [String] },
     /// That of the eleven commands, with all words. It also takes words that are no command.
-    Soctest {
-        words: &'a [String],
-    },
+    Soctest { words: &'a [String] },
 }
 
 /// The top call that takes these words, by the first of them.
