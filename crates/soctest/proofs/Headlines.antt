@@ -29,7 +29,7 @@ use Rattle.soctest.specs.ShiftPrograms.{SaysRight, RefusesProgram, accepted_prog
 use Rattle.soctest.specs.Procedures.{with_program, done_with_plan, done_with_sample, run_refusal, sample_refusal, procedure_of}
 use Rattle.soctest.specs.Endings.{Closes, WritesEnding}
 use Rattle.soctest.specs.declared.ending.Ending.{Ending}
-use Rattle.soctest.specs.Headlines.{IsSummedUp, TellsFails, TellsProgram, Trusts, Headline, SampleHeadline}
+use Rattle.soctest.specs.Headlines.{TellsFails, TellsProgram, Trusts, Headline, SampleHeadline}
 use Rattle.soctest.proofs.Endings.{ends}
 use Rattle.soctest.proofs.LogFiles.{after_plan}
 use Rattle.soctest.proofs.TreeFiles.{shown}
