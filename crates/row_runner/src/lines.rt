@@ -1,6 +1,5 @@
 // The lines of a file of rows.
-use outside::{NoMemory, number, push};
-use std::alloc::Global;
+use outside::number;
 
 /// A line of a file of rows.
 pub enum Line<'a> {
@@ -17,6 +16,19 @@ pub enum Line<'a> {
         copies: u64,
         text: &'a str,
     },
+    /// `data NAME FILE`: the file NAME holds what the file FILE of the system has.
+    Data {
+        name: &'a str,
+        file: &'a str,
+    },
+    /// `keep NAME BEGIN END`: the file NAME holds what the last run wrote, from behind the first line that begins with the word
+    /// BEGIN to before the next one that begins with the word END. Without END it is all that follows; without BEGIN, or with `""`
+    /// in its place, it begins with the first line.
+    Keep {
+        name: &'a str,
+        begin: &'a str,
+        end: &'a str,
+    },
     /// `loads N ..`: a new shelf over the same files, whose loads of these numbers fail. They are counted from 0 over all
     /// runs until the next such line.
     Loads {
@@ -25,6 +37,10 @@ pub enum Line<'a> {
     /// `puts ROOM MOST N ..`: the output of each run from here on has room for so many bytes, takes at most MOST of them
     /// a call, and fails at the calls N, counted from 0. `puts` alone: room for every answer, seven bytes a call.
     Puts {
+        shape: &'a str,
+    },
+    /// `tells ROOM MOST N ..`: the same for the second output, which is told how far a run has come.
+    Tells {
         shape: &'a str,
     },
     /// `KIND WORDS -> WANTED`: what has to be answered.
@@ -40,48 +56,62 @@ pub fn part(text: &str) -> (&str, &str) {
     text.split_once(' ').unwrap_or((text, ""))
 }
 
+/// A word of a line: `""` is the empty one.
+pub fn word_of(word: &str) -> &str {
+    if word == "\"\"" { "" } else { word }
+}
+
+/// The line `more N NAME TEXT`, by what stands behind its first word.
+fn more_of(rest: &str) -> Line<'_> {
+    let (copies, rest) = part(rest);
+    let (name, text) = part(rest);
+    Line::More {
+        name,
+        copies: count_of(copies),
+        text,
+    }
+}
+
+/// The line `keep NAME BEGIN END`, by what stands behind its first word.
+fn keep_of(rest: &str) -> Line<'_> {
+    let (name, rest) = part(rest);
+    let (begin, end) = part(rest);
+    Line::Keep {
+        name,
+        begin: word_of(begin),
+        end,
+    }
+}
+
+/// The row of a kind, by what stands behind its first word.
+fn row_of<'a>(kind: &'a str, rest: &'a str) -> Line<'a> {
+    let (words, wanted) = rest.split_once("-> ").unwrap_or((rest, ""));
+    Line::Row {
+        kind,
+        words,
+        wanted,
+    }
+}
+
 /// What a line says.
 pub fn line_of(text: &str) -> Line<'_> {
     let (word, rest) = part(text);
+    let (name, behind) = part(rest);
     match word {
-        "hold" => {
-            let (name, text) = part(rest);
-            Line::Hold { name, text }
-        }
-        "more" => {
-            let (copies, rest) = part(rest);
-            let (name, text) = part(rest);
-            Line::More {
-                name,
-                copies: count_of(copies),
-                text,
-            }
-        }
+        "hold" => Line::Hold { name, text: behind },
+        "more" => more_of(rest),
+        "data" => Line::Data { name, file: behind },
+        "keep" => keep_of(rest),
         "loads" => Line::Loads { failing: rest },
         "puts" => Line::Puts { shape: rest },
+        "tells" => Line::Tells { shape: rest },
         "" => Line::Blank,
         kind if kind.starts_with('#') => Line::Blank,
-        kind => {
-            let (words, wanted) = rest.split_once("-> ").unwrap_or((rest, ""));
-            Line::Row {
-                kind,
-                words,
-                wanted,
-            }
-        }
+        kind => row_of(kind, rest),
     }
 }
 
 /// The number that a word is, 0 where it is none.
 pub fn count_of(word: &str) -> u64 {
     number(word.as_bytes(), u64::MAX).unwrap_or(0)
-}
-
-/// The bytes of a text in which `/` ends a line.
-pub fn with_line_ends(alloc: Global, text: &str) -> Result<Vec<u8>, NoMemory> {
-    let mut bytes = Vec::new(alloc);
-    for byte in text.as_bytes() {
-        push(&mut bytes, if *byte == b'/' { b'\n' } else { *byte })?;
-    }
-    Ok(bytes)
 }

@@ -1,10 +1,14 @@
-// What rows run over: files in memory, and what the output of a run is like.
-use crate::lines::{count_of, part, with_line_ends};
-use outside::{MemShelf, MemSink, NoMemory, extend, push};
+// What rows run over: files in memory, what the outputs of a run are like, and what the last run wrote.
+use crate::lines::{count_of, part};
+use crate::texts::bytes_of_text;
+use outside::{MemShelf, MemSink, NoMemory, copied, extend, push};
 use std::alloc::Global;
 
-/// The room of an output that takes every answer of the rows, in bytes.
+/// The room of an output that takes every answer of the rows but for the largest, in bytes.
 const ROOM_FOR_ALL: usize = 1_048_576;
+
+/// The most bytes that an output takes a call, where nothing is said.
+const MOST_A_CALL: usize = 7;
 
 /// A file that is held.
 #[derive(Drop)]
@@ -13,27 +17,79 @@ struct Held {
     bytes: Vec<u8>,
 }
 
-/// Files with the shelf that holds them, whose count of loads runs on, and what the output of a run is like.
+/// What an output is like: its room, the most bytes of a call, and the calls that fail.
 #[derive(Drop)]
-pub struct Rig {
-    alloc: Global,
-    files: Vec<Held>,
-    pub shelf: MemShelf,
+struct Shape {
     room: usize,
     most: usize,
     failing: Vec<u64>,
 }
 
+impl Shape {
+    /// An output that takes every answer.
+    fn new(alloc: Global) -> Shape {
+        Shape {
+            room: ROOM_FOR_ALL,
+            most: MOST_A_CALL,
+            failing: Vec::new(alloc),
+        }
+    }
+
+    /// By its words; an output that takes every answer where there is none.
+    fn set(&mut self, words: &str) -> Result<(), NoMemory> {
+        let (room, rest) = part(words);
+        let (most, failing) = part(rest);
+        self.room = if room.is_empty() {
+            ROOM_FOR_ALL
+        } else {
+            count_of(room) as usize
+        };
+        self.most = if most.is_empty() {
+            MOST_A_CALL
+        } else {
+            count_of(most) as usize
+        };
+        self.failing.clear();
+        for word in failing.split_whitespace() {
+            push(&mut self.failing, count_of(word))?;
+        }
+        Ok(())
+    }
+
+    /// An output of this shape.
+    fn output(&self, alloc: Global) -> Result<MemSink, NoMemory> {
+        let mut out = MemSink::new(alloc, self.room, self.most.max(1))?;
+        for call in &self.failing {
+            out.fail_at(*call)?;
+        }
+        Ok(out)
+    }
+}
+
+/// Files with the shelf that holds them, whose count of loads runs on, what the outputs of a run are like, and what the last
+/// run wrote to them.
+#[derive(Drop)]
+pub struct Rig {
+    alloc: Global,
+    files: Vec<Held>,
+    pub shelf: MemShelf,
+    puts: Shape,
+    tells: Shape,
+    written: Vec<u8>,
+    told: Vec<u8>,
+}
+
 impl Rig {
-    /// No file, and an output that takes every answer, seven bytes a call.
+    /// No file, and outputs that take every answer, seven bytes a call.
     pub fn new(alloc: Global) -> Rig {
         Rig {
             alloc,
             files: Vec::new(alloc),
             shelf: MemShelf::new(alloc),
-            room: ROOM_FOR_ALL,
-            most: 7,
-            failing: Vec::new(alloc),
+            puts: Shape::new(alloc),
+            tells: Shape::new(alloc),
+            written: Vec::new(alloc),
+            told: Vec::new(alloc),
         }
     }
 
@@ -52,31 +108,29 @@ impl Rig {
         &[]
     }
 
-    /// Has a file hold so many copies of a text behind what it holds.
-    pub fn hold_more(&mut self, name: &str, copies: u64, text: &str) -> Result<(), NoMemory> {
-        let mut front = Vec::new(self.alloc);
-        extend(&mut front, self.bytes_of(name))?;
-        self.hold(name, &front, copies, text)
+    /// Has a file hold these bytes.
+    pub fn hold_bytes(&mut self, name: &str, bytes: Vec<u8>) -> Result<(), NoMemory> {
+        self.shelf.hold(name, &bytes)?;
+        self.files
+            .retain(|file| file.name.as_slice() != name.as_bytes());
+        let name = copied(self.alloc, name.as_bytes())?;
+        push(&mut self.files, Held { name, bytes })
     }
 
-    /// Has a file hold these bytes and so many copies of a text.
-    pub fn hold(
-        &mut self,
-        name: &str,
-        front: &[u8],
-        copies: u64,
-        text: &str,
-    ) -> Result<(), NoMemory> {
-        let text = with_line_ends(self.alloc, text)?;
-        let mut bytes = Vec::new(self.alloc);
-        extend(&mut bytes, front)?;
+    /// Has a file hold a text.
+    pub fn hold(&mut self, name: &str, text: &str) -> Result<(), NoMemory> {
+        let bytes = bytes_of_text(self.alloc, text)?;
+        self.hold_bytes(name, bytes)
+    }
+
+    /// Has a file hold so many copies of a text behind what it holds.
+    pub fn hold_more(&mut self, name: &str, copies: u64, text: &str) -> Result<(), NoMemory> {
+        let text = bytes_of_text(self.alloc, text)?;
+        let mut bytes = copied(self.alloc, self.bytes_of(name))?;
         for _ in 0..copies {
             extend(&mut bytes, &text)?;
         }
-        self.shelf.hold(name, &bytes)?;
-        let mut held = Vec::new(self.alloc);
-        extend(&mut held, name.as_bytes())?;
-        push(&mut self.files, Held { name: held, bytes })
+        self.hold_bytes(name, bytes)
     }
 
     /// A new shelf over the same files, whose loads of these numbers fail.
@@ -93,34 +147,40 @@ impl Rig {
         Ok(())
     }
 
-    /// The output of the runs from here on, by its room, the most bytes of a call, and the calls that fail; one that takes
-    /// every answer where nothing is said.
-    pub fn set_output(&mut self, shape: &str) -> Result<(), NoMemory> {
-        let (room, rest) = part(shape);
-        let (most, failing) = part(rest);
-        self.room = if room.is_empty() {
-            ROOM_FOR_ALL
-        } else {
-            count_of(room) as usize
-        };
-        self.most = if most.is_empty() {
-            7
-        } else {
-            count_of(most) as usize
-        };
-        self.failing.clear();
-        for word in failing.split_whitespace() {
-            push(&mut self.failing, count_of(word))?;
-        }
-        Ok(())
+    /// What the output of the runs from here on is like: its room, the most bytes of a call, and the calls that fail.
+    pub fn set_output(&mut self, words: &str) -> Result<(), NoMemory> {
+        self.puts.set(words)
+    }
+
+    /// The same of the second output.
+    pub fn set_second_output(&mut self, words: &str) -> Result<(), NoMemory> {
+        self.tells.set(words)
     }
 
     /// An output for one run.
     pub fn output(&self) -> Result<MemSink, NoMemory> {
-        let mut out = MemSink::new(self.alloc, self.room, self.most.max(1))?;
-        for call in &self.failing {
-            out.fail_at(*call)?;
-        }
-        Ok(out)
+        self.puts.output(self.alloc)
+    }
+
+    /// A second output for one run.
+    pub fn second_output(&self) -> Result<MemSink, NoMemory> {
+        self.tells.output(self.alloc)
+    }
+
+    /// Notes what a run wrote to its two outputs.
+    pub fn note_run(&mut self, written: &[u8], told: &[u8]) -> Result<(), NoMemory> {
+        self.written = copied(self.alloc, written)?;
+        self.told = copied(self.alloc, told)?;
+        Ok(())
+    }
+
+    /// What the last run wrote.
+    pub fn written(&self) -> &[u8] {
+        &self.written
+    }
+
+    /// What the last run wrote to its second output.
+    pub fn told(&self) -> &[u8] {
+        &self.told
     }
 }

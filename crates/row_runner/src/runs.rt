@@ -1,14 +1,16 @@
-// Runs of the commands over files in memory.
+// Runs of the top calls over files in memory.
+use crate::lines::word_of;
 use crate::rig::Rig;
-use outside::{NoMemory, extend, push, push_number};
+use outside::{NoMemory, Shelf, Sink, extend, push, push_number};
+use plan_improver::improve;
 use soctest::{Status, soctest};
 use std::alloc::Global;
 
-/// The words of a text, as those of a command line.
+/// The words of a text, as those of a command line: `""` is an empty one.
 pub fn words_of(alloc: Global, text: &str) -> Result<Vec<String>, NoMemory> {
     let mut words = Vec::new(alloc);
     for word in text.split_whitespace() {
-        let Ok(word) = String::from_str(alloc, word) else {
+        let Ok(word) = String::from_str(alloc, word_of(word)) else {
             return Err(NoMemory);
         };
         push(&mut words, word)?;
@@ -25,11 +27,29 @@ pub fn ended(alloc: Global, status: Status, written: &[u8]) -> Result<Vec<u8>, N
     Ok(answer)
 }
 
+/// The top call that takes the words of a command line.
+pub fn call<H: Shelf, K: Sink, T: Sink>(
+    alloc: Global,
+    words: &[String],
+    shelf: &mut H,
+    out: &mut K,
+    told: &mut T,
+) -> Status {
+    match words {
+        [first, rest @ ..] if first.as_str() == "improve" => {
+            improve(alloc, rest, shelf, out, told)
+        }
+        _ => soctest(alloc, words, shelf, out),
+    }
+}
+
 /// `run WORDS`: the command of the words over the shelf of the rig.
 pub fn run_of_command(rig: &mut Rig, words: &str) -> Result<Vec<u8>, NoMemory> {
     let alloc = rig.alloc();
     let words = words_of(alloc, words)?;
     let mut out = rig.output()?;
-    let status = soctest(alloc, words.as_slice(), &mut rig.shelf, &mut out);
+    let mut told = rig.second_output()?;
+    let status = call(alloc, words.as_slice(), &mut rig.shelf, &mut out, &mut told);
+    rig.note_run(out.bytes(), told.bytes())?;
     ended(alloc, status, out.bytes())
 }

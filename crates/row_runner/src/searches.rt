@@ -18,7 +18,7 @@ use soc_model::Soc;
 use std::alloc::Global;
 
 /// The job of the tests of an accepted plan.
-fn job_of_plan(alloc: Global, soc: &Soc, limits: &Limits, plan: &Plan) -> Result<Job, NoMemory>
+pub fn job_of_plan(alloc: Global, soc: &Soc, limits: &Limits, plan: &Plan) -> Result<Job, NoMemory>
     requires sound { IsSoundChip (soc_value soc.now) }
     requires limits { IsSoundLimits (soc_value soc.now) (limits_value limits.now) }
     requires accepted { IsFaultless (soc_value soc.now) (limits_value limits.now) (plan_value plan.now) }
