@@ -43,7 +43,8 @@ pub enum Line<'a> {
     Tells {
         shape: &'a str,
     },
-    /// `KIND WORDS -> WANTED`: what has to be answered.
+    /// `KIND WORDS -> WANTED`: what has to be answered: a text, or `=` and the name of the file that holds it, maybe behind a
+    /// status.
     Row {
         kind: &'a str,
         words: &'a str,

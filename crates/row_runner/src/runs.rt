@@ -1,9 +1,11 @@
 // Runs of the top calls over files in memory.
 use crate::lines::word_of;
 use crate::rig::Rig;
+use commands::{Status, TopCall, top_call};
 use outside::{NoMemory, Shelf, Sink, extend, push, push_number};
 use plan_improver::improve;
-use soctest::{Status, soctest};
+use plan_picture::draw;
+use soctest::soctest;
 use std::alloc::Global;
 
 /// The words of a text, as those of a command line: `""` is an empty one.
@@ -27,7 +29,7 @@ pub fn ended(alloc: Global, status: Status, written: &[u8]) -> Result<Vec<u8>, N
     Ok(answer)
 }
 
-/// The top call that takes the words of a command line.
+/// Runs the command of these words by the top call that takes them.
 pub fn call<H: Shelf, K: Sink, T: Sink>(
     alloc: Global,
     words: &[String],
@@ -35,11 +37,10 @@ pub fn call<H: Shelf, K: Sink, T: Sink>(
     out: &mut K,
     told: &mut T,
 ) -> Status {
-    match words {
-        [first, rest @ ..] if first.as_str() == "improve" => {
-            improve(alloc, rest, shelf, out, told)
-        }
-        _ => soctest(alloc, words, shelf, out),
+    match top_call(words) {
+        TopCall::Improve { words } => improve(alloc, words, shelf, out, told),
+        TopCall::Picture { words } => draw(alloc, words, shelf, out),
+        TopCall::Soctest { words } => soctest(alloc, words, shelf, out),
     }
 }
 
