@@ -1,0 +1,5 @@
+pub mod Tokens
+pub mod Texts
+pub mod Machines
+pub mod Reads
+pub mod Laws

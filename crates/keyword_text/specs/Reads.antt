@@ -1,0 +1,35 @@
+-- What was read of a text, word by word.
+use Rattle.std.specs.Prelude.{◌≡◌, ℕ, List, Option, None, Some, Result, Ok, Err}
+use Rattle.outside.specs.declared.reading.Stop.{Stop}
+use Rattle.outside.specs.declared.reading.Stop.TheVariants.{Refused, NoMemory}
+use Rattle.outside.specs.declared.reading.Unread.{Unread}
+use Rattle.outside.specs.declared.reading.Unread.TheVariants as unread
+use Rattle.outside.specs.Words.{Word}
+use Rattle.keyword_text.specs.declared.tokens.Token.{Token}
+use Rattle.keyword_text.specs.Tokens.{Lexicon}
+use Rattle.keyword_text.specs.Texts.{Grammar, Spells, Says, Refuses}
+use Rattle.keyword_text.specs.Machines.{Machine, IsRun}
+
+-- the state after these words
+pub record IsAfter {K S V : Type 0} (l : Lexicon K) (m : Machine K S V) (s : S) (words : List Word) : Type 0 where
+  pub tokens : List (Token K)
+  pub spelled : Spells l words tokens
+  pub read : IsRun m tokens s
+
+-- What was to be made is this, as what it stands for; or nothing is to be made; or memory ran out.
+abbrev pub Makes : {X T : Type 0} → (T → X) → Option X → Result T Stop → Type 0
+Makes value_of wanted (Ok made) = wanted ≡ Some (value_of made)
+Makes value_of wanted (Err Refused) = wanted ≡ None
+Makes value_of wanted (Err NoMemory) = Unit {0}
+
+-- The value that the text says, as what it stands for; or the line at which the grammar refuses the text; or memory ran out.
+abbrev pub IsReadText : {K V T : Type 0} → Grammar K V → (T → V) → List ℕ → Result T Unread → Type 0
+IsReadText g value_of bytes (Ok value) = Says g bytes (value_of value)
+IsReadText g value_of bytes (Err (unread.Refused line)) = Refuses g bytes line
+IsReadText g value_of bytes (Err unread.NoMemory) = Unit {0}
+
+-- the answer for a text that says this value
+abbrev pub IsAnswer : {V T : Type 0} → (T → V) → V → Result T Unread → Type 0
+IsAnswer value_of value (Ok read) = value_of read ≡ value
+IsAnswer value_of value (Err (unread.Refused line)) = ⊥
+IsAnswer value_of value (Err unread.NoMemory) = Unit {0}

@@ -1,0 +1,46 @@
+//! The words of a text, as what they stand for.
+ghost use Rattle.std.specs.Prelude.{◌≡◌};
+ghost use Rattle.keyword_text.specs.Tokens.{named, table_value, lexicon_of, token_of as token_that_is};
+
+use outside::{number, same_word};
+
+/// What a word stands for.
+#[derive(Clone, Copy, PartialEq, Eq, Debug)]
+pub enum Token<K> {
+    /// A keyword.
+    Key(K),
+    /// A number.
+    Number(u64),
+}
+
+/// A keyword and how it is spelled.
+pub struct Spelled<K> {
+    pub key: K,
+    pub word: &'static [u8],
+}
+
+/// The keyword that a word is, in any case of its letters: the first of the table that is spelled so.
+fn keyword_of<K: Copy>(table: &[Spelled<K>], word: &[u8]) -> Option<K>
+    ensures { result ≡ named (table_value table.now) word.now }
+{
+    for entry in table {
+        if same_word(word, entry.word) {
+            return Some(entry.key);
+        }
+    }
+    None
+}
+
+/// What a word stands for: a number of at most `most`, or a keyword of the table.
+#[tactic(auto, unfolding(crate::specs::Tokens::token_of))]
+pub fn token_of<K: Copy>(table: &[Spelled<K>], most: u64, word: &[u8]) -> Option<Token<K>>
+    ensures { result ≡ token_that_is (lexicon_of (table_value table.now) most) word.now }
+{
+    if let Some(n) = number(word, most) {
+        return Some(Token::Number(n));
+    }
+    match keyword_of(table, word) {
+        Some(key) => Some(Token::Key(key)),
+        None => None,
+    }
+}
