@@ -2,10 +2,10 @@
 use Rattle.std.proofs.Common.{◌≡◌, ◌⊎◌, inl, inr, ℕ, List, [], ◌∷◌, ◌++◌, length, Option, None, Some, refl, arith}
 use Rattle.outside.specs.Words.{Word, words_of}
 use Rattle.outside.specs.Grammars.{Viable, last_line}
-use Rattle.outside.proofs.Refusals.{Decides, WholeOrRefused, whole_or_refused}
+use Rattle.outside.proofs.Refusals.{Decides, whole_or_refused}
 use Rattle.keyword_text.specs.declared.tokens.Token.{Token}
 use Rattle.keyword_text.specs.Tokens.{token_of}
-use Rattle.keyword_text.specs.Texts.{Grammar, InGrammar, IsText, Says, Refuses}
+use Rattle.keyword_text.specs.Texts.{Grammar, InGrammar, Says, Refuses}
 use Rattle.keyword_text.specs.Machines.{Machine, ReadsGrammar}
 use Rattle.keyword_text.specs.Reads.{IsAfter}
 use Rattle.keyword_text.proofs.Viability.{RefusesWord, unknown_word, stuck_word, read_whole, read_one, read_viable, stops_here, ends_here}

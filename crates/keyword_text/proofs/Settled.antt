@@ -6,7 +6,7 @@ use Rattle.outside.specs.declared.reading.Unread.TheVariants.{Refused, NoMemory}
 use Rattle.outside.specs.Words.{Word, words_of}
 use Rattle.outside.specs.Grammars.{RefusedAt, last_line}
 use Rattle.outside.proofs.Refusals as outside
-use Rattle.keyword_text.specs.Texts.{Grammar, InGrammar, Says, Refuses}
+use Rattle.keyword_text.specs.Texts.{Grammar, InGrammar, Says}
 use Rattle.keyword_text.specs.Machines.{Machine, ReadsGrammar}
 use Rattle.keyword_text.specs.Reads.{IsReadText, IsAnswer}
 use Rattle.keyword_text.proofs.Viability.{one_value}

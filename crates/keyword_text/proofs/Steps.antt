@@ -1,10 +1,10 @@
 -- What the reader of a format answers.
-use Rattle.std.proofs.Common.{◌≡◌, ℕ, List, [], ◌∷◌, ◌++◌, Option, None, Some, refl, sym, ◌∙◌, ap}
+use Rattle.std.proofs.Common.{◌≡◌, ℕ, List, [], ◌∷◌, ◌++◌, Option, None, Some, sym, ◌∙◌, ap}
 use Rattle.std.specs.Prelude.{Result, Ok, Err}
 use Rattle.outside.specs.declared.reading.Stop.{Stop}
 use Rattle.outside.specs.declared.reading.Stop.TheVariants.{Refused, NoMemory}
 use Rattle.outside.specs.Words.{Word}
-use Rattle.outside.specs.Grammars.{Stops, Steps, Ends}
+use Rattle.outside.specs.Grammars.{Stops, Ends}
 use Rattle.keyword_text.specs.declared.tokens.Token.{Token}
 use Rattle.keyword_text.specs.Tokens.{Lexicon, lexicon_of, token_of}
 use Rattle.keyword_text.specs.Texts.{Grammar, IsText, InGrammar}

@@ -1,5 +1,5 @@
 -- What is read so far is what begins a text; where it ends, it is one.
-use Rattle.std.proofs.Common.{◌≡◌, List, [], ◌∷◌, ◌++◌, map, Option, None, Some, refl, sym, ◌∙◌, ap, subst, append_assoc}
+use Rattle.std.proofs.Common.{◌≡◌, List, [], ◌∷◌, ◌++◌, map, Option, None, Some, sym, ◌∙◌, ap, append_assoc}
 use Rattle.std.proofs.lemmas.List.{map-append}
 use Rattle.outside.proofs.Runs.{run-none, run-append, run-one_more}
 use Rattle.outside.specs.Runs.{run_by}
@@ -8,10 +8,10 @@ use Rattle.outside.specs.Grammars.{Viable, Stops, EndsEarly}
 use Rattle.keyword_text.specs.declared.tokens.Token.{Token}
 use Rattle.keyword_text.specs.Tokens.{Lexicon, token_of}
 use Rattle.keyword_text.specs.Texts.{Grammar, meanings, Spells, IsText, InGrammar}
-use Rattle.keyword_text.specs.Machines.{Machine, IsRun, MayEnd, IsReadWhole, IsSaid, ReadsGrammar}
+use Rattle.keyword_text.specs.Machines.{Machine, ReadsGrammar}
 use Rattle.keyword_text.specs.Reads.{IsAfter}
-use Rattle.keyword_text.proofs.Spelling.{one_more, both_spell, spelled_once, Follows, follows, none_some, same_some}
-use Rattle.keyword_text.proofs.Ranges.{AreSpelled, words_for}
+use Rattle.keyword_text.proofs.Spelling.{one_more, both_spell, spelled_once, follows, none_some, same_some}
+use Rattle.keyword_text.proofs.Ranges.{words_for}
 
 -- words that are read to where a text may end say its value
 pub read_whole : {K S V : Type 0} (g : Grammar K V) (m : Machine K S V) → ReadsGrammar g m → (ws : List Word) (s : S) (value : V) → IsAfter g.lexicon m s ws → m.end s ≡ Some value → IsText g ws value

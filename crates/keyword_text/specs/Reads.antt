@@ -8,13 +8,18 @@ use Rattle.outside.specs.Words.{Word}
 use Rattle.keyword_text.specs.declared.tokens.Token.{Token}
 use Rattle.keyword_text.specs.Tokens.{Lexicon}
 use Rattle.keyword_text.specs.Texts.{Grammar, Spells, Says, Refuses}
-use Rattle.keyword_text.specs.Machines.{Machine, IsRun}
+use Rattle.keyword_text.specs.Machines.{Machine, IsRun, ReadsGrammar}
 
 -- the state after these words
 pub record IsAfter {K S V : Type 0} (l : Lexicon K) (m : Machine K S V) (s : S) (words : List Word) : Type 0 where
   pub tokens : List (Token K)
   pub spelled : Spells l words tokens
   pub read : IsRun m tokens s
+
+-- the same, where the machine reads the grammar
+pub record IsReadBy {K S V : Type 0} (g : Grammar K V) (m : Machine K S V) (s : S) (words : List Word) : Type 0 where
+  pub after : IsAfter g.lexicon m s words
+  pub reads : ReadsGrammar g m
 
 -- What was to be made is this, as what it stands for; or nothing is to be made; or memory ran out.
 abbrev pub Makes : {X T : Type 0} → (T → X) → Option X → Result T Stop → Type 0

@@ -2,7 +2,7 @@
 ghost use Rattle.std.specs.Prelude.{◌≡◌, ℕ, List};
 ghost use Rattle.keyword_text.specs.Tokens.{table_value};
 ghost use Rattle.keyword_text.specs.Texts.{Grammar};
-ghost use Rattle.keyword_text.specs.Machines.{Machine, ReadsGrammar};
+ghost use Rattle.keyword_text.specs.Machines.{Machine};
 ghost use Rattle.keyword_text.specs.Reads.{Makes};
 
 use crate::tokens::{Spelled, Token};
@@ -51,7 +51,4 @@ pub trait Format: Sized {
     /// Ends the text. `Refused` comes exactly where no text ends here.
     fn end(self) -> Result<Self::Value, Stop>
         ensures { Makes meaning_of (machine.end (state_of self)) result };
-
-    /// The machine reads the grammar.
-    ghost reads_grammar: { ReadsGrammar grammar machine };
 }

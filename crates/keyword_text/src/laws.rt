@@ -1,4 +1,5 @@
 //! What a text of a format says is settled.
+ghost use Rattle.keyword_text.specs.Machines.{ReadsGrammar};
 ghost use Rattle.keyword_text.specs.Laws.{SayOne, AreNotRefused, AreRefusedOnce, HaveAnswers, AreAnswered};
 
 use crate::format::Format;
@@ -8,6 +9,7 @@ use crate::format::Format;
 ///
 /// It does nothing: a caller learns these laws by the call.
 pub fn texts_are_settled<F: Format>()
+    requires { ReadsGrammar F.grammar F.machine }
     ensures say_one { SayOne F.grammar }
     ensures not_refused { AreNotRefused F.grammar }
     ensures refused_once { AreRefusedOnce F.grammar }

@@ -1,5 +1,6 @@
 //! Reads whole texts.
 ghost use Rattle.std.specs.Prelude.{◌≡◌};
+ghost use Rattle.keyword_text.specs.Machines.{ReadsGrammar};
 ghost use Rattle.keyword_text.specs.Reads.{IsReadText};
 
 use crate::format::Format;
@@ -17,13 +18,13 @@ impl<'a, F: Format + Drop> Reader<'a> for Reading<F> {
 
     ghost use Rattle.std.specs.Prelude.{◌^◌};
     ghost use Rattle.keyword_text.specs.Texts.{InGrammar, IsText};
-    ghost use Rattle.keyword_text.specs.Reads.{IsAfter};
+    ghost use Rattle.keyword_text.specs.Reads.{IsReadBy};
 
     ghost whole = { InGrammar F.grammar };
 
     ghost most = { 2 ^ 64 };
 
-    ghost has_read = { λ reading words. IsAfter F.grammar.lexicon F.machine (F.state_of reading.read) words };
+    ghost has_read = { λ reading words. IsReadBy F.grammar F.machine (F.state_of reading.read) words };
 
     ghost says = { λ words value. IsText F.grammar words (F.meaning_of value) };
 
@@ -48,7 +49,8 @@ impl<'a, F: Format + Drop> Reader<'a> for Reading<F> {
 /// `Refused` comes exactly where the text says none, at the line of the first word with which no text begins so, or at its last line
 /// where it ends too early.
 pub fn read_by<F: Format + Drop>(start: F, bytes: &[u8]) -> Result<F::Value, Unread>
-    requires { F.state_of start ≡ F.machine.start }
+    requires fresh { F.state_of start ≡ F.machine.start }
+    requires reads { ReadsGrammar F.grammar F.machine }
     ensures { IsReadText F.grammar F.meaning_of bytes.now result }
 {
     read_text(Reading { read: start }, bytes)
