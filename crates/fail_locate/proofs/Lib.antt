@@ -1,5 +1,4 @@
 pub mod ReadLogs
-pub mod LogProgress
 pub mod EndCells
 pub mod KeptTests
 pub mod PlacedWired

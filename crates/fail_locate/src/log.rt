@@ -1,15 +1,19 @@
-// Reads a fail log.
+//! Reads a fail log.
 ghost use Rattle.fail_locate.specs.LogAnswers.{LogRead};
-ghost use Rattle.fail_locate.specs.LogReads.{Follows};
+ghost use Rattle.fail_locate.specs.LogReads.{state_of, after};
+ghost use Rattle.keyword_text.specs.Reads.{Makes};
+ghost use Rattle.keyword_text.specs.declared.tokens.Token.TheVariants.{Number};
 
 use crate::LogFault;
-use crate::tokens::{Token, token_of};
-use outside::{Reader, Stop, Unread, Word, push, read_text};
+use crate::tokens::{KEYWORDS, Keyword};
+use keyword_text::{Format, Spelled, Token, read_by};
+use outside::{Stop, Unread, push};
+use plan_model::PLAN_NUMBER_MOST;
 use std::alloc::Global;
 
 /// What was read of a log so far.
 #[derive(Drop)]
-enum LogText {
+pub enum LogText {
     /// Nothing.
     Empty { alloc: Global },
     /// The word `Log`.
@@ -24,7 +28,7 @@ enum LogText {
 
 /// The fails and one more.
 fn with_fail(fails: Vec<(u64, u64)>, cycle: u64, wire: u64) -> Result<LogText, Stop>
-    ensures { Follows (LogText.Timed fails cycle) (Token.Number wire) result }
+    ensures { Makes state_of (after (state_of (LogText.Timed fails cycle)) (Number wire)) result }
 {
     let mut fails = fails;
     push(&mut fails, (cycle, wire))?;
@@ -32,12 +36,12 @@ fn with_fail(fails: Vec<(u64, u64)>, cycle: u64, wire: u64) -> Result<LogText, S
 }
 
 /// What is read with one more word.
-fn next(text: LogText, token: Token) -> Result<LogText, Stop>
-    ensures { Follows text token result }
+fn next(text: LogText, token: Token<Keyword>) -> Result<LogText, Stop>
+    ensures { Makes state_of (after (state_of text) token) result }
 {
     match text {
         LogText::Empty { alloc } => match token {
-            Token::Log => Ok(LogText::Titled { alloc }),
+            Token::Key(Keyword::Log) => Ok(LogText::Titled { alloc }),
             _ => Err(Stop::Refused),
         },
         LogText::Titled { alloc } => match token {
@@ -47,7 +51,7 @@ fn next(text: LogText, token: Token) -> Result<LogText, Stop>
             _ => Err(Stop::Refused),
         },
         LogText::Between { fails } => match token {
-            Token::Fail => Ok(LogText::Begun { fails }),
+            Token::Key(Keyword::Fail) => Ok(LogText::Begun { fails }),
             _ => Err(Stop::Refused),
         },
         LogText::Begun { fails } => match token {
@@ -61,29 +65,39 @@ fn next(text: LogText, token: Token) -> Result<LogText, Stop>
     }
 }
 
-impl<'a> Reader<'a> for LogText {
+impl Format for LogText {
+    type Keyword = Keyword;
+
     type Value = Vec<(u64, u64)>;
 
-    ghost use Rattle.std.specs.Prelude.{◌^◌};
-    ghost use Rattle.fail_locate.specs.LogWords.{InGrammar};
-    ghost use Rattle.fail_locate.specs.LogReads.{HasRead, SaysFails};
+    ghost use Rattle.std.specs.Prelude.{List, ℕ};
+    ghost use Rattle.fail_locate.specs.LogWords.{log_grammar};
+    ghost use Rattle.fail_locate.specs.LogReads.{State, log_machine, state_of};
 
-    ghost whole = { InGrammar };
+    ghost State = { State };
 
-    ghost most = { 2 ^ 64 };
+    ghost Meaning = { List (ℕ × ℕ) };
 
-    ghost has_read = { HasRead };
+    ghost grammar = { log_grammar };
 
-    ghost says = { SaysFails };
+    ghost machine = { log_machine };
 
-    fn step(self, word: Word<'a>) -> Result<LogText, Stop> {
-        let Some(token) = token_of(word.bytes) else {
-            return Err(Stop::Refused);
-        };
-        match next(self, token) {
-            Ok(text) => Ok(text),
-            Err(stop) => Err(stop),
-        }
+    ghost state_of = { state_of };
+
+    ghost meaning_of = { λ fails. fails.items };
+
+    fn keywords() -> &'static [Spelled<Keyword>] {
+        &KEYWORDS
+    }
+
+    fn most() -> u64 {
+        PLAN_NUMBER_MOST
+    }
+
+    fn step(self, token: Token<Keyword>) -> Result<LogText, Stop>
+        ensures { Makes state_of (after (state_of self) token) result }
+    {
+        next(self, token)
     }
 
     fn end(self) -> Result<Vec<(u64, u64)>, Stop> {
@@ -101,7 +115,7 @@ impl<'a> Reader<'a> for LogText {
 pub fn read_log(alloc: Global, bytes: &[u8]) -> Result<Vec<(u64, u64)>, LogFault>
     ensures { LogRead bytes.now result }
 {
-    match read_text(LogText::Empty { alloc }, bytes) {
+    match read_by(LogText::Empty { alloc }, bytes) {
         Ok(fails) => Ok(fails),
         Err(Unread::Refused { line }) => Err(LogFault::Text { line }),
         Err(Unread::NoMemory) => Err(LogFault::NoMemory),

@@ -1,5 +1,5 @@
-use Rattle.fail_locate.proofs.LogProgress.{each_log}
+use Rattle.fail_locate.proofs.ReadLogs.{reads_logs}
 use Rattle.fail_locate.proofs.laws.each_log_has_an_answer.Goals as goal
 
-pub returns : goal.returns
-returns c = each_log
+pub texts_are_settled-requires-after_bounds : goal.texts_are_settled-requires-after_bounds
+texts_are_settled-requires-after_bounds c κs = reads_logs

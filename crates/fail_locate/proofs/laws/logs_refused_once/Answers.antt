@@ -1,5 +1,5 @@
-use Rattle.fail_locate.proofs.LogProgress.{logs_once}
+use Rattle.fail_locate.proofs.ReadLogs.{reads_logs}
 use Rattle.fail_locate.proofs.laws.logs_refused_once.Goals as goal
 
-pub returns : goal.returns
-returns c = logs_once
+pub texts_are_settled-requires-after_bounds : goal.texts_are_settled-requires-after_bounds
+texts_are_settled-requires-after_bounds c κs = reads_logs
