@@ -8,6 +8,7 @@ use Rattle.outside.specs.Runs.{run_by}
 use Rattle.keyword_text.specs.declared.tokens.Token.{Token}
 use Rattle.keyword_text.specs.declared.tokens.Token.TheVariants.{Key, Number}
 use Rattle.keyword_text.specs.Tokens.{token_of}
+use Rattle.keyword_text.specs.Texts.{AllSmall}
 use Rattle.keyword_text.specs.Machines.{IsRun, MayEnd, IsSaid, IsSpelled, ReadsGrammar}
 use Rattle.keyword_text.proofs.Kept.{IsKept, kept_holds}
 use Rattle.fail_locate.specs.declared.tokens.Keyword.{Keyword}
@@ -59,8 +60,8 @@ ends_whole (between done) fails e = let same : done ≡ fails = cc in rw same re
 ends_whole (begun done) fails e = absurd cc
 ends_whole (timed done cycle) fails e = absurd cc
 
-sound : (ts : List (Token Keyword)) (s : State) (fails : List (ℕ × ℕ)) → IsRun log_machine ts s → ended s ≡ Some fails → IsSaid log_grammar ts fails
-sound ts s fails runs ends = record { words = kept_holds log_machine IsRead refl read_kept ts s runs ∙ ends_whole s fails ends; allowed = tt }
+sound : (ts : List (Token Keyword)) (s : State) (fails : List (ℕ × ℕ)) → AllSmall log_lexicon.most ts → IsRun log_machine ts s → ended s ≡ Some fails → IsSaid log_grammar ts fails
+sound ts s fails small runs ends = record { words = kept_holds log_machine IsRead refl read_kept ts s runs ∙ ends_whole s fails ends; allowed = tt }
 
 -- ---- the words of each log are read
 

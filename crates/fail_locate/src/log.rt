@@ -70,7 +70,10 @@ impl Format for LogText {
 
     type Value = Vec<(u64, u64)>;
 
+    type Fault = LogFault;
+
     ghost use Rattle.std.specs.Prelude.{List, ℕ};
+    ghost use Rattle.fail_locate.specs.LogAnswers.{fails_value, log_unread};
     ghost use Rattle.fail_locate.specs.LogWords.{log_grammar};
     ghost use Rattle.fail_locate.specs.LogReads.{State, log_machine, state_of};
 
@@ -84,7 +87,9 @@ impl Format for LogText {
 
     ghost state_of = { state_of };
 
-    ghost meaning_of = { λ fails. fails.items };
+    ghost meaning_of = { fails_value };
+
+    ghost unread_of = { log_unread };
 
     fn keywords() -> &'static [Spelled<Keyword>] {
         &KEYWORDS
@@ -106,6 +111,13 @@ impl Format for LogText {
             _ => Err(Stop::Refused),
         }
     }
+
+    fn fault(unread: Unread) -> LogFault {
+        match unread {
+            Unread::Refused { line } => LogFault::Text { line },
+            Unread::NoMemory => LogFault::NoMemory,
+        }
+    }
 }
 
 /// The fails of a log, the cycle and the wire of each, in their order.
@@ -115,9 +127,5 @@ impl Format for LogText {
 pub fn read_log(alloc: Global, bytes: &[u8]) -> Result<Vec<(u64, u64)>, LogFault>
     ensures { LogRead bytes.now result }
 {
-    match read_by(LogText::Empty { alloc }, bytes) {
-        Ok(fails) => Ok(fails),
-        Err(Unread::Refused { line }) => Err(LogFault::Text { line }),
-        Err(Unread::NoMemory) => Err(LogFault::NoMemory),
-    }
+    read_by(LogText::Empty { alloc }, bytes)
 }

@@ -1,15 +1,17 @@
 -- What the reader of a format answers.
-use Rattle.std.proofs.Common.{◌≡◌, ℕ, List, [], ◌∷◌, ◌++◌, Option, None, Some, sym, ◌∙◌, ap}
+use Rattle.std.proofs.Common.{◌≡◌, ℕ, List, [], ◌∷◌, ◌++◌, Option, None, Some, sym, ◌∙◌, ap, subst}
 use Rattle.std.specs.Prelude.{Result, Ok, Err}
 use Rattle.outside.specs.declared.reading.Stop.{Stop}
 use Rattle.outside.specs.declared.reading.Stop.TheVariants.{Refused, NoMemory}
+use Rattle.outside.specs.declared.reading.Unread.{Unread}
+use Rattle.outside.specs.declared.reading.Unread.TheVariants as why
 use Rattle.outside.specs.Words.{Word}
-use Rattle.outside.specs.Grammars.{Stops, Ends}
+use Rattle.outside.specs.Grammars.{Stops, Ends, IsRead}
 use Rattle.keyword_text.specs.declared.tokens.Token.{Token}
 use Rattle.keyword_text.specs.Tokens.{Lexicon, lexicon_of, token_of}
 use Rattle.keyword_text.specs.Texts.{Grammar, IsText, InGrammar}
 use Rattle.keyword_text.specs.Machines.{Machine, ReadsGrammar}
-use Rattle.keyword_text.specs.Reads.{IsAfter, Makes}
+use Rattle.keyword_text.specs.Reads.{IsAfter, Makes, IsUnread}
 use Rattle.keyword_text.proofs.Viability.{unknown_word, stuck_word, read_whole, read_one, stops_here, ends_here}
 
 -- the table and the greatest number are those of the format
@@ -40,3 +42,8 @@ pub finishes : {K S V T : Type 0} (g : Grammar K V) (m : Machine K S V) → Read
 finishes g m reads value_of s words (Ok value) at is = read_whole g m reads words s (value_of value) at is
 finishes g m reads value_of s words (Err Refused) at is = ends_here g m reads words s at is
 finishes g m reads value_of s words (Err NoMemory) at is = tt
+
+-- why a text isn't read
+pub unread : {K V T : Type 0} (g : Grammar K V) (value_of : T → V) (bytes : List ℕ) (why fault : Unread) → fault ≡ why → IsRead (InGrammar g) (λ ws (value : T). IsText g ws (value_of value)) bytes (Err why) → IsUnread g bytes fault
+unread g value_of bytes (why.Refused line) fault same is = subst (IsUnread g bytes) (sym same) is
+unread g value_of bytes why.NoMemory fault same is = subst (IsUnread g bytes) (sym same) tt

@@ -11,12 +11,12 @@ use Rattle.keyword_text.specs.Texts.{Grammar, meanings, Spells, IsText, InGramma
 use Rattle.keyword_text.specs.Machines.{Machine, ReadsGrammar}
 use Rattle.keyword_text.specs.Reads.{IsAfter}
 use Rattle.keyword_text.proofs.Spelling.{one_more, both_spell, spelled_once, follows, none_some, same_some}
-use Rattle.keyword_text.proofs.Ranges.{words_for}
+use Rattle.keyword_text.proofs.Ranges.{words_for, spelled_small}
 
 -- words that are read to where a text may end say its value
 pub read_whole : {K S V : Type 0} (g : Grammar K V) (m : Machine K S V) → ReadsGrammar g m → (ws : List Word) (s : S) (value : V) → IsAfter g.lexicon m s ws → m.end s ≡ Some value → IsText g ws value
 read_whole {K} g m reads ws s value at is =
-    let said = reads.sound at.tokens s value at.read is in
+    let said = reads.sound at.tokens s value (spelled_small g.lexicon ws at.tokens at.spelled) at.read is in
     record { words = at.spelled ∙ ap (λ (ts : List (Token K)). map Some ts) said.words; allowed = said.allowed }
 
 -- more words that are read

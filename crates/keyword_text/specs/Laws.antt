@@ -23,5 +23,5 @@ abbrev pub HaveAnswers : {K V : Type 0} → Grammar K V → Type 0
 HaveAnswers {V} g = (bytes : List ℕ) → ((value : V) × Says g bytes value) ⊎ ((line : ℕ) × Refuses g bytes line)
 
 -- a text that says a value is answered with that value, unless memory runs out
-abbrev pub AreAnswered : {K V T : Type 0} → Grammar K V → (T → V) → Type 0
-AreAnswered {V = V} {T = T} g value_of = (bytes : List ℕ) (value : V) (answer : Result T Unread) → IsReadText g value_of bytes answer → Says g bytes value → IsAnswer value_of value answer
+abbrev pub AreAnswered : {K V T E : Type 0} → Grammar K V → (T → V) → (E → Unread) → Type 0
+AreAnswered {V = V} {T = T} {E = E} g value_of unread_of = (bytes : List ℕ) (value : V) (answer : Result T E) → IsReadText g value_of unread_of bytes answer → Says g bytes value → IsAnswer value_of unread_of value answer

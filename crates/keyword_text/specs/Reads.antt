@@ -27,14 +27,22 @@ Makes value_of wanted (Ok made) = wanted ≡ Some (value_of made)
 Makes value_of wanted (Err Refused) = wanted ≡ None
 Makes value_of wanted (Err NoMemory) = Unit {0}
 
--- The value that the text says, as what it stands for; or the line at which the grammar refuses the text; or memory ran out.
-abbrev pub IsReadText : {K V T : Type 0} → Grammar K V → (T → V) → List ℕ → Result T Unread → Type 0
-IsReadText g value_of bytes (Ok value) = Says g bytes (value_of value)
-IsReadText g value_of bytes (Err (unread.Refused line)) = Refuses g bytes line
-IsReadText g value_of bytes (Err unread.NoMemory) = Unit {0}
+-- The line at which the grammar refuses the text; or memory ran out.
+abbrev pub IsUnread : {K V : Type 0} → Grammar K V → List ℕ → Unread → Type 0
+IsUnread g bytes (unread.Refused line) = Refuses g bytes line
+IsUnread g bytes unread.NoMemory = Unit {0}
+
+-- The value that the text says, as what it stands for; or why the text isn't read.
+abbrev pub IsReadText : {K V T E : Type 0} → Grammar K V → (T → V) → (E → Unread) → List ℕ → Result T E → Type 0
+IsReadText g value_of unread_of bytes (Ok value) = Says g bytes (value_of value)
+IsReadText g value_of unread_of bytes (Err fault) = IsUnread g bytes (unread_of fault)
+
+-- there was no memory
+abbrev pub IsWant : Unread → Type 0
+IsWant (unread.Refused line) = ⊥
+IsWant unread.NoMemory = Unit {0}
 
 -- the answer for a text that says this value
-abbrev pub IsAnswer : {V T : Type 0} → (T → V) → V → Result T Unread → Type 0
-IsAnswer value_of value (Ok read) = value_of read ≡ value
-IsAnswer value_of value (Err (unread.Refused line)) = ⊥
-IsAnswer value_of value (Err unread.NoMemory) = Unit {0}
+abbrev pub IsAnswer : {V T E : Type 0} → (T → V) → (E → Unread) → V → Result T E → Type 0
+IsAnswer value_of unread_of value (Ok read) = value_of read ≡ value
+IsAnswer value_of unread_of value (Err fault) = IsWant (unread_of fault)

@@ -1,12 +1,13 @@
 //! A format of texts: its keywords, its numbers, and what reads its words one by one.
 ghost use Rattle.std.specs.Prelude.{◌≡◌, ℕ, List};
+ghost use Rattle.outside.specs.declared.reading.Unread.{Unread as WhyUnread};
 ghost use Rattle.keyword_text.specs.Tokens.{table_value};
 ghost use Rattle.keyword_text.specs.Texts.{Grammar};
 ghost use Rattle.keyword_text.specs.Machines.{Machine};
 ghost use Rattle.keyword_text.specs.Reads.{Makes};
 
 use crate::tokens::{Spelled, Token};
-use outside::Stop;
+use outside::{Stop, Unread};
 
 /// What was read of a text of a format, up to some word of it.
 ///
@@ -17,6 +18,9 @@ pub trait Format: Sized {
 
     /// What a whole text says.
     type Value;
+
+    /// Why a text isn't read.
+    type Fault;
 
     /// What stands for what was read.
     ghost State: { Type 0 };
@@ -36,6 +40,9 @@ pub trait Format: Sized {
     /// What stands for a value.
     ghost meaning_of: { Self.Value → Meaning };
 
+    /// What stands for a fault.
+    ghost unread_of: { Self.Fault → WhyUnread };
+
     /// The keywords with their spellings.
     fn keywords() -> &'static [Spelled<Self::Keyword>]
         ensures { table_value result.now ≡ grammar.lexicon.table };
@@ -51,4 +58,8 @@ pub trait Format: Sized {
     /// Ends the text. `Refused` comes exactly where no text ends here.
     fn end(self) -> Result<Self::Value, Stop>
         ensures { Makes meaning_of (machine.end (state_of self)) result };
+
+    /// The fault of a text that isn't read.
+    fn fault(unread: Unread) -> Self::Fault
+        ensures { unread_of result ≡ unread };
 }

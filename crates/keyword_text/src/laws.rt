@@ -14,5 +14,5 @@ pub fn texts_are_settled<F: Format>()
     ensures not_refused { AreNotRefused F.grammar }
     ensures refused_once { AreRefusedOnce F.grammar }
     ensures have_answers { HaveAnswers F.grammar }
-    ensures are_answered { AreAnswered F.grammar F.meaning_of }
+    ensures are_answered { AreAnswered F.grammar F.meaning_of F.unread_of }
 {}

@@ -5,7 +5,7 @@ ghost use Rattle.keyword_text.specs.Reads.{IsReadText};
 
 use crate::format::Format;
 use crate::tokens::token_of;
-use outside::{Reader, Stop, Unread, Word, read_text};
+use outside::{Reader, Stop, Word, read_text};
 
 /// What was read of a text of a format so far.
 #[derive(Drop)]
@@ -46,12 +46,15 @@ impl<'a, F: Format + Drop> Reader<'a> for Reading<F> {
 
 /// The value that a text says, read from a beginning on of which nothing was read.
 ///
-/// `Refused` comes exactly where the text says none, at the line of the first word with which no text begins so, or at its last line
+/// The fault is `Refused` exactly where the text says none, at the line of the first word with which no text begins so, or at its last line
 /// where it ends too early.
-pub fn read_by<F: Format + Drop>(start: F, bytes: &[u8]) -> Result<F::Value, Unread>
+pub fn read_by<F: Format + Drop>(start: F, bytes: &[u8]) -> Result<F::Value, F::Fault>
     requires fresh { F.state_of start ≡ F.machine.start }
     requires reads { ReadsGrammar F.grammar F.machine }
-    ensures { IsReadText F.grammar F.meaning_of bytes.now result }
+    ensures { IsReadText F.grammar F.meaning_of F.unread_of bytes.now result }
 {
-    read_text(Reading { read: start }, bytes)
+    match read_text(Reading { read: start }, bytes) {
+        Ok(value) => Ok(value),
+        Err(unread) => Err(F::fault(unread)),
+    }
 }

@@ -16,4 +16,4 @@ pub returns-clause-have_answers : goal.returns-clause-have_answers
 returns-clause-have_answers g c = each_text g.F.Format.grammar g.F.Format.machine c.requires
 
 pub returns-clause-are_answered : goal.returns-clause-are_answered
-returns-clause-are_answered g c = answered g.F.Format.grammar g.F.Format.machine c.requires g.F.Format.meaning_of
+returns-clause-are_answered g c = answered g.F.Format.grammar g.F.Format.machine c.requires g.F.Format.meaning_of g.F.Format.unread_of
