@@ -1,5 +1,6 @@
 //! The words of a text, as what they stand for.
 ghost use Rattle.std.specs.Prelude.{◌≡◌};
+ghost use Rattle.outside.specs.Words.{same_letters};
 ghost use Rattle.keyword_text.specs.Tokens.{named, table_value, lexicon_of, token_of as token_that_is};
 
 use outside::{number, same_word};
@@ -19,12 +20,20 @@ pub struct Spelled<K> {
     pub word: &'static [u8],
 }
 
+/// Whether a word is spelled so, in any case of its letters. Most words of a text that are spelled otherwise have another length.
+#[inline(always)]
+fn is_spelled(word: &[u8], spelling: &[u8]) -> bool
+    ensures { result ≡ same_letters word.now spelling.now }
+{
+    word.len() == spelling.len() && same_word(word, spelling)
+}
+
 /// The keyword that a word is, in any case of its letters: the first of the table that is spelled so.
 fn keyword_of<K: Copy>(table: &[Spelled<K>], word: &[u8]) -> Option<K>
     ensures { result ≡ named (table_value table.now) word.now }
 {
     for entry in table {
-        if same_word(word, entry.word) {
+        if is_spelled(word, entry.word) {
             return Some(entry.key);
         }
     }
