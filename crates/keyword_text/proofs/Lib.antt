@@ -5,3 +5,4 @@ pub mod EachText
 pub mod Settled
 pub mod Steps
 pub mod Kept
+pub mod Printed

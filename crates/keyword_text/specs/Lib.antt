@@ -3,3 +3,4 @@ pub mod Texts
 pub mod Machines
 pub mod Reads
 pub mod Laws
+pub mod Lines
