@@ -11,8 +11,11 @@ use Rattle.plan_model.specs.Plans.{LimitsValue, PlanValue}
 use Rattle.fail_locate.specs.declared.LogFault.{LogFault}
 use Rattle.fail_locate.specs.declared.LogFault.TheVariants as log_fault
 use Rattle.fail_locate.specs.LogAnswers.{SaysLog, LogRead}
-use Rattle.fail_locate.proofs.ReadLogs.{one_log}
-use Rattle.fail_locate.proofs.LogProgress.{logs_not_refused, logs_once}
+use Rattle.fail_locate.specs.LogWords.{log_grammar}
+use Rattle.fail_locate.specs.LogReads.{log_machine}
+use Rattle.fail_locate.proofs.ReadLogs.{reads_logs}
+use Rattle.keyword_text.proofs.Viability.{one_value}
+use Rattle.keyword_text.proofs.Settled.{not_refused, refused_once}
 use Rattle.commands.specs.declared.FileKind.TheVariants.{Log}
 use Rattle.commands.specs.declared.Status.TheVariants.{Done}
 use Rattle.commands.specs.declared.Verdict.{Verdict}
@@ -59,12 +62,12 @@ log_not_taken chip plan log held before after verdict d = no_value Log SaysLog R
 -- ---- a log says one thing
 
 log_one : SaysOne SaysLog
-log_one bytes v w a b = one_log (words_of bytes) v w a b
+log_one bytes v w a b = one_value log_grammar log_machine reads_logs (words_of bytes) v w a b
 
 log_refused_one : RefusesOne SaysLog RefusesFails
 log_refused_one = record {
-  one = λ bytes t t' a b. a.2 ∙ ap log_line (logs_once (words_of bytes) (last_line bytes) a.0 b.0 a.1 b.1) ∙ sym b.2;
-  none = λ bytes t v a says. logs_not_refused (words_of bytes) (last_line bytes) a.0 (v, says) a.1;
+  one = λ bytes t t' a b. a.2 ∙ ap log_line (refused_once log_grammar (words_of bytes) (last_line bytes) a.0 b.0 a.1 b.1) ∙ sym b.2;
+  none = λ bytes t v a says. not_refused log_grammar (words_of bytes) (last_line bytes) a.0 (v, says) a.1;
 }
 
 pub settled_log : (log : List ℕ) (chip : SocValue) (bounds : LimitsValue) (value : PlanValue) → IsSettled true (after_plan log chip bounds value)
