@@ -24,4 +24,6 @@ HaveAnswers {V} g = (bytes : List ℕ) → ((value : V) × Says g bytes value) �
 
 -- a text that says a value is answered with that value, unless memory runs out
 abbrev pub AreAnswered : {K V T E : Type 0} → Grammar K V → (T → V) → (E → Unread) → Type 0
-AreAnswered {V = V} {T = T} {E = E} g value_of unread_of = (bytes : List ℕ) (value : V) (answer : Result T E) → IsReadText g value_of unread_of bytes answer → Says g bytes value → IsAnswer value_of unread_of value answer
+AreAnswered {V = V} {T = T} {E = E} g value_of unread_of =
+    (bytes : List ℕ) (value : V) (answer : Result T E) → IsReadText g value_of unread_of bytes answer → Says g bytes value
+    → IsAnswer value_of unread_of value answer

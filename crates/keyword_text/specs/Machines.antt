@@ -48,11 +48,11 @@ pub record IsSpelled {K : Type 0} (l : Lexicon K) (k : K) : Type 0 where
   pub word : List ℕ
   pub is : token_of l word ≡ Some (Key k)
 
--- The machine reads the grammar: where words with numbers of the range may end, they are those of the value; the words of each value are read; each state
--- that it comes to may still be ended; each keyword has a word; and numbers
--- fit 64 bits.
+-- The machine reads the grammar: where words with numbers of the range may end, they are those of the value; the words of each value
+-- are read; each state that it comes to may still be ended; each keyword has a word; and numbers fit 64 bits.
 pub record ReadsGrammar {K S V : Type 0} (g : Grammar K V) (m : Machine K S V) : Type 0 where
-  pub sound : (ts : List (Token K)) (s : S) (value : V) → AllSmall g.lexicon.most ts → IsRun m ts s → m.end s ≡ Some value → IsSaid g ts value
+  pub sound : (ts : List (Token K)) (s : S) (value : V) → AllSmall g.lexicon.most ts → IsRun m ts s → m.end s ≡ Some value →
+      IsSaid g ts value
   pub complete : (value : V) → g.Allowed value → IsReadWhole m (g.tokens value) value
   pub endable : (ts : List (Token K)) (s : S) → IsRun m ts s → MayEnd m g.lexicon.most s
   pub spelled : (k : K) → IsSpelled g.lexicon k

@@ -16,7 +16,9 @@ pub enum Token<K> {
 
 /// A keyword and how it is spelled.
 pub struct Spelled<K> {
+    /// The keyword.
     pub key: K,
+    /// Its spelling, which is read in any case of its letters.
     pub word: &'static [u8],
 }
 
