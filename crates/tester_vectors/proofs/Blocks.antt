@@ -67,12 +67,3 @@ pub not_too_long : (cycles wires all cells : ℕ) (b : Bool) → wires ≡ all �
 not_too_long cycles wires all cells b same is test short long =
     let more : RUN_MOST < cells = subst (λ n. RUN_MOST < n) (sym (is ∙ ap (λ n. cycles * max 1 n) same)) long in
     true≢false (sym (lt-ltb RUN_MOST cells more) ∙ sym test ∙ short)
-
--- the wires of all buses
-pub sum_widths : (buses : List Bus) → sum_by (λ (b : Bus). b.width) buses ≡ sum (map (λ (b : BusValue). b.width) (map bus_value buses))
-sum_widths [] = refl
-sum_widths (b ∷ buses) =
-    omega (arith, sum_by-cons (λ (b : Bus). b.width) b buses, sum_by-cons (λ (n : ℕ). n) b.width (map (λ (b : BusValue). b.width) (map bus_value buses)), sum_widths buses)
-
-pub wires_are : (buses seen : List Bus) (wires : ℕ) → wires ≡ sum_by (λ (b : Bus). b.width) seen → seen ≡ buses → wires ≡ sum (map (λ (b : BusValue). b.width) (map bus_value buses))
-wires_are buses seen wires is same = is ∙ ap (sum_by (λ (b : Bus). b.width)) same ∙ sum_widths buses
