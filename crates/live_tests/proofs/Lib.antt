@@ -9,3 +9,4 @@ pub mod ProfilePlaces
 pub mod BusWidths
 pub mod FoundWrappers
 pub mod FirstWires
+pub mod CountedBack

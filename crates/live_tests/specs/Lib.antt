@@ -5,3 +5,4 @@ pub mod Index
 pub mod Wrapped
 pub mod Profiles
 pub mod Wires
+pub mod Reads
