@@ -1,26 +1,18 @@
 -- The spot of a cycle and a wire is what is read there.
-use Rattle.std.proofs.Common.{◌≡◌, ℕ, zero, suc, ◌+◌, ◌-◌, ◌≤◌, ◌<◌, ◌⊎◌, true, ltb, Option, Some, None, List, [], ◌∷◌, ◌++◌, length, get_or, take, reverse, refl, ap, ◌∙◌, sym, subst, arith, inl, inr}
-use Rattle.std.specs.Prelude.{slice_get, Bool}
-use Rattle.std.proofs.Math.Seq.{take-suc}
-use Rattle.std.proofs.lemmas.List.{reverse-append, get_or_past}
-use Rattle.std.proofs.lemmas.Option.{slice_get_within, slice_get-get_or, get_or_from_slice_get, same_Some}
-use Rattle.std.proofs.lemmas.Bool.{lt-ltb, ltb-true, cases_Bool, cases_lt}
+use Rattle.std.proofs.Common.{◌≡◌, ℕ, ◌-◌, true, Some, None, List, refl, ap, ◌∙◌, sym, subst, arith, inl, inr}
+use Rattle.std.proofs.lemmas.Option.{same_Some}
 use Rattle.soc_model.specs.declared.TestId.{TestId}
 use Rattle.soc_model.specs.Chips.{SocValue}
 use Rattle.plan_model.specs.Cells as cells
 use Rattle.plan_model.specs.Cells.{is_read, out_length}
-use Rattle.plan_model.specs.Operations.{Operation, Setup, Shift, Capture, SelfTest, ahead}
 use Rattle.plan_model.specs.Plans.{LimitsValue, PlanValue, PlannedTest, planned, uses, of_first}
 use Rattle.plan_model.specs.Right.{IsAt, IsReadAt, IsRight}
 use Rattle.plan_model.specs.Rules.{IsGood, IsGoodAlone, bare_limits}
-use Rattle.plan_model.specs.Runs.{Content, chain_at, operation_at}
-use Rattle.plan_model.proofs.ChainsInTheRun.{AreApart, uses_wire}
-use Rattle.plan_model.proofs.LoadsAndReads.{at_start_plus, begun_at, chain_is}
-use Rattle.plan_model.proofs.PlannedTests.{of_first_is}
-use Rattle.plan_model.proofs.TestsInGoodPlans.{Uses, uses_is, apart}
+use Rattle.plan_model.specs.Runs.{Content}
+use Rattle.plan_model.proofs.ChainsInTheRun.{AreApart}
+use Rattle.plan_model.proofs.TestsInGoodPlans.{uses_is, apart}
 use Rattle.plan_model.proofs.GoodPlansRunRight.{every_good_plan_is_right}
 use Rattle.plan_model.proofs.GoodWithoutLimits.{good_alone}
-use Rattle.live_tests.specs.Reads.{read_of}
 use Rattle.live_tests.proofs.CountedBack.{Reading, reading, of_read, of_first_cases, unread}
 use Rattle.fail_locate.specs.declared.Cell.{Cell}
 use Rattle.fail_locate.specs.declared.Cell.TheVariants.{Flop, Out}

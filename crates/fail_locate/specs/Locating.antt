@@ -1,6 +1,5 @@
 -- How a read is found: the bus of a wire, the test on it, the capture behind it.
-use Rattle.std.specs.Prelude.{◌≡◌, ℕ, ◌+◌, ◌<◌, ◌≤◌, Bool, ◌&&◌, ◌||◌, Option, Some, List, length, take, nat_eq, nat_le, nat_lt, option_map, slice_get, slice_index}
-use Rattle.std.specs.List.{sum}
+use Rattle.std.specs.Prelude.{◌≡◌, ℕ, ◌+◌, ◌<◌, ◌≤◌, Bool, ◌&&◌, ◌||◌, Option, Some, List, length, nat_eq, nat_le, nat_lt, option_map, slice_get, slice_index}
 use Rattle.soc_model.specs.Chips.{SocValue}
 use Rattle.soc_model.specs.SoundChips.{IsSoundChip}
 use Rattle.plan_model.specs.declared.moments.Phases.{Phases}

@@ -1,5 +1,5 @@
 -- The wires of buses, from one first wire to the next.
-use Rattle.std.proofs.Common.{◌≡◌, ℕ, zero, suc, ◌+◌, ◌-◌, ◌≤◌, ◌<◌, None, Some, List, [], ◌∷◌, length, get_or, take, refl, ap, sym, ◌∙◌, arith}
+use Rattle.std.proofs.Common.{◌≡◌, ℕ, zero, suc, ◌+◌, ◌-◌, ◌≤◌, ◌<◌, None, Some, List, [], ◌∷◌, length, take, refl, ap, ◌∙◌, arith}
 use Rattle.std.specs.Prelude.{slice_get, slice_index}
 use Rattle.std.specs.List.{sum}
 use Rattle.std.proofs.lemmas.List.Sums.{sum_by-cons}
@@ -38,8 +38,8 @@ from_first (w ∷ ws) (a ∷ b ∷ rest) first long each =
     let here : a ≡ first = omega (arith, each 0 (omega arith)) in
     let next : b ≡ first + w = omega (arith, each 1 (omega arith), one) in
     let others : between (b ∷ rest) ≡ wires_from (first + w) ws = from_first ws (b ∷ rest) (first + w) (omega (arith, long)) (λ k h.
-        let more = sum_by-cons (λ (n : ℕ). n) w (take k ws) in
-        omega (arith, each (suc k) (omega (arith, h)), more)) in
+    let more = sum_by-cons (λ (n : ℕ). n) w (take k ws) in
+    omega (arith, each (suc k) (omega (arith, h)), more)) in
     ap (λ n. (n, b) ∷ between (b ∷ rest)) here ∙ ap (λ n. (first, n) ∷ between (b ∷ rest)) next ∙ ap (λ l. (first, first + w) ∷ l) others
 
 pub bus_wires_are : (plan : PlanValue) (firsts : List ℕ) → AreFirstWires (widths plan) firsts → between firsts ≡ bus_wires plan

@@ -1,15 +1,13 @@
 -- What a loop over buses or tests has, one of them on.
-use Rattle.std.proofs.Common.{◌≡◌, ◌∙◌, ℕ, ◌+◌, ◌<◌, ◌≤◌, Bool, true, false, cond, List, [], ◌∷◌, ◌++◌, length, get_or, take, drop, map, ap, sym, append_assoc, arith}
-use Rattle.std.specs.List.{filter, sum, sum_by}
+use Rattle.std.proofs.Common.{◌≡◌, ◌∙◌, ℕ, ◌+◌, ◌<◌, ◌≤◌, Bool, true, false, cond, List, [], ◌∷◌, ◌++◌, length, get_or, take, drop, ap, sym, append_assoc}
+use Rattle.std.specs.List.{filter}
 use Rattle.std.proofs.lemmas.List.{append-nil, at_drop_all, drop_more}
 use Rattle.std.proofs.lemmas.List.Elements.{filter_more}
-use Rattle.std.proofs.lemmas.List.Sums.{sum-map, sum_by-drop_more}
-use Rattle.plan_model.specs.declared.Bus.{Bus}
 use Rattle.live_tests.specs.declared.placed.PlacedTest.{PlacedTest}
 use Rattle.picture.specs.declared.panels.Drawn.{Drawn}
 use Rattle.picture.specs.declared.panels.Panel.{Panel}
 use Rattle.picture.specs.Marks.{bus_text, bus_texts}
-use Rattle.picture.specs.Rectangles.{drawn_over, free_lane, lane_ends, laned, wires_from, with_end}
+use Rattle.picture.specs.Rectangles.{drawn_over, free_lane, lane_ends, laned, with_end}
 
 -- what stands in front of the rest has the next one behind it
 in_front : {X : Type 0} (old new : List X) (x : X) (rest whole : List X) → new ≡ old ++ x ∷ [] → old ++ (x ∷ rest) ≡ whole → new ++ rest ≡ whole

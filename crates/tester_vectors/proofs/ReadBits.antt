@@ -1,5 +1,5 @@
 -- A wire's mark is the response bit that is read there: counting back to the last Capture finds it.
-use Rattle.std.proofs.Common.{◌≡◌, ℕ, ◌-◌, ◌⊎◌, None, List, ◌∙◌, ap, arith, inl, inr}
+use Rattle.std.proofs.Common.{◌≡◌, ℕ, ◌-◌, ◌⊎◌, List, ◌∙◌, ap, arith, inl, inr}
 use Rattle.soc_model.specs.Chips.{SocValue}
 use Rattle.plan_model.specs.Cells.{Cell}
 use Rattle.plan_model.specs.Plans.{PlanValue, LimitsValue, PlannedTest, planned, uses}

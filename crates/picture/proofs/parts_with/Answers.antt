@@ -1,9 +1,6 @@
-use Rattle.std.proofs.Common.{◌≡◌, ◌∙◌, ◌≤◌, ℕ, Some, [], length, map, ap, arith}
+use Rattle.std.proofs.Common.{◌≡◌, ◌∙◌, ◌≤◌, ℕ, Some, [], length, ap, arith}
 use Rattle.std.specs.Prelude.{slice_get}
-use Rattle.std.specs.List.{filter, sum}
-use Rattle.plan_model.specs.declared.TheConstants.{WIRES_MOST}
-use Rattle.plan_model.specs.declared.Bus.{Bus}
-use Rattle.plan_model.specs.Plans.{widths}
+use Rattle.std.specs.List.{filter}
 use Rattle.plan_model.specs.Views.{limits_value, plan_value}
 use Rattle.live_tests.specs.declared.placed.PlacedTest.{PlacedTest}
 use Rattle.power_events.specs.Loads.{drawn_by, load_steps}

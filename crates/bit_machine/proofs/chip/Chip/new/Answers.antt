@@ -1,6 +1,6 @@
-use Rattle.std.proofs.Common.{ℕ, List, ◌∙◌, refl, sym, subst, length, arith}
+use Rattle.std.proofs.Common.{◌∙◌, refl, length, arith}
 use Rattle.soc_model.specs.Chips.{soc_value}
-use Rattle.plan_model.specs.Plans.{planned, widths}
+use Rattle.plan_model.specs.Plans.{planned}
 use Rattle.plan_model.specs.Views.{plan_value}
 use Rattle.bit_machine.specs.Chips.{made_content}
 use Rattle.bit_machine.proofs.NewChips.{new_chip, new_some, new_state, first_value, wires_are}
@@ -20,4 +20,3 @@ returns c =
     c.new-machine.ensures.cycle c.new-machine.ensures.long c.new-machine.ensures.machine in
     first_value (soc_value c.args.soc.now) (plan_value c.args.plan.now) c.args.seed c.new-machine.result c.new-machine.ensures.cycle
     (new_state (made_content (soc_value c.args.soc.now) c.args.seed) (planned (soc_value c.args.soc.now) (plan_value c.args.plan.now)) c.in_ok-lanes.lanes.items c.new-machine.result chip.machine c.new-machine.ensures.state c.in_ok-lanes.ensures)
-

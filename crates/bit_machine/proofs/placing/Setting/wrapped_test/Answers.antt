@@ -1,4 +1,4 @@
-use Rattle.std.proofs.Common.{◌∙◌, ◌+◌, ap, refl, map, arith, ◌<◌, ◌^◌, sym, subst, length, List}
+use Rattle.std.proofs.Common.{◌∙◌, ◌+◌, ap, refl, map, arith}
 use Rattle.soc_model.specs.Chips.{module_value}
 use Rattle.std.proofs.lemmas.List.{length-map}
 use Rattle.plan_model.specs.Plans.{BusValue, si_of, so_of}

@@ -1,6 +1,5 @@
-use Rattle.std.proofs.Common.{ℕ, List, refl, sym, subst, arith}
+use Rattle.std.proofs.Common.{refl, arith}
 use Rattle.soc_model.specs.Chips.{soc_value}
-use Rattle.plan_model.specs.Plans.{widths}
 use Rattle.plan_model.specs.Views.{plan_value}
 use Rattle.bit_machine.proofs.NewChips.{new_vectors, wires_are}
 use Rattle.bit_machine.proofs.vectors.Vectors.new.Goals as goal

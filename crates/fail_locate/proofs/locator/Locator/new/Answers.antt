@@ -1,10 +1,6 @@
-use Rattle.std.proofs.Common.{List, ℕ, map, ap, ◌∙◌, subst}
 use Rattle.soc_model.specs.Chips.{soc_value}
-use Rattle.plan_model.specs.declared.Bus.{Bus}
 use Rattle.plan_model.specs.Plans.{planned}
 use Rattle.plan_model.specs.Views.{plan_value}
-use Rattle.live_tests.specs.Wires.{AreFirstWires}
-use Rattle.live_tests.proofs.BusWidths.{widths_are}
 use Rattle.fail_locate.proofs.KeptTests.{in_order}
 use Rattle.fail_locate.proofs.locator.Locator.new.Goals as goal
 
