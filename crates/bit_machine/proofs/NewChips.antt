@@ -1,7 +1,7 @@
 -- A chip before its first cycle.
 use Rattle.std.proofs.Common.{◌≡◌, ℕ, zero, suc, ◌+◌, ◌-◌, ◌^◌, ◌≤◌, ◌<◌, Some, List, [], ◌∷◌, length, get_or, map, refl, ap, sym, subst, ◌∙◌, arith}
 use Rattle.std.specs.Prelude.{slice_get}
-use Rattle.std.specs.List.{sum_by, sum}
+use Rattle.std.specs.List.{sum_by}
 use Rattle.std.proofs.lemmas.List.{length-map, get_or-map}
 use Rattle.std.proofs.lemmas.List.Sums.{sum_by-cons}
 use Rattle.std.proofs.lemmas.Option.{slice_get_within, get_or_from_slice_get}
@@ -9,13 +9,14 @@ use Rattle.soc_model.specs.Chips.{SocValue, LiveTest, live_tests}
 use Rattle.soc_model.specs.Sizes.{test_work, work}
 use Rattle.soc_model.specs.SoundChips.{IsSoundChip}
 use Rattle.soc_model.proofs.Limits.{work-le}
-use Rattle.plan_model.specs.Plans.{PlanValue, LimitsValue, PlannedTest, planned, planned_test, chains_of, operations_of}
+use Rattle.plan_model.specs.Plans.{BusValue, PlanValue, LimitsValue, PlannedTest, planned, planned_test, chains_of, operations_of, widths}
 use Rattle.plan_model.specs.Runs.{Content, chain_at, bits_at, first_state}
 use Rattle.plan_model.specs.Rules.{IsGood, IsGoodAlone, Wrappers, Proper, bare_limits}
 use Rattle.plan_model.specs.Views.{bus_value}
 use Rattle.plan_model.proofs.ShortTests.{short_test, planned_operations}
 use Rattle.plan_model.specs.declared.Bus.{Bus}
-use Rattle.live_tests.proofs.BusWidths.{widths_are}
+use Rattle.live_tests.specs.Wires.{AreFirstWires}
+use Rattle.live_tests.proofs.FirstWires.{all_at}
 use Rattle.bit_machine.specs.Chips.{made_content, wires_of, at_first}
 use Rattle.bit_machine.specs.Lanes.{lane_bits, AreNewLanes}
 use Rattle.bit_machine.specs.Machines.{lanes_state, AreLanes, AreOnWires, AreSomeLanes, IsMachine}
@@ -113,5 +114,7 @@ new_state content tests lanes m is same are =
 pub first_value : (s : SocValue) (p : PlanValue) (seed : ℕ) (m : Machine) → m.cycle ≡ 0 → lanes_state m.lanes.items ≡ first_state (made_content s seed) (planned s p) → chip_view s p seed m 0 0 ≡ at_first s p seed
 first_value s p seed m e f = rw (e, f) refl
 
-pub wide_as_plan : (buses seen : List Bus) (plan : PlanValue) (n k : ℕ) → plan.buses ≡ map bus_value buses → seen ≡ buses → n ≡ k → k ≡ sum (map (λ (b : Bus). b.width) seen) → n ≡ wires_of plan
-wide_as_plan buses seen plan n k is same e f = e ∙ f ∙ rw (same, is) (ap sum (widths_are buses))
+-- the entry behind the first wires of all buses
+pub wires_are : (buses : List Bus) (plan : PlanValue) (firsts : List ℕ) (count wires : ℕ) → plan.buses ≡ map bus_value buses → AreFirstWires (widths plan) firsts → count ≡ length buses → wires ≡ get_or firsts count wires → wires ≡ wires_of plan
+wires_are buses plan firsts count wires is are all at =
+    all_at (widths plan) firsts count wires are (all ∙ sym (length-map buses bus_value) ∙ ap length (sym is) ∙ sym (length-map plan.buses (λ (b : BusValue). b.width))) at

@@ -362,8 +362,5 @@ bus_there soc limits plan good p q m t at there live tam =
 pub same_wired : (plan : PlanValue) (seed : ℕ) (placed : PlacedTest) (bus q : ℕ) (m : ModuleValue) (t u : Test) (l : Lane) → t ≡ u → IsWiredLane plan seed placed bus q m t l → IsWiredLane plan seed placed bus q m u l
 same_wired plan seed placed bus q m t u l same is = subst (λ t. IsWiredLane plan seed placed bus q m t l) same is
 
-pub first_is : (buses seen : List Bus) (bus r : ℕ) → r ≡ sum (take bus (map (λ (b : Bus). b.width) seen)) → seen ≡ buses → r ≡ sum (take bus (map (λ (b : BusValue). b.width) (map bus_value buses)))
-first_is buses seen bus r e f = e ∙ rw (f, widths_are buses) refl
-
 pub width_is : (buses : List Bus) (bus : ℕ) (b : Bus) → b ≡ get_or buses bus b → bus < length buses → b.width ≡ slice_index (map (λ (b : BusValue). b.width) (map bus_value buses)) bus
 width_is buses bus b at within = ap (λ (b : Bus). b.width) at ∙ sym (get_or-map (λ (b : Bus). b.width) buses bus b 0 within) ∙ rw (widths_are buses) refl

@@ -1,4 +1,4 @@
-// A list of bits, 64 in a word.
+//! A list of bits, 64 in a word.
 ghost use Rattle.std.specs.Prelude.{◌≡◌, ◌≢◌, ℕ, ◌<◌, false, length, get_or, replicate, set, IfOk};
 ghost use Rattle.bit_machine.specs.Packed.{is_set};
 

@@ -1,4 +1,4 @@
-// The chains of a test over the wires, made ready for the first cycle.
+//! The chains of a test over the wires, made ready for the first cycle.
 ghost use Rattle.std.specs.Prelude.{◌≡◌, ℕ, ◌+◌, ◌^◌, ◌<◌, ◌≤◌, ◌++◌, length, OnOk, IfOk};
 ghost use Rattle.std.specs.List.{All, sum, sum_by, flat_map, range_with_len};
 ghost use Rattle.plan_model.specs.Views.{chain_value};

@@ -1,4 +1,4 @@
-// A whole chip under test, cycle by cycle.
+//! A whole chip under test, cycle by cycle.
 ghost use Rattle.std.specs.Prelude.{◌≡◌, ℕ, ◌+◌, ◌<◌, false, true, length, slice_get, slice_index_or, IfOk, Some};
 ghost use Rattle.soc_model.specs.Chips.{soc_value};
 ghost use Rattle.soc_model.specs.SoundChips.{IsSoundChip};
@@ -8,7 +8,8 @@ ghost use Rattle.plan_model.specs.Views.{plan_value};
 ghost use Rattle.bit_machine.specs.Chips.{at_first, wires_of, carried_bits, shown_bits, chip_content, chip_tests, IsCompared, captures_at, right_loads_at};
 
 use crate::machine::Machine;
-use crate::placing::{Setting, cycles_of, wires_of};
+use crate::placing::{Setting, cycles_of};
+use live_tests::first_wires;
 use outside::NoMemory;
 use plan_model::Plan;
 use soc_model::Soc;
@@ -65,12 +66,15 @@ impl<'a> Chip<'a> {
         requires good { IsGoodAlone (soc_value soc.now) (plan_value plan.now) }
         ensures { IfOk result (λ chip. chip ≡ at_first (soc_value soc.now) (plan_value plan.now) seed) }
     {
-        let wires = match wires_of(&plan.buses) {
-            Some(wires) => wires,
-            None => return Err(NoMemory),
-        };
+        let firsts = first_wires(alloc, plan)?;
+        let wires = firsts[plan.buses.len()] as usize;
         let users = nobody(alloc, wires)?;
-        let setting = Setting { soc, plan, seed };
+        let setting = Setting {
+            soc,
+            plan,
+            seed,
+            firsts: &firsts,
+        };
         let lanes = setting.lanes(alloc)?;
         let machine = Machine::new(lanes, users);
         Ok(Chip {

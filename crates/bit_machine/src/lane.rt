@@ -1,4 +1,4 @@
-// One live test of a chip under test.
+//! One live test of a chip under test.
 ghost use Rattle.std.specs.Prelude.{◌≡◌, ℕ, ◌-◌, ◌%◌, ◌<◌, true, false, Some, [], length, drop, get_or, set, slice_get, slice_index};
 ghost use Rattle.plan_model.specs.Plans.{PlannedTest};
 ghost use Rattle.plan_model.specs.Moments.{moment_behind};

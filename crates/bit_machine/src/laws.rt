@@ -1,4 +1,4 @@
-// The laws over the definitions. Each is the contract of a function that does nothing: a caller learns it by the call.
+//! The laws over the definitions. Each is the contract of a function that does nothing: a caller learns it by the call.
 ghost use Rattle.std.specs.Prelude.{◌≡◌, ℕ, ◌+◌, Bool, true, List, [], get_or, length, sum_by};
 ghost use Rattle.soc_model.specs.Chips.{ModuleValue};
 ghost use Rattle.plan_model.specs.Cells.{Cell, ChainValue, IsProper, IsResponseBit, IsStimulusBit, chain_cells, out_length, response_cells};

@@ -1,4 +1,4 @@
-// How the cells of a module stand in the chains of a wrapper, and where their bits stand in a response.
+//! How the cells of a module stand in the chains of a wrapper, and where their bits stand in a response.
 ghost use Rattle.std.specs.Prelude.{◌≡◌, ℕ, ◌+◌, ◌^◌, ◌<◌, ◌≤◌, ◌++◌, length, map, take, drop, slice_index, IfOk};
 ghost use Rattle.std.specs.List.{All, sum, sum_by};
 ghost use Rattle.soc_model.specs.Chips.{module_value};

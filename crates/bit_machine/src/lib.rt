@@ -1,9 +1,9 @@
-// Wrapped modules, bit by bit (the wrapped cores of Iyengar, Chakrabarty and Marinissen 2002). One module in its wrapper
-// is a [`Session`]: shift and capture do to its chains what one cycle of a test does. A whole chip under a good plan is a
-// [`Chip`]: each cycle drives its wires, does the operations of all tests that are active, and shows what is read.
-// What a tester drives and compares under such a plan, cycle by cycle, are its [`Vectors`].
-//
-// A cycle is one call; lengths are in cells, and each cell and each wire has one bit.
+//! Wrapped modules, bit by bit (the wrapped cores of Iyengar, Chakrabarty and Marinissen 2002). One module in its wrapper
+//! is a [`Session`]: shift and capture do to its chains what one cycle of a test does. A whole chip under a good plan is a
+//! [`Chip`]: each cycle drives its wires, does the operations of all tests that are active, and shows what is read.
+//! What a tester drives and compares under such a plan, cycle by cycle, are its [`Vectors`].
+//!
+//! A cycle is one call; lengths are in cells, and each cell and each wire has one bit.
 #![tactic(auto)]
 
 mod bits;

@@ -1,4 +1,4 @@
-// Lines of text in columns: for each wire a digit and a mark, a space between them, and a line feed.
+//! Lines of text in columns: for each wire a digit and a mark, a space between them, and a line feed.
 ghost use Rattle.std.specs.Prelude.{◌≡◌, ℕ, ◌+◌, ◌-◌, ◌*◌, ◌<◌, ◌≤◌, length};
 ghost use Rattle.bit_machine.specs.Numbers.{bit_at_place};
 ghost use Rattle.bit_machine.specs.Vectors.{digit as bit_digit, AreOtherRowsKept, ArePutAcross, ArePutDown, IsBlank};

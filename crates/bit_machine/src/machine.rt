@@ -1,4 +1,4 @@
-// All live tests of a chip, and which of them each wire belongs to.
+//! All live tests of a chip, and which of them each wire belongs to.
 ghost use Rattle.std.specs.Prelude.{◌≡◌, ◌≢◌, ℕ, ◌+◌, ◌^◌, ◌<◌, ◌≤◌, ◌⊎◌, List, Some, None, length, get_or, slice_get, slice_index_or, true, false, IfSome, IfNone};
 ghost use Rattle.plan_model.specs.Plans.{PlannedTest};
 ghost use Rattle.plan_model.specs.Runs.{Content, carried, shown, step};

@@ -1,4 +1,4 @@
-// The made contents: bits that a seed and the places of a test fix.
+//! The made contents: bits that a seed and the places of a test fix.
 ghost use Rattle.std.specs.Prelude.{◌≡◌, ℕ, ◌+◌, ◌*◌, ◌%◌, ◌<◌, ◌≤◌};
 ghost use Rattle.bit_machine.specs.Chips.{has_odd_square};
 ghost use Rattle.bit_machine.specs.Paths.{made_from};

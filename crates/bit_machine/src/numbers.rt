@@ -1,4 +1,4 @@
-// The numbers of the bits that the cells of a chain load or answer, as stretches of numbers one after another.
+//! The numbers of the bits that the cells of a chain load or answer, as stretches of numbers one after another.
 ghost use Rattle.std.specs.Prelude.{◌≡◌, ℕ, ◌+◌, ◌^◌, ◌<◌, ◌≤◌, ◌∷◌, List, false, drop, length, slice_index};
 ghost use Rattle.std.specs.List.{All};
 ghost use Rattle.bit_machine.specs.Numbers.{all_numbers, bit_at_place, line_bit, IsWalk, HasNext, IsFull, IsLineWord};

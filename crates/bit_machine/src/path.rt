@@ -1,4 +1,4 @@
-// One chain of a test over the wires, with the numbers of its bits in the patterns.
+//! One chain of a test over the wires, with the numbers of its bits in the patterns.
 ghost use Rattle.std.specs.Prelude.{◌≡◌, ℕ, ◌-◌, ◌%◌, ◌<◌, ◌≤◌, Some, List, length};
 ghost use Rattle.plan_model.specs.Cells.{Cell};
 ghost use Rattle.plan_model.specs.Runs.{captured, next_bits};

@@ -1,17 +1,17 @@
-// The live tests of a chip as a plan places them.
-ghost use Rattle.std.specs.Prelude.{◌≡◌, ℕ, ◌+◌, ◌^◌, ◌<◌, ◌≤◌, Some, length, map, slice_get, sum, IfSome, IfOk};
+//! The live tests of a chip as a plan places them.
+ghost use Rattle.std.specs.Prelude.{◌≡◌, ℕ, ◌^◌, ◌<◌, ◌≤◌, Some, length, map, slice_get, IfOk};
 ghost use Rattle.soc_model.specs.Chips.{module_value, soc_value};
 ghost use Rattle.soc_model.specs.SoundChips.{IsSoundChip};
 ghost use Rattle.soc_model.specs.declared.Test.{Test};
-ghost use Rattle.plan_model.specs.declared.Bus.{Bus};
 ghost use Rattle.plan_model.specs.Cells.{IsProper};
 ghost use Rattle.plan_model.specs.Listing.{module_size};
-ghost use Rattle.plan_model.specs.Plans.{PlannedTest, planned};
+ghost use Rattle.plan_model.specs.Plans.{PlannedTest, planned, widths};
 ghost use Rattle.plan_model.specs.Right.{IsAt};
 ghost use Rattle.plan_model.specs.Rules.{IsGoodAlone};
 ghost use Rattle.plan_model.specs.Views.{chain_value, plan_value};
 ghost use Rattle.live_tests.specs.Placed.{placed_of, placed_tests};
-ghost use Rattle.bit_machine.specs.Chips.{made_content, wires_of};
+ghost use Rattle.live_tests.specs.Wires.{AreFirstWires};
+ghost use Rattle.bit_machine.specs.Chips.{made_content};
 ghost use Rattle.bit_machine.specs.Lanes.{AreNewLanes, IsNewLane};
 ghost use Rattle.bit_machine.specs.Placed.{IsInWrapper, IsSelfLane, IsWiredLane};
 
@@ -19,25 +19,11 @@ use crate::building::paths_of;
 use crate::lane::Lane;
 use crate::layout::Layout;
 use crate::made::base_of;
-use live_tests::{PlacedTest, PlacedTests, first_wire};
+use live_tests::{PlacedTest, PlacedTests};
 use outside::{NoMemory, push};
-use plan_model::{Bus, Moment, Phases, Plan, Wrapper, lengths, wrapper_of};
+use plan_model::{Moment, Phases, Plan, Wrapper, lengths, wrapper_of};
 use soc_model::{Module, Soc, find_test, module_at};
 use std::alloc::Global;
-
-/// The wires of all buses, where a machine's number holds so many.
-pub fn wires_of(buses: &[Bus]) -> Option<usize>
-    ensures { IfSome result (λ wires. wires ≡ sum (map (λ (b : Bus). b.width) buses.now)) }
-{
-    let mut wires: usize = 0;
-    for bus in buses {
-        match wires.checked_add(bus.width as usize) {
-            Some(more) => wires = more,
-            None => return None,
-        }
-    }
-    Some(wires)
-}
 
 /// The cycles of a plan. The call tells that they are a machine's number.
 pub fn cycles_of(plan: &Plan) -> u64
@@ -78,12 +64,14 @@ fn no_pages(alloc: Global, chains: usize) -> Result<Vec<u64>, NoMemory>
     vec![in alloc; 0u64; chains].map_err(|_| NoMemory)
 }
 
-/// A chip, its plan, and the seed of its contents.
+/// A chip, its plan with the first wires of its buses, and the seed of its contents.
 #[derive(Clone, Copy, Drop)]
 pub struct Setting<'a> {
     pub soc: &'a Soc,
     pub plan: &'a Plan,
     pub seed: u64,
+    /// The first wire of each bus, and behind them the number of all wires.
+    pub firsts: &'a [u64],
 }
 
 impl<'a> Setting<'a> {
@@ -97,7 +85,7 @@ impl<'a> Setting<'a> {
         at: usize,
         wrapper: &Wrapper,
     ) -> Result<Lane, NoMemory>
-        requires wires { wires_of (plan_value self.now.plan.now) < 2 ^ 64 }
+        requires firsts { AreFirstWires (widths (plan_value self.now.plan.now)) self.now.firsts.now }
         requires at { at < length «module».now.tests.items }
         requires small { module_size (module_value «module».now) ≤ 10 ^ 18 }
         requires proper { IsProper (module_value «module».now) wrapper.now.scan (map chain_value wrapper.now.chains.items) }
@@ -122,7 +110,7 @@ impl<'a> Setting<'a> {
             start: placed.start,
             end: placed.end,
             phases,
-            first_wire: first_wire(&self.plan.buses, bus),
+            first_wire: self.firsts[bus] as usize,
             width: self.plan.buses[bus].width as usize,
             paths,
             moment: Moment::Setup,
@@ -135,7 +123,7 @@ impl<'a> Setting<'a> {
     fn wired_test(&self, alloc: Global, placed: &PlacedTest, bus: usize) -> Result<Lane, NoMemory>
         requires sound { IsSoundChip (soc_value self.now.soc.now) }
         requires good { IsGoodAlone (soc_value self.now.soc.now) (plan_value self.now.plan.now) }
-        requires wires { wires_of (plan_value self.now.plan.now) < 2 ^ 64 }
+        requires firsts { AreFirstWires (widths (plan_value self.now.plan.now)) self.now.firsts.now }
         requires over { placed.now.bus ≡ Some bus }
         requires there { (i : ℕ) × (t : PlannedTest) × IsAt (planned (soc_value self.now.soc.now) (plan_value self.now.plan.now)) i t × (placed.now ≡ placed_of t) }
         ensures { (i : ℕ) (t : PlannedTest) → IsAt (planned (soc_value self.now.soc.now) (plan_value self.now.plan.now)) i t → placed.now ≡ placed_of t → IfOk result (IsNewLane (made_content (soc_value self.now.soc.now) self.now.seed) t) }
@@ -157,7 +145,7 @@ impl<'a> Setting<'a> {
     fn lane_of(&self, alloc: Global, placed: &PlacedTest) -> Result<Lane, NoMemory>
         requires sound { IsSoundChip (soc_value self.now.soc.now) }
         requires good { IsGoodAlone (soc_value self.now.soc.now) (plan_value self.now.plan.now) }
-        requires wires { wires_of (plan_value self.now.plan.now) < 2 ^ 64 }
+        requires firsts { AreFirstWires (widths (plan_value self.now.plan.now)) self.now.firsts.now }
         requires there { (i : ℕ) × (t : PlannedTest) × IsAt (planned (soc_value self.now.soc.now) (plan_value self.now.plan.now)) i t × (placed.now ≡ placed_of t) }
         ensures { (i : ℕ) (t : PlannedTest) → IsAt (planned (soc_value self.now.soc.now) (plan_value self.now.plan.now)) i t → placed.now ≡ placed_of t → IfOk result (IsNewLane (made_content (soc_value self.now.soc.now) self.now.seed) t) }
     {
@@ -171,7 +159,7 @@ impl<'a> Setting<'a> {
     fn lanes_of(&self, alloc: Global, placed: &[PlacedTest]) -> Result<Vec<Lane>, NoMemory>
         requires sound { IsSoundChip (soc_value self.now.soc.now) }
         requires good { IsGoodAlone (soc_value self.now.soc.now) (plan_value self.now.plan.now) }
-        requires wires { wires_of (plan_value self.now.plan.now) < 2 ^ 64 }
+        requires firsts { AreFirstWires (widths (plan_value self.now.plan.now)) self.now.firsts.now }
         requires placed { placed.now ≡ placed_tests (soc_value self.now.soc.now) (plan_value self.now.plan.now) }
         ensures { IfOk result (λ lanes. AreNewLanes (made_content (soc_value self.now.soc.now) self.now.seed) (planned (soc_value self.now.soc.now) (plan_value self.now.plan.now)) lanes.items) }
     {
@@ -186,7 +174,7 @@ impl<'a> Setting<'a> {
     pub fn lanes(&self, alloc: Global) -> Result<Vec<Lane>, NoMemory>
         requires sound { IsSoundChip (soc_value self.now.soc.now) }
         requires good { IsGoodAlone (soc_value self.now.soc.now) (plan_value self.now.plan.now) }
-        requires wires { wires_of (plan_value self.now.plan.now) < 2 ^ 64 }
+        requires firsts { AreFirstWires (widths (plan_value self.now.plan.now)) self.now.firsts.now }
         ensures { IfOk result (λ lanes. AreNewLanes (made_content (soc_value self.now.soc.now) self.now.seed) (planned (soc_value self.now.soc.now) (plan_value self.now.plan.now)) lanes.items) }
     {
         let placed = PlacedTests::new(alloc, self.soc, self.plan)?;

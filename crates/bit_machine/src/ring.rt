@@ -1,4 +1,4 @@
-// A chain of cells whose bits move on without being copied.
+//! A chain of cells whose bits move on without being copied.
 ghost use Rattle.std.specs.Prelude.{◌≡◌, ◌+◌, ◌<◌, ◌⊎◌, false, length, get_or, replicate, set, IfOk};
 ghost use Rattle.plan_model.specs.Runs.{last_bit};
 ghost use Rattle.bit_machine.specs.Sessions.{entered};

@@ -1,4 +1,4 @@
-// One module in its wrapper.
+//! One module in its wrapper.
 ghost use Rattle.std.specs.Prelude.{◌≡◌, ℕ, ◌^◌, ◌≤◌, Bool, false, length, map, slice_index_or, sum_by, IfOk};
 ghost use Rattle.soc_model.specs.Chips.{module_value};
 ghost use Rattle.plan_model.specs.Cells.{Cell, IsProper, out_length};

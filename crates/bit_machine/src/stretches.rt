@@ -1,6 +1,6 @@
-// What one live test drives and compares, a stretch of Shifts at a time: as many as lie between two other operations, at
-// most 64. In the Shifts before a capture a chain is driven with its stimulus, the cell farthest from wire in first, and in
-// those behind it shows its response, the last cell first.
+//! What one live test drives and compares, a stretch of Shifts at a time: as many as lie between two other operations, at
+//! most 64. In the Shifts before a capture a chain is driven with its stimulus, the cell farthest from wire in first, and in
+//! those behind it shows its response, the last cell first.
 ghost use Rattle.std.specs.Prelude.{◌≡◌, ℕ, ◌+◌, ◌-◌, ◌*◌, ◌^◌, ◌<◌, ◌≤◌, true, Some, None, List, length};
 ghost use Rattle.plan_model.specs.Moments.{IsMoment};
 ghost use Rattle.plan_model.specs.Plans.{PlannedTest};

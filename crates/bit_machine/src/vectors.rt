@@ -1,4 +1,4 @@
-// What a tester drives and compares on the wires of a plan, line by line.
+//! What a tester drives and compares on the wires of a plan, line by line.
 ghost use Rattle.std.specs.Prelude.{◌≡◌, ℕ, ◌+◌, ◌*◌, ◌^◌, ◌<◌, ◌≤◌, length, IfOk};
 ghost use Rattle.soc_model.specs.Chips.{soc_value};
 ghost use Rattle.soc_model.specs.SoundChips.{IsSoundChip};
@@ -8,8 +8,9 @@ ghost use Rattle.bit_machine.specs.Chips.{wires_of};
 ghost use Rattle.bit_machine.specs.Vectors.{vectors_content, vectors_tests, IsLineOf};
 
 use crate::lane::Lane;
-use crate::placing::{Setting, wires_of};
+use crate::placing::Setting;
 use crate::stretches::put_tests;
+use live_tests::first_wires;
 use outside::NoMemory;
 use plan_model::Plan;
 use soc_model::Soc;
@@ -51,11 +52,14 @@ impl<'a> Vectors<'a> {
         requires good { IsGoodAlone (soc_value soc.now) (plan_value plan.now) }
         ensures { IfOk result (λ vectors. vectors ≡ record { soc = soc_value soc.now; plan = plan_value plan.now; seed = seed }) }
     {
-        let wires = match wires_of(&plan.buses) {
-            Some(wires) => wires,
-            None => return Err(NoMemory),
+        let firsts = first_wires(alloc, plan)?;
+        let wires = firsts[plan.buses.len()] as usize;
+        let setting = Setting {
+            soc,
+            plan,
+            seed,
+            firsts: &firsts,
         };
-        let setting = Setting { soc, plan, seed };
         let lanes = setting.lanes(alloc)?;
         Ok(Vectors {
             soc,

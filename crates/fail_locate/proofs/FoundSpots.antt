@@ -1,10 +1,10 @@
 -- What is found at a cycle on a wire is what is read there, and where nothing is found nothing is read.
-use Rattle.std.proofs.Common.{◌≡◌, ℕ, zero, suc, ◌+◌, ◌-◌, ◌*◌, ◌≤◌, ◌<◌, ◌⊎◌, inl, inr, max, min, true, false, Option, Some, None, List, [], ◌∷◌, ◌++◌, length, get_or, map, take, option_map, refl, ap, sym, subst, ◌∙◌, arith}
+use Rattle.std.proofs.Common.{◌≡◌, ℕ, zero, suc, ◌+◌, ◌-◌, ◌*◌, ◌≤◌, ◌<◌, ◌⊎◌, inl, inr, max, min, true, false, Option, Some, None, List, [], length, get_or, map, take, option_map, refl, ap, sym, subst, ◌∙◌, arith}
 use Rattle.std.specs.Prelude.{slice_get, slice_index}
 use Rattle.std.specs.List.{sum}
 use Rattle.std.specs.List.Sorted.{IsNonDecreasing}
 use Rattle.std.proofs.lemmas.Bool.{cases_lt}
-use Rattle.std.proofs.lemmas.List.{get_or_past, get_or_append_left, take-take}
+use Rattle.std.proofs.lemmas.List.{get_or_past, take-take}
 use Rattle.std.proofs.lemmas.List.Sorted.{IsNonDecreasingBy-from_default}
 use Rattle.std.proofs.lemmas.List.Sums.{sum_by_more, sum_by-take-le}
 use Rattle.std.proofs.lemmas.Option.{slice_get_within, slice_get-get_or, get_or_from_slice_get, same_Some}
@@ -29,13 +29,14 @@ use Rattle.plan_model.proofs.LoadsAndReads.{at_start_plus, begun_at, chain_is}
 use Rattle.plan_model.proofs.Lists.{from_map}
 use Rattle.plan_model.proofs.OperationCounts.{ops_length}
 use Rattle.plan_model.proofs.TestsInGoodPlans.{OnBus, on_bus, apart}
+use Rattle.live_tests.specs.Wires.{AreFirstWires}
 use Rattle.fail_locate.specs.declared.Cell.{Cell}
 use Rattle.fail_locate.specs.declared.Cell.TheVariants.{Flop, Out}
 use Rattle.fail_locate.specs.declared.Spot.{Spot}
 use Rattle.fail_locate.specs.declared.wired.WiredTest.{WiredTest}
 use Rattle.fail_locate.specs.Chains.{IsFromEnd, cells_at}
 use Rattle.fail_locate.specs.Laws.{SpotsAreOne}
-use Rattle.fail_locate.specs.Locating.{AreFirsts, IsBehind, IsLast, IsLocator, IsOnWire, IsTurn}
+use Rattle.fail_locate.specs.Locating.{IsBehind, IsLast, IsLocator, IsOnWire, IsTurn}
 use Rattle.fail_locate.specs.Spots.{IsNoSpot, IsSpot, cell_value}
 use Rattle.fail_locate.specs.Wired.{IsKept, IsPlanned, IsWired}
 
@@ -46,28 +47,13 @@ firsts_rise widths i j h =
     let front : take i (take j widths) ≡ take i widths = take-take i j widths h in
     subst (λ xs. sum xs ≤ sum (take j widths)) front (sum_by-take-le (λ x. x) (take j widths) i)
 
-pub in_order : (widths firsts : List ℕ) → AreFirsts widths firsts → IsNonDecreasing firsts
+pub in_order : (widths firsts : List ℕ) → AreFirstWires widths firsts → IsNonDecreasing firsts
 in_order widths firsts are = IsNonDecreasingBy-from_default (λ x. x) firsts 0 (λ i j h within.
-    let long : length firsts ≡ length widths = are.long in
+    let long : length firsts ≡ length widths + 1 = are.long in
     let low : get_or firsts i 0 ≡ sum (take i widths) = are.first i (omega arith) in
     let high : get_or firsts j 0 ≡ sum (take j widths) = are.first j (omega arith) in
     let rise : sum (take i widths) ≤ sum (take j widths) = firsts_rise widths i j h in
     omega arith)
-
--- one first wire more
-pub firsts_more : (widths firsts new : List ℕ) (k first : ℕ) → length firsts ≡ k → first ≡ sum (take k widths) → ((b : ℕ) → b < k → slice_index firsts b ≡ sum (take b widths)) → new ≡ firsts ++ first ∷ [] → (b : ℕ) → b < k + 1 → slice_index new b ≡ sum (take b widths)
-firsts_more widths firsts new k first long total each pushed b h = elim (cases_lt b k) [
-  | inl less ↦ ap (λ xs. slice_index xs b) pushed ∙ get_or_append_left firsts (first ∷ []) 0 b (omega arith) ∙ each b less
-  | inr more ↦
-      let same : b ≡ k = omega arith in
-      ap (λ xs. slice_index xs b) pushed ∙ get_or_at firsts first b (omega arith) ∙ total ∙ ap (λ n. sum (take n widths)) (sym same)
-]
-  where
-    get_or_at : (xs : List ℕ) (x b : ℕ) → b ≡ length xs → slice_index (xs ++ x ∷ []) b ≡ x
-    get_or_at [] x zero e = refl
-    get_or_at [] x (suc b) e = absurd (omega arith)
-    get_or_at (y ∷ xs) x zero e = absurd (omega arith)
-    get_or_at (y ∷ xs) x (suc b) e = get_or_at xs x b (omega arith)
 
 -- a wire of a bus is before each later bus
 before_later : (widths : List ℕ) (b b' x : ℕ) → b < b' → sum (take b' widths) ≤ x → x < sum (take b widths) + slice_index widths b → ⊥
@@ -133,13 +119,13 @@ reading soc plan good i k c w u x at read =
 
 first_at : (soc : SocValue) (plan : PlanValue) (firsts : List ℕ) (tests : List WiredTest) → IsLocator soc plan firsts tests → (b : ℕ) → b < length firsts → slice_index firsts b ≡ sum (take b (widths plan))
 first_at soc plan firsts tests l b h =
-    let long : length firsts ≡ length (widths plan) = l.firsts_are.long in
+    let long : length firsts ≡ length (widths plan) + 1 = l.firsts_are.long in
     l.firsts_are.first b (omega arith)
 
 pub on_no_bus : (soc : SocValue) (plan : PlanValue) (firsts : List ℕ) (tests : List WiredTest) → IsLocator soc plan firsts tests → (cycle wire : ℕ) → ((b : ℕ) → b < length firsts → wire < slice_index firsts b) → IsNoSpot soc plan cycle wire
 on_no_bus soc plan firsts tests l cycle wire none i k u x at read =
     let r : Reading plan u k x cycle wire read = reading soc plan l.good i k cycle wire u x at read in
-    let long : length firsts ≡ length (widths plan) = l.firsts_are.long in
+    let long : length firsts ≡ length (widths plan) + 1 = l.firsts_are.long in
     let within : u.bus < length firsts = let there = r.bus_there in omega arith in
     let first = first_at soc plan firsts tests l u.bus within in
     let before = none u.bus within in
@@ -153,7 +139,7 @@ record OnFound (u : PlannedTest) (bus chain place : ℕ) : Type 0 where
 on_found : (soc : SocValue) (plan : PlanValue) (firsts : List ℕ) (tests : List WiredTest) → IsLocator soc plan firsts tests → (i k c w bus chain : ℕ) (u : PlannedTest) (x : cells.Cell) → IsAt (planned soc plan) i u → (read : IsReadAt u k x c w) → IsOnWire firsts w bus chain → OnFound u bus chain read.chain
 on_found soc plan firsts tests l i k c w bus chain u x at read on =
     let r : Reading plan u k x c w read = reading soc plan l.good i k c w u x at read in
-    let long : length firsts ≡ length (widths plan) = l.firsts_are.long in
+    let long : length firsts ≡ length (widths plan) + 1 = l.firsts_are.long in
     let within : u.bus < length firsts = let there = r.bus_there in omega arith in
     let first : slice_index firsts u.bus ≡ sum (take u.bus (widths plan)) = first_at soc plan firsts tests l u.bus within in
     let begins : slice_index firsts bus ≡ sum (take bus (widths plan)) = first_at soc plan firsts tests l bus on.bus_there in

@@ -1,6 +1,5 @@
 -- How a read is found: the bus of a wire, the test on it, the capture behind it.
-use Rattle.std.specs.Prelude.{◌≡◌, ℕ, ◌+◌, ◌<◌, ◌≤◌, Bool, ◌&&◌, ◌||◌, Option, Some, List, length, take, nat_eq, nat_le, nat_lt, option_map, slice_get, slice_index}
-use Rattle.std.specs.List.{sum}
+use Rattle.std.specs.Prelude.{◌≡◌, ℕ, ◌+◌, ◌<◌, ◌≤◌, Bool, ◌&&◌, ◌||◌, Option, Some, List, length, nat_eq, nat_le, nat_lt, option_map, slice_get, slice_index}
 use Rattle.soc_model.specs.Chips.{SocValue}
 use Rattle.soc_model.specs.SoundChips.{IsSoundChip}
 use Rattle.plan_model.specs.declared.moments.Phases.{Phases}
@@ -9,15 +8,11 @@ use Rattle.plan_model.specs.Moments.{phase_ops, turn_value}
 use Rattle.plan_model.specs.Operations.{Capture}
 use Rattle.plan_model.specs.Plans.{PlanValue, planned, widths}
 use Rattle.plan_model.specs.Rules.{IsGoodAlone}
+use Rattle.live_tests.specs.Wires.{AreFirstWires}
 use Rattle.fail_locate.specs.declared.wired.WiredTest.{WiredTest}
 use Rattle.fail_locate.specs.Wired.{AreWired, AreInOrder}
 
--- for each bus the widths of those before it together
-pub record AreFirsts (widths firsts : List ℕ) : Type 0 where
-  pub long : length firsts ≡ length widths
-  pub first : (b : ℕ) → b < length widths → slice_index firsts b ≡ sum (take b widths)
-
--- the last bus that begins at the wire or before it, and how many wires lie between
+-- the last of these first wires that is the wire or comes before it, and how many wires lie between
 pub record IsOnWire (firsts : List ℕ) (wire bus chain : ℕ) : Type 0 where
   pub bus_there : bus < length firsts
   pub wire_is : slice_index firsts bus + chain ≡ wire
@@ -50,6 +45,6 @@ pub record IsTurn (p : Phases) (n : ℕ) (turn : Option Turn) : Type 0 where
 pub record IsLocator (soc : SocValue) (plan : PlanValue) (firsts : List ℕ) (tests : List WiredTest) : Type 0 where
   pub sound : IsSoundChip soc
   pub good : IsGoodAlone soc plan
-  pub firsts_are : AreFirsts (widths plan) firsts
+  pub firsts_are : AreFirstWires (widths plan) firsts
   pub wired : AreWired soc plan (planned soc plan) tests
   pub order : AreInOrder tests

@@ -1,16 +1,15 @@
-// Finds the response bit that is read at a cycle on a wire.
+//! Finds the response bit that is read at a cycle on a wire.
 ghost use Rattle.std.specs.Prelude.{◌≡◌, ℕ, ◌+◌, ◌-◌, ◌<◌, ◌≤◌, true, false, length, map, nat_le, slice_get, slice_index, IfNone, IfOk, IfSome};
 ghost use Rattle.std.specs.List.Sorted.{IsNonDecreasing, IsPartitionPoint, IsPermutation};
 ghost use Rattle.soc_model.specs.Chips.{soc_value};
 ghost use Rattle.soc_model.specs.SoundChips.{IsSoundChip};
-ghost use Rattle.plan_model.specs.declared.Bus.{Bus};
 ghost use Rattle.plan_model.specs.Moments.{ArePhases, phase_ops};
 ghost use Rattle.plan_model.specs.Plans.{PlannedTest};
 ghost use Rattle.plan_model.specs.Rules.{IsGoodAlone};
 ghost use Rattle.plan_model.specs.Views.{plan_value};
 ghost use Rattle.fail_locate.specs.declared.wired.WiredTest.{WiredTest};
 ghost use Rattle.fail_locate.specs.Chains.{IsFromEnd, cells_at};
-ghost use Rattle.fail_locate.specs.Locating.{AreFirsts, IsLast, IsOnWire, IsTurn, comes_by};
+ghost use Rattle.fail_locate.specs.Locating.{IsLast, IsOnWire, IsTurn, comes_by};
 ghost use Rattle.fail_locate.specs.SpotAt.{spot_at};
 ghost use Rattle.fail_locate.specs.Spots.{IsNoSpot, IsSpot};
 ghost use Rattle.fail_locate.specs.Wired.{AreInOrder, IsWired};
@@ -18,24 +17,12 @@ ghost use Rattle.fail_locate.specs.Wired.{AreInOrder, IsWired};
 use crate::cells::cell_shown;
 use crate::wired::{Placing, WiredTest};
 use crate::{Cell, Spot};
-use outside::{NoMemory, push};
-use plan_model::{Bus, Plan, Turn};
+use live_tests::first_wires;
+use outside::NoMemory;
+use plan_model::{Plan, Turn};
 use soc_model::{Soc, module_at};
 use std::alloc::Global;
 use std::marker::Model;
-
-/// The first wire of each bus.
-fn first_wires(alloc: Global, buses: &[Bus]) -> Result<Vec<u128>, NoMemory>
-    ensures { IfOk result (λ firsts. AreFirsts (map (λ (b : Bus). b.width) buses.now) firsts.items) }
-{
-    let mut firsts = Vec::new(alloc);
-    let mut first: u128 = 0;
-    for bus in buses {
-        push(&mut firsts, first)?;
-        first += u128::from(bus.width);
-    }
-    Ok(firsts)
-}
 
 /// The tests in the order of their buses, and those of a bus in the order of their starts.
 fn in_order(tests: Vec<WiredTest>) -> Vec<WiredTest>
@@ -47,22 +34,22 @@ fn in_order(tests: Vec<WiredTest>) -> Vec<WiredTest>
     sorted
 }
 
-/// How many buses begin at a wire or before it.
-fn buses_to(firsts: &[u128], wire: u64) -> usize
+/// How many of these wires are a wire or come before it.
+fn buses_to(firsts: &[u64], wire: u64) -> usize
     requires { IsNonDecreasing firsts.now }
     ensures bound { result ≤ length firsts.now }
     ensures parts { IsPartitionPoint (λ x. x ≤ wire) (λ x. wire < x) firsts.now result }
 {
-    let wire = u128::from(wire);
     firsts.partition_point(
-        |first: &u128| -> bool
+        |first: &u64| -> bool
             ensures { result ≡ nat_le first.now wire }
         { *first <= wire },
     )
 }
 
-/// The last bus that begins at a wire or before it, and how many wires lie between.
-fn on_bus(firsts: &[u128], wire: u64) -> Option<(usize, usize)>
+/// The last bus that begins at a wire or before it, and how many wires lie between. Behind the last bus one more begins
+/// that has no tests.
+fn on_bus(firsts: &[u64], wire: u64) -> Option<(usize, usize)>
     requires { IsNonDecreasing firsts.now }
     ensures some { IfSome result (λ found. IsOnWire firsts.now wire found.0 found.1) }
     ensures none { IfNone result ((b : ℕ) → b < length firsts.now → wire < slice_index firsts.now b) }
@@ -72,7 +59,7 @@ fn on_bus(firsts: &[u128], wire: u64) -> Option<(usize, usize)>
         return None;
     }
     let bus = count - 1;
-    Some((bus, (u128::from(wire) - firsts[bus]) as usize))
+    Some((bus, (wire - firsts[bus]) as usize))
 }
 
 /// Whether a test is on an earlier bus, or on this one and has begun by a cycle.
@@ -140,8 +127,8 @@ fn cell_of(placing: &Placing<'_>, test: &WiredTest, chain: usize, shifts: u64) -
 #[derive(Drop)]
 pub struct Locator<'a> {
     placing: Placing<'a>,
-    /// The first wire of each bus.
-    firsts: Vec<u128>,
+    /// The first wire of each bus, and behind them the number of all wires.
+    firsts: Vec<u64>,
     /// The tests over the wires, by bus, and on a bus by start.
     tests: Vec<WiredTest>,
 }
@@ -167,7 +154,7 @@ impl<'a> Locator<'a> {
         ensures { IfOk result (λ locator. locator ≡ record { soc = soc_value soc.now; plan = plan_value plan.now }) }
     {
         let placing = Placing { soc, plan };
-        let firsts = first_wires(alloc, &plan.buses)?;
+        let firsts = first_wires(alloc, plan)?;
         let tests = in_order(placing.tests(alloc)?);
         Ok(Locator {
             placing,

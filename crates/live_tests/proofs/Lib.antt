@@ -8,3 +8,5 @@ pub mod Indexed
 pub mod ProfilePlaces
 pub mod BusWidths
 pub mod FoundWrappers
+pub mod FirstWires
+pub mod CountedBack

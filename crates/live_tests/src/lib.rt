@@ -16,17 +16,19 @@ mod index;
 mod neighbours;
 mod placed;
 mod profiles;
+mod wires;
 mod wrapped;
 
 pub use index::{PlanIndex, bus_place, buses_by_module, wrappers_by_mode};
 use indexmap::IndexMap;
 pub use neighbours::{Neighbours, all_after, all_before};
 use outside::{NoMemory, push};
-pub use placed::{PlacedTest, PlacedTests, PlannedChip, bus_over, first_wire, placed_test};
+pub use placed::{PlacedTest, PlacedTests, PlannedChip, bus_over, placed_test};
 pub use profiles::{profile_place, profile_places};
 use soc_model::{Module, Soc, TestId, live};
 use std::alloc::Global;
 use std::marker::Model;
+pub use wires::{all_wires, first_wires};
 pub use wrapped::{ModeWrapper, ModeWrappers, walked};
 
 /// The names of the live tests of a chip, in its order.

@@ -1,8 +1,7 @@
-// The live tests of a chip as a plan places them.
-ghost use Rattle.std.specs.Prelude.{◌≡◌, ◌+◌, ◌++◌, ◌^◌, ◌<◌, ◌≤◌, ℕ, Some, find, length, map, slice_get, sum, take, IfOk, OnOk, IsTrue};
+//! The live tests of a chip as a plan places them.
+ghost use Rattle.std.specs.Prelude.{◌≡◌, ◌+◌, ◌++◌, ◌^◌, ◌<◌, ℕ, Some, find, length, map, slice_get, IfOk, OnOk, IsTrue};
 ghost use Rattle.soc_model.specs.Chips.{is_live, module_value, soc_value};
 ghost use Rattle.soc_model.specs.SoundChips.{IsSoundChip};
-ghost use Rattle.plan_model.specs.declared.Bus.{Bus};
 ghost use Rattle.plan_model.specs.Plans.{planned_test};
 ghost use Rattle.plan_model.specs.Rules.{IsGoodAlone, live_ids};
 ghost use Rattle.plan_model.specs.Views.{plan_value};
@@ -12,12 +11,12 @@ ghost use Rattle.live_tests.specs.Placed.{bus_over as the_bus_over, is_called, p
 
 use crate::{LiveTests, ModeWrappers, PlanIndex};
 use outside::{NoMemory, push};
-use plan_model::{Bus, Plan};
+use plan_model::Plan;
 use soc_model::{Module, Soc, Test, TestId, live, module_at};
 use std::alloc::Global;
 use std::marker::Model;
 
-/// A live test as a plan places it. A test over the wires uses all wires of its bus, from [`first_wire`] of the bus on.
+/// A live test as a plan places it. A test over the wires uses all wires of its bus, as [`crate::first_wires`] has them.
 #[derive(Clone, Copy, PartialEq, Eq, Debug)]
 pub struct PlacedTest {
     /// The test.
@@ -100,19 +99,6 @@ fn placed(alloc: Global, soc: &Soc, plan: &Plan) -> Result<Vec<PlacedTest>, NoMe
     // let go by a call: the end of the scope would let go of each of its parts, and be proved for each
     drop(index);
     tests
-}
-
-/// The first wire of a bus: its wires come after those of the buses before it.
-pub fn first_wire(buses: &[Bus], bus: usize) -> usize
-    requires bus { bus ≤ length buses.now }
-    requires fit { sum (map (λ (b : Bus). b.width) buses.now) < 2 ^ 64 }
-    ensures { result ≡ sum (take bus (map (λ (b : Bus). b.width) buses.now)) }
-{
-    let mut wires: usize = 0;
-    for place in 0..bus {
-        wires += buses[place].width as usize;
-    }
-    wires
 }
 
 /// The bus of a test over the wires, given that of its module; a self test has none.

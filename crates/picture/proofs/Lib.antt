@@ -7,3 +7,4 @@ pub mod PartsOfPlans
 pub mod Readable
 pub mod SelfTests
 pub mod Starts
+pub mod BusWires

@@ -1,15 +1,13 @@
 -- What a loop over buses or tests has, one of them on.
-use Rattle.std.proofs.Common.{◌≡◌, ◌∙◌, ℕ, ◌+◌, ◌<◌, ◌≤◌, Bool, true, false, cond, List, [], ◌∷◌, ◌++◌, length, get_or, take, drop, map, ap, sym, append_assoc, arith}
-use Rattle.std.specs.List.{filter, sum, sum_by}
+use Rattle.std.proofs.Common.{◌≡◌, ◌∙◌, ℕ, ◌+◌, ◌<◌, ◌≤◌, Bool, true, false, cond, List, [], ◌∷◌, ◌++◌, length, get_or, take, drop, ap, sym, append_assoc}
+use Rattle.std.specs.List.{filter}
 use Rattle.std.proofs.lemmas.List.{append-nil, at_drop_all, drop_more}
 use Rattle.std.proofs.lemmas.List.Elements.{filter_more}
-use Rattle.std.proofs.lemmas.List.Sums.{sum-map, sum_by-drop_more}
-use Rattle.plan_model.specs.declared.Bus.{Bus}
 use Rattle.live_tests.specs.declared.placed.PlacedTest.{PlacedTest}
 use Rattle.picture.specs.declared.panels.Drawn.{Drawn}
 use Rattle.picture.specs.declared.panels.Panel.{Panel}
 use Rattle.picture.specs.Marks.{bus_text, bus_texts}
-use Rattle.picture.specs.Rectangles.{drawn_over, free_lane, lane_ends, laned, wires_from, with_end}
+use Rattle.picture.specs.Rectangles.{drawn_over, free_lane, lane_ends, laned, with_end}
 
 -- what stands in front of the rest has the next one behind it
 in_front : {X : Type 0} (old new : List X) (x : X) (rest whole : List X) → new ≡ old ++ x ∷ [] → old ++ (x ∷ rest) ≡ whole → new ++ rest ≡ whole
@@ -20,33 +18,6 @@ pub all_in_front : {X Y : Type 0} (old : List Y) (f : List X → List Y) (xs : L
 all_in_front old f xs i whole past none so_far = sym (ap (λ l. old ++ l) (at_drop_all f xs i past ∙ none) ∙ append-nil old) ∙ so_far
 
 -- ---- buses
-
--- what is left begins with the next one
-begins : (bs : List Bus) (i : ℕ) (b : Bus) → i < length bs → b ≡ get_or bs i b → drop i bs ≡ b ∷ drop (i + 1) bs
-begins bs i b less there = drop_more bs i b less ∙ ap (λ (x : Bus). x ∷ drop (i + 1) bs) (sym there)
-
--- the wires of the buses that are left
-pub wires_more : (bs : List Bus) (i first : ℕ) (b : Bus) (old new whole : List (ℕ × ℕ)) → i < length bs → b ≡ get_or bs i b → new ≡ old ++ (first, first + b.width) ∷ [] →
-    old ++ wires_from first (map (λ (b : Bus). b.width) (drop i bs)) ≡ whole → new ++ wires_from (first + b.width) (map (λ (b : Bus). b.width) (drop (i + 1) bs)) ≡ whole
-wires_more bs i first b old new whole less there added so_far =
-    let next = ap (λ (l : List Bus). old ++ wires_from first (map (λ (b : Bus). b.width) l)) (begins bs i b less there) in
-    in_front old new (first, first + b.width) (wires_from (first + b.width) (map (λ (b : Bus). b.width) (drop (i + 1) bs))) whole added (sym next ∙ so_far)
-
--- how many wires are left
-left_more : (bs : List Bus) (i : ℕ) (b : Bus) → i < length bs → b ≡ get_or bs i b → sum (map (λ (b : Bus). b.width) (drop i bs)) ≡ b.width + sum (map (λ (b : Bus). b.width) (drop (i + 1) bs))
-left_more bs i b less there =
-    let rest = drop (i + 1) bs in
-    sum-map (λ (b : Bus). b.width) (drop i bs) ∙ sum_by-drop_more (λ (b : Bus). b.width) bs i b less
-    ∙ ap (λ (x : Bus). x.width + sum_by (λ (b : Bus). b.width) rest) (sym there)
-    ∙ ap (λ n. b.width + n) (sym (sum-map (λ (b : Bus). b.width) rest))
-
-pub wires_left : (bs : List Bus) (i first : ℕ) (b : Bus) (whole : ℕ) → i < length bs → b ≡ get_or bs i b →
-    first + sum (map (λ (b : Bus). b.width) (drop i bs)) ≡ whole → first + b.width + sum (map (λ (b : Bus). b.width) (drop (i + 1) bs)) ≡ whole
-wires_left bs i first b whole less there so_far = let next = left_more bs i b less there in omega (arith, next, so_far)
-
--- a bus that is left is within all wires
-pub wire_within : (bs : List Bus) (i first : ℕ) (b : Bus) (whole : ℕ) → i < length bs → b ≡ get_or bs i b → first + sum (map (λ (b : Bus). b.width) (drop i bs)) ≡ whole → first + b.width ≤ whole
-wire_within bs i first b whole less there so_far = let next = left_more bs i b less there in omega (arith, next, so_far)
 
 -- the texts of the buses that are left
 pub texts_more : (p : Panel) (bs : List (ℕ × ℕ)) (i : ℕ) (d : ℕ × ℕ) (old new whole : List ℕ) → i < length bs → new ≡ old ++ bus_text p i (get_or bs i d) → old ++ bus_texts p i (drop i bs) ≡ whole → new ++ bus_texts p (i + 1) (drop (i + 1) bs) ≡ whole

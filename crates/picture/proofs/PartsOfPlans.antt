@@ -21,7 +21,7 @@ use Rattle.picture.specs.declared.Parts.{Parts}
 use Rattle.picture.specs.Laws.{AreParts}
 use Rattle.picture.specs.Panels.{below, wires_panel}
 use Rattle.picture.specs.PictureText.{bottom_of, frame_text, head_text, inner_text, lanes_of, lanes_text, limit_text, lines_text, load_text, picture_text, plan_steps, power_text, self_tests, wires_text}
-use Rattle.picture.specs.Rectangles.{bus_wires, laned, wired}
+use Rattle.picture.specs.Rectangles.{between, bus_wires, laned, wired}
 use Rattle.picture.specs.Scale.{scale_text}
 use Rattle.picture.proofs.Joining.{behind}
 
@@ -68,17 +68,17 @@ unfolding power_text
 same_power top cycles None steps steps' same = refl
 same_power top cycles (Some most) steps steps' same = ap (λ l. load_text top cycles most l ++ limit_text top most) (same most refl)
 
-pub wired_by : (soc : SocValue) (limits : LimitsValue) (plan : PlanValue) (parts : Parts) → AreParts soc limits plan parts → parts.wired.items ≡ wired parts.buses.items (placed_tests soc plan)
+pub wired_by : (soc : SocValue) (limits : LimitsValue) (plan : PlanValue) (parts : Parts) → AreParts soc limits plan parts → parts.wired.items ≡ wired (between parts.firsts.items) (placed_tests soc plan)
 wired_by soc limits plan parts p = p.wired_are ∙ ap (λ b. wired b (placed_tests soc plan)) (sym p.buses)
 
 pub inner_is : (soc : SocValue) (limits : LimitsValue) (plan : PlanValue) (parts : Parts) (power : Option ℕ) (cycles bound end : ℕ) (t5 t4 t3 t2 t1 t0 : List ℕ) → AreParts soc limits plan parts → power ≡ limits.power → cycles ≡ plan.cycles → bound ≡ plan.bound.cycles → end ≡ below parts.lanes →
-    t1 ≡ t0 ++ wires_text soc parts.wires parts.buses.items (placed_tests soc plan) → t2 ≡ t1 ++ lanes_text soc parts.lanes parts.laned.items → t3 ≡ t2 ++ power_text (end + 24) cycles power parts.steps.items → t4 ≡ t3 ++ scale_text cycles parts.bottom → t5 ≡ t4 ++ lines_text cycles bound parts.bottom → t5 ≡ t0 ++ inner_text soc limits plan
+    t1 ≡ t0 ++ wires_text soc parts.wires (between parts.firsts.items) (placed_tests soc plan) → t2 ≡ t1 ++ lanes_text soc parts.lanes parts.laned.items → t3 ≡ t2 ++ power_text (end + 24) cycles power parts.steps.items → t4 ≡ t3 ++ scale_text cycles parts.bottom → t5 ≡ t4 ++ lines_text cycles bound parts.bottom → t5 ≡ t0 ++ inner_text soc limits plan
 unfolding inner_text
 inner_is soc limits plan parts power cycles bound end t5 t4 t3 t2 t1 t0 p power_is cycles_is bound_is end_is e1 e2 e3 e4 e5 =
     let lanes = lanes_of soc limits plan in
     let bottom = bottom_of (below lanes) plan.cycles limits.power in
-    let w : wires_text soc parts.wires parts.buses.items (placed_tests soc plan) ≡ wires_text soc (wires_panel plan.cycles limits.wires) (bus_wires plan) (placed_tests soc plan) =
-    ap (λ v. wires_text soc v parts.buses.items (placed_tests soc plan)) p.wires ∙ ap (λ v. wires_text soc (wires_panel plan.cycles limits.wires) v (placed_tests soc plan)) p.buses in
+    let w : wires_text soc parts.wires (between parts.firsts.items) (placed_tests soc plan) ≡ wires_text soc (wires_panel plan.cycles limits.wires) (bus_wires plan) (placed_tests soc plan) =
+    ap (λ v. wires_text soc v (between parts.firsts.items) (placed_tests soc plan)) p.wires ∙ ap (λ v. wires_text soc (wires_panel plan.cycles limits.wires) v (placed_tests soc plan)) p.buses in
     let l : lanes_text soc parts.lanes parts.laned.items ≡ lanes_text soc lanes (laned [] (self_tests soc plan)) = ap (λ v. lanes_text soc v parts.laned.items) p.lanes ∙ ap (lanes_text soc lanes) p.laned_are in
     let top : end ≡ below lanes = end_is ∙ ap below p.lanes in
     let s : power_text (end + 24) cycles power parts.steps.items ≡ power_text (below lanes + 24) plan.cycles limits.power (plan_steps soc limits plan) =

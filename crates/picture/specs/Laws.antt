@@ -13,7 +13,7 @@ use Rattle.picture.specs.declared.panels.Drawn.{Drawn}
 use Rattle.picture.specs.Panels.{below, wires_panel}
 use Rattle.picture.specs.Scale.{mark_step, marks_by}
 use Rattle.picture.specs.PictureText.{bottom_of, lanes_of, plan_steps, self_tests}
-use Rattle.picture.specs.Rectangles.{bus_wires, covers, drawn_over, drawn_test, is_self, is_wired, laned, wired}
+use Rattle.picture.specs.Rectangles.{between, bus_wires, covers, drawn_over, drawn_test, is_self, is_wired, laned, wired}
 
 -- no two rectangles have a cycle of a row in common: of a wire, or of a lane
 abbrev pub AreApart : List Drawn → Type 0
@@ -59,7 +59,7 @@ pub record AreTestsOf (soc : SocValue) (limits : LimitsValue) (plan : PlanValue)
 -- the parts of the picture of a plan; the steps are those of what is drawn where there is a limit
 pub record AreParts (soc : SocValue) (limits : LimitsValue) (plan : PlanValue) (parts : Parts) : Type 0 where
   pub wires : parts.wires ≡ wires_panel plan.cycles limits.wires
-  pub buses : parts.buses.items ≡ bus_wires plan
+  pub buses : between parts.firsts.items ≡ bus_wires plan
   pub wired_are : parts.wired.items ≡ wired (bus_wires plan) (placed_tests soc plan)
   pub lanes : parts.lanes ≡ lanes_of soc limits plan
   pub laned_are : parts.laned.items ≡ laned [] (self_tests soc plan)

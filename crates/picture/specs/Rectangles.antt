@@ -19,6 +19,12 @@ wires_from first (w ∷ ws) = (first, first + w) ∷ wires_from (first + w) ws
 abbrev pub bus_wires : PlanValue → List (ℕ × ℕ)
 bus_wires plan = wires_from 0 (widths plan)
 
+-- each number with the next one
+abbrev pub between : List ℕ → List (ℕ × ℕ)
+between [] = []
+between (a ∷ []) = []
+between (a ∷ b ∷ rest) = (a, b) ∷ between (b ∷ rest)
+
 -- a test over wires that are there
 abbrev pub over_wires : PlacedTest → Option (ℕ × ℕ) → List Drawn
 over_wires t None = []

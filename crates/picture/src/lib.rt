@@ -1,4 +1,4 @@
-// Draws a plan as a picture: one SVG image, with the wires from top to bottom and the cycles from left to right.
+//! Draws a plan as a picture: one SVG image, with the wires from top to bottom and the cycles from left to right.
 #![tactic(auto)]
 
 ghost use Rattle.std.specs.Prelude.{◌≡◌, ℕ, ◌+◌, ◌^◌, ◌≤◌, ◌++◌, List, Some, slice_get, IfOk, OnOk};
@@ -13,7 +13,7 @@ ghost use Rattle.power_events.specs.Events.{HasSteps};
 ghost use Rattle.power_events.specs.Loads.{drawn_by, load_steps};
 ghost use Rattle.picture.specs.Laws.{AreParts, AreTestsOf};
 ghost use Rattle.picture.specs.PictureText.{bottom_of as the_bottom, inner_text, picture_text, wires_text};
-ghost use Rattle.picture.specs.Rectangles.{wired as the_wired};
+ghost use Rattle.picture.specs.Rectangles.{between, wired as the_wired};
 
 mod laws;
 mod marks;
@@ -23,13 +23,13 @@ mod scale;
 mod sections;
 
 pub use laws::good_plans_draw_right;
-use live_tests::{PlacedTest, PlacedTests};
+use live_tests::{PlacedTest, PlacedTests, first_wires};
 use marks::{push_buses, push_tests};
 use outside::{NoMemory, extend};
 use panels::{Drawn, Panel, below, lanes_panel, wires_panel};
 use plan_model::{Limits, Plan, good_without_limits};
 use power_events::power_steps;
-use rectangles::{bus_wires, lane_count, self_lanes, wired};
+use rectangles::{lane_count, self_lanes, wired};
 use scale::push_scale;
 use sections::{push_frame, push_head, push_lanes, push_lines, push_power};
 use soc_model::Soc;
@@ -39,7 +39,8 @@ use std::alloc::Global;
 #[derive(Drop)]
 struct Parts {
     wires: Panel,
-    buses: Vec<(u64, u64)>,
+    /// The first wire of each bus, and behind them the number of all wires.
+    firsts: Vec<u64>,
     wired: Vec<Drawn>,
     lanes: Panel,
     laned: Vec<Drawn>,
@@ -100,15 +101,15 @@ fn parts_with(
     ensures { (soc : SocValue) → AreTestsOf soc (limits_value limits.now) (plan_value plan.now) placed.now → IfOk result (AreParts soc (limits_value limits.now) (plan_value plan.now)) }
 {
     good_without_limits();
-    let buses = bus_wires(alloc, &plan.buses)?;
-    let wired = wired(alloc, &buses, placed)?;
+    let firsts = first_wires(alloc, plan)?;
+    let wired = wired(alloc, &firsts, placed)?;
     let lanes = self_lanes(alloc, placed)?;
     let steps = steps_under(alloc, limits, placed)?;
     let panel = lanes_panel(plan.cycles, limits.wires, lane_count(&lanes));
     let bottom = bottom_of(below(&panel), plan.cycles, limits.power);
     Ok(Parts {
         wires: wires_panel(plan.cycles, limits.wires),
-        buses,
+        firsts,
         wired,
         lanes: panel,
         laned: lanes.drawn,
@@ -136,12 +137,12 @@ fn push_wires(
     text: &mut Vec<u8>,
     soc: &Soc,
     panel: &Panel,
-    buses: &[(u64, u64)],
+    firsts: &[u64],
     drawn: &[Drawn],
 ) -> Result<(), NoMemory>
-    ensures { (tests : List the_placed) → drawn.now ≡ the_wired buses.now tests → OnOk result (text.new.items ≡ text.old.items ++ wires_text (soc_value soc.now) panel.now buses.now tests) }
+    ensures { (tests : List the_placed) → drawn.now ≡ the_wired (between firsts.now) tests → OnOk result (text.new.items ≡ text.old.items ++ wires_text (soc_value soc.now) panel.now (between firsts.now) tests) }
 {
-    push_buses(text, panel, buses)?;
+    push_buses(text, panel, firsts)?;
     push_tests(text, soc, panel, drawn)
 }
 
@@ -158,7 +159,7 @@ fn push_inner(
     requires small { parts.now.bottom ≤ 2 ^ 34 }
     ensures { (limits : LimitsValue) (plan : PlanValue) → AreParts (soc_value soc.now) limits plan parts.now → power ≡ limits.power → cycles ≡ plan.cycles → bound ≡ plan.bound.cycles → OnOk result (text.new.items ≡ text.old.items ++ inner_text (soc_value soc.now) limits plan) }
 {
-    push_wires(text, soc, &parts.wires, &parts.buses, &parts.wired)?;
+    push_wires(text, soc, &parts.wires, &parts.firsts, &parts.wired)?;
     push_lanes(text, soc, &parts.lanes, &parts.laned)?;
     push_power(text, below(&parts.lanes) + 24, cycles, power, &parts.steps)?;
     push_scale(text, cycles, parts.bottom)?;

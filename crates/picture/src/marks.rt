@@ -1,10 +1,12 @@
-// The parts of a picture's text: rectangles, labels, and what they say.
+//! The parts of a picture's text: rectangles, labels, and what they say.
 ghost use Rattle.std.specs.Prelude.{◌≡◌, [], ◌++◌, ◌≤◌, ◌<◌, ◌^◌, length, decimal, codes, nat_eq, OnOk, if◌then◌else◌};
 ghost use Rattle.std.specs.List.{flat_map};
 ghost use Rattle.soc_model.specs.Chips.{soc_value};
 ghost use Rattle.picture.specs.Marks.{box_text, bus_frame, bus_label as the_bus_label, bus_name, bus_text, bus_texts, escaped, fill, has_room as the_room, id_size as the_id_size, is_high as the_high, label_at, label_end, label_text, middle as the_middle, name_at as the_name, named_test, sides, spaced_name, test_label, test_text, title_text};
+ghost use Rattle.picture.specs.Rectangles.{between};
 
 use crate::panels::{Drawn, Outline, Panel, Rectangle, outline_of};
+use crate::rectangles::bus_count;
 use itoa::Buffer;
 use live_tests::PlacedTest;
 use outside::{NoMemory, extend, push, push_dotted, push_number};
@@ -330,12 +332,12 @@ fn push_bus(
     push_bus_name(text, &outline, place, width)
 }
 
-/// Appends all buses.
-pub fn push_buses(text: &mut Vec<u8>, panel: &Panel, buses: &[(u64, u64)]) -> Result<(), NoMemory>
-    ensures { OnOk result (text.new.items ≡ text.old.items ++ bus_texts panel.now 0 buses.now) }
+/// Appends all buses, of which these are the first wires, with the number of all wires behind them.
+pub fn push_buses(text: &mut Vec<u8>, panel: &Panel, firsts: &[u64]) -> Result<(), NoMemory>
+    ensures { OnOk result (text.new.items ≡ text.old.items ++ bus_texts panel.now 0 (between firsts.now)) }
 {
-    for place in 0..buses.len() {
-        push_bus(text, panel, place, buses[place])?;
+    for place in 0..bus_count(firsts) {
+        push_bus(text, panel, place, (firsts[place], firsts[place + 1]))?;
     }
     Ok(())
 }

@@ -1,4 +1,4 @@
-// A whole chip is stepped through its plan.
+//! A whole chip is stepped through its plan.
 ghost use Rattle.std.specs.Prelude.{◌≡◌, ℕ, ◌+◌, ◌*◌, ◌<◌, ◌≤◌, length, max, nat_lt, IfOk};
 ghost use Rattle.soc_model.specs.Chips.{SocValue, soc_value};
 ghost use Rattle.soc_model.specs.SoundChips.{IsSoundChip};
@@ -11,7 +11,7 @@ ghost use Rattle.tester_vectors.specs.declared.TheConstants.{RUN_MOST};
 ghost use Rattle.plan_simulator.specs.Steps.{IsAfter};
 
 use bit_machine::{Chip, Report};
-use live_tests::first_wire;
+use live_tests::all_wires;
 use outside::NoMemory;
 use plan_model::Plan;
 use soc_model::Soc;
@@ -25,19 +25,11 @@ fn zero_bits(alloc: Global, count: usize) -> Result<Vec<bool>, NoMemory>
     vec![in alloc; false; count].map_err(|_| NoMemory)
 }
 
-/// The wires of all buses of a plan.
-fn all_wires(plan: &Plan) -> usize
-    requires { wires_of (plan_value plan.now) ≤ 256 }
-    ensures { result ≡ wires_of (plan_value plan.now) }
-{
-    first_wire(&plan.buses, plan.buses.len())
-}
-
 /// Cycles times wires; without wires, times 1.
-fn wire_cycles(cycles: u64, wires: usize) -> u128
+fn wire_cycles(cycles: u64, wires: u64) -> u128
     ensures { result ≡ cycles * max 1 wires }
 {
-    u128::from(cycles) * (wires.max(1) as u128)
+    u128::from(cycles) * u128::from(wires.max(1))
 }
 
 /// Whether a run of so many cycles times wires is too long.
@@ -81,7 +73,7 @@ pub(crate) fn run(alloc: Global, soc: &Soc, plan: &Plan, seed: u64) -> Result<Re
     ensures captures { IfOk result (λ report. report.captures ≡ captures_in (planned (soc_value soc.now) (plan_value plan.now)) (plan_value plan.now).cycles) }
     ensures right_loads { IfOk result (λ report. report.right_loads ≡ right_loads_in (made_content (soc_value soc.now) seed) (planned (soc_value soc.now) (plan_value plan.now)) (plan_value plan.now).cycles) }
 {
-    let wires = all_wires(plan);
+    let wires = all_wires(plan) as usize;
     let mut drive = zero_bits(alloc, wires)?;
     let mut read = zero_bits(alloc, wires)?;
     let mut chip = Chip::new(alloc, soc, plan, seed)?;

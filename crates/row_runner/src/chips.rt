@@ -8,7 +8,7 @@ ghost use Rattle.bit_machine.specs.Chips.{wires_of};
 ghost use Rattle.row_runner.specs.Widths.{IsWide};
 
 use bit_machine::Chip;
-use live_tests::first_wire;
+use live_tests::all_wires;
 use outside::{NoMemory, extend, push, push_number};
 use plan_model::Plan;
 use soc_model::Soc;
@@ -97,7 +97,7 @@ pub fn run_of_chip(alloc: Global, soc: &Soc, plan: &Plan, seed: u64) -> Result<V
     requires good { IsGoodAlone (soc_value soc.now) (plan_value plan.now) }
     requires narrow { wires_of (plan_value plan.now) ≤ 256 }
 {
-    let mut wires = Wires::new(alloc, first_wire(&plan.buses, plan.buses.len()))?;
+    let mut wires = Wires::new(alloc, all_wires(plan) as usize)?;
     let mut chip = Chip::new(alloc, soc, plan, seed)?;
     let mut text = Vec::new(alloc);
     for _cycle in 0..plan.cycles {

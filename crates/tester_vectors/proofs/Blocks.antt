@@ -1,18 +1,14 @@
 -- Blocks of lines one after another.
-use Rattle.std.proofs.Common.{◌≡◌, ℕ, zero, suc, ◌+◌, ◌-◌, ◌*◌, ◌≤◌, ◌<◌, Bool, List, [], ◌∷◌, ◌++◌, length, map, take, refl, ap, sym, subst, ◌∙◌, arith, Option, false, true≢false, max}
+use Rattle.std.proofs.Common.{◌≡◌, ℕ, zero, suc, ◌+◌, ◌-◌, ◌*◌, ◌≤◌, ◌<◌, Bool, List, ◌∷◌, ◌++◌, length, take, refl, ap, sym, subst, ◌∙◌, arith, Option, false, true≢false, max}
 use Rattle.std.specs.Prelude.{nat_lt}
-use Rattle.std.specs.List.{flat_map, range_with_len, sum, sum_by}
+use Rattle.std.specs.List.{flat_map, range_with_len}
 use Rattle.std.proofs.Math.Nat.{mul-le-mul_right}
 use Rattle.std.proofs.Math.Seq.{take-append-add}
 use Rattle.std.proofs.lemmas.Bool.{lt-ltb}
 use Rattle.std.proofs.lemmas.Grind.{flat_map-append}
 use Rattle.std.proofs.lemmas.List.{take-append-le, length-append}
-use Rattle.std.proofs.lemmas.List.Sums.{sum_by-cons}
 use Rattle.outside.specs.Held.{Appended, AppendedFront}
 use Rattle.outside.proofs.PieceLemmas.{Appended-then}
-use Rattle.plan_model.specs.declared.Bus.{Bus}
-use Rattle.plan_model.specs.Plans.{BusValue}
-use Rattle.plan_model.specs.Views.{bus_value}
 use Rattle.tester_vectors.specs.declared.TheConstants.{RUN_MOST}
 
 -- ranges
@@ -67,12 +63,3 @@ pub not_too_long : (cycles wires all cells : ℕ) (b : Bool) → wires ≡ all �
 not_too_long cycles wires all cells b same is test short long =
     let more : RUN_MOST < cells = subst (λ n. RUN_MOST < n) (sym (is ∙ ap (λ n. cycles * max 1 n) same)) long in
     true≢false (sym (lt-ltb RUN_MOST cells more) ∙ sym test ∙ short)
-
--- the wires of all buses
-pub sum_widths : (buses : List Bus) → sum_by (λ (b : Bus). b.width) buses ≡ sum (map (λ (b : BusValue). b.width) (map bus_value buses))
-sum_widths [] = refl
-sum_widths (b ∷ buses) =
-    omega (arith, sum_by-cons (λ (b : Bus). b.width) b buses, sum_by-cons (λ (n : ℕ). n) b.width (map (λ (b : BusValue). b.width) (map bus_value buses)), sum_widths buses)
-
-pub wires_are : (buses seen : List Bus) (wires : ℕ) → wires ≡ sum_by (λ (b : Bus). b.width) seen → seen ≡ buses → wires ≡ sum (map (λ (b : BusValue). b.width) (map bus_value buses))
-wires_are buses seen wires is same = is ∙ ap (sum_by (λ (b : Bus). b.width)) same ∙ sum_widths buses

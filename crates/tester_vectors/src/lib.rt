@@ -1,4 +1,4 @@
-// The text of a plan's test vectors: what a tester drives on each wire, cycle by cycle, and what it compares.
+//! The text of a plan's test vectors: what a tester drives on each wire, cycle by cycle, and what it compares.
 #![tactic(auto)]
 
 ghost use Rattle.std.specs.Prelude.{◌≡◌, ℕ, ◌<◌, ◌≤◌};
@@ -16,11 +16,12 @@ mod laws;
 mod text;
 
 pub use laws::{marks_are_reads, vectors_run_as_shown};
+use live_tests::all_wires;
 use outside::Sink;
 use plan_model::Plan;
 use soc_model::Soc;
 use std::alloc::Global;
-use text::{Run, all_wires, is_too_long, wire_cycles};
+use text::{Run, is_too_long, wire_cycles};
 
 /// The cycles of a run of vectors times its wires, at most. A plan without wires counts as one of one wire.
 pub const RUN_MOST: u128 = 20_000_000;
@@ -69,7 +70,7 @@ pub fn write_vectors<K: Sink>(
     ensures fault { result ≡ Outcome.WriteFault → Rose (K.faults out.old) (K.faults out.new) }
     ensures front { result ≡ Outcome.WriteFault → AppendedFront (K.written out.old) (whole_text (soc_value soc.now) (plan_value plan.now) (made_content (soc_value soc.now) seed)) (K.written out.new) }
 {
-    let wires = all_wires(&plan.buses);
+    let wires = all_wires(plan);
     let cells = wire_cycles(plan.cycles, wires);
     if is_too_long(cells) {
         return Outcome::RunTooLong { cells };

@@ -1,10 +1,8 @@
-// A run of vectors and its text.
+//! A run of vectors and its text.
 ghost use Rattle.std.specs.Prelude.{◌≡◌, ◌+◌, ◌*◌, ◌++◌, ◌<◌, ◌≤◌, length, max, nat_lt, take, IfOk, OnOk, OnErr};
-ghost use Rattle.std.specs.List.{sum_by};
 ghost use Rattle.soc_model.specs.Chips.{soc_value};
 ghost use Rattle.soc_model.specs.SoundChips.{IsSoundChip};
 ghost use Rattle.outside.specs.Held.{Rose, Appended, AppendedFront};
-ghost use Rattle.plan_model.specs.declared.Bus.{Bus};
 ghost use Rattle.plan_model.specs.Rules.{IsGoodAlone};
 ghost use Rattle.plan_model.specs.Views.{plan_value};
 ghost use Rattle.bit_machine.specs.Chips.{wires_of};
@@ -15,24 +13,12 @@ ghost use Rattle.tester_vectors.specs.Lines.{lines_of, IsRun};
 use crate::RUN_MOST;
 use bit_machine::Vectors;
 use outside::{NoMemory, Sink, WriteFault, extend, push_number, put_all};
-use plan_model::{Bus, Plan};
+use plan_model::Plan;
 use soc_model::Soc;
 use std::alloc::Global;
 
 /// How many bytes of lines are written at a time, some.
 const BLOCK: usize = 65_536;
-
-/// The wires of all buses.
-pub fn all_wires(buses: &[Bus]) -> u64
-    requires { sum_by (λ (b : Bus). b.width) buses.now ≤ 256 }
-    ensures { result ≡ sum_by (λ (b : Bus). b.width) buses.now }
-{
-    let mut wires = 0;
-    for bus in buses {
-        wires += bus.width;
-    }
-    wires
-}
 
 /// Cycles times wires; without wires, times 1.
 pub fn wire_cycles(cycles: u64, wires: u64) -> u128

@@ -1,24 +1,15 @@
-use Rattle.std.proofs.Common.{◌≡◌, ◌∙◌, ◌≤◌, ℕ, Some, [], length, map, ap, arith}
+use Rattle.std.proofs.Common.{◌≡◌, ◌∙◌, ◌≤◌, ℕ, Some, [], length, ap, arith}
 use Rattle.std.specs.Prelude.{slice_get}
-use Rattle.std.specs.List.{filter, sum}
-use Rattle.plan_model.specs.declared.TheConstants.{WIRES_MOST}
-use Rattle.plan_model.specs.declared.Bus.{Bus}
-use Rattle.plan_model.specs.Plans.{widths}
+use Rattle.std.specs.List.{filter}
 use Rattle.plan_model.specs.Views.{limits_value, plan_value}
 use Rattle.live_tests.specs.declared.placed.PlacedTest.{PlacedTest}
 use Rattle.power_events.specs.Loads.{drawn_by, load_steps}
 use Rattle.picture.specs.Panels.{below, lanes_panel}
 use Rattle.picture.specs.PictureText.{bottom_of, lanes_of, self_tests}
-use Rattle.picture.specs.Rectangles.{by_start, is_self, lane_ends, laned, wired, wires_from}
-use Rattle.live_tests.proofs.BusWidths.{widths_are}
+use Rattle.picture.specs.Rectangles.{between, bus_wires, by_start, is_self, lane_ends, laned, wired}
+use Rattle.picture.proofs.BusWires.{bus_wires_are}
 use Rattle.picture.proofs.PartsOfPlans.{drawn_within, ends_by, has_steps, steps_are}
 use Rattle.picture.proofs.parts_with.Goals as goal
-
-pub bus_wires-requires : goal.bus_wires-requires
-bus_wires-requires c =
-    let plan = plan_value c.args.plan.now in
-    let narrow : sum (widths plan) ≤ WIRES_MOST = c.good_without_limits.ensures.narrow c.requires.0 (limits_value c.args.limits.now) plan c.requires.1.sound_limits c.requires.1.good in
-    rw (c.deref.ensures.value, widths_are c.args.plan.now.buses.items) (omega (arith, narrow))
 
 pub steps_under-requires-clause-steps : goal.steps_under-requires-clause-steps
 steps_under-requires-clause-steps c = rw c.requires.1.placed (has_steps c.requires.0 (limits_value c.args.limits.now) (plan_value c.args.plan.now) c.requires.1.sound_limits c.requires.1.good)
@@ -35,14 +26,14 @@ returns c = λ soc given.
     let at' = rw given.placed at at in
     let e = ends_by soc limits plan given.good i t at' in
     omega (arith, e.0, e.1) in
-    let buses = c.in_ok-buses.ensures ∙ ap (λ l. wires_from 0 l) (ap (map (λ (b : Bus). b.width)) c.deref.ensures.value ∙ widths_are c.args.plan.now.buses.items) in
+    let buses : between c.in_ok-firsts.firsts.items ≡ bus_wires plan = bus_wires_are plan c.in_ok-firsts.firsts.items c.in_ok-firsts.ensures in
     let own : by_start plan.cycles (filter is_self c.args.placed.now) ≡ self_tests soc plan = ap (λ l. by_start plan.cycles (filter is_self l)) given.placed in
     let count : c.lane_count.result ≡ length (lane_ends [] (self_tests soc plan)) = c.lane_count.ensures ∙ ap length (c.in_ok-lanes.ensures.ends plan.cycles starts ∙ ap (lane_ends []) own) in
     let panel : c.lanes_panel-panel.result ≡ lanes_of soc limits plan = c.lanes_panel-panel.ensures ∙ ap (lanes_panel plan.cycles limits.wires) count in
     record {
       wires = c.wires_panel.ensures;
       buses = buses;
-      wired_are = c.in_ok-wired.ensures ∙ ap (λ b. wired b c.args.placed.now) (c.deref-2.ensures.value ∙ buses) ∙ ap (wired (wires_from 0 (widths plan))) given.placed;
+      wired_are = c.in_ok-wired.ensures ∙ ap (λ b. wired b c.args.placed.now) (ap between c.deref.ensures.value ∙ buses) ∙ ap (wired (bus_wires plan)) given.placed;
       lanes = panel;
       laned_are = c.in_ok-lanes.ensures.drawn plan.cycles starts ∙ ap (laned []) own;
       steps = λ most limit. c.in_ok-steps.ensures plan.cycles most ends limit ∙ ap (λ l. load_steps (drawn_by limits l) plan.cycles) given.placed ∙ steps_are soc limits plan;

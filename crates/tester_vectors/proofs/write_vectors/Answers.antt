@@ -3,7 +3,7 @@ use Rattle.soc_model.specs.Chips.{soc_value}
 use Rattle.plan_model.specs.Rules.{IsGoodAlone, bare_limits}
 use Rattle.plan_model.specs.Views.{plan_value}
 use Rattle.bit_machine.specs.Chips.{wires_of, made_content}
-use Rattle.tester_vectors.proofs.Blocks.{not_too_long, wires_are}
+use Rattle.tester_vectors.proofs.Blocks.{not_too_long}
 use Rattle.bit_machine.specs.Vectors.{VectorsValue}
 use Rattle.tester_vectors.proofs.DrivenByText.{runs_as_shown}
 use Rattle.tester_vectors.proofs.ReadBits.{marks_read}
@@ -38,10 +38,10 @@ returns-clause-marks g c = marks_read (soc_value c.args.soc.now) (bare_limits (p
 
 pub returns-in-Ok-write-clause-too_long : goal.returns-in-Ok-write-clause-too_long
 returns-in-Ok-write-clause-too_long g c = λ long.
-    let wires : c.all_wires-wires.result ≡ wires_of (plan_value c.args.plan.now) = wires_are c.args.plan.now.buses.items c.deref.result.now c.all_wires-wires.result c.all_wires-wires.ensures c.deref.ensures.value in
+    let wires : c.all_wires-wires.result ≡ wires_of (plan_value c.args.plan.now) = c.all_wires-wires.ensures in
     absurd (not_too_long c.args.plan.now.cycles c.all_wires-wires.result (wires_of (plan_value c.args.plan.now)) c.wire_cycles-cells.result c.is_too_long.result wires c.wire_cycles-cells.ensures c.is_too_long.ensures c.if-is_too_long.false long)
 
 pub returns-clause-too_long : goal.returns-clause-too_long
 returns-clause-too_long g c = λ long.
-    let wires : c.all_wires-wires.result ≡ wires_of (plan_value c.args.plan.now) = wires_are c.args.plan.now.buses.items c.deref.result.now c.all_wires-wires.result c.all_wires-wires.ensures c.deref.ensures.value in
+    let wires : c.all_wires-wires.result ≡ wires_of (plan_value c.args.plan.now) = c.all_wires-wires.ensures in
     absurd (not_too_long c.args.plan.now.cycles c.all_wires-wires.result (wires_of (plan_value c.args.plan.now)) c.wire_cycles-cells.result c.is_too_long.result wires c.wire_cycles-cells.ensures c.is_too_long.ensures c.if-is_too_long.false long)

@@ -1,13 +1,11 @@
-use Rattle.std.proofs.Common.{◌∙◌, ◌+◌, ap, refl, map, arith, ◌<◌, ◌^◌, sym, subst, length, List}
+use Rattle.std.proofs.Common.{◌∙◌, ◌+◌, ap, refl, map, arith}
 use Rattle.soc_model.specs.Chips.{module_value}
-use Rattle.plan_model.specs.Plans.{si_of, so_of}
+use Rattle.std.proofs.lemmas.List.{length-map}
+use Rattle.plan_model.specs.Plans.{BusValue, si_of, so_of}
 use Rattle.plan_model.specs.Cells.{chain_cells}
-use Rattle.plan_model.specs.Views.{plan_value, chain_value}
+use Rattle.plan_model.specs.Views.{bus_value, plan_value, chain_value}
 use Rattle.bit_machine.proofs.LaneSteps.{slice_at}
-use Rattle.bit_machine.proofs.PlacedLanes.{the_test, same_wired, paths_are, terminals, first_is, width_is}
-use Rattle.std.specs.List.{sum}
-use Rattle.plan_model.specs.declared.Bus.{Bus}
-use Rattle.live_tests.proofs.BusWidths.{widths_are}
+use Rattle.bit_machine.proofs.PlacedLanes.{the_test, same_wired, paths_are, terminals, width_is}
 use Rattle.bit_machine.proofs.placing.Setting.wrapped_test.Goals as goal
 
 pub paths_of-requires-clause-ins : goal.paths_of-requires-clause-ins
@@ -34,19 +32,12 @@ returns c = λ test there.
       si = c.lengths-si.ensures.si ∙ ap si_of cells;
       so = c.lengths-si.ensures.so ∙ ap so_of cells;
       patterns = refl;
-      first_wire = first_is c.args.self.now.plan.now.buses.items c.deref.result.now c.args.bus c.first_wire.result c.first_wire.ensures c.deref.ensures.value;
+      first_wire = c.requires.firsts.first c.args.bus (omega (arith, c.requires.bus, length-map c.args.self.now.plan.now.buses.items bus_value, length-map (map bus_value c.args.self.now.plan.now.buses.items) (λ (b : BusValue). b.width)));
       width = width_is c.args.self.now.plan.now.buses.items c.args.bus c.index.result.now c.index.ensures c.requires.bus;
       paths = paths_are (plan_value c.args.self.now.plan.now) (module_value c.args.module.now) c.index-test.result.now (c.args.module.now.inputs + c.args.module.now.bidirs) c.args.wrapper.now.scan (map chain_value c.args.wrapper.now.chains.items) c.in_ok-layout.layout c.in_ok-paths.paths.items c.in_ok-layout.ensures.lengths c.in_ok-layout.ensures.chains w.mode w.chains c.in_ok-paths.ensures;
       page = refl;
       pages = omega (arith, c.in_ok-pages.ensures, c.len.ensures, c.in_ok-paths.paths.ok.0);
     })
-
-pub first_wire-requires-clause-bus : goal.first_wire-requires-clause-bus
-first_wire-requires-clause-bus c = omega (arith, ap length c.deref.ensures.value, c.requires.bus)
-
-pub first_wire-requires-clause-fit : goal.first_wire-requires-clause-fit
-first_wire-requires-clause-fit c =
-    subst (λ (buses : List Bus). sum (map (λ (b : Bus). b.width) buses) < 2 ^ 64) (sym c.deref.ensures.value) (subst (λ widths. sum widths < 2 ^ 64) (sym (widths_are c.args.self.now.plan.now.buses.items)) c.requires.wires)
 
 pub index-requires : goal.index-requires
 index-requires c = omega (arith, c.requires.bus, c.args.self.now.plan.now.buses.ok.0)

@@ -1,10 +1,6 @@
-use Rattle.std.proofs.Common.{List, ℕ, map, ap, ◌∙◌, subst}
 use Rattle.soc_model.specs.Chips.{soc_value}
-use Rattle.plan_model.specs.declared.Bus.{Bus}
 use Rattle.plan_model.specs.Plans.{planned}
 use Rattle.plan_model.specs.Views.{plan_value}
-use Rattle.fail_locate.specs.Locating.{AreFirsts}
-use Rattle.live_tests.proofs.BusWidths.{widths_are}
 use Rattle.fail_locate.proofs.KeptTests.{in_order}
 use Rattle.fail_locate.proofs.locator.Locator.new.Goals as goal
 
@@ -12,7 +8,7 @@ pub invariant_of-result : goal.invariant_of-result
 invariant_of-result c = record {
   sound = c.requires.sound;
   good = c.requires.good;
-  firsts_are = subst (λ (ws : List ℕ). AreFirsts ws c.in_ok-firsts.firsts.items) (ap (map (λ (b : Bus). b.width)) c.deref.ensures.value ∙ widths_are c.args.plan.now.buses.items) c.in_ok-firsts.ensures;
+  firsts_are = c.in_ok-firsts.ensures;
   wired = in_order (soc_value c.args.soc.now) (plan_value c.args.plan.now) (planned (soc_value c.args.soc.now) (plan_value c.args.plan.now)) _ c.in_order-tests.result.items c.in_order-tests.ensures.permutation c.in_ok-tests.ensures;
   order = c.in_order-tests.ensures.order;
 }
