@@ -4,3 +4,5 @@ pub mod Neighbours
 pub mod Index
 pub mod Wrapped
 pub mod Profiles
+pub mod Parents
+pub mod Resolved

@@ -24,7 +24,7 @@ ghost use Rattle.plan_checker.specs.Placing.{IsPlacing};
 ghost use Rattle.plan_checker.specs.Stages.{KeptTo, IsVerdict};
 ghost use Rattle.plan_checker.specs.FaultValues.{fault_value};
 ghost use Rattle.plan_checker.specs.Marks.{AreBusesBy};
-ghost use Rattle.plan_checker.specs.Clashes.{AreParents};
+ghost use Rattle.live_tests.specs.Parents.{AreParents};
 ghost use Rattle.plan_checker.specs.Layout.{IsLayout};
 ghost use Rattle.plan_checker.specs.Lengths.{AreAsLong};
 
@@ -35,7 +35,6 @@ use crate::events::EVENTS_EACH;
 use crate::known::{check_cells, check_known};
 use crate::meetings::{Begin, fill_begins};
 use crate::order::{check_before, check_cycles};
-use crate::parents::fill_parents;
 use crate::placed::{Placing, fill_tests};
 use crate::places::check_places;
 use crate::power::{check_power, fill_profiles};
