@@ -1,5 +1,5 @@
 -- Pairs of placed tests that may not meet and do.
-use Rattle.std.specs.Prelude.{◌≡◌, ℕ, ◌<◌, ◌≤◌, ◌⊎◌, Bool, true, false, Option, Some, None, List, length, slice_get, slice_index, nat_eq}
+use Rattle.std.specs.Prelude.{◌≡◌, ℕ, ◌<◌, ◌≤◌, ◌⊎◌, Bool, true, false, Option, Some, None, List, slice_get, slice_index, nat_eq}
 use Rattle.soc_model.specs.declared.TestId.{TestId}
 use Rattle.plan_checker.specs.declared.PlanFault.{PlanFault}
 use Rattle.plan_checker.specs.declared.PlanFault.TheVariants as fault

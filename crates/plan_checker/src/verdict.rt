@@ -42,7 +42,7 @@ use crate::starts::check_starts;
 use crate::widths::check_widths;
 use crate::wrappers::check_wrappers;
 use indexmap::IndexSet;
-use live_tests::PlacedTest;
+use live_tests::{PlacedTest, fill_parents};
 use plan_model::{Limits, Plan, WIRES_MOST};
 use power_events::Event;
 use soc_model::{Soc, TestId};
