@@ -1,4 +1,4 @@
-// The planner's bound for a plan of so many cycles.
+//! The planner's bound for a plan of so many cycles.
 ghost use Rattle.std.specs.Prelude.{ℕ, ◌≤◌, IfOk, IfSome};
 ghost use Rattle.soc_model.specs.Chips.{soc_value};
 ghost use Rattle.soc_model.specs.SoundChips.{IsSoundChip};
@@ -6,6 +6,8 @@ ghost use Rattle.plan_model.specs.Views.{limits_value, bound_value, why_value};
 ghost use Rattle.plan_model.specs.Rules.{Each, IsBound};
 ghost use Rattle.plan_model.specs.SoundLimits.{IsSoundLimits};
 ghost use Rattle.plan_model.specs.Certificates.{IsAccepted, IsElementary, IsChainItem};
+ghost use Rattle.live_tests.specs.Parents.{AreParentPlaces};
+ghost use Rattle.live_tests.specs.Resolved.{IsResolved};
 ghost use Rattle.bound_certificate.specs.Best.{IsBestWith, IsBestBound, NamesInChip, HasPlanNumbers};
 ghost use Rattle.bound_certificate.specs.Winners.{names_of, IsClaimed};
 
@@ -13,6 +15,7 @@ use crate::candidates::winner_of;
 use crate::chains::printed_chain;
 use crate::forced_lists::forced_sum;
 use crate::forced_part::forced_part;
+use live_tests::Resolved;
 use outside::NoMemory;
 use plan_model::{Bound, Limits, Why};
 use soc_model::{Soc, TestId};
@@ -33,18 +36,20 @@ fn best_with(
     alloc: Global,
     soc: &Soc,
     limits: &Limits,
+    parents: &[Option<usize>],
     cycles: u64,
     chain: Option<Vec<TestId>>,
 ) -> Result<Bound, NoMemory>
     requires sound { IsSoundChip (soc_value soc.now) }
     requires limits { IsSoundLimits (soc_value soc.now) (limits_value limits.now) }
+    requires parents { AreParentPlaces (soc_value soc.now) parents.now }
     requires chain { IfSome chain (λ v. Each (IsChainItem (soc_value soc.now) (limits_value limits.now)) v.items) }
     requires good { (n : ℕ) → IsBound (soc_value soc.now) (limits_value limits.now) n → n ≤ cycles }
     ensures best { IfOk result (λ bound. IsBestWith (soc_value soc.now) (limits_value limits.now) cycles (names_of chain) (bound_value bound)) }
     ensures accepted { IfOk result (λ bound. IsAccepted (soc_value soc.now) (limits_value limits.now) (bound_value bound)) }
     ensures few { IfOk result (λ bound. bound.cycles ≤ cycles) }
 {
-    let (shown, why) = claimed(winner_of(soc, limits, chain));
+    let (shown, why) = claimed(winner_of(soc, limits, parents, chain));
     let wanted = u128::from(cycles);
     if shown < wanted {
         let modules = forced_part(alloc, soc, limits, cycles)?;
@@ -77,6 +82,30 @@ pub fn best_bound(alloc: Global, soc: &Soc, limits: &Limits, cycles: u64) -> Res
     ensures names { IfOk result (λ bound. NamesInChip (soc_value soc.now) (why_value bound.why)) }
     ensures numbers { IfOk result (λ bound. HasPlanNumbers (why_value bound.why)) }
 {
-    let chain = printed_chain(alloc, soc, limits)?;
-    best_with(alloc, soc, limits, cycles, chain)
+    let resolved = Resolved::new(alloc, soc, limits)?;
+    best_bound_with(alloc, soc, limits, &resolved, cycles)
+}
+
+/// The same bound, where the chip and its limits are resolved already.
+pub fn best_bound_with(
+    alloc: Global,
+    soc: &Soc,
+    limits: &Limits,
+    resolved: &Resolved,
+    cycles: u64,
+) -> Result<Bound, NoMemory>
+    requires sound { IsSoundChip (soc_value soc.now) }
+    requires limits { IsSoundLimits (soc_value soc.now) (limits_value limits.now) }
+    requires resolved { IsResolved (soc_value soc.now) limits.now resolved.now }
+    requires good { (n : ℕ) → IsBound (soc_value soc.now) (limits_value limits.now) n → n ≤ cycles }
+    ensures best { IfOk result (λ bound. IsBestBound (soc_value soc.now) (limits_value limits.now) cycles (bound_value bound)) }
+    ensures accepted { IfOk result (λ bound. IsAccepted (soc_value soc.now) (limits_value limits.now) (bound_value bound)) }
+    ensures bound { IfOk result (λ bound. IsBound (soc_value soc.now) (limits_value limits.now) bound.cycles) }
+    ensures elementary { IfOk result (λ bound. (n : ℕ) → IsElementary (soc_value soc.now) (limits_value limits.now) n → n ≤ bound.cycles) }
+    ensures few { IfOk result (λ bound. bound.cycles ≤ cycles) }
+    ensures names { IfOk result (λ bound. NamesInChip (soc_value soc.now) (why_value bound.why)) }
+    ensures numbers { IfOk result (λ bound. HasPlanNumbers (why_value bound.why)) }
+{
+    let chain = printed_chain(alloc, soc, limits, &resolved.precedences)?;
+    best_with(alloc, soc, limits, &resolved.parents, cycles, chain)
 }

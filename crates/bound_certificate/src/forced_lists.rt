@@ -1,5 +1,5 @@
-// The list of a Forced certificate: modules of which no two have buses beside each other in a plan that is shorter than
-// claimed.
+//! The list of a Forced certificate: modules of which no two have buses beside each other in a plan that is shorter than
+//! claimed.
 ghost use Rattle.std.specs.Prelude.{◌≡◌, ℕ, ◌+◌, ◌^◌, ◌<◌, ◌≤◌, Some, IfSome, IfNone, is_some, length, slice_get, take};
 ghost use Rattle.std.specs.List.{sum_by};
 ghost use Rattle.soc_model.specs.Chips.{soc_value};

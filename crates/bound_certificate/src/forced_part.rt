@@ -1,4 +1,4 @@
-// The forced list that is tried where no other certificate reaches the cycles of a plan.
+//! The forced list that is tried where no other certificate reaches the cycles of a plan.
 ghost use Rattle.std.specs.Prelude.{◌≡◌, ◌++◌, ◌<◌, IfOk, OnOk, length, map};
 ghost use Rattle.soc_model.specs.Chips.{soc_value};
 ghost use Rattle.soc_model.specs.SoundChips.{IsSoundChip};

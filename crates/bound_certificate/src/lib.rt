@@ -1,6 +1,6 @@
-// Certificates of lower bounds on the cycles of a chip's plans: their check, and the planner's bound.
-//
-// Claims and values are in cycles; a certificate's modules and tests go by their numbers.
+//! Certificates of lower bounds on the cycles of a chip's plans: their check, and the planner's bound.
+//!
+//! Claims and values are in cycles; a certificate's modules and tests go by their numbers.
 #![tactic(auto)]
 
 ghost use Rattle.std.specs.Prelude.{◌≡◌, ◌+◌, ◌<◌, ◌≤◌, Ok, Err, IfErr, OnOk, length, nat_lt, if◌then◌else◌, vec_len};
@@ -26,7 +26,7 @@ mod power_value;
 mod precedence_lists;
 mod sums;
 
-pub use best::best_bound;
+pub use best::{best_bound, best_bound_with};
 use bound_rules::{area_bound, module_bound, pair_bound};
 use forced_lists::check_forced;
 use indexmap::{IndexMap, IndexSet};

@@ -1,12 +1,15 @@
-// The live tests of a chip as the nodes of a graph, with their precedences as its edges.
+//! The live tests of a chip as the nodes of a graph, with their precedences as its edges.
 ghost use Rattle.std.specs.Prelude.{◌≡◌, ℕ, ◌<◌, ◌≤◌, ◌++◌, length, IfOk, OnOk};
+ghost use Rattle.std.specs.List.{flat_map};
 ghost use Rattle.soc_model.specs.Chips.{soc_value, module_value};
 ghost use Rattle.soc_model.specs.SoundChips.{IsSoundChip};
+ghost use Rattle.plan_model.specs.Rules.{live_ids};
 ghost use Rattle.plan_model.specs.Views.{limits_value};
+ghost use Rattle.live_tests.specs.Names.{places_of};
 ghost use Rattle.bound_certificate.specs.Nodes.{node_values, fixed_parts, before_at, tests_at, HasSmallWork, nodes_in, live_nodes as nodes_of_tests, AreNodes};
 
 use bound_rules::lower_time;
-use live_tests::{LiveTests, Neighbours, all_before};
+use live_tests::{Neighbours, all_before};
 use outside::{NoMemory, push};
 use plan_model::Limits;
 use soc_model::{Module, Soc, TestId, live};
@@ -76,15 +79,19 @@ fn link(nodes: &mut Vec<Node>, lists: &mut Vec<Neighbours>)
 }
 
 /// The live tests in the order of the chip, with their precedences.
-pub fn nodes_of(alloc: Global, soc: &Soc, limits: &Limits) -> Result<Vec<Node>, NoMemory>
+pub fn nodes_of(
+    alloc: Global,
+    soc: &Soc,
+    limits: &Limits,
+    precedences: &[(usize, usize)],
+) -> Result<Vec<Node>, NoMemory>
     requires sound { IsSoundChip (soc_value soc.now) }
     requires wires { 1 ≤ limits.now.wires }
+    requires precedences { precedences.now ≡ flat_map (places_of (live_ids (soc_value soc.now))) (limits_value limits.now).before }
     ensures { IfOk result (λ nodes. AreNodes (soc_value soc.now) (limits_value limits.now) (node_values nodes.items)) }
 {
     let mut nodes = live_nodes(alloc, soc, limits.wires)?;
-    let tests = LiveTests::new(alloc, soc)?;
-    let pairs = tests.precedences(alloc, &limits.before)?;
-    let mut before = all_before(alloc, tests.names().len(), &pairs)?;
+    let mut before = all_before(alloc, nodes.len(), precedences)?;
     link(&mut nodes, &mut before);
     Ok(nodes)
 }

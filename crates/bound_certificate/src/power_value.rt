@@ -1,4 +1,4 @@
-// The value of a Power certificate, with the tests that have profiles by their names.
+//! The value of a Power certificate, with the tests that have profiles by their names.
 ghost use Rattle.std.specs.Prelude.{◌≡◌, ◌+◌, ◌<◌, ◌≤◌, length};
 ghost use Rattle.indexmap.specs.IndexSet.{insert_key, keys, spare};
 ghost use Rattle.soc_model.specs.declared.TheConstants.{TESTS_MOST};

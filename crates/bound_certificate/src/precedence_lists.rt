@@ -1,5 +1,5 @@
-// The list of a Chain certificate: live tests, each but the first behind its forerunner in a precedence. The pairs of
-// neighbours at the front of the list go into a map, in which one pass over the precedences notes those that it finds.
+//! The list of a Chain certificate: live tests, each but the first behind its forerunner in a precedence. The pairs of
+//! neighbours at the front of the list go into a map, in which one pass over the precedences notes those that it finds.
 ghost use Rattle.std.specs.Prelude.{◌≡◌, ℕ, ◌+◌, ◌-◌, ◌<◌, ◌≤◌, ◌||◌, ◌↔◌, Bool, false, Some, None, IsTrue, MatchBool, is_some, length, option_map, slice_get, take};
 ghost use Rattle.std.specs.List.{Contains};
 ghost use Rattle.indexmap.specs.IndexMap.{index_map_len, spare};

@@ -1,5 +1,5 @@
-// The greatest sum of lower times over a precedence chain that ends in a test, for each live test. Times and sums are in
-// cycles, and tests go by their places among the live tests of the chip.
+//! The greatest sum of lower times over a precedence chain that ends in a test, for each live test. Times and sums are in
+//! cycles, and tests go by their places among the live tests of the chip.
 ghost use Rattle.std.specs.Prelude.{◌≡◌, ◌^◌, ◌<◌, length, replicate, IfOk};
 ghost use Rattle.soc_model.specs.Chips.{SocValue};
 ghost use Rattle.plan_model.specs.Plans.{LimitsValue};

@@ -1,6 +1,6 @@
-// Lower bounds on the cycles of every good plan of a chip, by sums over its tests.
-//
-// Lower times are in cycles, widths in wires, lengths of chains in cells. Nothing here takes memory.
+//! Lower bounds on the cycles of every good plan of a chip, by sums over its tests.
+//!
+//! Lower times are in cycles, widths in wires, lengths of chains in cells. Nothing here takes memory.
 #![tactic(auto)]
 
 ghost use Rattle.std.specs.Prelude.{◌≡◌, ◌*◌, ◌^◌, ◌<◌, ◌≤◌, true, false, Some, List, length, option_map, IfSome, IsTrue};
@@ -75,7 +75,20 @@ pub fn pair_bound(soc: &Soc, place: usize, wires: u64) -> Option<u64>
     ensures small { IfSome result (λ n. n ≤ 2 * 10 ^ 18) }
     ensures bound { IfSome result (λ n. (limits : LimitsValue) → limits.wires ≡ wires → IsBound (soc_value soc.now) limits n) }
 {
-    match parent(soc, place) {
+    pair_bound_with(soc, place, parent(soc, place), wires)
+}
+
+/// The same value as that of `pair_bound`, where the place of the module's parent is at hand.
+pub fn pair_bound_with(soc: &Soc, place: usize, parent: Option<usize>, wires: u64) -> Option<u64>
+    requires sound { IsSoundChip (soc_value soc.now) }
+    requires place { place < length (soc_value soc.now).modules }
+    requires parent { parent ≡ parent_place (soc_value soc.now).modules place }
+    requires some_wire { 1 ≤ wires }
+    ensures sum { result ≡ option_map (λ parent. pair_bound (soc_value soc.now) wires parent place) (parent_place (soc_value soc.now).modules place) }
+    ensures small { IfSome result (λ n. n ≤ 2 * 10 ^ 18) }
+    ensures bound { IfSome result (λ n. (limits : LimitsValue) → limits.wires ≡ wires → IsBound (soc_value soc.now) limits n) }
+{
+    match parent {
         Some(above) => Some(module_bound(soc, above, wires) + module_bound(soc, place, wires)),
         None => None,
     }

@@ -1,4 +1,4 @@
-// The limits that the items of a text say.
+//! The limits that the items of a text say.
 ghost use Rattle.std.specs.Prelude.{◌≡◌, map, reverse, OnOk, IfOk};
 ghost use Rattle.plan_model.specs.Views.{limits_value};
 ghost use Rattle.limits_text.specs.Meaning.{says, no_limits as no_limits_said, limits_of as limits_said};

@@ -1,4 +1,4 @@
-// Adds items to those that were read.
+//! Adds items to those that were read.
 ghost use Rattle.std.specs.Prelude.{◌≡◌, ◌∷◌, ◌||◌, [], false, IfOk, OnOk, OnErr, map};
 ghost use Rattle.std.specs.List.{list_any};
 ghost use Rattle.soc_model.specs.Chips.{same_test};

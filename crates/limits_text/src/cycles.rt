@@ -1,8 +1,9 @@
-// The first cycle of the precedences of live tests.
-ghost use Rattle.std.specs.Prelude.{◌≡◌, ◌<◌, length, map, IfOk, MatchOption};
+//! The first cycle of the precedences of live tests.
+ghost use Rattle.std.specs.Prelude.{◌≡◌, ◌<◌, length, map, IfOk, IfSome, MatchOption};
 ghost use Rattle.std.specs.List.{All};
 ghost use Rattle.soc_model.specs.Chips.{soc_value};
 ghost use Rattle.plan_model.specs.Plans.{LimitsValue};
+ghost use Rattle.plan_model.specs.Rules.{live_ids};
 ghost use Rattle.plan_model.specs.SoundLimits.{IsAcyclic};
 ghost use Rattle.limits_text.specs.Places.{HasFirstCycle};
 ghost use Rattle.limits_text.specs.Views.{item_of};
@@ -12,6 +13,7 @@ use crate::LimFault;
 use crate::graph::first_cycle;
 use crate::items::Item;
 use crate::places::{ChipTests, precedences, some_names_test};
+use live_tests::LiveTests;
 use outside::{NoMemory, push};
 use soc_model::{Soc, TestId};
 use std::alloc::Global;
@@ -48,26 +50,39 @@ fn cycle_of(
 }
 
 /// The first cycle of the precedences that items say for a chip. None comes exactly where they have none. `UnknownTest`
-/// with the line of the first item that names a test which isn't in the chip.
+/// with the line of the first item that names a test which isn't in the chip. The live tests of the chip are noted where
+/// they aren't at hand.
 pub fn first_cycle_of(
     alloc: Global,
     soc: &Soc,
+    live: Option<&LiveTests>,
     list: &[Item],
 ) -> Result<Option<Vec<TestId>>, LimFault>
+    requires { IfSome live (λ tests. tests.now ≡ live_ids (soc_value soc.now)) }
     ensures { HasFirstCycle (soc_value soc.now) (map item_of list.now) result }
 {
     // most limits name no test, and then no test of the chip is noted
-    if some_names_test(list) {
-        return cycle_named(alloc, soc, list);
+    if !some_names_test(list) {
+        return Ok(None);
     }
-    Ok(None)
+    if let Some(tests) = live {
+        return cycle_named(alloc, soc, tests, list);
+    }
+    let tests = LiveTests::new(alloc, soc)?;
+    cycle_named(alloc, soc, &tests, list)
 }
 
-/// The same, once all tests of the chip are noted.
-fn cycle_named(alloc: Global, soc: &Soc, list: &[Item]) -> Result<Option<Vec<TestId>>, LimFault>
+/// The same, where these are the live tests of the chip.
+fn cycle_named(
+    alloc: Global,
+    soc: &Soc,
+    live: &LiveTests,
+    list: &[Item],
+) -> Result<Option<Vec<TestId>>, LimFault>
+    requires { live.now ≡ live_ids (soc_value soc.now) }
     ensures { HasFirstCycle (soc_value soc.now) (map item_of list.now) result }
 {
-    let tests = ChipTests::new(alloc, soc)?;
+    let tests = ChipTests::new(alloc, soc, live)?;
     let pairs = match precedences(alloc, &tests, list) {
         Ok(pairs) => pairs,
         Err(fault) => return Err(fault),

@@ -1,10 +1,10 @@
-// The first cycle of precedences of so many tests, which go by their places.
+//! The first cycle of precedences of so many tests, which go by their places.
 ghost use Rattle.std.specs.Prelude.{◌≡◌, ℕ, ◌+◌, ◌-◌, ◌<◌, ◌≤◌, ◌++◌, ◌∷◌, [], false, not, min, length, nat_eq, position, slice_index, slice_set, replicate, IfOk, OnOk, MatchOption, if◌then◌else◌};
 ghost use Rattle.std.specs.List.{All};
 ghost use Rattle.limits_text.specs.Cycles.{IsFirstCycle, HasRank};
 ghost use Rattle.limits_text.specs.Orders.{held, copies, Counts, IsKept, GoesOn, IsTaking, AreMarked, least_before as least_of, ComesAgain, IsBack};
 
-use live_tests::all_after;
+use live_tests::{all_after, count_before};
 use outside::{NoMemory, push};
 use std::alloc::Global;
 
@@ -15,23 +15,6 @@ fn repeated(alloc: Global, count: usize, number: usize) -> Result<Vec<usize>, No
     let mut counts = Vec::new(alloc);
     for _ in 0..count {
         push(&mut counts, number)?;
-    }
-    Ok(counts)
-}
-
-/// How many pairs have each test behind.
-fn count_before(
-    alloc: Global,
-    count: usize,
-    pairs: &[(usize, usize)],
-) -> Result<Vec<usize>, NoMemory>
-    requires { All (λ (e : ℕ × ℕ). (e.0 < count) × (e.1 < count)) pairs.now }
-    ensures long { IfOk result (λ counts. length counts.items ≡ count) }
-    ensures counts { IfOk result (λ counts. Counts counts.items (held [] pairs.now)) }
-{
-    let mut counts = repeated(alloc, count, 0)?;
-    for (_, second) in pairs {
-        counts[*second] += 1;
     }
     Ok(counts)
 }

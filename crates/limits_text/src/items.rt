@@ -1,4 +1,4 @@
-// The items of a text of limits, as they are read.
+//! The items of a text of limits, as they are read.
 
 use indexmap::IndexSet;
 use soc_model::TestId;

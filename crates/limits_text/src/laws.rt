@@ -1,5 +1,5 @@
-// What a text is for a chip is settled. Each law is the contract of a function that does nothing: a caller learns it by
-// the call.
+//! What a text is for a chip is settled. Each law is the contract of a function that does nothing: a caller learns it by
+//! the call.
 ghost use Rattle.limits_text.specs.Laws.{TextsHaveOneAnswer, EachTextHasAnAnswer, TextsAreAnswered, PrintedLimitsAreRead, PrintedLimitsAreAnswered, CyclesGoRound, CyclesHaveNoRank, RanksOrCycles};
 
 /// For a chip a text is at most one: the limits that it says, or the first refusal that stands, with what it shows.

@@ -1,4 +1,4 @@
-// What kinds of words there are.
+//! What kinds of words there are.
 ghost use Rattle.std.specs.Prelude.{◌≡◌, ◌&&◌};
 ghost use Rattle.limits_text.specs.Items.{number as number_in, is_title as says_title, key_of as key_that_is, is_in_range as is_ranged};
 

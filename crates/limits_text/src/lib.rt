@@ -1,4 +1,4 @@
-// Reads and prints the text of limits: wires, power, budget, precedences and power profiles for the tests of a chip.
+//! Reads and prints the text of limits: wires, power, budget, precedences and power profiles for the tests of a chip.
 #![tactic(auto)]
 
 mod build;
@@ -22,7 +22,7 @@ pub use laws::{
 };
 use outside::{NoMemory, Unread};
 pub use print::print_limits;
-pub use read::read_limits;
+pub use read::{read_limits, read_limits_with};
 use soc_model::TestId;
 use thiserror::Error;
 

@@ -1,4 +1,4 @@
-// The tests of a chip: whether a name is one of them, and its place among those that are live.
+//! The tests of a chip: whether a name is one of them, and its place among those that are live.
 ghost use Rattle.std.specs.Prelude.{◌≡◌, [], Some, map, set, IfOk};
 ghost use Rattle.std.specs.List.{list_any};
 ghost use Rattle.soc_model.specs.Chips.{soc_value};
@@ -27,7 +27,7 @@ pub struct Row {
 #[derive(Drop)]
 pub struct ChipTests<'a> {
     soc: &'a Soc,
-    live: LiveTests,
+    live: &'a LiveTests,
     rows: Vec<Row>,
 }
 
@@ -41,16 +41,16 @@ impl<'a> Model for ChipTests<'a> {
 
     ghost view = { λ t. soc_value t.soc.now };
 
-    ghost invariant = { λ t. (t.live ≡ live_ids (soc_value t.soc.now)) × AreRows (live_ids (soc_value t.soc.now)) t.soc.now t.rows.items };
+    ghost invariant = { λ t. (t.live.now ≡ live_ids (soc_value t.soc.now)) × AreRows (live_ids (soc_value t.soc.now)) t.soc.now t.rows.items };
 }
 
 impl<'a> ChipTests<'a> {
-    /// The tests of a chip. `NoMemory` where there is none for them.
-    pub fn new(alloc: Global, soc: &'a Soc) -> Result<ChipTests<'a>, NoMemory>
+    /// The tests of a chip, of which these are live. `NoMemory` where there is none for them.
+    pub fn new(alloc: Global, soc: &'a Soc, live: &'a LiveTests) -> Result<ChipTests<'a>, NoMemory>
+        requires { live.now ≡ live_ids (soc_value soc.now) }
         ensures { IfOk result (λ tests. tests ≡ soc_value soc.now) }
     {
-        let live = LiveTests::new(alloc, soc)?;
-        let rows = rows_of(alloc, soc, &live)?;
+        let rows = rows_of(alloc, soc, live)?;
         Ok(ChipTests { soc, live, rows })
     }
 

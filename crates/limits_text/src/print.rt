@@ -1,4 +1,4 @@
-// Prints limits.
+//! Prints limits.
 ghost use Rattle.std.specs.Prelude.{◌≡◌, ◌++◌, [], map, IfOk, OnOk};
 ghost use Rattle.std.specs.List.{flat_map};
 ghost use Rattle.plan_model.specs.Views.{limits_value, profile_value};

@@ -1,6 +1,7 @@
-// Reads the limits of a text for a chip.
-ghost use Rattle.std.specs.Prelude.{◌≡◌};
+//! Reads the limits of a text for a chip.
+ghost use Rattle.std.specs.Prelude.{◌≡◌, IfSome};
 ghost use Rattle.soc_model.specs.Chips.{soc_value};
+ghost use Rattle.plan_model.specs.Rules.{live_ids};
 ghost use Rattle.limits_text.specs.Answers.{LimitsRead};
 
 use crate::LimFault;
@@ -9,6 +10,7 @@ use crate::cycles::first_cycle_of;
 use crate::items::{Item, Items};
 use crate::refusals::test_power;
 use crate::whole::read_items;
+use live_tests::LiveTests;
 use plan_model::Limits;
 use soc_model::Soc;
 use std::alloc::Global;
@@ -28,9 +30,22 @@ fn list_of(items: Items) -> Vec<Item>
 pub fn read_limits(alloc: Global, bytes: &[u8], soc: &Soc) -> Result<Limits, LimFault>
     ensures { LimitsRead bytes.now (soc_value soc.now) result }
 {
+    read_limits_with(alloc, bytes, soc, None)
+}
+
+/// The same, with the live tests of the chip by name, where they are at hand.
+pub fn read_limits_with(
+    alloc: Global,
+    bytes: &[u8],
+    soc: &Soc,
+    live: Option<&LiveTests>,
+) -> Result<Limits, LimFault>
+    requires { IfSome live (λ tests. tests.now ≡ live_ids (soc_value soc.now)) }
+    ensures { LimitsRead bytes.now (soc_value soc.now) result }
+{
     let items = read_items(alloc, bytes)?;
     let list = list_of(items);
-    let cycle = match first_cycle_of(alloc, soc, &list) {
+    let cycle = match first_cycle_of(alloc, soc, live, &list) {
         Ok(found) => found,
         Err(fault) => return Err(fault),
     };

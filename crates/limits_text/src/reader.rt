@@ -1,4 +1,4 @@
-// Reads a text word by word.
+//! Reads a text word by word.
 ghost use Rattle.std.specs.Prelude.{◌≡◌, ◌∷◌, IfOk};
 ghost use Rattle.soc_model.specs.declared.TestId.{TestId};
 ghost use Rattle.limits_text.specs.Items.{number as number_in, is_title as says_title};

@@ -1,4 +1,4 @@
-// What a chip refuses of limits: powers that pass the limit.
+//! What a chip refuses of limits: powers that pass the limit.
 ghost use Rattle.std.specs.Prelude.{◌≡◌, ℕ, ◌∷◌, [], map, find, nat_lt, IfOk, MatchOption};
 ghost use Rattle.soc_model.specs.Chips.{soc_value, module_value, live_of, live_tests};
 ghost use Rattle.plan_model.specs.Views.{limits_value, profile_value};

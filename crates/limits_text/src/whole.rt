@@ -1,4 +1,4 @@
-// Reads the items of a whole text.
+//! Reads the items of a whole text.
 ghost use Rattle.limits_text.specs.Grammar.{InGrammar};
 ghost use Rattle.limits_text.specs.Reads.{AreItems};
 ghost use Rattle.outside.specs.Grammars.{IsRead};

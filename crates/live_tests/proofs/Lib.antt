@@ -2,6 +2,9 @@ pub mod LiveIds
 pub mod Indexing
 pub mod Placing
 pub mod Sides
+pub mod Counts
+pub mod WrittenParents
+pub mod Levels
 pub mod Precedences
 pub mod NamesPut
 pub mod Indexed

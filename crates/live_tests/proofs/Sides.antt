@@ -8,19 +8,19 @@ use Rattle.std.proofs.lemmas.List.{take_more, map-set, get_or-map, length-map}
 use Rattle.live_tests.specs.declared.neighbours.Neighbours.{Neighbours}
 use Rattle.live_tests.specs.Neighbours.{tests_of, other_sides}
 
-set_at : {X : Type 0} (xs : List X) (i j : ℕ) (v d : X) → i < length xs → j ≡ i → get_or (slice_set xs i v) j d ≡ v
+pub set_at : {X : Type 0} (xs : List X) (i j : ℕ) (v d : X) → i < length xs → j ≡ i → get_or (slice_set xs i v) j d ≡ v
 set_at xs i j v d within same = grind (arith, common_steps)
 
-set_other : {X : Type 0} (xs : List X) (i j : ℕ) (v d : X) → (j ≡ i → ⊥) → get_or (slice_set xs i v) j d ≡ get_or xs j d
+pub set_other : {X : Type 0} (xs : List X) (i j : ℕ) (v d : X) → (j ≡ i → ⊥) → get_or (slice_set xs i v) j d ≡ get_or xs j d
 set_other xs i j v d apart = grind (arith, common_steps)
 
-set_length : {X : Type 0} (xs : List X) (i : ℕ) (v : X) → length (slice_set xs i v) ≡ length xs
+pub set_length : {X : Type 0} (xs : List X) (i : ℕ) (v : X) → length (slice_set xs i v) ≡ length xs
 set_length xs i v = grind (arith, common_steps)
 
-eq_true : (a b : ℕ) → a ≡ b → nat_eq a b ≡ true
+pub eq_true : (a b : ℕ) → a ≡ b → nat_eq a b ≡ true
 eq_true a b e = grind (arith, nat_tests)
 
-eq_false : (a b : ℕ) → (a ≡ b → ⊥) → nat_eq a b ≡ false
+pub eq_false : (a b : ℕ) → (a ≡ b → ⊥) → nat_eq a b ≡ false
 eq_false a b e = grind (arith, nat_tests)
 
 pub sides-append : (side other : ℕ × ℕ → ℕ) (i : ℕ) (a b : List (ℕ × ℕ)) → other_sides side other i (a ++ b) ≡ other_sides side other i a ++ other_sides side other i b

@@ -6,3 +6,5 @@ pub mod Wrapped
 pub mod Profiles
 pub mod Wires
 pub mod Reads
+pub mod Parents
+pub mod Resolved

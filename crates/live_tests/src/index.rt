@@ -1,4 +1,4 @@
-// The buses, wrappers and starts of a plan, found by the numbers of modules and tests.
+//! The buses, wrappers and starts of a plan, found by the numbers of modules and tests.
 ghost use Rattle.std.specs.Prelude.{◌≡◌, ℕ, Bool, Some, map, nat_eq, position, unwrap_or, if◌then◌else◌, IfOk, OnOk};
 ghost use Rattle.std.specs.List.{list_any};
 ghost use Rattle.std.specs.Map.{lookup};

@@ -1,7 +1,7 @@
-// The live tests of a chip by name, and precedences by the places of their tests.
-//
-// A place is counted from 0 in the order of the chip: modules by first mention, and the live tests of each by first
-// mention.
+//! The live tests of a chip by name, and precedences by the places of their tests.
+//!
+//! A place is counted from 0 in the order of the chip: modules by first mention, and the live tests of each by first
+//! mention.
 #![tactic(auto)]
 
 ghost use Rattle.std.specs.Prelude.{◌≡◌, ◌++◌, IfOk, OnOk, position};
@@ -14,17 +14,21 @@ ghost use Rattle.live_tests.specs.Names.{both_places, names_in, places_of};
 
 mod index;
 mod neighbours;
+mod parent_places;
 mod placed;
 mod profiles;
+mod resolved;
 mod wires;
 mod wrapped;
 
 pub use index::{PlanIndex, bus_place, buses_by_module, wrappers_by_mode};
 use indexmap::IndexMap;
-pub use neighbours::{Neighbours, all_after, all_before};
+pub use neighbours::{Neighbours, all_after, all_before, count_before};
 use outside::{NoMemory, push};
+pub use parent_places::{fill_parents, parents};
 pub use placed::{PlacedTest, PlacedTests, PlannedChip, bus_over, placed_test};
 pub use profiles::{profile_place, profile_places};
+pub use resolved::Resolved;
 use soc_model::{Module, Soc, TestId, live};
 use std::alloc::Global;
 use std::marker::Model;

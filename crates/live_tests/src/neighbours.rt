@@ -1,4 +1,4 @@
-// The tests that come after each test by precedences, and those before it. Tests go by their places.
+//! The tests that come after each test by precedences, and those before it. Tests go by their places.
 ghost use Rattle.std.specs.Prelude.{◌≡◌, ℕ, ◌<◌, [], length, map, slice_index_or, IfOk};
 ghost use Rattle.std.specs.List.{All};
 ghost use Rattle.live_tests.specs.Neighbours.{after, before, tests_of};
@@ -29,20 +29,21 @@ fn count_after(
     Ok(rooms)
 }
 
-/// How often each of `count` tests stands second in some pairs: the room that those before it take.
-fn count_before(
+/// For each of `count` tests how many come before it, by pairs of an earlier and a later test. `NoMemory` where there is none.
+pub fn count_before(
     alloc: Global,
     count: usize,
     pairs: &[(usize, usize)],
 ) -> Result<Vec<usize>, NoMemory>
     requires { All (λ (e : ℕ × ℕ). (e.0 < count) × (e.1 < count)) pairs.now }
-    ensures { IfOk result (λ rooms. length rooms.items ≡ count) }
+    ensures long { IfOk result (λ counts. length counts.items ≡ count) }
+    ensures counts { IfOk result (λ counts. (i : ℕ) → i < count → slice_index_or counts.items i 0 ≡ length (before i pairs.now)) }
 {
-    let mut rooms: Vec<usize> = vec![in alloc; 0; count].map_err(|_| NoMemory)?;
+    let mut counts: Vec<usize> = vec![in alloc; 0; count].map_err(|_| NoMemory)?;
     for (_, second) in pairs {
-        rooms[*second] = rooms[*second].saturating_add(1);
+        counts[*second] += 1;
     }
-    Ok(rooms)
+    Ok(counts)
 }
 
 /// No neighbours for any test, with room for so many of each.

@@ -58,16 +58,23 @@ impl PlacedTests {
         requires good { IsGoodAlone (soc_value soc.now) (plan_value plan.now) }
         ensures { IfOk result (λ tests. tests ≡ placed_tests (soc_value soc.now) (plan_value plan.now)) }
     {
-        let tests = placed(alloc, soc, plan)?;
-        PlacedTests::named(alloc, soc, tests)
+        let names = LiveTests::new(alloc, soc)?;
+        PlacedTests::with_names(alloc, soc, plan, names)
     }
 
-    /// The placed tests of all live tests of a chip, found by their names.
-    fn named(alloc: Global, soc: &Soc, tests: Vec<PlacedTest>) -> Result<PlacedTests, NoMemory>
-        requires { map (λ (p : PlacedTest). p.id) tests.items ≡ live_ids (soc_value soc.now) }
-        ensures { IfOk result (λ placed. placed ≡ tests.items) }
+    /// The same, where the live tests of the chip are at hand by name. `NoMemory` where there is none.
+    pub fn with_names(
+        alloc: Global,
+        soc: &Soc,
+        plan: &Plan,
+        names: LiveTests,
+    ) -> Result<PlacedTests, NoMemory>
+        requires sound { IsSoundChip (soc_value soc.now) }
+        requires good { IsGoodAlone (soc_value soc.now) (plan_value plan.now) }
+        requires names { names ≡ live_ids (soc_value soc.now) }
+        ensures { IfOk result (λ tests. tests ≡ placed_tests (soc_value soc.now) (plan_value plan.now)) }
     {
-        let names = LiveTests::new(alloc, soc)?;
+        let tests = placed(alloc, soc, plan)?;
         Ok(PlacedTests { names, tests })
     }
 
@@ -211,7 +218,7 @@ impl<'a> PlannedChip<'a> {
 }
 
 /// How many modules a chip has.
-fn module_count(soc: &Soc) -> usize
+pub(crate) fn module_count(soc: &Soc) -> usize
     ensures { result ≡ length (soc_value soc.now).modules }
 {
     soc.modules.len()

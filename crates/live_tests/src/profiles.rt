@@ -1,4 +1,4 @@
-// The profiles of limits, found by the names of their tests.
+//! The profiles of limits, found by the names of their tests.
 ghost use Rattle.std.specs.Prelude.{◌≡◌, position, IfOk};
 ghost use Rattle.soc_model.specs.Chips.{same_test};
 ghost use Rattle.plan_model.specs.declared.Profile.{Profile};

@@ -1,4 +1,4 @@
-// The wrappers of a module in a plan, with their longest paths.
+//! The wrappers of a module in a plan, with their longest paths.
 ghost use Rattle.std.specs.Prelude.{◌≡◌, true, false, ◌+◌, ◌^◌, ◌≤◌, length, map, position, slice_get, Some};
 ghost use Rattle.soc_model.specs.Chips.{ModuleValue, module_value, soc_value};
 ghost use Rattle.soc_model.specs.SoundChips.{IsSoundChip};

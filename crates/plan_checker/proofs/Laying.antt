@@ -15,7 +15,8 @@ use Rattle.plan_model.proofs.PlannedTests.{Origin, origin}
 use Rattle.plan_model.proofs.GoodPlansRunRight.{planned_in_order}
 use Rattle.live_tests.specs.declared.placed.PlacedTest.{PlacedTest}
 use Rattle.plan_checker.specs.declared.meetings.Begin.{Begin}
-use Rattle.plan_checker.specs.Clashes.{HasParentAt, AreParents, ParentsFirst}
+use Rattle.live_tests.specs.Parents.{HasParentAt, AreParents}
+use Rattle.plan_checker.specs.Clashes.{ParentsFirst}
 use Rattle.live_tests.specs.Placed.{bus_over, placed_of, placed_tests}
 use Rattle.plan_checker.specs.Layout.{IsLayout}
 use Rattle.plan_checker.specs.Meetings.{AreBegins, AreSlots}

@@ -22,4 +22,3 @@ pub mod FewEvents
 pub mod Summing
 pub mod Loads
 pub mod RoomSizes
-pub mod Levels

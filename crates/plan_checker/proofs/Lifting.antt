@@ -17,7 +17,8 @@ use Rattle.plan_checker.specs.declared.clashes.Found.{Found}
 use Rattle.plan_checker.specs.declared.clashes.Apart.{Apart}
 use Rattle.plan_checker.specs.declared.clashes.Apart.TheVariants as apart
 use Rattle.live_tests.specs.Placed.{bus_over, placed_of, placed_tests}
-use Rattle.plan_checker.specs.Clashes.{keeps_apart, same_slot, Clash, IsBefore, IsLeast, IsBest, HasParentAt, AreParents, clash_fault, rule_for}
+use Rattle.live_tests.specs.Parents.{HasParentAt, AreParents}
+use Rattle.plan_checker.specs.Clashes.{keeps_apart, same_slot, Clash, IsBefore, IsLeast, IsBest, clash_fault, rule_for}
 use Rattle.plan_checker.proofs.Rooms.{map_at, at_map}
 
 -- what the code asks of two placed tests is what the rule asks of the two tests

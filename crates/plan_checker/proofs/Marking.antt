@@ -15,7 +15,8 @@ use Rattle.plan_checker.proofs.Finding.{contains_from, some_same, number_at}
 use Rattle.plan_checker.specs.Broken.{EachOf}
 use Rattle.plan_checker.proofs.Firsts.{EachTo, Behind, each_append, first_front, first_behind}
 use Rattle.plan_checker.proofs.Breaking.{flat_split, flat_more_at}
-use Rattle.plan_checker.proofs.Rooms.{set_here, set_else, any_item}
+use Rattle.live_tests.proofs.WrittenParents.{set_here, set_else}
+use Rattle.plan_checker.proofs.Rooms.{any_item}
 
 pub any_contains : (n : ℕ) (xs : List ℕ) → list_any (eqb n) xs ≡ true → Contains xs n
 any_contains n xs h =

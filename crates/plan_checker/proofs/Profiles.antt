@@ -21,7 +21,8 @@ use Rattle.plan_checker.specs.Events.{IsFirstOver}
 use Rattle.plan_checker.specs.Power.{AreProfiles}
 use Rattle.power_events.specs.Loads.{drawn, drawn_by}
 use Rattle.power_events.specs.Events.{profile_place, steps_from, steps_of}
-use Rattle.plan_checker.proofs.Rooms.{map_at, same_test_is, same_test_itself, set_here, set_else}
+use Rattle.live_tests.proofs.WrittenParents.{set_here, set_else}
+use Rattle.plan_checker.proofs.Rooms.{map_at, same_test_is, same_test_itself}
 
 -- ---- the places of profiles, written from the last profile to the first
 

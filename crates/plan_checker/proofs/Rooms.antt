@@ -1,5 +1,5 @@
 -- What the rooms of the checker hold, and that they have place for it.
-use Rattle.std.proofs.Common.{◌≡◌, ℕ, zero, suc, ◌≤◌, ◌<◌, Bool, true, eqb, Some, Result, Ok, Err, List, [], ◌∷◌, length, get_or, map, set, take, refl, ap, ◌∙◌, sym, arith, inl, inr, eq-eqb, true≢false}
+use Rattle.std.proofs.Common.{◌≡◌, ℕ, zero, suc, ◌≤◌, ◌<◌, Bool, true, eqb, Some, Result, Ok, Err, List, [], ◌∷◌, length, get_or, map, take, refl, ap, ◌∙◌, sym, arith, inl, inr, eq-eqb, true≢false}
 use Rattle.std.specs.Prelude.{slice_get, IsOk, OnOk}
 use Rattle.std.specs.List.{list_any, Contains}
 use Rattle.std.proofs.lemmas.Bool.{cases_Bool, and_parts, eqb-true}
@@ -61,18 +61,6 @@ pub new_fit : {X Y : Type 0} (f : X → Y) (xs : List X) (ys : List Y) (n : ℕ)
 new_fit f xs ys n d within new in_ys = pigeon n (λ i. f (get_or xs i d)) ys
     (λ i j less below e. new j (get_or xs j d) below (slice_get-get_or xs j d (omega arith)) (contains_from (map f (take j xs)) (f (get_or xs j d)) i (map_at f (take j xs) i (get_or xs i d) (take_at xs i j (get_or xs i d) less (slice_get-get_or xs i d (omega arith))) ∙ ap Some e)))
     (λ i below. contains_at ys (f (get_or xs i d)) (in_ys i (get_or xs i d) below (slice_get-get_or xs i d (omega arith))))
-
-pub set_here : {X : Type 0} (xs : List X) (i : ℕ) (y : X) → i < length xs → slice_get (set xs i y) i ≡ Some y
-set_here [] i y h = absurd (omega arith)
-set_here (x ∷ xs) zero y h = refl
-set_here (x ∷ xs) (suc i) y h = set_here xs i y (omega arith)
-
-pub set_else : {X : Type 0} (xs : List X) (i j : ℕ) (y : X) → (j ≡ i → ⊥) → slice_get (set xs i y) j ≡ slice_get xs j
-set_else [] i j y h = refl
-set_else (x ∷ xs) zero zero y h = absurd (h refl)
-set_else (x ∷ xs) zero (suc j) y h = refl
-set_else (x ∷ xs) (suc i) zero y h = refl
-set_else (x ∷ xs) (suc i) (suc j) y h = set_else xs i j y (λ e. h (ap suc e))
 
 pub length_values : {X Y : Type 0} (f : X → Y) (xs : List X) → length (map f xs) ≡ length xs
 length_values f [] = refl

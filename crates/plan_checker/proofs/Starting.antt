@@ -17,7 +17,8 @@ use Rattle.plan_checker.specs.Broken.{EachOf, IsKey}
 use Rattle.plan_checker.specs.Listed.{StartEarly}
 use Rattle.plan_checker.specs.Starting.{AreStarts, start_or}
 use Rattle.plan_checker.proofs.Finding.{contains_from, some_same}
-use Rattle.plan_checker.proofs.Rooms.{same_test_is, same_test_itself, map_at, at_map, set_here, set_else}
+use Rattle.live_tests.proofs.WrittenParents.{set_here, set_else}
+use Rattle.plan_checker.proofs.Rooms.{same_test_is, same_test_itself, map_at, at_map}
 
 -- a start of the test is among these
 abbrev has : TestId → List (TestId × ℕ) → Bool

@@ -1,6 +1,5 @@
 -- Pairs of placed tests that may not meet and do.
-use Rattle.std.specs.Prelude.{◌≡◌, ℕ, ◌<◌, ◌≤◌, ◌⊎◌, Bool, true, false, Option, Some, None, List, length, slice_get, slice_index, nat_eq}
-use Rattle.soc_model.specs.Chips.{SocValue, IsParent}
+use Rattle.std.specs.Prelude.{◌≡◌, ℕ, ◌<◌, ◌≤◌, ◌⊎◌, Bool, true, false, Option, Some, None, List, slice_get, slice_index, nat_eq}
 use Rattle.soc_model.specs.declared.TestId.{TestId}
 use Rattle.plan_checker.specs.declared.PlanFault.{PlanFault}
 use Rattle.plan_checker.specs.declared.PlanFault.TheVariants as fault
@@ -79,17 +78,6 @@ pub record IsLeastCycle (r : PlacedTest → PlacedTest → Bool) (placed : List 
 abbrev pub IsFirstCycle : (PlacedTest → PlacedTest → Bool) → List PlacedTest → Option ℕ → Type 0
 IsFirstCycle r placed None = (x y c : ℕ) → Clash r placed x y c → ⊥
 IsFirstCycle r placed (Some c) = IsLeastCycle r placed c
-
--- for each module the place of its parent; where it has none, a number that is no place
-pub record HasParentAt (soc : SocValue) (parents : List ℕ) (p : ℕ) : Type 0 where
-  pub q : ℕ
-  pub at : slice_get parents p ≡ Some q
-  pub is : q < length soc.modules → IsParent soc.modules q p
-  pub only : (r : ℕ) → IsParent soc.modules r p → r ≡ q
-  pub within : q ≤ length soc.modules
-
-abbrev pub AreParents : SocValue → List ℕ → Type 0
-AreParents soc parents = (p : ℕ) → p < length soc.modules → HasParentAt soc parents p
 
 abbrev pub rule_for : Apart → Rule
 rule_for apart.OneBus = Wires

@@ -1,7 +1,8 @@
 // The first pair of tests that may not meet and do: the least cycle first, then the least pair there.
 
 ghost use Rattle.std.specs.Prelude.{◌≡◌, ℕ, ◌<◌, length, slice_index, false, IsTrue, IfSome, IfNone};
-ghost use Rattle.plan_checker.specs.Clashes.{keeps_apart, same_slot, BothAt, IsBest, HasNoPartner, IsFirstPartner, IsFirstPair, IsFirstCycle, PlacesWithin, AreParents, rule_for, clash_fault};
+ghost use Rattle.live_tests.specs.Parents.{AreParents};
+ghost use Rattle.plan_checker.specs.Clashes.{keeps_apart, same_slot, BothAt, IsBest, HasNoPartner, IsFirstPartner, IsFirstPair, IsFirstCycle, PlacesWithin, rule_for, clash_fault};
 ghost use Rattle.plan_checker.specs.Layout.{IsLayout};
 ghost use Rattle.power_events.specs.Loads.{is_active};
 ghost use Rattle.soc_model.specs.Chips.{SocValue};

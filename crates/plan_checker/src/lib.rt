@@ -1,4 +1,4 @@
-// Checks a plan: the first rule of good plans that it breaks, and what shows that first.
+//! Checks a plan: the first rule of good plans that it breaks, and what shows that first.
 #![tactic(auto)]
 
 mod check;
@@ -9,7 +9,6 @@ mod lookups;
 mod meetings;
 mod named;
 mod order;
-mod parents;
 mod placed;
 mod places;
 mod power;

@@ -1,4 +1,4 @@
-// The buses of a plan: those of the settled start, by the numbers of their modules.
+//! The buses of a plan: those of the settled start, by the numbers of their modules.
 ghost use Rattle.std.specs.Prelude.{◌≡◌, ◌<◌, List, length, All, IfOk, map};
 ghost use Rattle.soc_model.specs.Chips.{soc_value};
 ghost use Rattle.plan_model.specs.Plans.{BusValue};

@@ -1,5 +1,5 @@
-// The job of a plan: the live tests of a chip, with the cycles that they take in the plan's wrappers. Tests, modules and
-// buses go by their places.
+//! The job of a plan: the live tests of a chip, with the cycles that they take in the plan's wrappers. Tests, modules and
+//! buses go by their places.
 ghost use Rattle.std.specs.Prelude.{◌≡◌, ℕ, ◌<◌, ◌++◌, ◌∷◌, [], true, length, map, slice_get, Some, IfOk, OnOk};
 ghost use Rattle.std.specs.List.{filter};
 ghost use Rattle.soc_model.specs.declared.TestId.{TestId};
@@ -10,6 +10,7 @@ ghost use Rattle.plan_model.specs.Rules.{Keeps, Wrappers, Proper};
 ghost use Rattle.plan_model.specs.Views.{wrapper_value, bus_value, limits_value};
 ghost use Rattle.live_tests.specs.Index.{IsIndex};
 ghost use Rattle.live_tests.specs.Profiles.{AreProfilePlaces};
+ghost use Rattle.live_tests.specs.Resolved.{IsResolved};
 ghost use Rattle.resource_table.specs.declared.JobTest.{JobTest};
 ghost use Rattle.resource_table.specs.Jobs.{test_value, job_value, IsSoundJob};
 ghost use Rattle.planner.specs.Jobs.{settled_parts, steps_of as the_steps, test_of as the_test, test_in, job_of as the_job};
@@ -17,13 +18,12 @@ ghost use Rattle.planner.specs.Sharing.{IsShared};
 
 use indexmap::IndexMap;
 use live_tests::{
-    LiveTests, ModeWrappers, bus_over, bus_place, buses_by_module, profile_place, profile_places,
-    wrappers_by_mode,
+    ModeWrappers, Resolved, bus_over, bus_place, buses_by_module, profile_place, wrappers_by_mode,
 };
 use outside::{NoMemory, copied, push};
 use plan_model::{Bus, Limits, Wrapper};
 use resource_table::{Job, JobTest};
-use soc_model::{Module, Soc, Test, TestId, live, module_at, parent};
+use soc_model::{Module, Soc, Test, TestId, live, module_at};
 use std::alloc::Global;
 
 /// What the job of a plan is made from: a chip, limits, and the buses and wrappers of the plan.
@@ -66,26 +66,30 @@ fn steps_of(
     }
 }
 
-/// Where the bus and the wrappers of each module stand, and the profile of each test.
+/// Where the bus and the wrappers of each module stand, and what the chip and its limits say by places.
 #[derive(Drop)]
-struct PartPlaces {
+struct PartPlaces<'a> {
     buses: IndexMap<u64, usize>,
     wrappers: IndexMap<(u64, bool), usize>,
-    profiles: IndexMap<TestId, usize>,
+    resolved: &'a Resolved,
 }
 
 /// The places of all parts.
-fn part_places(alloc: Global, parts: &JobParts<'_>) -> Result<PartPlaces, NoMemory>
+fn part_places<'a>(
+    alloc: Global,
+    parts: &JobParts<'_>,
+    resolved: &'a Resolved,
+) -> Result<PartPlaces<'a>, NoMemory>
+    requires resolved { IsResolved (soc_value parts.now.soc.now) parts.now.limits.now resolved.now }
     ensures parts { IfOk result (λ places. IsIndex (settled_parts (map bus_value parts.now.buses.now) (map wrapper_value parts.now.wrappers.now)) places.buses.entries places.wrappers.entries []) }
-    ensures profiles { IfOk result (λ places. AreProfilePlaces places.profiles parts.now.limits.now.profiles.items) }
+    ensures resolved { IfOk result (λ places. IsResolved (soc_value parts.now.soc.now) parts.now.limits.now places.resolved.now) }
 {
     let buses = buses_by_module(alloc, parts.buses)?;
     let wrappers = wrappers_by_mode(alloc, parts.wrappers)?;
-    let profiles = profile_places(alloc, &parts.limits.profiles)?;
     Ok(PartPlaces {
         buses,
         wrappers,
-        profiles,
+        resolved,
     })
 }
 
@@ -103,10 +107,11 @@ struct Shared {
 }
 
 /// What the tests of the module at a place share.
-fn shared_of(parts: &JobParts<'_>, places: &PartPlaces, place: usize, module: &Module) -> Shared
+fn shared_of(parts: &JobParts<'_>, places: &PartPlaces<'_>, place: usize, module: &Module) -> Shared
     requires sound { IsSoundChip (soc_value parts.now.soc.now) }
     requires proper { Keeps (soc_value parts.now.soc.now) (limits_value parts.now.limits.now) (settled_parts (map bus_value parts.now.buses.now) (map wrapper_value parts.now.wrappers.now)) Proper }
     requires places { IsIndex (settled_parts (map bus_value parts.now.buses.now) (map wrapper_value parts.now.wrappers.now)) places.now.buses.entries places.now.wrappers.entries [] }
+    requires resolved { IsResolved (soc_value parts.now.soc.now) parts.now.limits.now places.now.resolved.now }
     requires module_there { slice_get (soc_value parts.now.soc.now).modules place ≡ Some (module_value «module».now) }
     ensures place { result.place ≡ place }
     ensures shared { IsShared (soc_value parts.now.soc.now) (settled_parts (map bus_value parts.now.buses.now) (map wrapper_value parts.now.wrappers.now)) (module_value «module».now) result }
@@ -116,7 +121,7 @@ fn shared_of(parts: &JobParts<'_>, places: &PartPlaces, place: usize, module: &M
     let wrappers = ModeWrappers::found(parts.soc, parts.wrappers, place, module, scan, terminals);
     Shared {
         place,
-        parent: parent(parts.soc, place),
+        parent: places.resolved.parents[place],
         bus: bus_place(parts.buses, &places.buses, module.number),
         wrappers,
     }
@@ -126,14 +131,14 @@ fn shared_of(parts: &JobParts<'_>, places: &PartPlaces, place: usize, module: &M
 fn test_of(
     alloc: Global,
     parts: &JobParts<'_>,
-    places: &PartPlaces,
+    places: &PartPlaces<'_>,
     shared: &Shared,
     module: &Module,
     test: &Test,
 ) -> Result<JobTest, NoMemory>
     requires sound { IsSoundChip (soc_value parts.now.soc.now) }
     requires wrapped { Keeps (soc_value parts.now.soc.now) (limits_value parts.now.limits.now) (settled_parts (map bus_value parts.now.buses.now) (map wrapper_value parts.now.wrappers.now)) Wrappers }
-    requires profiles { AreProfilePlaces places.now.profiles parts.now.limits.now.profiles.items }
+    requires resolved { IsResolved (soc_value parts.now.soc.now) parts.now.limits.now places.now.resolved.now }
     requires shared { IsShared (soc_value parts.now.soc.now) (settled_parts (map bus_value parts.now.buses.now) (map wrapper_value parts.now.wrappers.now)) (module_value «module».now) shared.now }
     requires test_there { (k : ℕ) × (slice_get «module».now.tests.items k ≡ Some test.now) }
     requires is_live { is_live test.now ≡ true }
@@ -143,7 +148,13 @@ fn test_of(
         module: module.number,
         test: test.number,
     };
-    let power = steps_of(alloc, parts.limits, &places.profiles, id, test.power)?;
+    let power = steps_of(
+        alloc,
+        parts.limits,
+        &places.resolved.profiles,
+        id,
+        test.power,
+    )?;
     Ok(JobTest {
         id,
         place: shared.place,
@@ -159,7 +170,7 @@ fn push_live(
     alloc: Global,
     tests: &mut Vec<JobTest>,
     parts: &JobParts<'_>,
-    places: &PartPlaces,
+    places: &PartPlaces<'_>,
     place: usize,
     module: &Module,
 ) -> Result<(), NoMemory>
@@ -167,7 +178,7 @@ fn push_live(
     requires wrapped { Keeps (soc_value parts.now.soc.now) (limits_value parts.now.limits.now) (settled_parts (map bus_value parts.now.buses.now) (map wrapper_value parts.now.wrappers.now)) Wrappers }
     requires proper { Keeps (soc_value parts.now.soc.now) (limits_value parts.now.limits.now) (settled_parts (map bus_value parts.now.buses.now) (map wrapper_value parts.now.wrappers.now)) Proper }
     requires places { IsIndex (settled_parts (map bus_value parts.now.buses.now) (map wrapper_value parts.now.wrappers.now)) places.now.buses.entries places.now.wrappers.entries [] }
-    requires profiles { AreProfilePlaces places.now.profiles parts.now.limits.now.profiles.items }
+    requires resolved { IsResolved (soc_value parts.now.soc.now) parts.now.limits.now places.now.resolved.now }
     requires module_there { slice_get (soc_value parts.now.soc.now).modules place ≡ Some (module_value «module».now) }
     ensures { OnOk result (map test_value tests.new.items ≡ map test_value tests.old.items ++ map (test_in (soc_value parts.now.soc.now) (limits_value parts.now.limits.now) (settled_parts (map bus_value parts.now.buses.now) (map wrapper_value parts.now.wrappers.now)) place (module_value «module».now)) (filter is_live «module».now.tests.items)) }
 {
@@ -185,13 +196,13 @@ fn push_live(
 fn tests_at(
     alloc: Global,
     parts: &JobParts<'_>,
-    places: &PartPlaces,
+    places: &PartPlaces<'_>,
 ) -> Result<Vec<JobTest>, NoMemory>
     requires sound { IsSoundChip (soc_value parts.now.soc.now) }
     requires wrapped { Keeps (soc_value parts.now.soc.now) (limits_value parts.now.limits.now) (settled_parts (map bus_value parts.now.buses.now) (map wrapper_value parts.now.wrappers.now)) Wrappers }
     requires proper { Keeps (soc_value parts.now.soc.now) (limits_value parts.now.limits.now) (settled_parts (map bus_value parts.now.buses.now) (map wrapper_value parts.now.wrappers.now)) Proper }
     requires places { IsIndex (settled_parts (map bus_value parts.now.buses.now) (map wrapper_value parts.now.wrappers.now)) places.now.buses.entries places.now.wrappers.entries [] }
-    requires profiles { AreProfilePlaces places.now.profiles parts.now.limits.now.profiles.items }
+    requires resolved { IsResolved (soc_value parts.now.soc.now) parts.now.limits.now places.now.resolved.now }
     ensures { IfOk result (λ tests. map test_value tests.items ≡ map (the_test (soc_value parts.now.soc.now) (limits_value parts.now.limits.now) (settled_parts (map bus_value parts.now.buses.now) (map wrapper_value parts.now.wrappers.now))) (live_tests (soc_value parts.now.soc.now))) }
 {
     let mut tests = Vec::new(alloc);
@@ -209,13 +220,18 @@ fn tests_at(
 }
 
 /// The live tests, in the order of the chip.
-fn tests_of(alloc: Global, parts: &JobParts<'_>) -> Result<Vec<JobTest>, NoMemory>
+fn tests_of(
+    alloc: Global,
+    parts: &JobParts<'_>,
+    resolved: &Resolved,
+) -> Result<Vec<JobTest>, NoMemory>
     requires sound { IsSoundChip (soc_value parts.now.soc.now) }
     requires wrapped { Keeps (soc_value parts.now.soc.now) (limits_value parts.now.limits.now) (settled_parts (map bus_value parts.now.buses.now) (map wrapper_value parts.now.wrappers.now)) Wrappers }
     requires proper { Keeps (soc_value parts.now.soc.now) (limits_value parts.now.limits.now) (settled_parts (map bus_value parts.now.buses.now) (map wrapper_value parts.now.wrappers.now)) Proper }
+    requires resolved { IsResolved (soc_value parts.now.soc.now) parts.now.limits.now resolved.now }
     ensures { IfOk result (λ tests. map test_value tests.items ≡ map (the_test (soc_value parts.now.soc.now) (limits_value parts.now.limits.now) (settled_parts (map bus_value parts.now.buses.now) (map wrapper_value parts.now.wrappers.now))) (live_tests (soc_value parts.now.soc.now))) }
 {
-    let places = part_places(alloc, parts)?;
+    let places = part_places(alloc, parts, resolved)?;
     let tests = tests_at(alloc, parts, &places);
     drop(places);
     tests
@@ -231,9 +247,21 @@ pub fn job_of(alloc: Global, parts: &JobParts<'_>) -> Result<Job, NoMemory>
     ensures job { IfOk result (λ job. job_value job ≡ the_job (soc_value parts.now.soc.now) (limits_value parts.now.limits.now) (settled_parts (map bus_value parts.now.buses.now) (map wrapper_value parts.now.wrappers.now))) }
     ensures sound { IsSoundLimits (soc_value parts.now.soc.now) (limits_value parts.now.limits.now) → IfOk result (λ job. IsSoundJob (job_value job)) }
 {
-    let tests = tests_of(alloc, parts)?;
-    let live = LiveTests::new(alloc, parts.soc)?;
-    let before = live.precedences(alloc, &parts.limits.before)?;
+    let resolved = Resolved::new(alloc, parts.soc, parts.limits)?;
+    job_with(alloc, parts, &resolved)
+}
+
+/// The same job, where the chip and its limits are resolved already.
+pub fn job_with(alloc: Global, parts: &JobParts<'_>, resolved: &Resolved) -> Result<Job, NoMemory>
+    requires sound { IsSoundChip (soc_value parts.now.soc.now) }
+    requires wrapped { Keeps (soc_value parts.now.soc.now) (limits_value parts.now.limits.now) (settled_parts (map bus_value parts.now.buses.now) (map wrapper_value parts.now.wrappers.now)) Wrappers }
+    requires proper { Keeps (soc_value parts.now.soc.now) (limits_value parts.now.limits.now) (settled_parts (map bus_value parts.now.buses.now) (map wrapper_value parts.now.wrappers.now)) Proper }
+    requires resolved { IsResolved (soc_value parts.now.soc.now) parts.now.limits.now resolved.now }
+    ensures job { IfOk result (λ job. job_value job ≡ the_job (soc_value parts.now.soc.now) (limits_value parts.now.limits.now) (settled_parts (map bus_value parts.now.buses.now) (map wrapper_value parts.now.wrappers.now))) }
+    ensures sound { IsSoundLimits (soc_value parts.now.soc.now) (limits_value parts.now.limits.now) → IfOk result (λ job. IsSoundJob (job_value job)) }
+{
+    let tests = tests_of(alloc, parts, resolved)?;
+    let before = copied(alloc, &resolved.precedences)?;
     Ok(Job {
         tests,
         before,

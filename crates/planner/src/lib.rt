@@ -1,5 +1,5 @@
-// Plans the tests of a chip: settled buses, the wrappers of the width table at their widths, a list schedule of the tests,
-// and a lower bound (after TR-ARCHITECT, Goel and Marinissen 2002, for fixed buses in place of TestRails).
+//! Plans the tests of a chip: settled buses, the wrappers of the width table at their widths, a list schedule of the tests,
+//! and a lower bound (after TR-ARCHITECT, Goel and Marinissen 2002, for fixed buses in place of TestRails).
 #![tactic(auto)]
 
 mod buses;
@@ -8,7 +8,7 @@ mod planning;
 mod schedule;
 mod wrappers;
 
-pub use job::{JobParts, job_of};
+pub use job::{JobParts, job_of, job_with};
 use outside::NoMemory;
-pub use planning::plan;
+pub use planning::{plan, plan_with};
 pub use wrappers::{table_wrappers, width_of};

@@ -1,4 +1,4 @@
-// A plan of a chip's tests, from the width table to the bound.
+//! A plan of a chip's tests, from the width table to the bound.
 ghost use Rattle.std.specs.Prelude.{◌≡◌, ℕ, ◌≤◌, List, IfOk};
 ghost use Rattle.soc_model.specs.Chips.{soc_value};
 ghost use Rattle.soc_model.specs.SoundChips.{IsSoundChip};
@@ -9,6 +9,7 @@ ghost use Rattle.plan_model.specs.Runs.{Content};
 ghost use Rattle.plan_model.specs.Certificates.{IsElementary};
 ghost use Rattle.plan_model.specs.SoundLimits.{IsSoundLimits};
 ghost use Rattle.plan_model.specs.Views.{plan_value, limits_value};
+ghost use Rattle.live_tests.specs.Resolved.{IsResolved};
 ghost use Rattle.planner.specs.Buses.{table_of, AreSettledBuses};
 ghost use Rattle.planner.specs.Jobs.{job_of};
 ghost use Rattle.planner.specs.Plans.{IsPlanned};
@@ -18,7 +19,8 @@ ghost use Rattle.schedule_search.specs.Walks.{HasMoreOpen};
 use crate::buses::settled_buses;
 use crate::schedule::schedule_of;
 use crate::wrappers::table_wrappers;
-use bound_certificate::best_bound;
+use bound_certificate::best_bound_with;
+use live_tests::Resolved;
 use outside::NoMemory;
 use plan_model::{Limits, Plan, good_plans_run_right};
 use resource_table::Table;
@@ -53,12 +55,37 @@ where
     ensures only_plan { IfOk result (λ plan. (HasMoreOpen (job_of (soc_value soc.now) (limits_value limits.now) (plan_value plan)) (limits_value limits.now).budget → ⊥) → (other : PlanValue) → IsPlanned (soc_value soc.now) (limits_value limits.now) other → other ≡ plan_value plan) }
     ensures only_buses { IfOk result (λ plan. (buses : List BusValue) → AreSettledBuses (table_of (soc_value soc.now) (limits_value limits.now)) buses → buses ≡ (plan_value plan).buses) }
 {
+    let resolved = Resolved::new(alloc, soc, limits)?;
+    plan_with(alloc, soc, limits, &resolved, ahead)
+}
+
+/// The same plan, where the chip and its limits are resolved already.
+pub fn plan_with<F: Fn(&Table<'_>, usize) -> u64>(
+    alloc: Global,
+    soc: &Soc,
+    limits: &Limits,
+    resolved: &Resolved,
+    ahead: Ahead<F>,
+) -> Result<Plan, NoMemory>
+where
+    F: Drop,
+    requires sound { IsSoundChip (soc_value soc.now) }
+    requires limits { IsSoundLimits (soc_value soc.now) (limits_value limits.now) }
+    requires resolved { IsResolved (soc_value soc.now) limits.now resolved.now }
+    requires estimate { IsEstimate (λ t test. F.pre ahead t test) (λ t test estimate. F.post ahead t test estimate) }
+    ensures planned { IfOk result (λ plan. IsPlanned (soc_value soc.now) (limits_value limits.now) (plan_value plan)) }
+    ensures right { IfOk result (λ plan. (content : Content) → IsRight (soc_value soc.now) (limits_value limits.now) (plan_value plan) content) }
+    ensures bound { IfOk result (λ plan. IsBound (soc_value soc.now) (limits_value limits.now) plan.bound.cycles) }
+    ensures elementary { IfOk result (λ plan. (n : ℕ) → IsElementary (soc_value soc.now) (limits_value limits.now) n → n ≤ plan.bound.cycles) }
+    ensures only_plan { IfOk result (λ plan. (HasMoreOpen (job_of (soc_value soc.now) (limits_value limits.now) (plan_value plan)) (limits_value limits.now).budget → ⊥) → (other : PlanValue) → IsPlanned (soc_value soc.now) (limits_value limits.now) other → other ≡ plan_value plan) }
+    ensures only_buses { IfOk result (λ plan. (buses : List BusValue) → AreSettledBuses (table_of (soc_value soc.now) (limits_value limits.now)) buses → buses ≡ (plan_value plan).buses) }
+{
     good_plans_run_right();
     let table = WidthTable::new(alloc, soc, limits.wires)?;
     let buses = settled_buses(alloc, soc, &table)?;
     let wrappers = table_wrappers(alloc, soc, &table, &buses)?;
-    let schedule = schedule_of(alloc, soc, limits, &buses, &wrappers, ahead)?;
-    let bound = best_bound(alloc, soc, limits, schedule.cycles)?;
+    let schedule = schedule_of(alloc, soc, limits, resolved, &buses, &wrappers, ahead)?;
+    let bound = best_bound_with(alloc, soc, limits, resolved, schedule.cycles)?;
     Ok(Plan {
         buses,
         wrappers,

@@ -1,4 +1,4 @@
-// The schedule of a plan: the list schedule of an order of its tests that the search finds.
+//! The schedule of a plan: the list schedule of an order of its tests that the search finds.
 ghost use Rattle.std.specs.Prelude.{◌≡◌, ℕ, ◌^◌, ◌<◌, ◌≤◌, length, map, IfOk};
 ghost use Rattle.std.specs.List.{All};
 ghost use Rattle.soc_model.specs.declared.TestId.{TestId};
@@ -8,12 +8,14 @@ ghost use Rattle.plan_model.specs.Plans.{PlanValue};
 ghost use Rattle.plan_model.specs.Rules.{Keeps, Wrappers, Proper};
 ghost use Rattle.plan_model.specs.SoundLimits.{IsSoundLimits};
 ghost use Rattle.plan_model.specs.Views.{wrapper_value, bus_value, limits_value};
+ghost use Rattle.live_tests.specs.Resolved.{IsResolved};
 ghost use Rattle.resource_table.specs.Jobs.{job_value};
 ghost use Rattle.schedule_search.specs.Estimates.{IsEstimate};
 ghost use Rattle.planner.specs.Jobs.{settled_parts};
 ghost use Rattle.planner.specs.Schedules.{IsFoundSchedule, AreStartsOf, IsFoundList, KeepsTimes};
 
-use crate::job::{JobParts, job_of};
+use crate::job::{JobParts, job_with};
+use live_tests::Resolved;
 use outside::{NoMemory, push};
 use plan_model::{Bus, Limits, Wrapper};
 use resource_table::{Job, Table};
@@ -73,6 +75,7 @@ pub(crate) fn schedule_of<F: Fn(&Table<'_>, usize) -> u64>(
     alloc: Global,
     soc: &Soc,
     limits: &Limits,
+    resolved: &Resolved,
     buses: &[Bus],
     wrappers: &[Wrapper],
     ahead: Ahead<F>,
@@ -81,6 +84,7 @@ where
     F: Drop,
     requires sound { IsSoundChip (soc_value soc.now) }
     requires limits { IsSoundLimits (soc_value soc.now) (limits_value limits.now) }
+    requires resolved { IsResolved (soc_value soc.now) limits.now resolved.now }
     requires wrapped { Keeps (soc_value soc.now) (limits_value limits.now) (settled_parts (map bus_value buses.now) (map wrapper_value wrappers.now)) Wrappers }
     requires proper { Keeps (soc_value soc.now) (limits_value limits.now) (settled_parts (map bus_value buses.now) (map wrapper_value wrappers.now)) Proper }
     requires estimate { IsEstimate (λ t test. F.pre ahead t test) (λ t test estimate. F.post ahead t test estimate) }
@@ -95,7 +99,7 @@ where
         buses,
         wrappers,
     };
-    let job = job_of(alloc, &parts)?;
+    let job = job_with(alloc, &parts, resolved)?;
     let mut search = Search::new(alloc, &job, limits.budget, ahead)?;
     found_schedule(alloc, &job, &mut search)
 }

@@ -1,4 +1,4 @@
-// The wrappers of a plan: those of the width table at the widths of its buses.
+//! The wrappers of a plan: those of the width table at the widths of its buses.
 ghost use Rattle.std.specs.Prelude.{◌≡◌, ◌++◌, ◌<◌, ℕ, Bool, List, length, Some, slice_get, true, IfOk, OnOk, map};
 ghost use Rattle.soc_model.specs.Chips.{ModuleValue, soc_value};
 ghost use Rattle.plan_model.specs.Plans.{bus_place as the_bus_place};

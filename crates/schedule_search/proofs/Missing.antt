@@ -1,5 +1,5 @@
 -- How many precedences of a test come from outside a prefix.
-use Rattle.std.proofs.Common.{◌≡◌, inl, inr, ℕ, ◌+◌, ◌<◌, ◌≤◌, ◌^◌, Bool, true, false, cond, not, true≢false, List, [], ◌∷◌, ◌++◌, length, get_or, set, take, map, refl, sym, ◌∙◌, ap, subst, arith, length-take}
+use Rattle.std.proofs.Common.{◌≡◌, inl, inr, ℕ, ◌+◌, ◌<◌, ◌≤◌, ◌^◌, Bool, true, false, cond, not, true≢false, List, [], ◌∷◌, ◌++◌, length, get_or, set, take, map, refl, sym, ◌∙◌, ap, subst, arith}
 use Rattle.std.specs.Prelude.{slice_index_or, nat_eq, ◌||◌, ◌&&◌, if◌then◌else◌}
 use Rattle.std.specs.List.{All, Contains, filter, list_all, sum_by}
 use Rattle.std.proofs.lemmas.List.{length-map}
@@ -9,7 +9,7 @@ use Rattle.std.proofs.lemmas.List.Elements.{All-contains}
 use Rattle.plan_model.proofs.Lists.{at_contains, contains_at, from_map}
 use Rattle.resource_table.specs.Jobs.{JobValue, Precedes}
 use Rattle.live_tests.specs.declared.neighbours.Neighbours.{Neighbours}
-use Rattle.live_tests.specs.Neighbours.{after}
+use Rattle.live_tests.specs.Neighbours.{after, before}
 use Rattle.resource_table.specs.Befores.{listed, tests_before}
 use Rattle.resource_table.proofs.Befores.{eqb_sym, before_from, set_at, set_other, set_length}
 use Rattle.schedule_search.specs.Walks.{is_in, may_follow}
@@ -265,35 +265,19 @@ followers_are job lists count pairs count_is pairs_is long are = record {
   are = (λ test less. are test (omega (arith, less, count_is)) ∙ after_is test pairs ∙ ap (tests_after test) pairs_is);
 }
 
--- so many precedences are counted
-pub record AreCounted (tests : ℕ) (pairs : List (ℕ × ℕ)) (missing : List ℕ) : Type 0 where
-  pub long : length missing ≡ tests
-  pub are : (test : ℕ) → test < tests → slice_index_or missing test 0 ≡ sum_by (one_missing [] test) pairs
-
-pub counted_more : (tests : ℕ) (pairs : List (ℕ × ℕ)) (missing : List ℕ) (i v : ℕ) → AreCounted tests (take i pairs) missing → i < length pairs → (get_or pairs i (0, 0)).1 < tests → v ≡ slice_index_or missing (get_or pairs i (0, 0)).1 0 → AreCounted tests (take (i + 1) pairs) (set missing (get_or pairs i (0, 0)).1 (v + 1))
-counted_more tests pairs missing i v counted within inside is = record {
-  long = set_length missing later (v + 1) ∙ counted.long;
-  are = λ t less. (
-      let old = counted.are t less in
-      let more = sum_by_more (one_missing [] t) pairs i (0, 0) within in
-      elim (cases_eq t later) [
-        | inl same ↦
-            let one : one_missing [] t (get_or pairs i (0, 0)) ≡ 1 = ap (λ b. if b && true then 1 else 0) (eq-eqb later t (sym same)) in
-            let new : slice_index_or (set missing later (v + 1)) t 0 ≡ v + 1 = set_at missing later t (v + 1) 0 (omega (arith, inside, counted.long)) same in
-            let here : slice_index_or missing t 0 ≡ v = ap (λ k. slice_index_or missing k 0) same ∙ sym is in
-            omega (arith, old, more, one, new, here)
-        | inr apart ↦
-            let none : one_missing [] t (get_or pairs i (0, 0)) ≡ 0 = ap (λ b. if b && true then 1 else 0) (ne_eqb later t (λ e. apart (sym e))) in
-            let new : slice_index_or (set missing later (v + 1)) t 0 ≡ slice_index_or missing t 0 = set_other missing later t (v + 1) 0 apart in
-            omega (arith, old, more, none, new)
-      ]);
-}
+-- what comes before a test is missing where no prefix is
+missing_is : (t : ℕ) (pairs : List (ℕ × ℕ)) → length (before t pairs) ≡ sum_by (one_missing [] t) pairs
+missing_is t [] = refl
+missing_is t (p ∷ pairs) = by (nat_eq t p.1) (nat_eq p.1 t) (eqb_sym t p.1) (missing_is t pairs) ∙ sym (sum_by-cons (one_missing [] t) p pairs)
   where
-    later : ℕ
-    later = (get_or pairs i (0, 0)).1
+    by : (b c : Bool) → b ≡ c → length (before t pairs) ≡ sum_by (one_missing [] t) pairs → length (cond b (p.0 ∷ before t pairs) (before t pairs)) ≡ (if c && true then 1 else 0) + sum_by (one_missing [] t) pairs
+    by true true e rest = omega (arith, rest)
+    by true false e rest = absurd cc
+    by false true e rest = absurd cc
+    by false false e rest = omega (arith, rest)
 
-pub counted_fits : (tests : ℕ) (pairs : List (ℕ × ℕ)) (missing : List ℕ) (i t : ℕ) → AreCounted tests (take i pairs) missing → i < length pairs → t < tests → length pairs < 2 ^ 64 → slice_index_or missing t 0 + 1 < 2 ^ 64
-counted_fits tests pairs missing i t counted within inside small =
-    let one = counted.are t inside in
-    let two = few [] t (take i pairs) in
-    omega (arith, one, two, small, within, length-take i pairs)
+pub missing_are : (job : JobValue) (missing : List ℕ) (count : ℕ) (pairs : List (ℕ × ℕ)) → count ≡ length job.tests → pairs ≡ job.before → length missing ≡ count → ((i : ℕ) → i < count → slice_index_or missing i 0 ≡ length (before i pairs)) → AreMissing job [] missing
+missing_are job missing count pairs count_is pairs_is long are = record {
+  long = long ∙ count_is;
+  are = (λ test less. are test (omega (arith, less, count_is)) ∙ missing_is test pairs ∙ ap (sum_by (one_missing [] test)) pairs_is);
+}

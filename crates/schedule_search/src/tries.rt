@@ -1,4 +1,4 @@
-// The order in which tests are tried, and what each test waits for.
+//! The order in which tests are tried, and what each test waits for.
 ghost use Rattle.std.specs.Prelude.{◌≡◌, ◌≤◌, [], map, IfOk};
 ghost use Rattle.resource_table.specs.Jobs.{job_value, IsSoundJob};
 ghost use Rattle.resource_table.specs.Befores.{listed};
@@ -8,7 +8,7 @@ ghost use Rattle.schedule_search.specs.Progress.{AreTries};
 ghost use Rattle.schedule_search.specs.declared.tries.Turn.{Turn};
 
 use crate::order::cycles_at;
-use live_tests::{Neighbours, all_after};
+use live_tests::{Neighbours, all_after, count_before};
 use outside::{NoMemory, push};
 use resource_table::{Job, JobTest};
 use std::alloc::Global;
@@ -80,14 +80,11 @@ fn followers(alloc: Global, job: &Job) -> Result<Vec<Neighbours>, NoMemory>
 }
 
 /// For each test of a job how many precedences it has.
-fn count_before(alloc: Global, job: &Job) -> Result<Vec<usize>, NoMemory>
+fn all_missing(alloc: Global, job: &Job) -> Result<Vec<usize>, NoMemory>
     requires { IsSoundJob (job_value job.now) }
     ensures { IfOk result (λ missing. AreMissing (job_value job.now) [] missing.items) }
 {
-    let mut missing = vec![in alloc; 0; job.tests.len()].map_err(|_| NoMemory)?;
-    for (_, later) in &job.before {
-        missing[*later] += 1;
-    }
+    let missing = count_before(alloc, job.tests.len(), &job.before)?;
     Ok(missing)
 }
 
@@ -120,7 +117,7 @@ pub(crate) fn tries_of(alloc: Global, job: &Job, budget: u64) -> Result<Tries, N
     Ok(Tries {
         tests: by_length(alloc, job)?,
         after: followers(alloc, job)?,
-        missing: count_before(alloc, job)?,
+        missing: all_missing(alloc, job)?,
         most: most_power(&job.tests),
         budget,
     })

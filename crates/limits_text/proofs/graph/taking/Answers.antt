@@ -3,12 +3,13 @@ use Rattle.std.specs.List.{All}
 use Rattle.std.specs.Prelude.{slice_index}
 use Rattle.live_tests.specs.Neighbours.{after}
 use Rattle.limits_text.specs.Orders.{copies}
+use Rattle.limits_text.proofs.GraphSteps.{counts_held}
 use Rattle.limits_text.proofs.Taking.{IsStep, starts, goes_step, all_taken, few_taken, after_within, enough_held, test_small, listed}
 use Rattle.limits_text.proofs.graph.taking.Goals as goal
 
 pub loop-done-init : goal.loop-done-init
 loop-done-init c =
-    starts c.args.pairs.now c.args.count c.in_ok-counts.counts.items c.in_ok-order.order.items c.in_ok-counts.ensures.long c.in_ok-counts.ensures.counts
+    starts c.args.pairs.now c.args.count c.in_ok-counts.counts.items c.in_ok-order.order.items c.in_ok-counts.ensures.long (counts_held c.args.count c.in_ok-counts.counts.items c.args.pairs.now c.in_ok-counts.ensures.long c.in_ok-counts.ensures.counts)
     (let e = c.in_ok-order.ensures in let s = c.as_slice.ensures.value in rw s at e)
 
 pub index-requires : goal.index-requires

@@ -7,7 +7,7 @@ use Rattle.limits_text.specs.Places.{StopsAt, HasFirstCycle}
 use Rattle.limits_text.specs.Views.{item_of}
 use Rattle.limits_text.proofs.Reading.{said, sound_said}
 use Rattle.limits_text.proofs.Noting.{noted_said}
-use Rattle.limits_text.proofs.read.read_limits.Goals as goal
+use Rattle.limits_text.proofs.read.read_limits_with.Goals as goal
 
 pub returns-in-Err : goal.returns-in-Err
 returns-in-Err c =

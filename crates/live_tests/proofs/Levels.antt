@@ -4,7 +4,7 @@ use Rattle.std.specs.Prelude.{slice_get, nat_lt}
 use Rattle.std.proofs.lemmas.Bool.{cases_lt, cases_eq, lt-ltb, le-ltb}
 use Rattle.soc_model.specs.Chips.{ModuleValue, SocValue, IsParent, level_at, parent_place}
 use Rattle.soc_model.proofs.Parents.{IsParent-from_place, IsParent-unique, levels-from_none}
-use Rattle.plan_checker.specs.Clashes.{HasParentAt}
+use Rattle.live_tests.specs.Parents.{HasParentAt}
 
 -- all modules behind the one at hand and before a place are of no smaller level than the one there; at the number of modules none is at hand
 pub record IsLook (modules : List ModuleValue) (place at : ℕ) : Type 0 where

@@ -2,8 +2,8 @@ use Rattle.std.proofs.Common.{◌≡◌, ◌≤◌, ◌<◌, Some, length, arith
 use Rattle.std.specs.Prelude.{slice_get, slice_index}
 use Rattle.std.proofs.lemmas.Option.{slice_get-get_or}
 use Rattle.soc_model.specs.Chips.{soc_value, level_at}
-use Rattle.plan_checker.proofs.Levels.{look_on, look_shrinks}
-use Rattle.plan_checker.proofs.parents.parent_of.Goals as goal
+use Rattle.live_tests.proofs.Levels.{look_on, look_shrinks}
+use Rattle.live_tests.proofs.parent_places.parent_of.Goals as goal
 
 pub loop-at-smaller : goal.loop-at-smaller
 loop-at-smaller c =

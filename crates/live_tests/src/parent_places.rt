@@ -1,12 +1,13 @@
-// The parent of each module: the nearest one before it of a smaller level. Each is found through the parents before it.
+//! The parent of each module: the nearest one before it of a smaller level. Each is found through the parents before it.
 
-ghost use Rattle.std.specs.Prelude.{◌≡◌, ℕ, ◌<◌, ◌≤◌, length};
-ghost use Rattle.soc_model.specs.Chips.{IsParent, level_at};
-ghost use Rattle.soc_model.specs.Chips.{soc_value};
-ghost use Rattle.plan_checker.specs.Clashes.{AreParents, HasParentAt};
+ghost use Rattle.std.specs.Prelude.{◌≡◌, ℕ, ◌<◌, ◌≤◌, length, IfOk};
+ghost use Rattle.soc_model.specs.Chips.{IsParent, level_at, soc_value};
+ghost use Rattle.live_tests.specs.Parents.{AreParentPlaces, AreParents, HasParentAt, below as below_count};
 
-use crate::lookups::module_count;
+use crate::placed::module_count;
+use outside::{NoMemory, push};
 use soc_model::{Soc, module_at};
+use std::alloc::Global;
 
 /// The level of the module at a place.
 fn level_of(soc: &Soc, place: usize) -> u64
@@ -49,8 +50,8 @@ fn parent_of(soc: &Soc, parents: &[usize], place: usize) -> usize
     count
 }
 
-/// Writes the parent of each module.
-pub(crate) fn fill_parents(soc: &Soc, parents: &mut [usize])
+/// Writes for each module the place of its parent; the number of modules where it has none.
+pub fn fill_parents(soc: &Soc, parents: &mut [usize])
     requires { length parents.old ≡ length (soc_value soc.now).modules }
     ensures { AreParents (soc_value soc.now) parents.new }
 {
@@ -58,4 +59,26 @@ pub(crate) fn fill_parents(soc: &Soc, parents: &mut [usize])
         let found = parent_of(soc, parents, place);
         parents[place] = found;
     }
+}
+
+/// A place, where it is less than the count.
+fn below(count: usize, place: usize) -> Option<usize>
+    ensures { result ≡ below_count count place }
+{
+    if place < count { Some(place) } else { None }
+}
+
+/// For each module of a chip the place of its parent, in one pass. None stands exactly where a module has no parent.
+/// `NoMemory` where there is none.
+pub fn parents(alloc: Global, soc: &Soc) -> Result<Vec<Option<usize>>, NoMemory>
+    ensures { IfOk result (λ parents. AreParentPlaces (soc_value soc.now) parents.items) }
+{
+    let count = module_count(soc);
+    let mut places: Vec<usize> = vec![in alloc; 0; count].map_err(|_| NoMemory)?;
+    fill_parents(soc, &mut places);
+    let mut parents = Vec::new(alloc);
+    for place in &places {
+        push(&mut parents, below(count, *place))?;
+    }
+    Ok(parents)
 }

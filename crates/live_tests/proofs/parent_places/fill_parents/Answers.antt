@@ -1,9 +1,9 @@
 use Rattle.std.proofs.Common.{arith, ◌∙◌, inl, inr}
 use Rattle.std.proofs.lemmas.Bool.{cases_eq}
 use Rattle.soc_model.specs.Chips.{soc_value}
-use Rattle.plan_checker.specs.Clashes.{HasParentAt}
-use Rattle.plan_checker.proofs.Rooms.{set_here, set_else}
-use Rattle.plan_checker.proofs.parents.fill_parents.Goals as goal
+use Rattle.live_tests.specs.Parents.{HasParentAt}
+use Rattle.live_tests.proofs.WrittenParents.{set_here, set_else}
+use Rattle.live_tests.proofs.parent_places.fill_parents.Goals as goal
 
 pub loop-place-preserved : goal.loop-place-preserved
 loop-place-preserved c = λ p less. elim (cases_eq p c.loop-place.place) [
