@@ -1,5 +1,5 @@
 -- The lower times of tests, by the sizes of their module.
-use Rattle.std.specs.Prelude.{ℕ, ◌+◌, ◌*◌, ◌^◌, ◌≤◌, Bool, List, length, max, if◌then◌else◌}
+use Rattle.std.specs.Prelude.{◌≡◌, ℕ, ◌+◌, ◌*◌, ◌^◌, ◌≤◌, Bool, List, length, max, if◌then◌else◌}
 use Rattle.std.specs.List.{sum, sum_by}
 use Rattle.soc_model.specs.declared.Test.{Test}
 use Rattle.soc_model.specs.Chips.{ModuleValue, is_live}
@@ -39,3 +39,9 @@ tam_times_by s w ts = sum_by (λ t. if is_tam t then time_by s w t else 0) ts
 
 abbrev pub works_by : Sizes → List Test → ℕ
 works_by s ts = sum_by (λ t. if is_live t then work_by s t else 0) ts
+
+-- the sizes of a module of a sound chip
+pub record IsMeasured (m : ModuleValue) (s : Sizes) : Type 0 where
+  pub sizes : s ≡ sizes_of m
+  pub fitting : IsFitting s
+  pub work : works_by s m.tests ≤ 10 ^ 18
