@@ -1,16 +1,13 @@
-// What a search goes by: which module each test is of, its cycles on each width, and what precedes it.
+//! What a search goes by: which module each test is of, its cycles on each width, and what precedes it.
 ghost use Rattle.std.specs.Prelude.{◌≡◌, ℕ, ◌+◌, ◌<◌, ◌≤◌, length, slice_get, Some, true, IsTrue, IfOk, OnOk, IfSome, if◌then◌else◌};
 ghost use Rattle.std.specs.List.{All, filter};
 ghost use Rattle.soc_model.specs.Chips.{soc_value, module_value, is_live, live_tests};
-ghost use Rattle.width_table.specs.Times.{mode_time, IsChosen};
-ghost use Rattle.width_table.specs.Tables.{IsTable};
 ghost use Rattle.resource_table.specs.Jobs.{job_value, IsSoundJob};
 ghost use Rattle.arch_search.specs.Problems.{IsTimed, IsProblem};
 
 use crate::scheduling::zeros;
 use live_tests::Neighbours;
 use outside::{NoMemory, push};
-use plan_model::tam_duration;
 use resource_table::{Job, all_before};
 use soc_model::{Module, Soc, Test, TestId, live, module_at};
 use std::alloc::Global;
@@ -48,53 +45,23 @@ fn own_cycles(alloc: Global, test: &Test, wires: u64) -> Result<Vec<u64>, NoMemo
     vec![in alloc; test.patterns; wires as usize + 1].map_err(|_| NoMemory)
 }
 
-/// The cycles of a live test over the wires on a bus of a width, in the wrapper of the width table.
-fn cycles_on(
-    alloc: Global,
-    table: &WidthTable,
-    place: usize,
-    module: &Module,
-    test: &Test,
-    width: u64,
-) -> Result<u64, NoMemory>
-    requires table { IsTable table.now }
-    requires module_there { slice_get table.now.soc.modules place ≡ Some (module_value «module».now) }
-    requires test_there { (k : ℕ) × (slice_get «module».now.tests.items k ≡ Some test.now) }
-    requires is_live { is_live test.now ≡ true }
-    requires tam { IsTrue test.now.tam }
-    requires some { 1 ≤ width }
-    requires within { width ≤ table.now.wires }
-    requires chosen { (v : ℕ) × IsChosen (mode_time (module_value «module».now) test.now.scan) width v }
-{
-    let wrapper = table.wrapper(alloc, place, test.scan, width)?;
-    Ok(tam_duration(module, &wrapper, test))
-}
-
-/// The cycles of a live test over the wires on each width, in the wrapper of the width table.
+/// The cycles of a live test over the wires on each width, in the wrapper that the width table gives there.
 fn wire_cycles(
     alloc: Global,
     table: &WidthTable,
     place: usize,
-    module: &Module,
     test: &Test,
 ) -> Result<Vec<u64>, NoMemory>
-    requires module_there { slice_get table.now.soc.modules place ≡ Some (module_value «module».now) }
-    requires test_there { (k : ℕ) × (slice_get «module».now.tests.items k ≡ Some test.now) }
+    requires place { place < length table.now.soc.modules }
+    requires there { IfSome (slice_get table.now.soc.modules place) (λ m. (k : ℕ) × (slice_get m.tests k ≡ Some test.now)) }
     requires is_live { is_live test.now ≡ true }
     requires tam { IsTrue test.now.tam }
     ensures { IfOk result (λ row. length row.items ≡ table.now.wires + 1) }
 {
     let wires = table.wires();
     let mut row = zeros(alloc, wires as usize + 1)?;
-    let mut chosen = 0;
-    let mut cycles = 0;
     for width in 1..wires + 1 {
-        let next = table.chosen(place, test.scan, width);
-        if next != chosen {
-            cycles = cycles_on(alloc, table, place, module, test, width)?;
-            chosen = next;
-        }
-        row[width as usize] = cycles;
+        row[width as usize] = table.cycles(place, test, width);
     }
     Ok(row)
 }
@@ -118,7 +85,7 @@ fn times_of(
         test: test.number,
     };
     if test.tam {
-        let cycles = wire_cycles(alloc, table, place, module, test)?;
+        let cycles = wire_cycles(alloc, table, place, test)?;
         return Ok(TestTimes {
             id,
             module: number,

@@ -1,11 +1,11 @@
 -- The nodes of a chip's live tests, without precedences.
 use Rattle.std.proofs.Common.{◌≡◌, inl, inr, ℕ, ◌+◌, ◌*◌, ◌<◌, ◌≤◌, ◌^◌, max, Some, true, false, List, [], ◌∷◌, ◌++◌, length, get_or, take, map, refl, sym, ap, subst, ◌∙◌, append-nil, append_assoc, arith}
 use Rattle.std.specs.Prelude.{slice_get}
-use Rattle.std.specs.List.{All, filter, flat_map}
+use Rattle.std.specs.List.{filter, flat_map}
 use Rattle.std.proofs.lemmas.Bool.{cases_Bool}
 use Rattle.std.proofs.lemmas.List.{length-map, map-append, take_more}
 use Rattle.std.proofs.lemmas.List.Elements.{filter-append}
-use Rattle.std.proofs.lemmas.Option.{slice_get-map, slice_get-get_or}
+use Rattle.std.proofs.lemmas.Option.{slice_get-map}
 use Rattle.std.proofs.Math.Nat.{mul-le-mul_left}
 use Rattle.soc_model.specs.declared.Test.{Test}
 use Rattle.soc_model.specs.declared.TestId.{TestId}
@@ -23,9 +23,9 @@ use Rattle.plan_model.proofs.ShortTests.{live_patterns}
 use Rattle.bound_rules.specs.Sizes.{sizes_of, least_chain, IsFitting}
 use Rattle.bound_rules.proofs.Works.{time_by-le, tam_time_is, self_time_is}
 use Rattle.bound_rules.proofs.Modules.{fitting_sizes, time_by_sizes, work_by_sizes, module_size-le_work}
-use Rattle.bound_rules.proofs.SoundWork.{live_work-le, live_work-le_live}
+use Rattle.bound_rules.proofs.SoundWork.{live_work-le_live}
 use Rattle.bound_certificate.specs.declared.nodes.Node.{Node}
-use Rattle.bound_certificate.specs.Nodes.{NodeValue, node_value, node_values, ids_of, fixed_parts, HasSmallWork, node_in, nodes_in, live_nodes, AreLinked, AreNodes}
+use Rattle.bound_certificate.specs.Nodes.{NodeValue, node_value, node_values, ids_of, fixed_parts, node_in, nodes_in, live_nodes, AreLinked, AreNodes}
 use Rattle.live_tests.proofs.LiveIds.{ids_differ}
 use Rattle.bound_certificate.proofs.Links.{ids_same}
 
@@ -46,11 +46,6 @@ lower_small : (m : ModuleValue) (t : Test) (w : ℕ) → 1 ≤ w → 1 ≤ t.pat
 lower_small m t w some live small =
     let fits : IsFitting (sizes_of m) = fitting_sizes m (omega (arith, module_size-le_work m t live, small)) in
     omega (arith, time_by_sizes m t w, time_by-le (sizes_of m) t w some live fits, work_by_sizes m t, small)
-
--- ---- the modules of a sound chip
-
-pub small_works : (soc : SocValue) → IsSoundChip soc → All HasSmallWork soc.modules
-small_works soc sound = λ p d less. record { each = λ k t there live. live_work-le soc sound p k (get_or soc.modules p d) t (slice_get-get_or soc.modules p d less) there live }
 
 -- ---- all live tests
 

@@ -1,10 +1,9 @@
 -- The live tests of a chip as nodes of a graph, whose edges are the precedences of live tests.
-use Rattle.std.specs.Prelude.{◌≡◌, ℕ, ◌^◌, ◌≤◌, Some, List, [], map, slice_get, slice_index_or, true}
+use Rattle.std.specs.Prelude.{◌≡◌, ℕ, ◌^◌, ◌≤◌, Some, List, [], map, slice_get, slice_index_or}
 use Rattle.std.specs.List.{flat_map, filter, Contains}
 use Rattle.soc_model.specs.declared.Test.{Test}
 use Rattle.soc_model.specs.declared.TestId.{TestId}
 use Rattle.soc_model.specs.Chips.{ModuleValue, SocValue, is_live}
-use Rattle.soc_model.specs.Sizes.{test_work}
 use Rattle.plan_model.specs.Plans.{LimitsValue}
 use Rattle.plan_model.specs.Bounds.{lower_time}
 use Rattle.plan_model.specs.Rules.{live_ids}
@@ -33,10 +32,6 @@ abbrev pub fixed_parts : List NodeValue → List (TestId × ℕ)
 fixed_parts nodes = map (λ (n : NodeValue). (n.id, n.time)) nodes
 
 -- ---- without precedences
-
--- the work of each live test fits in a machine's number
-pub record HasSmallWork (m : ModuleValue) : Type 0 where
-  pub each : (k : ℕ) (t : Test) → slice_get m.tests k ≡ Some t → is_live t ≡ true → test_work m t ≤ 10 ^ 18
 
 abbrev pub node_in : ℕ → ModuleValue → Test → NodeValue
 node_in wires m t = record { id = record { «module» = m.number; test = t.number }; time = lower_time m t wires; before = [] }

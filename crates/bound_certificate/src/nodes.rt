@@ -6,9 +6,10 @@ ghost use Rattle.soc_model.specs.SoundChips.{IsSoundChip};
 ghost use Rattle.plan_model.specs.Rules.{live_ids};
 ghost use Rattle.plan_model.specs.Views.{limits_value};
 ghost use Rattle.live_tests.specs.Names.{places_of};
-ghost use Rattle.bound_certificate.specs.Nodes.{node_values, fixed_parts, before_at, tests_at, HasSmallWork, nodes_in, live_nodes as nodes_of_tests, AreNodes};
+ghost use Rattle.bound_rules.specs.Sizes.{IsMeasurable};
+ghost use Rattle.bound_certificate.specs.Nodes.{node_values, fixed_parts, before_at, tests_at, nodes_in, live_nodes as nodes_of_tests, AreNodes};
 
-use bound_rules::lower_time;
+use bound_rules::LowerTimes;
 use live_tests::{Neighbours, all_before};
 use outside::{NoMemory, push};
 use plan_model::Limits;
@@ -35,9 +36,10 @@ fn push_live(
     wires: u64,
 ) -> Result<(), NoMemory>
     requires wires { 1 ≤ wires }
-    requires works { HasSmallWork (module_value «module».now) }
+    requires works { IsMeasurable (module_value «module».now) }
     ensures { OnOk result (node_values nodes.new.items ≡ node_values nodes.old.items ++ nodes_in wires (module_value «module».now)) }
 {
+    let lower = LowerTimes::new(module);
     for test in &module.tests {
         if live(test) {
             let node = Node {
@@ -45,7 +47,7 @@ fn push_live(
                     module: module.number,
                     test: test.number,
                 },
-                time: lower_time(module, test, wires),
+                time: lower.of_test(test, wires),
                 before: Vec::new(alloc),
             };
             push(nodes, node)?;

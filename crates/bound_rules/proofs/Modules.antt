@@ -12,7 +12,8 @@ use Rattle.plan_model.specs.Listing.{module_size}
 use Rattle.plan_model.specs.Operations.{ops_of}
 use Rattle.plan_model.specs.Plans.{greatest}
 use Rattle.plan_model.specs.Bounds.{quotient_up, least_length, lower_time, lower, is_of, module_bound, lower_tam_time}
-use Rattle.plan_model.proofs.Sums.{sum_by-filter, sum_by-le_at}
+use Rattle.plan_model.proofs.Sums.{item-le-sum_by, sum_by-filter, sum_by-le_at}
+use Rattle.bound_rules.specs.declared.sizes.Sizes.{Sizes}
 use Rattle.bound_rules.specs.Sizes.{sizes_of, least_chain, time_by, work_by, times_by, tam_times_by, works_by, IsFitting}
 use Rattle.soc_model.specs.Modes.{is_tam}
 
@@ -50,6 +51,12 @@ module_size-le_work m t live = by t.patterns live
     by : (p : ℕ) → 1 ≤ p → module_size m ≤ p * module_size m + (if t.tam then m.setup else 0)
     by (suc p) live = let product : suc p * module_size m ≡ module_size m + p * module_size m = omega arith in omega arith
     by zero live = absurd (omega arith)
+
+-- a live test of a module is within the work of its tests
+pub work_of_one : (s : Sizes) (ts : List Test) (k : ℕ) (t : Test) → slice_get ts k ≡ Some t → is_live t ≡ true → work_by s t ≤ works_by s ts
+work_of_one s ts k t at live =
+    let item : (if is_live t then work_by s t else 0) ≤ works_by s ts = item-le-sum_by (λ (t : Test). if is_live t then work_by s t else 0) ts k t at in
+    rw live at item
 
 -- ---- of all live tests, those of one module
 

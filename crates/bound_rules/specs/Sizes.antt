@@ -1,9 +1,10 @@
 -- The lower times of tests, by the sizes of their module.
-use Rattle.std.specs.Prelude.{ℕ, ◌+◌, ◌*◌, ◌^◌, ◌≤◌, Bool, List, length, max, if◌then◌else◌}
+use Rattle.std.specs.Prelude.{◌≡◌, ℕ, ◌+◌, ◌*◌, ◌^◌, ◌≤◌, Bool, List, length, max, if◌then◌else◌}
 use Rattle.std.specs.List.{sum, sum_by}
 use Rattle.soc_model.specs.declared.Test.{Test}
 use Rattle.soc_model.specs.Chips.{ModuleValue, is_live}
 use Rattle.soc_model.specs.Modes.{is_tam}
+use Rattle.plan_model.specs.Listing.{module_size}
 use Rattle.plan_model.specs.Operations.{ops_of}
 use Rattle.plan_model.specs.Plans.{greatest}
 use Rattle.plan_model.specs.Bounds.{quotient_up}
@@ -39,3 +40,14 @@ tam_times_by s w ts = sum_by (λ t. if is_tam t then time_by s w t else 0) ts
 
 abbrev pub works_by : Sizes → List Test → ℕ
 works_by s ts = sum_by (λ t. if is_live t then work_by s t else 0) ts
+
+-- a module whose cells and the work of whose live tests fit in a machine's number, as those of a sound chip do
+pub record IsMeasurable (m : ModuleValue) : Type 0 where
+  pub small : module_size m ≤ 10 ^ 18
+  pub work : works_by (sizes_of m) m.tests ≤ 10 ^ 18
+
+-- the sizes of such a module
+pub record IsMeasured (m : ModuleValue) (s : Sizes) : Type 0 where
+  pub sizes : s ≡ sizes_of m
+  pub fitting : IsFitting s
+  pub work : works_by s m.tests ≤ 10 ^ 18

@@ -13,14 +13,16 @@ ghost use Rattle.plan_model.specs.Rules.{IsBound};
 ghost use Rattle.plan_model.specs.Bounds.{quotient_up, lower_time, module_bound, pair_bound};
 
 mod energy;
+mod lower_times;
 mod names;
 mod sizes;
 mod widths;
 
 pub use energy::{power_bound, power_bound_by_names};
+pub use lower_times::LowerTimes;
 pub use names::{chain_bound, live_time};
 use sizes::Sizes;
-use soc_model::{Module, Soc, Test, module_at, parent};
+use soc_model::{Module, Soc, Test, parent};
 pub use widths::{area_bound, lower_tam_time, need};
 
 /// A total over so many parts, rounded up.
@@ -61,8 +63,7 @@ pub fn module_bound(soc: &Soc, place: usize, wires: u64) -> u64
     ensures small { result ≤ 10 ^ 18 }
     ensures bound { (limits : LimitsValue) → limits.wires ≡ wires → IsBound (soc_value soc.now) limits result }
 {
-    let module = module_at(soc, place);
-    Sizes::of(module).times(&module.tests, wires)
+    LowerTimes::of(soc, place).of_all(wires)
 }
 
 /// The cycles that the live tests of a module and of its parent take at least on `wires` wires, one after another: a

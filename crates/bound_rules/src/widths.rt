@@ -1,4 +1,4 @@
-// The lower times of a module's tests over the wires, at different widths.
+//! The lower times of a module's tests over the wires, at different widths.
 ghost use Rattle.std.specs.Prelude.{◌≡◌, ℕ, ◌+◌, ◌*◌, ◌^◌, ◌<◌, ◌≤◌, length};
 ghost use Rattle.soc_model.specs.Chips.{soc_value};
 ghost use Rattle.soc_model.specs.SoundChips.{IsSoundChip};
@@ -7,6 +7,7 @@ ghost use Rattle.plan_model.specs.Rules.{IsBound};
 ghost use Rattle.plan_model.specs.Bounds.{lower_tam_time, need, first_below, least_from_one, sum_below, module_area, area_bound};
 ghost use Rattle.bound_rules.specs.Sizes.{tam_times_by, works_by, IsFitting};
 
+use crate::lower_times::LowerTimes;
 use crate::quotient_up;
 use crate::sizes::Sizes;
 use soc_model::{Soc, Test, module_at};
@@ -19,8 +20,7 @@ pub fn lower_tam_time(soc: &Soc, place: usize, width: u64) -> u64
     ensures sum { result ≡ lower_tam_time (soc_value soc.now) place width }
     ensures small { result ≤ 10 ^ 18 }
 {
-    let module = module_at(soc, place);
-    Sizes::of(module).tam_times(&module.tests, width)
+    LowerTimes::of(soc, place).over_wires(width)
 }
 
 /// The least width from 1 to `wires` at which the tests over the wires take less than `claimed` cycles together, or one

@@ -1,24 +1,18 @@
 -- The least of some numbers, from one width to the next.
-use Rattle.std.proofs.Common.{◌≡◌, ℕ, zero, suc, ◌+◌, ◌-◌, ◌^◌, ◌≤◌, ◌<◌, Some, List, [], ◌∷◌, ◌++◌, length, replicate, refl, ap, ◌∙◌, sym, arith, inl, inr, ◌⊎◌}
-use Rattle.std.specs.Prelude.{slice_get, map}
-use Rattle.std.proofs.lemmas.Bool.{cases_lt, cases_eq}
-use Rattle.std.specs.List.{All}
-use Rattle.std.proofs.lemmas.List.{length-append, length-map, length-replicate, map-append, take_more}
-use Rattle.plan_model.proofs.Lists.{from_map}
-use Rattle.plan_model.specs.Bounds.{least_from_one}
-use Rattle.plan_model.proofs.FirstAndLeast.{least-le, least-ge}
-use Rattle.width_table.specs.Times.{IsChosen}
-use Rattle.width_table.specs.Choices.{IsChoice, AreChoices, AreSums, AreTimes, AreWidths, IsRow, AreRows, HasRows, width_of, widths_of}
-use Rattle.width_table.specs.declared.choosing.Choice.{Choice}
-use Rattle.width_table.specs.declared.rows.ModuleRow.{ModuleRow}
-use Rattle.std.proofs.Common.{Option, None, Bool, true, false}
-use Rattle.std.specs.Prelude.{IfSome}
+use Rattle.std.proofs.Common.{◌≡◌, ℕ, zero, suc, ◌+◌, ◌-◌, ◌^◌, ◌≤◌, ◌<◌, Bool, true, false, Option, Some, None, List, [], ◌∷◌, ◌++◌, length, get_or, replicate, refl, ap, ◌∙◌, sym, arith, inl, inr, ◌⊎◌}
+use Rattle.std.specs.Prelude.{slice_get, IfSome}
+use Rattle.std.proofs.lemmas.Bool.{cases_Bool, cases_lt, cases_eq, lt-ltb, le-ltb}
+use Rattle.std.proofs.lemmas.List.{length-append, length_push, length-replicate}
+use Rattle.std.proofs.lemmas.Option.{slice_get_within, slice_get-get_or}
 use Rattle.soc_model.specs.Chips.{ModuleValue, SocValue}
 use Rattle.plan_model.specs.Cells.{ChainValue}
+use Rattle.plan_model.specs.Bounds.{least_from_one}
+use Rattle.plan_model.proofs.FirstAndLeast.{least-le, least-ge}
 use Rattle.wrapper_design.specs.Design.{mode_of, design}
-use Rattle.width_table.specs.Times.{mode_time, time, time_in, least_time}
-use Rattle.std.proofs.lemmas.Option.{slice_get_within, slice_get-get_or, get_or_from_slice_get}
-use Rattle.std.proofs.Common.{get_or, take}
+use Rattle.width_table.specs.Times.{IsChosen, mode_tests, mode_time, time, time_in, least_time}
+use Rattle.width_table.specs.Choices.{HasPaths, IsChoice, AreChoices, AreTimes, IsRow, AreRows, HasRows, last_of, takes_fewer, with_choice, choices_in}
+use Rattle.width_table.specs.declared.choosing.Choice.{Choice}
+use Rattle.width_table.specs.declared.rows.ModuleRow.{ModuleRow}
 
 pub chosen_first : (f : ℕ → ℕ) → IsChosen f 1 1
 chosen_first f = record { some = omega arith; within = omega arith; least = λ u a b. let e : u ≡ 1 = omega arith in let s : f u ≡ f 1 = ap f e in omega arith; first = λ u a b. absurd (omega arith) }
@@ -88,85 +82,135 @@ get_behind (x ∷ xs) ys (suc k) y at = elim (get_behind xs ys k y at) [
 ]
 
 -- a choice stays one as long as the time does
-pub choice_stays : (f : ℕ → ℕ) (w v : ℕ) (c : Choice) → w ≤ v → ((u : ℕ) → w ≤ u → u ≤ v → f u ≡ f w) → IsChoice f w c → IsChoice f v c
-choice_stays f w v c le same now = record {
-  chosen = record {
-    some = now.chosen.some;
-    within = omega (arith, now.chosen.within);
-    least = λ u a b. elim (cases_lt u w) [
-      | inl less ↦ now.chosen.least u a (omega (arith, less))
-      | inr no' ↦
-          let here : f u ≡ f w = same u (omega (arith, no')) b in
-          let least : f c.width ≤ f w = now.chosen.least w (omega (arith, now.chosen.some, now.chosen.within)) (omega arith) in
-          omega (arith, here, least)
-    ];
-    first = now.chosen.first;
-  };
-  cycles = now.cycles;
-}
+pub choice_stays : (m : ModuleValue) (scan : Bool) (w v : ℕ) (c : Choice) → w ≤ v → ((u : ℕ) → w ≤ u → u ≤ v → mode_time m scan u ≡ mode_time m scan w) → IsChoice m scan w c → IsChoice m scan v c
+choice_stays m scan w v c le same now =
+    let f : ℕ → ℕ = mode_time m scan in
+    record {
+      chosen = record {
+        some = now.chosen.some;
+        within = omega (arith, now.chosen.within);
+        least = λ u a b. elim (cases_lt u w) [
+          | inl less ↦ now.chosen.least u a (omega (arith, less))
+          | inr no' ↦
+              let here : f u ≡ f w = same u (omega (arith, no')) b in
+              let least : f c.width ≤ f w = now.chosen.least w (omega (arith, now.chosen.some, now.chosen.within)) (omega arith) in
+              omega (arith, here, least)
+        ];
+        first = now.chosen.first;
+      };
+      cycles = now.cycles;
+      fits = now.fits;
+      paths = now.paths;
+    }
 
-pub fill_choices : (f : ℕ → ℕ) (before w last : ℕ) (cs ds : List Choice) (c : Choice) → w ≡ before + 1 → w ≤ last → AreChoices f before cs → IsChoice f w c → c.cycles ≤ 10 ^ 18 → ((u : ℕ) → w ≤ u → u ≤ last → f u ≡ f w) → ds ≡ cs ++ replicate (last - before) c → AreChoices f last ds
-fill_choices f before w last cs ds c e le h now small same is = rw is (record {
-  size = length-append cs (replicate (last - before) c) ∙ omega (arith, h.size, length-replicate (last - before) c);
-  each = λ k d at. elim (get_behind cs (replicate (last - before) c) k d at) [
+pub fill_choices : (m : ModuleValue) (scan : Bool) (before w last n : ℕ) (taken more : List Choice) (places all : List ℕ) (c : Choice) → w ≡ before + 1 → w ≤ last → AreChoices m scan before taken places → ((k : ℕ) (d : Choice) → slice_get taken k ≡ Some d → slice_get more k ≡ Some d) → slice_get more n ≡ Some c → IsChoice m scan w c →
+    ((u : ℕ) → w ≤ u → u ≤ last → mode_time m scan u ≡ mode_time m scan w) → all ≡ places ++ replicate (last - before) n → AreChoices m scan last more all
+fill_choices m scan before w last n taken more places all c e le h grows newest now same is = rw is (record {
+  size = length-append places (replicate (last - before) n) ∙ omega (arith, h.size, length-replicate (last - before) n);
+  each = λ k p at. elim (get_behind places (replicate (last - before) n) k p at) [
     | inl new ↦
-        let same_choice : c ≡ d = get_replicate (last - before) c (k - length cs) d new.1 in
-        let below : k - length cs < last - before = omega (arith, slice_get_within (replicate (last - before) c) (k - length cs) d new.1, length-replicate (last - before) c) in
-        rw (← same_choice) (choice_stays f w (k + 1) c (omega (arith, new.0, h.size)) (λ u a b. same u a (omega (arith, b, below, new.0, h.size))) now)
-    | inr old ↦ h.each k d old
-  ];
-  fits = λ k d at. elim (get_behind cs (replicate (last - before) c) k d at) [
-    | inl new ↦ let same_choice : c ≡ d = get_replicate (last - before) c (k - length cs) d new.1 in rw (← same_choice) small
-    | inr old ↦ h.fits k d old
+        let same_place : n ≡ p = get_replicate (last - before) n (k - length places) p new.1 in
+        let below : k - length places < last - before = omega (arith, slice_get_within (replicate (last - before) n) (k - length places) p new.1, length-replicate (last - before) n) in
+        (c, rw (← same_place) newest, choice_stays m scan w (k + 1) c (omega (arith, new.0, h.size)) (λ u a b. same u a (omega (arith, b, below, new.0, h.size))) now)
+    | inr old ↦
+        let r = h.each k p old in
+        (r.0, grows p r.0 r.1, r.2)
   ];
 })
 
 -- where nothing takes any time, the first width is chosen
-pub idle_choices : (f : ℕ → ℕ) (w : ℕ) → ((u : ℕ) → f u ≡ 0) → AreChoices f w (replicate w (record { cycles = 0; width = 1 }))
-idle_choices f w none = record {
-  size = length-replicate w (record { cycles = 0; width = 1 });
-  each = λ k c at. let e : record { cycles = 0; width = 1 } ≡ c = get_replicate w (record { cycles = 0; width = 1 }) k c at in rw (← e) (record {
-    chosen = record {
-      some = omega arith;
-      within = omega arith;
-      least = λ u a b. omega (arith, none 1, none u);
-      first = λ u a b. absurd (omega arith);
-    };
-    cycles = sym (none 1);
-  });
-  fits = λ k c at. let e : record { cycles = 0; width = 1 } ≡ c = get_replicate w (record { cycles = 0; width = 1 }) k c at in rw (← e) (omega arith);
+pub idle_choices : (m : ModuleValue) (scan : Bool) (w : ℕ) → length (mode_tests m scan) ≡ 0 → ((u : ℕ) → mode_time m scan u ≡ 0) → AreChoices m scan w (replicate 1 (record { width = 1; si = 0; so = 0; cycles = 0 })) (replicate w 0)
+idle_choices m scan w no_test none = record {
+  size = length-replicate w 0;
+  each = λ k p at.
+      let e : 0 ≡ p = get_replicate w 0 k p at in (
+        record { width = 1; si = 0; so = 0; cycles = 0 },
+        rw (← e) refl,
+        record {
+          chosen = record {
+            some = omega arith;
+            within = omega arith;
+            least = λ u a b. omega (arith, none 1, none u);
+            first = λ u a b. absurd (omega arith);
+          };
+          cycles = sym (none 1);
+          fits = omega arith;
+          paths = λ some. absurd (omega (arith, no_test));
+        },
+      );
 }
 
--- the choice at a width, from the one before it
-pub choose : (f : ℕ → ℕ) (w cycles : ℕ) (old new : Choice) → 1 ≤ w → cycles ≡ f w → cycles ≤ 10 ^ 18 → (1 < w → IsChosen f (w - 1) old.width) → (1 < w → old.cycles ≡ f old.width) → (w ≤ 1 → old.cycles + 1 ≡ 2 ^ 64) →
-    ((cycles < old.cycles) × (new ≡ record { cycles = cycles; width = w })) ⊎ ((old.cycles ≤ cycles) × (new ≡ old)) → IsChosen f w new.width × (new.cycles ≡ f new.width)
-choose f w cycles old new some is small chosen same start (inl better) = rw better.1 (
-  elim (cases_lt 1 w) [
-    | inl later ↦
-        let before = chosen later in
-        let e : old.cycles ≡ f old.width = same later in
-        chosen_new f (w - 1) old.width w (omega arith) before (omega (arith, better.0))
-    | inr first ↦ let e : w ≡ 1 = omega arith in rw e (chosen_first f)
-  ],
-  is,
-)
-choose f w cycles old new some is small chosen same start (inr kept) = rw kept.1 (elim (cases_lt 1 w) [
-  | inl later ↦
-      let e : old.cycles ≡ f old.width = same later in
-      (chosen_old f (w - 1) old.width w (omega arith) (chosen later) (omega (arith, kept.0)), same later)
-  | inr first ↦ absurd (omega (arith, start first, kept.0))
-])
+-- ---- the choices that are taken
 
--- the new choice takes no more than the one before
-pub chosen_fits : (w cycles : ℕ) (old new : Choice) → cycles ≤ 10 ^ 18 → ((cycles < old.cycles) × (new ≡ record { cycles = cycles; width = w })) ⊎ ((old.cycles ≤ cycles) × (new ≡ old)) → new.cycles ≤ 10 ^ 18
-chosen_fits w cycles old new small (inl better) = rw better.1 small
-chosen_fits w cycles old new small (inr kept) = rw kept.1 (omega (arith, kept.0))
+pub newest_at : (taken : List Choice) (c : Choice) (n : ℕ) → last_of taken ≡ Some c → n + 1 ≡ length taken → slice_get taken n ≡ Some c
+newest_at taken c n h e = let is : n ≡ length taken - 1 = omega arith in rw is h
+
+last_pushed : (taken : List Choice) (c : Choice) → last_of (taken ++ c ∷ []) ≡ Some c
+last_pushed taken c = let e : length (taken ++ c ∷ []) - 1 ≡ length taken = omega (arith, length_push taken c) in rw e (seam taken) where
+  seam : (xs : List Choice) → slice_get (xs ++ c ∷ []) (length xs) ≡ Some c
+  seam [] = refl
+  seam (x ∷ xs) = seam xs
+
+-- what was taken stays at its place
+pub taken_stays : (c : Choice) (taken : List Choice) (k : ℕ) (d : Choice) → slice_get taken k ≡ Some d → slice_get (with_choice c taken) k ≡ Some d
+taken_stays c taken k d at = elim (cases_Bool (takes_fewer c taken)) [
+  | inl yes' ↦ rw yes' (get_front taken (c ∷ []) k d at)
+  | inr no' ↦ rw no' at
+] where
+  get_front : {X : Type 0} (xs ys : List X) (k : ℕ) (x : X) → slice_get xs k ≡ Some x → slice_get (xs ++ ys) k ≡ Some x
+  get_front [] ys k x at = absurd cc
+  get_front (y ∷ xs) ys zero x at = at
+  get_front (y ∷ xs) ys (suc k) x at = get_front xs ys k x at
+
+pub few_taken : (c : Choice) (taken : List Choice) → length (with_choice c taken) ≤ length taken + 1
+few_taken c taken = elim (cases_Bool (takes_fewer c taken)) [
+  | inl yes' ↦ rw yes' (omega (arith, length_push taken c))
+  | inr no' ↦ rw no' (omega arith)
+]
+
+pub some_taken : (c : Choice) (taken : List Choice) → 1 ≤ length (with_choice c taken)
+some_taken c [] = omega arith
+some_taken c (d ∷ ds) = elim (cases_Bool (takes_fewer c (d ∷ ds))) [
+  | inl yes' ↦ rw yes' (omega arith)
+  | inr no' ↦ rw no' (omega arith)
+]
+
+-- the last choice that is taken at a width, from the one before it
+pub choose : (m : ModuleValue) (scan : Bool) (w : ℕ) (c : Choice) (taken : List Choice) → 1 ≤ w → c.width ≡ w → c.cycles ≡ mode_time m scan w → c.cycles ≤ 10 ^ 18 → HasPaths (mode_of m scan) c →
+    (1 < w → (b : Choice) × (last_of taken ≡ Some b) × IsChoice m scan (w - 1) b) → (w ≤ 1 → taken ≡ []) → (b : Choice) × (last_of (with_choice c taken) ≡ Some b) × IsChoice m scan w b
+choose m scan w c taken some here is small paths before start = elim (cases_lt 1 w) [
+  | inl later ↦
+      let r = before later in
+      rw r.1 (elim (cases_lt c.cycles (r.0).cycles) [
+        | inl less ↦ rw (lt-ltb c.cycles (r.0).cycles less) (
+          c,
+          last_pushed taken c,
+          new (chosen_new (mode_time m scan) (w - 1) (r.0).width w (omega arith) r.2.chosen (omega (arith, r.2.cycles, is, less))),
+        )
+        | inr no' ↦ rw (le-ltb c.cycles (r.0).cycles no') (
+          r.0,
+          r.1,
+          record {
+            chosen = chosen_old (mode_time m scan) (w - 1) (r.0).width w (omega arith) r.2.chosen (omega (arith, r.2.cycles, is, no'));
+            cycles = r.2.cycles;
+            fits = r.2.fits;
+            paths = r.2.paths;
+          },
+        )
+      ])
+  | inr first ↦
+      let e : w ≡ 1 = omega arith in
+      rw (start (omega arith)) (c, refl, new (rw e (chosen_first (mode_time m scan))))
+] where
+  new : IsChosen (mode_time m scan) w w → IsChoice m scan w c
+  new chosen = record {
+    chosen = rw here chosen;
+    cycles = rw here is;
+    fits = small;
+    paths = λ any. paths;
+  }
 
 -- ---- both modes together
-
-pub time_from : (m : ModuleValue) (w : ℕ) (a b : Choice) → IsChoice (mode_time m true) w a → IsChoice (mode_time m false) w b → a.cycles + b.cycles ≡ time m w
-unfolding time
-time_from m w a b x y = omega (arith, x.cycles, y.cycles, chosen_is_least (mode_time m true) w a.width x.chosen, chosen_is_least (mode_time m false) w b.width y.chosen)
 
 pub time_falls : (m : ModuleValue) (v w : ℕ) → 1 ≤ v → v ≤ w → time m w ≤ time m v
 unfolding time
@@ -174,7 +218,11 @@ time_falls m v w some le = omega (arith, least_falls (mode_time m true) v w some
 
 -- any two chosen widths have the time
 pub time_of_chosen : (m : ModuleValue) (w v u : ℕ) → IsChosen (mode_time m true) w v → IsChosen (mode_time m false) w u → time m w ≡ mode_time m true v + mode_time m false u
-time_of_chosen m w v u a b = sym (time_from m w (record { cycles = mode_time m true v; width = v }) (record { cycles = mode_time m false u; width = u }) (record { chosen = a; cycles = refl }) (record { chosen = b; cycles = refl }))
+unfolding time
+time_of_chosen m w v u a b = omega (arith, chosen_is_least (mode_time m true) w v a, chosen_is_least (mode_time m false) w u b)
+
+pub time_from : (m : ModuleValue) (w : ℕ) (a b : Choice) → IsChoice m true w a → IsChoice m false w b → a.cycles + b.cycles ≡ time m w
+time_from m w a b x y = omega (arith, x.cycles, y.cycles, time_of_chosen m w a.width b.width x.chosen y.chosen)
 
 -- ---- the table
 
@@ -194,22 +242,15 @@ push_row ms w k rows m r e here h new = λ p n s at at'. elim (get_push rows r p
   same_at : (ms : List ModuleValue) (k p : ℕ) (m n : ModuleValue) → slice_get ms k ≡ Some m → k ≡ p → slice_get ms p ≡ Some n → m ≡ n
   same_at ms k p m n here i at = let t : slice_get ms k ≡ Some n = ap (slice_get ms) i ∙ at in cc
 
-pub push_sum : (scan terminals : List Choice) (sums : List ℕ) (k : ℕ) (d e : Choice) → length sums ≡ k → AreSums scan terminals sums → AreSums scan terminals (sums ++ ((get_or scan k d).cycles + (get_or terminals k e).cycles) ∷ [])
-push_sum scan terminals sums k d e long so = record {
-  each = λ i t a b at at-a at-b. elim (get_push sums ((get_or scan k d).cycles + (get_or terminals k e).cycles) i t at) [
-    | inl last ↦
-        let here : i ≡ k = last.0 ∙ long in
-        let one : (get_or scan k d).cycles ≡ a.cycles = ap (λ (c : Choice). c.cycles) (ap (λ (j : ℕ). get_or scan j d) (sym here) ∙ get_or_from_slice_get scan i a d at-a) in
-        let other : (get_or terminals k e).cycles ≡ b.cycles = ap (λ (c : Choice). c.cycles) (ap (λ (j : ℕ). get_or terminals j e) (sym here) ∙ get_or_from_slice_get terminals i b e at-b) in
-        omega (arith, last.1, one, other)
-    | inr old ↦ so.each i t a b old at-a at-b
+-- one time more
+pub push_time : (m : ModuleValue) (k time' : ℕ) (times : List ℕ) → AreTimes m k times → time' ≡ time m (k + 1) → AreTimes m (k + 1) (times ++ time' ∷ [])
+push_time m k time' times h is = record {
+  size = length_push times time' ∙ omega (arith, h.size);
+  each = λ i t at. elim (get_push times time' i t at) [
+    | inl last ↦ let here : i ≡ k = last.0 ∙ h.size in sym last.1 ∙ is ∙ ap (λ (j : ℕ). time m (j + 1)) (sym here)
+    | inr old ↦ h.each i t old
   ];
 }
-
-pub push_width : (choices : List Choice) (i w : ℕ) (d : Choice) (more widths : List ℕ) → more ≡ widths ++ w ∷ [] → widths ≡ map width_of (take i choices) → i < length choices → w ≡ (get_or choices i d).width → more ≡ map width_of (take (i + 1) choices)
-push_width choices i w d more widths is so less here =
-    is ∙ ap (λ (l : List ℕ). l ++ w ∷ []) so ∙ ap (λ (v : ℕ). map width_of (take i choices) ++ v ∷ []) here
-    ∙ sym (ap (map width_of) (take_more choices i d less) ∙ map-append width_of (take i choices) (get_or choices i d ∷ []))
 
 item_there : {X : Type 0} (xs : List X) (k : ℕ) → k < length xs → (x : X) × (slice_get xs k ≡ Some x)
 item_there [] k h = absurd (omega arith)
@@ -229,34 +270,14 @@ row_read soc w rows place r m t at e = t.rows_are place m r at (read_at rows pla
 pub time_read : (m : ModuleValue) (w width k : ℕ) (times : List ℕ) (t d : ℕ) → AreTimes m w times → t ≡ get_or times k d → k + 1 ≡ width → width ≤ w → t ≡ time m width
 time_read m w width k times t d h e is le = rw (← is) (h.each k t (read_at times k t d e (omega (arith, h.size))))
 
-pub width_read : (f : ℕ → ℕ) (w width k : ℕ) (widths : List ℕ) (v d : ℕ) → AreWidths f w widths → v ≡ get_or widths k d → k + 1 ≡ width → width ≤ w → IsChosen f width v
-width_read f w width k widths v d h e is le = rw (← is) (h.each k v (read_at widths k v d e (omega (arith, h.size))))
+pub choices_of_row : (m : ModuleValue) (w : ℕ) (scan : Bool) (r : ModuleRow) → IsRow m w r → AreChoices m scan w (choices_in scan r).taken.items (choices_in scan r).places.items
+choices_of_row m w true r h = h.scan
+choices_of_row m w false r h = h.terminals
 
-pub row_widths : (m : ModuleValue) (w : ℕ) (scan : Bool) (r : ModuleRow) → IsRow m w r → AreWidths (mode_time m scan) w (widths_of scan r)
-row_widths m w true r h = h.scan
-row_widths m w false r h = h.terminals
-
--- ---- the lists of a row, from the choices of its modes
-
--- sums of chosen cycles are the times of the module
-pub times_from_sums : (m : ModuleValue) (w : ℕ) (scan terminals : List Choice) (sums : List ℕ) → AreChoices (mode_time m true) w scan → AreChoices (mode_time m false) w terminals → length sums ≡ length scan → AreSums scan terminals sums → AreTimes m w sums
-times_from_sums m w scan terminals sums x y size h = record {
-  size = size ∙ x.size;
-  each = λ k t at.
-      let inside : k < w = omega (arith, slice_get_within sums k t at, size, x.size) in
-      let a = item_there scan k (omega (arith, inside, x.size)) in
-      let b = item_there terminals k (omega (arith, inside, y.size)) in
-      h.each k t a.0 b.0 at a.1 b.1 ∙ time_from m (k + 1) a.0 b.0 (x.each k a.0 a.1) (y.each k b.0 b.1);
-}
-
-pub widths_from_choices : (f : ℕ → ℕ) (w : ℕ) (choices : List Choice) (widths : List ℕ) → AreChoices f w choices → widths ≡ map width_of choices → AreWidths f w widths
-widths_from_choices f w choices widths h e = rw e (record {
-  size = length-map choices width_of ∙ h.size;
-  each = λ k v at. let c = from_map width_of choices k v at in rw (← c.2) (h.each k c.0 c.1).chosen;
-})
-
-pub widths_fit : (f : ℕ → ℕ) (w : ℕ) (choices : List Choice) → w ≤ 256 → AreChoices f w choices → All (λ c. c.width ≤ 256) choices
-widths_fit f w choices few h = λ k d less. let is = (h.each k (get_or choices k d) (slice_get-get_or choices k d less)).chosen in omega (arith, is.within, h.size, few, less)
+-- what was answered is the choice for the module at the place
+pub choice_at : (soc : SocValue) (w : ℕ) (rows : List ModuleRow) (place : ℕ) (scan : Bool) (width : ℕ) (c : Choice) (r : ModuleRow) → HasRows soc w rows → r ≡ get_or rows place r →
+    ((m : ModuleValue) (scan' : Bool) (wires : ℕ) → AreChoices m scan' wires (choices_in scan r).taken.items (choices_in scan r).places.items → width ≤ wires → IsChoice m scan' width c) → width ≤ w → (m : ModuleValue) → slice_get soc.modules place ≡ Some m → IsChoice m scan width c
+choice_at soc w rows place scan width c r t e is within m at = is m scan w (choices_of_row m w scan r (row_read soc w rows place r m t at e)) within
 
 -- in the design at the chosen width the mode's tests take the least time
 pub wrapper_attains : (ms : List ModuleValue) (place : ℕ) (scan : Bool) (width v : ℕ) (own : ModuleValue) (chains : List ChainValue) → slice_get ms place ≡ Some own → IfSome (slice_get ms place) (λ m. IsChosen (mode_time m scan) width v) → chains ≡ design (mode_of own scan) v → IfSome (slice_get ms place) (λ m. time_in m scan chains ≡ least_time m scan width)

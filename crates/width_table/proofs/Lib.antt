@@ -1,4 +1,5 @@
 pub mod Work
 pub mod LeastWidths
 pub mod TableLaws
+pub mod TestTimes
 pub mod WorkedRows

@@ -79,7 +79,7 @@ closed setup si so scan (t ∷ ts) =
 
 -- ---- within the work
 
-flops_le : (m : ModuleValue) (scan : Bool) → sum (scan_lengths m scan) ≤ sum m.chains
+pub flops_le : (m : ModuleValue) (scan : Bool) → sum (scan_lengths m scan) ≤ sum m.chains
 flops_le m true = omega arith
 flops_le m false = omega arith
 

@@ -1,48 +1,60 @@
 -- The widths whose designs are taken, and the rows of a table.
-use Rattle.std.specs.Prelude.{◌≡◌, ℕ, ◌+◌, ◌≤◌, ◌^◌, Bool, true, false, Some, List, length, slice_get}
+use Rattle.std.specs.Prelude.{◌≡◌, ℕ, ◌+◌, ◌-◌, ◌≤◌, ◌^◌, Bool, true, false, Option, Some, None, List, [], ◌∷◌, ◌++◌, length, slice_get, nat_lt, if◌then◌else◌}
 use Rattle.soc_model.specs.Chips.{ModuleValue, SocValue}
 use Rattle.soc_model.specs.SoundChips.{IsSoundChip}
-use Rattle.width_table.specs.Times.{IsChosen, mode_time, time}
+use Rattle.wrapper_design.specs.Design.{Mode, mode_of, design}
+use Rattle.wrapper_design.specs.Balance.{in_length_of, out_length_of}
+use Rattle.width_table.specs.Times.{IsChosen, mode_tests, mode_time, time}
 use Rattle.width_table.specs.declared.choosing.Choice.{Choice}
+use Rattle.width_table.specs.declared.choosing.Choices.{Choices}
 use Rattle.width_table.specs.declared.rows.ModuleRow.{ModuleRow}
 
--- the least width up to `width` at which `f` is least, with that least value
-pub record IsChoice (f : ℕ → ℕ) (width : ℕ) (c : Choice) : Type 0 where
-  pub chosen : IsChosen f width c.width
-  pub cycles : c.cycles ≡ f c.width
+-- the longest paths of the design at the width of a choice
+pub record HasPaths (mode : Mode) (c : Choice) : Type 0 where
+  pub si : c.si ≡ in_length_of mode (design mode c.width)
+  pub so : c.so ≡ out_length_of mode (design mode c.width)
 
--- the choices at each width up to a number of wires
-pub record AreChoices (f : ℕ → ℕ) (wires : ℕ) (choices : List Choice) : Type 0 where
-  pub size : length choices ≡ wires
-  pub each : (k : ℕ) (c : Choice) → slice_get choices k ≡ Some c → IsChoice f (k + 1) c
-  pub fits : (k : ℕ) (c : Choice) → slice_get choices k ≡ Some c → c.cycles ≤ 10 ^ 18
+-- The least width up to `width` at which the mode's tests take the fewest cycles, with that many. The paths are those of
+-- the design there, if there is any test.
+pub record IsChoice (m : ModuleValue) (scan : Bool) (width : ℕ) (c : Choice) : Type 0 where
+  pub chosen : IsChosen (mode_time m scan) width c.width
+  pub cycles : c.cycles ≡ mode_time m scan c.width
+  pub fits : c.cycles ≤ 10 ^ 18
+  pub paths : 1 ≤ length (mode_tests m scan) → HasPaths (mode_of m scan) c
 
-abbrev pub width_of : Choice → ℕ
-width_of c = c.width
+-- the choice at each width up to a number of wires, by its place among those that are taken
+pub record AreChoices (m : ModuleValue) (scan : Bool) (wires : ℕ) (taken : List Choice) (places : List ℕ) : Type 0 where
+  pub size : length places ≡ wires
+  pub each : (k p : ℕ) → slice_get places k ≡ Some p → (c : Choice) × (slice_get taken p ≡ Some c) × IsChoice m scan (k + 1) c
 
--- the cycles of two modes together, at each width
-pub record AreSums (scan terminals : List Choice) (sums : List ℕ) : Type 0 where
-  pub each : (k t : ℕ) (a b : Choice) → slice_get sums k ≡ Some t → slice_get scan k ≡ Some a → slice_get terminals k ≡ Some b → t ≡ a.cycles + b.cycles
+abbrev pub fewer_than : Choice → Option Choice → Bool
+fewer_than c None = true
+fewer_than c (Some last) = nat_lt c.cycles last.cycles
+
+abbrev pub last_of : List Choice → Option Choice
+last_of taken = slice_get taken (length taken - 1)
+
+-- a choice has fewer cycles than the last one, or is the first
+abbrev pub takes_fewer : Choice → List Choice → Bool
+takes_fewer c taken = fewer_than c (last_of taken)
+
+abbrev pub with_choice : Choice → List Choice → List Choice
+with_choice c taken = if takes_fewer c taken then taken ++ c ∷ [] else taken
 
 -- the times of a module at each width up to a number of wires
 pub record AreTimes (m : ModuleValue) (wires : ℕ) (times : List ℕ) : Type 0 where
   pub size : length times ≡ wires
   pub each : (k t : ℕ) → slice_get times k ≡ Some t → t ≡ time m (k + 1)
 
--- the chosen widths at each width up to a number of wires
-pub record AreWidths (f : ℕ → ℕ) (wires : ℕ) (widths : List ℕ) : Type 0 where
-  pub size : length widths ≡ wires
-  pub each : (k v : ℕ) → slice_get widths k ≡ Some v → IsChosen f (k + 1) v
-
-abbrev pub widths_of : Bool → ModuleRow → List ℕ
-widths_of true r = r.scan.items
-widths_of false r = r.terminals.items
+abbrev pub choices_in : Bool → ModuleRow → Choices
+choices_in true r = r.scan
+choices_in false r = r.terminals
 
 -- the row of a module
 pub record IsRow (m : ModuleValue) (wires : ℕ) (r : ModuleRow) : Type 0 where
   pub times : AreTimes m wires r.times.items
-  pub scan : AreWidths (mode_time m true) wires r.scan.items
-  pub terminals : AreWidths (mode_time m false) wires r.terminals.items
+  pub scan : AreChoices m true wires r.scan.taken.items r.scan.places.items
+  pub terminals : AreChoices m false wires r.terminals.taken.items r.terminals.places.items
 
 -- the rows of the first modules of a chip
 abbrev pub AreRows : List ModuleValue → ℕ → List ModuleRow → Type 0

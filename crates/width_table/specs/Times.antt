@@ -20,6 +20,10 @@ time_in m scan chains = sum_by (λ (t : Test). length (operations_of m t (chain_
 unfoldable pub mode_time : ModuleValue → Bool → ℕ → ℕ
 mode_time m scan width = time_in m scan (design (mode_of m scan) width)
 
+-- the cycles of a test in the wrapper that is designed for its mode at a width
+abbrev pub test_time : ModuleValue → Test → ℕ → ℕ
+test_time m t width = length (operations_of m t (chain_cells m t.scan (design (mode_of m t.scan) width)))
+
 -- `v` is the least width from 1 to `w` at which `f` is least
 pub record IsChosen (f : ℕ → ℕ) (w v : ℕ) : Type 0 where
   pub some : 1 ≤ v

@@ -1,26 +1,28 @@
-// The times of the modules of a chip on buses of 1 to so many wires, and the widths whose designs are taken (after the
-// widths of TR-ARCHITECT, Goel and Marinissen 2002). A wider bus may leave wires unused, so no time grows with the width.
-//
-// Times are in cycles, widths in wires; modules go by their places in the chip, from 0.
+//! The times of the modules of a chip on buses of 1 to so many wires, and the widths whose designs are taken (after the
+//! widths of TR-ARCHITECT, Goel and Marinissen 2002). A wider bus may leave wires unused, so no time grows with the width.
+//!
+//! Times are in cycles, widths in wires; modules go by their places in the chip, from 0.
 #![tactic(auto)]
 
-ghost use Rattle.std.specs.Prelude.{◌≡◌, ℕ, ◌+◌, ◌^◌, ◌<◌, ◌≤◌, length, slice_get, IfOk, IfSome, true, false};
-ghost use Rattle.soc_model.specs.Chips.{soc_value};
+ghost use Rattle.std.specs.Prelude.{◌≡◌, ℕ, ◌+◌, ◌^◌, ◌<◌, ◌≤◌, length, slice_get, Some, IsTrue, IfOk, IfSome, true, false};
+ghost use Rattle.soc_model.specs.Chips.{soc_value, is_live};
 ghost use Rattle.soc_model.specs.SoundChips.{IsSoundChip};
 ghost use Rattle.plan_model.specs.Views.{wrapper_value};
 ghost use Rattle.plan_model.specs.Cells.{IsProper};
 ghost use Rattle.wrapper_design.specs.Design.{mode_of, design};
 ghost use Rattle.wrapper_design.specs.Balance.{IsBalanced};
-ghost use Rattle.width_table.specs.Times.{mode_time, time_in, least_time, IsChosen};
+ghost use Rattle.width_table.specs.Times.{mode_time, time_in, least_time, test_time, IsChosen};
+ghost use Rattle.width_table.specs.Choices.{IsChoice};
 ghost use Rattle.width_table.specs.Tables.{TableValue, IsTable, places_of, time_of, has_tam};
 
 mod choosing;
 mod rows;
 
+use choosing::Choice;
 use outside::NoMemory;
-use plan_model::Wrapper;
+use plan_model::{Wrapper, closed_time};
 use rows::{ModuleRow, rows_of};
-use soc_model::{Soc, module_at};
+use soc_model::{Soc, Test, module_at};
 use std::alloc::Global;
 use std::marker::Model;
 use wrapper_design::design;
@@ -103,8 +105,34 @@ impl<'a> WidthTable<'a> {
         requires within { width ≤ self.now.wires }
         ensures chosen { IfSome (slice_get self.now.soc.modules place) (λ m. IsChosen (mode_time m scan) width result) }
     {
-        let widths = self.rows[place].widths(scan);
-        widths[(width - 1) as usize] as u64
+        self.choice(place, scan, width).width
+    }
+
+    /// What is taken for a mode of the module at a place at a width.
+    fn choice(&self, place: usize, scan: bool, width: u64) -> Choice
+        requires place { place < places_of self.now }
+        requires some { 1 ≤ width }
+        requires within { width ≤ self.now.wires }
+        ensures { IfSome (slice_get self.now.soc.modules place) (λ m. IsChoice m scan width result) }
+    {
+        self.rows[place].choices(scan).at(width)
+    }
+
+    /// The cycles of a live test over the wires of the module at a place on a bus of a width, those of the module's setup
+    /// included: in the wrapper that the table gives for the test's mode there. No wrapper is made, and no memory taken.
+    pub fn cycles(&self, place: usize, test: &Test, width: u64) -> u64
+        requires place { place < places_of self.now }
+        requires there { IfSome (slice_get self.now.soc.modules place) (λ m. (k : ℕ) × (slice_get m.tests k ≡ Some test.now)) }
+        requires live { is_live test.now ≡ true }
+        requires tam { IsTrue test.now.tam }
+        requires some { 1 ≤ width }
+        requires within { width ≤ self.now.wires }
+        ensures cycles { IfSome (slice_get self.now.soc.modules place) (λ m. (v : ℕ) → IsChosen (mode_time m test.now.scan) width v → result ≡ test_time m test.now v) }
+        ensures small { result ≤ 10 ^ 18 }
+    {
+        let choice = self.choice(place, test.scan, width);
+        let setup = module_at(self.soc, place).setup;
+        closed_time(setup, choice.si, choice.so, test.patterns)
     }
 
     /// The wrapper for a mode of the module at a place on a bus of a width: the design at the chosen width. The tests of

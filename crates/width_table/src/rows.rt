@@ -1,14 +1,13 @@
-// The rows of a table: the times and the chosen widths of each module.
-ghost use Rattle.std.specs.Prelude.{◌≡◌, ◌^◌, ◌<◌, ◌≤◌, length, map, IfOk, true, false, sum_by};
-ghost use Rattle.std.specs.List.{All, filter};
-ghost use Rattle.soc_model.specs.Chips.{module_value, soc_value, is_live};
+//! The rows of a table: the times of each module, and what is taken for its modes.
+ghost use Rattle.std.specs.Prelude.{◌≡◌, ◌^◌, ◌≤◌, length, IfOk, true, false, sum_by};
+ghost use Rattle.std.specs.List.{filter};
+ghost use Rattle.soc_model.specs.Chips.{ModuleValue, module_value, soc_value, is_live};
 ghost use Rattle.soc_model.specs.Sizes.{test_work};
 ghost use Rattle.soc_model.specs.SoundChips.{IsSoundChip};
 ghost use Rattle.plan_model.specs.Listing.{module_size};
-ghost use Rattle.width_table.specs.Times.{mode_time};
-ghost use Rattle.width_table.specs.Choices.{width_of, widths_of, AreSums, AreTimes, AreWidths, AreRows};
+ghost use Rattle.width_table.specs.Choices.{AreTimes, AreChoices, AreRows, choices_in};
 
-use crate::choosing::{Choice, choices};
+use crate::choosing::{Choices, choices_of};
 use soc_model::{Module, Soc, module_at};
 use std::alloc::{AllocError, Global};
 
@@ -18,16 +17,16 @@ use std::alloc::{AllocError, Global};
 pub struct ModuleRow {
     /// The cycles of both modes together.
     pub times: Vec<u64>,
-    /// The chosen widths of the scan mode.
-    pub scan: Vec<u16>,
-    /// Those of the mode over the terminals alone.
-    pub terminals: Vec<u16>,
+    /// The choices for the scan mode.
+    pub scan: Choices,
+    /// Those for the mode over the terminals alone.
+    pub terminals: Choices,
 }
 
 impl ModuleRow {
-    /// The chosen widths of a mode.
-    pub fn widths(&self, scan: bool) -> &[u16]
-        ensures { result.now ≡ widths_of scan self.now }
+    /// The choices for a mode.
+    pub fn choices(&self, scan: bool) -> &Choices
+        ensures { result.now ≡ choices_in scan self.now }
     {
         if scan { &self.scan } else { &self.terminals }
     }
@@ -36,50 +35,34 @@ impl ModuleRow {
 /// The cycles of two modes together, at each width.
 fn cycles_together(
     alloc: Global,
-    scan: &[Choice],
-    terminals: &[Choice],
+    scan: &Choices,
+    terminals: &Choices,
+    wires: u64,
 ) -> Result<Vec<u64>, AllocError>
-    requires as_many { length scan.now ≡ length terminals.now }
-    requires scan_fits { All (λ choice. choice.cycles ≤ 10 ^ 18) scan.now }
-    requires terminals_fit { All (λ choice. choice.cycles ≤ 10 ^ 18) terminals.now }
-    ensures size { IfOk result (λ v. length v.items ≡ length scan.now) }
-    ensures sums { IfOk result (λ v. AreSums scan.now terminals.now v.items) }
+    requires few { wires ≤ 256 }
+    requires choices { (m : ModuleValue) × AreChoices m true wires scan.now.taken.items scan.now.places.items × AreChoices m false wires terminals.now.taken.items terminals.now.places.items }
+    ensures { (m : ModuleValue) → AreChoices m true wires scan.now.taken.items scan.now.places.items → AreChoices m false wires terminals.now.taken.items terminals.now.places.items → IfOk result (λ v. AreTimes m wires v.items) }
 {
-    let widths = scan.len();
-    let mut times = Vec::with_capacity(alloc, widths)?;
-    for place in 0..widths {
-        let time = scan[place].cycles + terminals[place].cycles;
+    let mut times = Vec::with_capacity(alloc, wires as usize)?;
+    for width in 1..wires + 1 {
+        let time = scan.at(width).cycles + terminals.at(width).cycles;
         times.push(time)?;
     }
     Ok(times)
 }
 
-/// The widths of choices, in their order.
-fn chosen_widths(alloc: Global, choices: &[Choice]) -> Result<Vec<u16>, AllocError>
-    requires { All (λ choice. choice.width ≤ 256) choices.now }
-    ensures { IfOk result (λ v. v.items ≡ map width_of choices.now) }
-{
-    let mut widths = Vec::with_capacity(alloc, choices.len())?;
-    for choice in choices {
-        widths.push(choice.width as u16)?;
-    }
-    Ok(widths)
-}
-
-/// The row of a module. The choices themselves are let go.
+/// The row of a module.
 fn row_of(alloc: Global, module: &Module, wires: u64) -> Result<ModuleRow, AllocError>
     requires small { module_size (module_value «module».now) ≤ 10 ^ 18 }
     requires work { sum_by (test_work (module_value «module».now)) (filter is_live «module».now.tests.items) ≤ 10 ^ 18 }
     requires few { wires ≤ 256 }
     ensures times { IfOk result (λ r. AreTimes (module_value «module».now) wires r.times.items) }
-    ensures scan { IfOk result (λ r. AreWidths (mode_time (module_value «module».now) true) wires r.scan.items) }
-    ensures terminals { IfOk result (λ r. AreWidths (mode_time (module_value «module».now) false) wires r.terminals.items) }
+    ensures scan { IfOk result (λ r. AreChoices (module_value «module».now) true wires r.scan.taken.items r.scan.places.items) }
+    ensures terminals { IfOk result (λ r. AreChoices (module_value «module».now) false wires r.terminals.taken.items r.terminals.places.items) }
 {
-    let in_scan = choices(alloc, module, true, wires)?;
-    let over_terminals = choices(alloc, module, false, wires)?;
-    let times = cycles_together(alloc, &in_scan, &over_terminals)?;
-    let scan = chosen_widths(alloc, &in_scan)?;
-    let terminals = chosen_widths(alloc, &over_terminals)?;
+    let scan = choices_of(alloc, module, true, wires)?;
+    let terminals = choices_of(alloc, module, false, wires)?;
+    let times = cycles_together(alloc, &scan, &terminals, wires)?;
     Ok(ModuleRow {
         times,
         scan,

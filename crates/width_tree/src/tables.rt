@@ -1,11 +1,11 @@
-// The times of all modules at all widths, taken once.
+//! The times of all modules at all widths, taken once.
 ghost use Rattle.std.specs.Prelude.{◌≡◌, ℕ, ◌+◌, ◌*◌, ◌^◌, ◌<◌, ◌≤◌, length, slice_index};
 ghost use Rattle.soc_model.specs.Chips.{soc_value};
 ghost use Rattle.soc_model.specs.SoundChips.{IsSoundChip};
 ghost use Rattle.plan_model.specs.Bounds.{lower_tam_time};
 ghost use Rattle.width_tree.specs.Tables.{place_of_time, AreTimes, HasRow, own_time as own_time_is, AreOwnTimes};
 
-use bound_rules::{lower_tam_time, module_bound};
+use bound_rules::LowerTimes;
 use soc_model::Soc;
 
 /// Widths of a module's row in a table: as many as limits may have wires.
@@ -50,8 +50,9 @@ fn fill_row(soc: &Soc, place: usize, wires: u64, times: &mut [u64])
     ensures row { HasRow (soc_value soc.now) wires times.new place }
     ensures earlier { (k : ℕ) → k < place * 256 → slice_index times.new k ≡ slice_index times.old k }
 {
+    let lower = LowerTimes::of(soc, place);
     for width in 1..wires + 1 {
-        times[time_place(place, width)] = lower_tam_time(soc, place, width);
+        times[time_place(place, width)] = lower.over_wires(width);
     }
 }
 
@@ -75,7 +76,8 @@ fn own_time(soc: &Soc, place: usize, wires: u64) -> u64
     ensures time { result ≡ own_time_is (soc_value soc.now) place }
     ensures small { result ≤ 10 ^ 18 }
 {
-    module_bound(soc, place, wires) - lower_tam_time(soc, place, wires)
+    let lower = LowerTimes::of(soc, place);
+    lower.of_all(wires) - lower.over_wires(wires)
 }
 
 /// Writes the cycles of the self tests of all modules.

@@ -4,8 +4,9 @@ use Rattle.soc_model.specs.declared.Module.{Module}
 use Rattle.std.specs.List.{All, flat_map}
 use Rattle.soc_model.specs.Chips.{ModuleValue, module_value, soc_value}
 use Rattle.soc_model.proofs.Entries.{modules-at_start}
-use Rattle.bound_certificate.specs.Nodes.{HasSmallWork, nodes_in}
-use Rattle.bound_certificate.proofs.LiveNodes.{small_works}
+use Rattle.bound_rules.specs.Sizes.{IsMeasurable}
+use Rattle.bound_certificate.specs.Nodes.{nodes_in}
+use Rattle.bound_rules.proofs.SoundWork.{all_measurable}
 use Rattle.bound_certificate.proofs.nodes.live_nodes.Goals as goal
 
 from_none : {X : Type 0} (none a b : List X) → none ≡ [] → a ≡ b → none ++ a ≡ b
@@ -17,7 +18,7 @@ loop-module-init c =
     let modules = modules-at_start c.args.soc.now _ starts in
     record {
       nodes = from_none _ _ _ (search rules) (ap (flat_map (nodes_in c.args.wires)) (sym modules));
-      works = subst (λ (ms : List ModuleValue). All HasSmallWork ms) modules (small_works (soc_value c.args.soc.now) c.requires.sound);
+      works = subst (λ (ms : List ModuleValue). All IsMeasurable ms) modules (all_measurable (soc_value c.args.soc.now) c.requires.sound);
     }
 
 -- the list so far, after the nodes of a module
@@ -27,16 +28,16 @@ moved_on old new here rest whole e f = ap (λ l. l ++ rest) e ∙ append_assoc o
 pub push_live-requires-clause-works : goal.push_live-requires-clause-works
 push_live-requires-clause-works c =
     let goes : c.loop-module.module-iterator ≡ c.in-Some.module.now ∷ c.next.new.self = search rules in
-    let works = subst (λ (ms : List Module). All HasSmallWork (map module_value ms)) goes c.loop-module.invariant.works in
-    All-head HasSmallWork (module_value c.in-Some.module.now) (map module_value c.next.new.self) works
+    let works = subst (λ (ms : List Module). All IsMeasurable (map module_value ms)) goes c.loop-module.invariant.works in
+    All-head IsMeasurable (module_value c.in-Some.module.now) (map module_value c.next.new.self) works
 
 pub loop-module-preserved : goal.loop-module-preserved
 loop-module-preserved c =
     let goes : c.loop-module.module-iterator ≡ c.in-Some.module.now ∷ c.next.new.self = search rules in
-    let works = subst (λ (ms : List Module). All HasSmallWork (map module_value ms)) goes c.loop-module.invariant.works in
+    let works = subst (λ (ms : List Module). All IsMeasurable (map module_value ms)) goes c.loop-module.invariant.works in
     let nodes = c.loop-module.invariant.nodes in
     let nodes' = rw goes at nodes in
     record {
       nodes = moved_on _ _ (nodes_in c.args.wires (module_value c.in-Some.module.now)) _ _ c.in_ok-push_live.ensures nodes';
-      works = All-tail HasSmallWork (module_value c.in-Some.module.now) (map module_value c.next.new.self) works;
+      works = All-tail IsMeasurable (module_value c.in-Some.module.now) (map module_value c.next.new.self) works;
     }

@@ -2,7 +2,7 @@ use Rattle.std.proofs.Common.{◌≡◌, ◌∙◌, List, Some, false, get_or, s
 use Rattle.std.specs.Prelude.{slice_get}
 use Rattle.std.proofs.lemmas.Option.{slice_get-get_or}
 use Rattle.soc_model.specs.declared.Test.{Test}
-use Rattle.soc_model.specs.Chips.{module_value}
+use Rattle.soc_model.specs.Chips.{ModuleValue, module_value}
 use Rattle.bound_certificate.specs.declared.nodes.Node.{Node}
 use Rattle.bound_certificate.specs.Nodes.{node_values}
 use Rattle.bound_certificate.proofs.LiveNodes.{node_made, node_taken, node_left}
@@ -12,12 +12,12 @@ use Rattle.bound_certificate.proofs.nodes.push_live.Goals.{then-live+in_ok-push,
 none : Test
 none = record { number = 0; scan = false; tam = false; patterns = 0; power = 0 }
 
-pub lower_time-requires-clause-work : goal.lower_time-requires-clause-work
+pub of_test-requires-clause-there : goal.of_test-requires-clause-there
 unfolding none
-lower_time-requires-clause-work c =
+of_test-requires-clause-there c =
     let at : slice_get c.args.«module».now.tests.items c.loop-test.test-index ≡ Some (get_or c.deref-test-items.result.now c.loop-test.test-index none) =
     ap (λ (l : List Test). slice_get l c.loop-test.test-index) (sym c.deref-test-items.ensures.value) ∙ slice_get-get_or c.deref-test-items.result.now c.loop-test.test-index none c.loop-test-test.true in
-    c.requires.works.each c.loop-test.test-index _ at (sym c.live.ensures ∙ c.if-live.true)
+    (c.loop-test.test-index, ap (λ (m : ModuleValue). slice_get m.tests c.loop-test.test-index) c.new-lower.ensures ∙ at)
 
 pub loop-test-preserved : goal.loop-test-preserved
 unfolding none
@@ -27,9 +27,9 @@ loop-test-preserved c =
     let i = c.loop-test.test-index in
     elim c.if-live.branch [
       | then-live+in_ok-push w ↦
-          let node : Node = record { id = record { «module» = c.args.«module».now.number; test = (get_or items i none).number }; time = w.lower_time.result; before = w.new.result } in
+          let node : Node = record { id = record { «module» = c.args.«module».now.number; test = (get_or items i none).number }; time = w.of_test.result; before = w.new.result } in
           rw w.nodes-is (node_taken c.args.wires m (node_values c.args.nodes.now.items) c.loop-test.nodes.items w.push.new.to.items items c.args.«module».now.tests.items i none node c.deref-test-items.ensures.value c.loop-test-test.true (sym c.live.ensures ∙ w.if-live.true)
-          (node_made c.args.wires m (get_or items i none) node refl w.lower_time.ensures.time w.new.ensures.items) w.in_ok-push.ensures.ok c.loop-test.invariant)
+          (node_made c.args.wires m (get_or items i none) node refl (rw (← c.new-lower.ensures) w.of_test.ensures.time) w.new.ensures.items) w.in_ok-push.ensures.ok c.loop-test.invariant)
       | else-live w ↦
           rw w.nodes-is (node_left c.args.wires m (node_values c.args.nodes.now.items) c.loop-test.nodes.items items c.args.«module».now.tests.items i none c.deref-test-items.ensures.value c.loop-test-test.true (sym c.live.ensures ∙ w.if-live.false) c.loop-test.invariant)
     ]

@@ -4,7 +4,9 @@ use Rattle.width_tree.proofs.TableFacts.{bound_splits}
 use Rattle.width_tree.proofs.tables.own_time.Goals as goal
 
 pub overflow_sub-result : goal.overflow_sub-result
-overflow_sub-result c = omega (arith, c.module_bound.ensures.sum, c.lower_tam_time.ensures.sum, bound_splits (soc_value c.args.soc.now) c.args.wires c.args.place)
+overflow_sub-result c =
+    omega (arith, c.of_all.ensures.sum (soc_value c.args.soc.now) c.args.place c.of-lower.ensures, c.over_wires.ensures.sum (soc_value c.args.soc.now) c.args.place c.of-lower.ensures, bound_splits (soc_value c.args.soc.now) c.args.wires c.args.place)
 
 pub returns-clause-time : goal.returns-clause-time
-returns-clause-time c = omega (arith, c.module_bound.ensures.sum, c.lower_tam_time.ensures.sum, bound_splits (soc_value c.args.soc.now) c.args.wires c.args.place)
+returns-clause-time c =
+    omega (arith, c.of_all.ensures.sum (soc_value c.args.soc.now) c.args.place c.of-lower.ensures, c.over_wires.ensures.sum (soc_value c.args.soc.now) c.args.place c.of-lower.ensures, bound_splits (soc_value c.args.soc.now) c.args.wires c.args.place)
