@@ -3,22 +3,12 @@
 // differs, and then how many rows passed.
 #![tactic(auto)]
 
-mod archs;
-mod calls;
-mod chips;
 mod comparing;
-mod frames;
-mod held;
 mod keeping;
-mod lines;
 mod real_files;
 mod report;
-mod rig;
 mod rows;
 mod runs;
-mod searches;
-mod sessions;
-mod texts;
 
 use crate::report::Report;
 use crate::rows::take_file;

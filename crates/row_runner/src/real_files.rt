@@ -1,8 +1,7 @@
 // Files of the system: loads of them, and runs of the top calls over them with a file as the output.
-use crate::lines::{count_of, part};
-use crate::rig::Rig;
 use crate::runs::{call, ended, words_of};
 use outside::{Loaded, MemSink, NoMemory, RealShelf, RealSink, Shelf, copied, push_number};
+use row_calls::{Rig, count_of, part};
 use std::fs;
 use std::rt::Files;
 

@@ -1,15 +1,15 @@
 // A file of rows, line by line.
-use crate::archs::cycles_of_steps;
-use crate::calls::{printed_again, session_of_plan, under_the_plan};
+
 use crate::comparing::{are_same, takes_fewer};
 use crate::keeping::keep_lines;
-use crate::lines::{Line, line_of, part};
 use crate::real_files::{hold_data, run_of_real_files, what_a_load_answers};
 use crate::report::Report;
-use crate::rig::Rig;
 use crate::runs::run_of_command;
-use crate::texts::is_text;
 use outside::{Loaded, NoMemory, RealShelf, Shelf, copied};
+use row_calls::{
+    Line, Rig, cycles_of_steps, is_text, line_of, part, printed_again, session_of_plan,
+    under_the_plan,
+};
 use std::rt::Files;
 
 /// The greatest length of a file of rows, in bytes.

@@ -1,11 +1,10 @@
 // Runs of the top calls over files in memory.
-use crate::lines::word_of;
-use crate::rig::Rig;
 use commands::{Status, TopCall, top_call};
 use outside::{NoMemory, Shelf, Sink, extend, push, push_number};
 use plan_improver::improve;
 use plan_picture::draw;
 use plan_simulator::simulate;
+use row_calls::{Rig, word_of};
 use soctest::soctest;
 use std::alloc::Global;
 
