@@ -1,0 +1,3 @@
+//! Packed times: what the live tests of a chip take at least, where no wrapper chain can have a part of a scan chain.
+#![tactic(auto)]
+
