@@ -1,0 +1,5 @@
+pub mod Rising
+pub mod Crowds
+pub mod WrapperChains
+pub mod PackedTimes
+pub mod PlannedTimes

@@ -1,5 +1,5 @@
 -- Packed times: what a live test takes at least where no wrapper chain can have a part of a scan chain.
-use Rattle.std.specs.Prelude.{ℕ, ◌+◌, ◌-◌, ◌*◌, ◌&&◌, Bool, List, [], ◌∷◌, not, max, map, length, take, drop, nat_lt, nat_le, if◌then◌else◌}
+use Rattle.std.specs.Prelude.{ℕ, ◌+◌, ◌-◌, ◌*◌, ◌&&◌, List, [], ◌∷◌, not, max, map, length, take, drop, nat_lt, nat_le, if◌then◌else◌}
 use Rattle.std.specs.List.{sum, range_with_len}
 use Rattle.soc_model.specs.declared.Test.{Test}
 use Rattle.soc_model.specs.Chips.{ModuleValue, SocValue}
