@@ -12,8 +12,8 @@ precedences soc limits = flat_map (places_of (live_ids soc)) limits.before
 
 -- a path of one or more precedences leads from one test to another
 pub data Leads (pairs : List (ℕ × ℕ)) : ℕ → ℕ → Type 0 where
-  one : (i j : ℕ) → Contains pairs (i, j) → Leads pairs i j
-  more : (i k j : ℕ) → Contains pairs (i, k) → Leads pairs k j → Leads pairs i j
+  OnePair : (i j : ℕ) → Contains pairs (i, j) → Leads pairs i j
+  PairFirst : (i k j : ℕ) → Contains pairs (i, k) → Leads pairs k j → Leads pairs i j
 
 -- the least power of a test's profile, or its own power where it has none
 abbrev pub least_power : LimitsValue → LiveTest → ℕ
@@ -21,12 +21,12 @@ least_power limits l = of_first (λ (p : ProfileValue). same_test p.test (id_of 
 
 -- why the live test `a` at place `i` and the live test `b` at place `j` exclude each other
 pub data Reason (soc : SocValue) (limits : LimitsValue) (i j : ℕ) (a b : LiveTest) : Type 0 where
-  one_module : a.place ≡ b.place → Reason soc limits i j a b
-  parent : IsParent soc.modules a.place b.place → Reason soc limits i j a b
-  child : IsParent soc.modules b.place a.place → Reason soc limits i j a b
-  before : Leads (precedences soc limits) i j → Reason soc limits i j a b
-  after : Leads (precedences soc limits) j i → Reason soc limits i j a b
-  power : (most : ℕ) → limits.power ≡ Some most → most < least_power limits a + least_power limits b → Reason soc limits i j a b
+  OneModule : a.place ≡ b.place → Reason soc limits i j a b
+  IsParentOf : IsParent soc.modules a.place b.place → Reason soc limits i j a b
+  IsChildOf : IsParent soc.modules b.place a.place → Reason soc limits i j a b
+  ComesBefore : Leads (precedences soc limits) i j → Reason soc limits i j a b
+  ComesAfter : Leads (precedences soc limits) j i → Reason soc limits i j a b
+  TooMuchPower : (most : ℕ) → limits.power ≡ Some most → most < least_power limits a + least_power limits b → Reason soc limits i j a b
 
 -- two different live tests that exclude each other
 pub record Excludes (soc : SocValue) (limits : LimitsValue) (i j : ℕ) : Type 0 where
