@@ -3,3 +3,7 @@ pub mod Crowds
 pub mod WrapperChains
 pub mod PackedTimes
 pub mod PlannedTimes
+pub mod FrontSums
+pub mod Greatest
+pub mod Rows
+pub mod TestTimes

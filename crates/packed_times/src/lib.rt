@@ -2,5 +2,7 @@
 #![tactic(auto)]
 
 mod laws;
+mod lengths;
+mod times;
 
 pub use laws::{packed_times_are_least, planned_tests_are_packed};
