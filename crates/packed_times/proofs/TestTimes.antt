@@ -1,9 +1,9 @@
 -- The packed time of a test from what it is made of, and sums over the tests of a module.
-use Rattle.std.proofs.Common.{◌≡◌, ℕ, zero, suc, ◌+◌, ◌-◌, ◌*◌, ◌≤◌, ◌<◌, ◌^◌, max, min, Bool, true, false, Some, List, [], ◌∷◌, length, get_or, take, refl, ap, ◌∙◌, sym, arith, inl, inr, ◌⊎◌}
-use Rattle.std.specs.Prelude.{slice_get, not, ◌&&◌, if◌then◌else◌}
-use Rattle.std.specs.List.{sum, sum_by}
+use Rattle.std.proofs.Common.{◌≡◌, ℕ, ◌+◌, ◌*◌, ◌≤◌, ◌<◌, max, min, Bool, true, false, List, [], length, get_or, take, refl, arith, inl, inr}
+use Rattle.std.specs.Prelude.{not, if◌then◌else◌}
+use Rattle.std.specs.List.{sum}
 use Rattle.std.proofs.lemmas.Bool.{cases_Bool, and_parts}
-use Rattle.std.proofs.lemmas.List.Sums.{sum_by-cons, sum_by_more_le, sum_by-take-le}
+use Rattle.std.proofs.lemmas.List.Sums.{sum_by_more_le, sum_by-take-le}
 use Rattle.soc_model.specs.declared.Test.{Test}
 use Rattle.soc_model.specs.Chips.{ModuleValue, is_live}
 use Rattle.soc_model.specs.Modes.{is_tam}
@@ -17,7 +17,7 @@ use Rattle.bound_rules.proofs.Works.{live_patterns}
 use Rattle.packed_times.specs.declared.times.Packing.{Packing}
 use Rattle.packed_times.specs.Packed.{packed, packed_length, packed_time}
 use Rattle.packed_times.specs.Times.{longest_chain, IsPackingOf, is_self, tam_times_of, self_times_of, works_of}
-use Rattle.packed_times.proofs.PackedTimes.{packed_time-le, packed_self_test}
+use Rattle.packed_times.proofs.LeastTimes.{packed_time-le}
 
 -- ---- one test
 

@@ -3,6 +3,8 @@
 
 mod laws;
 mod lengths;
+mod table;
 mod times;
 
 pub use laws::{packed_times_are_least, planned_tests_are_packed};
+pub use table::PackedTimes;

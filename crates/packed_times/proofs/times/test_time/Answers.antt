@@ -1,8 +1,8 @@
-use Rattle.std.proofs.Common.{◌≡◌, ◌∙◌, ◌+◌, sym, arith, true}
+use Rattle.std.proofs.Common.{◌∙◌, ◌+◌, sym, arith}
 use Rattle.soc_model.specs.Chips.{module_value}
 use Rattle.bound_rules.proofs.Works.{live_patterns}
 use Rattle.bound_rules.proofs.Modules.{module_size-le_work}
-use Rattle.packed_times.proofs.PackedTimes.{packed_self_test}
+use Rattle.packed_times.proofs.LeastTimes.{packed_self_test}
 use Rattle.packed_times.proofs.TestTimes.{packed_chain, tam_packed, formula-le}
 use Rattle.packed_times.proofs.times.test_time.Goals as goal
 
@@ -19,9 +19,13 @@ chain_length-so-requires-clause-fits c =
 
 pub closed_time-requires-clause-bounded : goal.closed_time-requires-clause-bounded
 closed_time-requires-clause-bounded c =
-    omega (arith, c.requires.work, formula-le (module_value c.args.module.now) c.args.test.now c.args.packing.now.width c.chain_length-si.result c.chain_length-so.result c.if-not-test.false (live_patterns c.args.test.now c.requires.live) c.requires.packing.some_wire
-    (c.chain_length-si.ensures ∙ packed_chain (module_value c.args.module.now) c.args.test.now c.args.packing.now c.requires.packing (c.args.module.now.inputs + c.args.module.now.bidirs))
-    (c.chain_length-so.ensures ∙ packed_chain (module_value c.args.module.now) c.args.test.now c.args.packing.now c.requires.packing (c.args.module.now.outputs + c.args.module.now.bidirs)))
+    omega (
+      arith,
+      c.requires.work,
+      formula-le (module_value c.args.module.now) c.args.test.now c.args.packing.now.width c.chain_length-si.result c.chain_length-so.result c.if-not-test.false (live_patterns c.args.test.now c.requires.live) c.requires.packing.some_wire
+          (c.chain_length-si.ensures ∙ packed_chain (module_value c.args.module.now) c.args.test.now c.args.packing.now c.requires.packing (c.args.module.now.inputs + c.args.module.now.bidirs))
+          (c.chain_length-so.ensures ∙ packed_chain (module_value c.args.module.now) c.args.test.now c.args.packing.now c.requires.packing (c.args.module.now.outputs + c.args.module.now.bidirs)),
+    )
 
 pub returns-clause-time : goal.returns-clause-time
 returns-clause-time c =
