@@ -1,0 +1,10 @@
+//! Packed times: what the live tests of a chip take at least, where no wrapper chain can have a part of a scan chain.
+#![tactic(auto)]
+
+mod laws;
+mod lengths;
+mod table;
+mod times;
+
+pub use laws::{packed_times_are_least, planned_tests_are_packed};
+pub use table::PackedTimes;
