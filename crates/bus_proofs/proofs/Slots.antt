@@ -33,8 +33,8 @@ mapped_at g xs i x at = slice_get-map g xs i ∙ rw at refl
 abbrev HasSlot : (w : ℕ) → Case → WeightsValue → ℕ → Slot → Type 0
 HasSlot w c weights p s = (n : ℕ) × (slice_get (all_slots w c weights p) n ≡ Some s)
 
-known_slot : (w : ℕ) (c : Case) (weights : WeightsValue) (p r v : ℕ) → r < known_ranks c → c.may p r ≡ true → 1 ≤ v → low_at c r ≤ v → v ≤ high_at c r → HasSlot w c weights p (slot (Some r) v (rank_weight weights r + weights.wire * (v - low_at c r)))
-known_slot w c weights p r v known may some low high =
+of_known : (w : ℕ) (c : Case) (weights : WeightsValue) (p r v : ℕ) → r < known_ranks c → c.may p r ≡ true → 1 ≤ v → low_at c r ≤ v → v ≤ high_at c r → HasSlot w c weights p (slot (Some r) v (rank_weight weights r + weights.wire * (v - low_at c r)))
+of_known w c weights p r v known may some low high =
     let at = in_range (max 1 (low_at c r)) (high_at c r + 1 - max 1 (low_at c r)) v (omega arith) (omega arith) in
     let here : slice_get (slots_at c weights r) at.0 ≡ Some (slot (Some r) v (rank_weight weights r + weights.wire * (v - low_at c r))) =
     mapped_at (λ v. slot (Some r) v (rank_weight weights r + weights.wire * (v - low_at c r))) (from_to (max 1 (low_at c r)) (high_at c r)) at.0 v at.1 in
@@ -42,8 +42,8 @@ known_slot w c weights p r v known may some low high =
     let all = in_flat_map (λ rank. if c.may p rank then slots_at c weights rank else []) (range_with_len 0 (known_ranks c)) k.0 at.0 r (slot (Some r) v (rank_weight weights r + weights.wire * (v - low_at c r))) k.1 (rw may here) in
     (all.0, in_append_left (flat_map (λ rank. if c.may p rank then slots_at c weights rank else []) (range_with_len 0 (known_ranks c))) (if c.may_rest p then rest_slots w c weights else []) all.0 (slot (Some r) v (rank_weight weights r + weights.wire * (v - low_at c r))) all.1)
 
-rest_slot : (w : ℕ) (c : Case) (weights : WeightsValue) (p v : ℕ) → c.may_rest p ≡ true → 1 ≤ v → v ≤ rest_high w c (known_ranks c) → HasSlot w c weights p (slot None v (weights.wire * v))
-rest_slot w c weights p v may some high =
+of_rest : (w : ℕ) (c : Case) (weights : WeightsValue) (p v : ℕ) → c.may_rest p ≡ true → 1 ≤ v → v ≤ rest_high w c (known_ranks c) → HasSlot w c weights p (slot None v (weights.wire * v))
+of_rest w c weights p v may some high =
     let at = in_range 1 (rest_high w c (known_ranks c) + 1 - 1) v some (omega arith) in
     let here : slice_get (rest_slots w c weights) at.0 ≡ Some (slot None v (weights.wire * v)) = mapped_at (λ v. slot None v (weights.wire * v)) (from_to 1 (rest_high w c (known_ranks c))) at.0 v at.1 in
     in_append_right (flat_map (λ rank. if c.may p rank then slots_at c weights rank else []) (range_with_len 0 (known_ranks c))) (if c.may_rest p then rest_slots w c weights else []) at.0 (slot None v (weights.wire * v)) (rw may here)
@@ -78,13 +78,13 @@ rest_fits w f c r falls fits lows highs rest = go (known_ranks c) refl
 pub slot_there : (w : ℕ) (f : ℕ → ℕ) (c : Case) (weights : WeightsValue) (p r : ℕ) → Falls f → Fits f w → AreLows c.intervals f → AreHighs c.intervals f → length weights.ranks ≤ known_ranks c → 1 ≤ f r →
     (r < known_ranks c → c.may p r ≡ true) → (known_ranks c ≤ r → c.may_rest p ≡ true) → HasSlot w c weights p (slot (known_rank (known_ranks c) r) (f r) (rate_of f c weights r))
 slot_there w f c weights p r falls fits lows highs few some may may_rest = elim (cases_lt r (known_ranks c)) [
-  | inl known ↦ rw (lt-ltb r (known_ranks c) known) (known_slot w c weights p r (f r) known (may known) some (lows r known) (highs r known))
+  | inl known ↦ rw (lt-ltb r (known_ranks c) known) (of_known w c weights p r (f r) known (may known) some (lows r known) (highs r known))
   | inr rest ↦
       let weight : rank_weight weights r ≡ 0 = get_or_past weights.ranks r 0 (omega arith) in
       let low : low_at c r ≡ 0 = ap (λ i. i.low) (get_or_past c.intervals r (interval 0 0) rest) in
       let wires : f r - low_at c r ≡ f r = omega arith in
       let rate : weights.wire * f r ≡ rate_of f c weights r = rw (weight, wires) (omega arith) in
-      rw (le-ltb r (known_ranks c) rest) (subst (λ v. HasSlot w c weights p (slot None (f r) v)) rate (rest_slot w c weights p (f r) (may_rest rest) some (rest_fits w f c r falls fits lows highs rest)))
+      rw (le-ltb r (known_ranks c) rest) (subst (λ v. HasSlot w c weights p (slot None (f r) v)) rate (of_rest w c weights p (f r) (may_rest rest) some (rest_fits w f c r falls fits lows highs rest)))
 ]
 
 -- ---- the least of some costs

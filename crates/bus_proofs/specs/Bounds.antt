@@ -10,9 +10,13 @@ use Rattle.bus_proofs.specs.Cases.{Case, root_case, NodeCase, cases_of, KeepsSpl
 use Rattle.bus_proofs.specs.Lists.{KeepsList}
 use Rattle.bus_proofs.specs.Leaves.{IsSum, LeafHolds, leaf_shows}
 
--- every list keeps its rule
+-- a list keeps its rule, whatever lists are before it
+abbrev pub KeptBehind : SocValue → LimitsValue → (earlier : List ListValue) → ListValue → Type 0
+KeptBehind soc limits earlier list = KeepsList soc limits list
+
+-- so does each list
 abbrev pub AreKept : SocValue → LimitsValue → List ListValue → Type 0
-AreKept soc limits lists = Each (λ (earlier : List ListValue) (list : ListValue). KeepsList soc limits list) lists
+AreKept soc limits lists = Each (KeptBehind soc limits) lists
 
 -- the node keeps its rule in its case
 abbrev pub KeepsNode : SocValue → LimitsValue → List ListValue → Case → NodeValue → Type 0
@@ -29,21 +33,28 @@ pub record IsEnough (soc : SocValue) (limits : LimitsValue) (lists : List ListVa
   pub rule : KeepsNode soc limits lists n.within n.node
   pub holds : NodeHolds soc limits lists claim n.within n.node
 
+-- whatever nodes are before it
+abbrev pub EnoughBehind : SocValue → LimitsValue → List ListValue → (claim : ℕ) → (earlier : List NodeCase) → NodeCase → Type 0
+EnoughBehind soc limits lists claim earlier n = IsEnough soc limits lists claim n
+
+-- each node is as it should be
 abbrev pub AreEnough : SocValue → LimitsValue → List ListValue → (claim : ℕ) → List NodeCase → Type 0
-AreEnough soc limits lists claim nodes = Each (λ (earlier : List NodeCase) (n : NodeCase). IsEnough soc limits lists claim n) nodes
+AreEnough soc limits lists claim nodes = Each (EnoughBehind soc limits lists claim) nodes
 
 -- the node at the place is the first that isn't
 abbrev pub IsFirstLess : SocValue → LimitsValue → List ListValue → (claim : ℕ) → List NodeCase → ℕ → NodeCase → Type 0
-IsFirstLess soc limits lists claim nodes place n = IsFirstBreach (λ (earlier : List NodeCase) (n : NodeCase). IsEnough soc limits lists claim n) nodes place n
+IsFirstLess soc limits lists claim nodes place n = IsFirstBreach (EnoughBehind soc limits lists claim) nodes place n
 
 -- it breaks its rule
-pub record IsBadNode (soc : SocValue) (limits : LimitsValue) (lists : List ListValue) (claim : ℕ) (nodes : List NodeCase) (place : ℕ) : Type 0 where
+pub record IsBadNode (soc : SocValue) (limits : LimitsValue) (lists : List ListValue)
+    (claim : ℕ) (nodes : List NodeCase) (place : ℕ) : Type 0 where
   pub n : NodeCase
   pub first : IsFirstLess soc limits lists claim nodes place n
   pub broken : KeepsNode soc limits lists n.within n.node → ⊥
 
 -- it keeps its rule, and is a leaf that doesn't hold, which shows so many cycles
-pub record IsLessNode (soc : SocValue) (limits : LimitsValue) (lists : List ListValue) (claim : ℕ) (nodes : List NodeCase) (place claimed shown : ℕ) : Type 0 where
+pub record IsLessNode (soc : SocValue) (limits : LimitsValue) (lists : List ListValue)
+    (claim : ℕ) (nodes : List NodeCase) (place claimed shown : ℕ) : Type 0 where
   pub n : NodeCase
   pub first : IsFirstLess soc limits lists claim nodes place n
   pub rule : KeepsNode soc limits lists n.within n.node
@@ -73,7 +84,7 @@ pub record IsAccepted (soc : SocValue) (limits : LimitsValue) (p : ProofValue) :
 
 -- the list at the place is the first that breaks its rule
 abbrev pub IsBadList : SocValue → LimitsValue → ProofValue → ℕ → Type 0
-IsBadList soc limits p place = (list : ListValue) × IsFirstBreach (λ (earlier : List ListValue) (l : ListValue). KeepsList soc limits l) p.lists place list
+IsBadList soc limits p place = (list : ListValue) × IsFirstBreach (KeptBehind soc limits) p.lists place list
 
 -- every list keeps its rule, and the first node that isn't as it should be has this fault
 pub record IsNodeFault (soc : SocValue) (limits : LimitsValue) (p : ProofValue) (fault : ProofFault) : Type 0 where

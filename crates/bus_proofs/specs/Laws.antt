@@ -19,12 +19,16 @@ PlansHaveRankings = (plan : PlanValue) → (ranking : List ℕ) × IsRanking pla
 abbrev pub AcceptedCasesHaveNoPlan : Type 0
 AcceptedCasesHaveNoPlan =
     (soc : SocValue) (limits : LimitsValue) (lists : List ListValue) (claim : ℕ) (c : Case) (tree : CaseTree) →
-    IsSoundChip soc → IsSoundLimits soc limits → AreKept soc limits lists → AreEnough soc limits lists claim (cases_of soc limits.wires c tree) →
-    (plan : PlanValue) (ranking : List ℕ) → IsGood soc limits plan → IsRanking plan ranking → IsInCase soc plan ranking c → plan.cycles < claim → ⊥
+    IsSoundChip soc → IsSoundLimits soc limits → AreKept soc limits lists →
+    AreEnough soc limits lists claim (cases_of soc limits.wires c tree) →
+    (plan : PlanValue) (ranking : List ℕ) → IsGood soc limits plan → IsRanking plan ranking → IsInCase soc plan ranking c →
+    plan.cycles < claim → ⊥
 
 -- no good plan has fewer cycles than an accepted proof claims
 abbrev pub AcceptedProofsAreBounds : Type 0
-AcceptedProofsAreBounds = (soc : SocValue) (limits : LimitsValue) (p : ProofValue) → IsSoundChip soc → IsSoundLimits soc limits → IsAccepted soc limits p → IsBound soc limits p.claimed
+AcceptedProofsAreBounds =
+    (soc : SocValue) (limits : LimitsValue) (p : ProofValue) →
+    IsSoundChip soc → IsSoundLimits soc limits → IsAccepted soc limits p → IsBound soc limits p.claimed
 
 -- a list of nodes is that of at most one tree
 abbrev pub NodesTellTheTree : Type 0
@@ -32,7 +36,11 @@ NodesTellTheTree = (a b : CaseTree) → nodes_of a ≡ nodes_of b → a ≡ b
 
 -- a proof has at most one fault, and none where it is accepted
 abbrev pub ProofsHaveOneFault : Type 0
-ProofsHaveOneFault = (soc : SocValue) (limits : LimitsValue) (p : ProofValue) (f g : ProofFault) → IsProofFault soc limits p f → IsProofFault soc limits p g → f ≡ g
+ProofsHaveOneFault =
+    (soc : SocValue) (limits : LimitsValue) (p : ProofValue) (f g : ProofFault) →
+    IsProofFault soc limits p f → IsProofFault soc limits p g → f ≡ g
 
 abbrev pub AcceptedProofsHaveNoFault : Type 0
-AcceptedProofsHaveNoFault = (soc : SocValue) (limits : LimitsValue) (p : ProofValue) (f : ProofFault) → IsAccepted soc limits p → IsProofFault soc limits p f → ⊥
+AcceptedProofsHaveNoFault =
+    (soc : SocValue) (limits : LimitsValue) (p : ProofValue) (f : ProofFault) →
+    IsAccepted soc limits p → IsProofFault soc limits p f → ⊥

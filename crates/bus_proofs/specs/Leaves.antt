@@ -43,18 +43,25 @@ from_to first last = range_with_len first (last + 1 - first)
 abbrev pub rank_weight : WeightsValue → ℕ → ℕ
 rank_weight weights rank = slice_index weights.ranks rank
 
--- the bus of a known rank, at each width of its interval
+-- the bus of a known rank at a width
+abbrev pub slot_at : Case → WeightsValue → (rank width : ℕ) → Slot
+slot_at c weights rank width = slot (Some rank) width (rank_weight weights rank + weights.wire * (width - low_at c rank))
+
+-- at each width of its interval
 abbrev pub slots_at : Case → WeightsValue → (rank : ℕ) → List Slot
-slots_at c weights rank =
-    map (λ v. slot (Some rank) v (rank_weight weights rank + weights.wire * (v - low_at c rank))) (from_to (max 1 (low_at c rank)) (high_at c rank))
+slots_at c weights rank = map (slot_at c weights rank) (from_to (max 1 (low_at c rank)) (high_at c rank))
 
 -- a bus of the rest is no wider than the last known one, and than the spare wires
 abbrev pub rest_high : (w : ℕ) → Case → (known : ℕ) → ℕ
 rest_high w c zero = w
 rest_high w c (suc last) = min (high_at c last) (spare w c.intervals)
 
+-- such a bus at a width, and at each width
+abbrev pub rest_slot : WeightsValue → (width : ℕ) → Slot
+rest_slot weights width = slot None width (weights.wire * width)
+
 abbrev pub rest_slots : (w : ℕ) → Case → WeightsValue → List Slot
-rest_slots w c weights = map (λ v. slot None v (weights.wire * v)) (from_to 1 (rest_high w c (known_ranks c)))
+rest_slots w c weights = map (rest_slot weights) (from_to 1 (rest_high w c (known_ranks c)))
 
 -- all buses that the module at a place may be on
 abbrev pub all_slots : (w : ℕ) → Case → WeightsValue → (place : ℕ) → List Slot
@@ -77,7 +84,8 @@ is_rank (Some own) rank = nat_eq own rank
 
 -- what the tests of a module over the wires use of a list, on a bus
 abbrev pub module_use : SocValue → LimitsValue → (place : ℕ) → Slot → ListValue → ℕ
-module_use soc limits place s list = sum_where (λ l. l.test.tam && is_of place l) (λ l. use_of soc limits (is_rank s.rank) list (packed_time l.core l.test s.width) l) soc
+module_use soc limits place s list =
+    sum_where (λ l. l.test.tam && is_of place l) (λ l. use_of soc limits (is_rank s.rank) list (packed_time l.core l.test s.width) l) soc
 
 -- what all self tests use of it
 abbrev pub self_use : SocValue → LimitsValue → ListValue → ℕ
@@ -99,7 +107,8 @@ least_cost soc limits lists claim c weights place =
 
 -- all modules at their least cost, and the self tests
 unfoldable pub cost_of_all : SocValue → LimitsValue → List ListValue → (claim : ℕ) → Case → WeightsValue → ℕ
-cost_of_all soc limits lists claim c weights = sum_below (least_cost soc limits lists claim c weights) (length soc.modules) + weighed lists weights (self_use soc limits)
+cost_of_all soc limits lists claim c weights =
+    sum_below (least_cost soc limits lists claim c weights) (length soc.modules) + weighed lists weights (self_use soc limits)
 
 -- the weight of all that there is in one cycle
 unfoldable pub worth_of_cycle : (w : ℕ) → List ListValue → Case → WeightsValue → ℕ
@@ -111,15 +120,21 @@ pub record HasNoBus (soc : SocValue) (w claim : ℕ) (c : Case) (weights : Weigh
   pub tam : has_tam_at soc place ≡ true
   pub none : slots_of soc w claim c weights place ≡ []
 
+-- what all modules cost at least is more than `claim - 1` cycles are worth
+abbrev pub CostTooMuch : SocValue → LimitsValue → List ListValue → (claim : ℕ) → Case → WeightsValue → Type 0
+CostTooMuch soc limits lists claim c weights =
+    let worth = worth_of_cycle limits.wires lists c weights in
+    worth * claim < cost_of_all soc limits lists claim c weights + worth
+
 -- the case has no plan of less than the claimed cycles
 abbrev pub LeafHolds : SocValue → LimitsValue → List ListValue → (claim : ℕ) → Case → WeightsValue → Type 0
 LeafHolds soc limits lists claim c weights =
-    IsEmpty limits.wires c ⊎ (HasNoBus soc limits.wires claim c weights
-    ⊎ (worth_of_cycle limits.wires lists c weights * claim < cost_of_all soc limits lists claim c weights + worth_of_cycle limits.wires lists c weights))
+    IsEmpty limits.wires c ⊎ (HasNoBus soc limits.wires claim c weights ⊎ CostTooMuch soc limits lists claim c weights)
 
 -- the cycles that a leaf shows which doesn't hold
 abbrev pub cycles_shown : (cost worth : ℕ) → ℕ
 cycles_shown cost worth = if nat_eq worth 0 then 0 else quotient_up cost worth
 
 unfoldable pub leaf_shows : SocValue → LimitsValue → List ListValue → (claim : ℕ) → Case → WeightsValue → ℕ
-leaf_shows soc limits lists claim c weights = cycles_shown (cost_of_all soc limits lists claim c weights) (worth_of_cycle limits.wires lists c weights)
+leaf_shows soc limits lists claim c weights =
+    cycles_shown (cost_of_all soc limits lists claim c weights) (worth_of_cycle limits.wires lists c weights)

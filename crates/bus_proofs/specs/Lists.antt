@@ -85,7 +85,8 @@ counted limit near power = if nat_lt limit (power + near) then limit else if nat
 
 abbrev pub power_use : LimitsValue → (near : ℕ) → LiveTest → (cycles : ℕ) → Option ℕ → ℕ
 power_use limits near l cycles None = 0
-power_use limits near l cycles (Some limit) = sum_below (λ r. counted limit near (power_of_id limits (id_of l) l.test.power r)) cycles / limit
+power_use limits near l cycles (Some limit) =
+    sum_below (λ r. counted limit near (power_of_id limits (id_of l) l.test.power r)) cycles / limit
 
 abbrev pub use_of : SocValue → LimitsValue → (on : ℕ → Bool) → ListValue → (cycles : ℕ) → LiveTest → ℕ
 use_of soc limits on (OfTurns tests) cycles l = if is_among tests l then cycles else 0

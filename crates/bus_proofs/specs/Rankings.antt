@@ -28,4 +28,5 @@ pub record IsOnRank (plan : PlanValue) (ranking : List ℕ) (c : Case) (place : 
 pub record IsInCase (soc : SocValue) (plan : PlanValue) (ranking : List ℕ) (c : Case) : Type 0 where
   pub low : (rank : ℕ) → rank < known_ranks c → low_at c rank ≤ rank_width plan ranking rank
   pub high : (rank : ℕ) → rank < known_ranks c → rank_width plan ranking rank ≤ high_at c rank
-  pub modules : (place : ℕ) (m : ModuleValue) → slice_get soc.modules place ≡ Some m → has_tam m ≡ true → IsOnRank plan ranking c place m
+  pub modules : (place : ℕ) (m : ModuleValue) → slice_get soc.modules place ≡ Some m → has_tam m ≡ true →
+      IsOnRank plan ranking c place m
