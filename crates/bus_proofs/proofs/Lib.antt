@@ -1,0 +1,16 @@
+pub mod Intervals
+pub mod Steps
+pub mod Trees
+pub mod Least
+pub mod Active
+pub mod Turns
+pub mod Crowds
+pub mod Powers
+pub mod Rankings
+pub mod Weighed
+pub mod Slots
+pub mod LeafBounds
+pub mod AcceptedProofs
+pub mod Rows
+pub mod OneTree
+pub mod Faults

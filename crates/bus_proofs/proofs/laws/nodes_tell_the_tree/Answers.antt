@@ -1,0 +1,5 @@
+use Rattle.bus_proofs.proofs.OneTree.{one_tree}
+use Rattle.bus_proofs.proofs.laws.nodes_tell_the_tree.Goals as goal
+
+pub returns : goal.returns
+returns c = one_tree

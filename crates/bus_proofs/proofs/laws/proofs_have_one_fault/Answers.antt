@@ -1,0 +1,5 @@
+use Rattle.bus_proofs.proofs.Faults.{one_fault}
+use Rattle.bus_proofs.proofs.laws.proofs_have_one_fault.Goals as goal
+
+pub returns : goal.returns
+returns c = one_fault

@@ -1,0 +1,7 @@
+pub mod Proofs
+pub mod Cases
+pub mod Rankings
+pub mod Lists
+pub mod Leaves
+pub mod Bounds
+pub mod Laws
