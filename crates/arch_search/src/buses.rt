@@ -1,4 +1,4 @@
-// The buses of a state of the search, and how they are changed.
+//! The buses of a state of the search, and how they are changed.
 ghost use Rattle.std.specs.Prelude.{◌≡◌, ◌<◌, ◌≤◌, length, slice_index, IfSome};
 ghost use Rattle.arch_search.specs.States.{AreBuses, AreAlike};
 

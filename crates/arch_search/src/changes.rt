@@ -1,4 +1,4 @@
-// One change of a state, drawn at random.
+//! One change of a state, drawn at random.
 ghost use Rattle.std.specs.Prelude.{◌≡◌, ◌<◌, ◌≤◌, length};
 ghost use Rattle.std.specs.List.{All};
 ghost use Rattle.resource_table.specs.Jobs.{JobValue};

@@ -1,4 +1,4 @@
-// Random draws.
+//! Random draws.
 ghost use Rattle.std.specs.Prelude.{◌<◌, ◌≤◌};
 
 use rand_core::Rng;

@@ -1,9 +1,9 @@
-// Searches for an architecture of fixed buses whose scheduled tests end early: buses, and an order of the tests, are
-// changed at random, and each change is weighed by the schedule that comes of it. The cycles of a test come from the width
-// table.
-//
-// The search owes nothing of what it finds: whoever makes a plan of it checks that plan. Times are in cycles, widths in
-// wires; modules, tests and buses go by their places.
+//! Searches for an architecture of fixed buses whose scheduled tests end early: buses, and an order of the tests, are
+//! changed at random, and each change is weighed by the schedule that comes of it. The cycles of a test come from the width
+//! table.
+//!
+//! The search owes nothing of what it finds: whoever makes a plan of it checks that plan. Times are in cycles, widths in
+//! wires; modules, tests and buses go by their places.
 #![tactic(auto)]
 
 mod buses;

@@ -1,4 +1,4 @@
-// The schedule of a state: its tests are placed in its order, each at the least start at which it fits.
+//! The schedule of a state: its tests are placed in its order, each at the least start at which it fits.
 ghost use Rattle.std.specs.Prelude.{◌≡◌, ℕ, ◌+◌, ◌^◌, ◌<◌, ◌≤◌, ◌++◌, ◌∷◌, [], true, false, length, map, replicate, None, slice_set, IfOk, IfSome};
 ghost use Rattle.std.specs.List.{All};
 ghost use Rattle.plan_model.specs.declared.TheConstants.{START_MOST};

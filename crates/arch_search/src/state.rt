@@ -1,4 +1,4 @@
-// A state of the search: buses, an order of the tests, and the cycles that their schedule takes.
+//! A state of the search: buses, an order of the tests, and the cycles that their schedule takes.
 ghost use Rattle.std.specs.Prelude.{◌≡◌, ℕ, ◌+◌, ◌<◌, length, replicate, IfOk, IfSome};
 ghost use Rattle.std.specs.List.{All, sum_by};
 ghost use Rattle.std.specs.List.Sorted.{IsPermutation};

@@ -1,4 +1,4 @@
-// Merging one bus into another.
+//! Merging one bus into another.
 ghost use Rattle.std.specs.Prelude.{◌≡◌, ◌≢◌, ◌-◌, ◌<◌, length, min, IfOk, OnOk};
 ghost use Rattle.bus_model.specs.Buses.{arch_value, bus_at};
 ghost use Rattle.bus_model.specs.Sound.{IsSoundArch};

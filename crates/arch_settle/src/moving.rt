@@ -1,4 +1,4 @@
-// Moving a module of the bottleneck, and what that would cost: no candidate is made.
+//! Moving a module of the bottleneck, and what that would cost: no candidate is made.
 ghost use Rattle.std.specs.Prelude.{◌≡◌, ◌≢◌, ℕ, ◌+◌, ◌-◌, ◌<◌, ◌≤◌, length, map, slice_set, slice_index, MatchOption, IfOk, OnOk, ◌++◌};
 ghost use Rattle.std.specs.List.{range_with_len, flat_map};
 ghost use Rattle.width_table.specs.Tables.{places_of};

@@ -1,4 +1,4 @@
-// Reshuffle, and all three kinds of step in rounds.
+//! Reshuffle, and all three kinds of step in rounds.
 ghost use Rattle.std.specs.Prelude.{◌≡◌, ◌<◌, ◌≤◌, List, IfOk, OnOk};
 ghost use Rattle.bus_model.specs.Buses.{BusValue, arch_value, cost_of};
 ghost use Rattle.bus_model.specs.Sound.{IsSoundArch};

@@ -1,4 +1,4 @@
-// Bottom-up and top-down: steps by the best merge of two buses.
+//! Bottom-up and top-down: steps by the best merge of two buses.
 ghost use Rattle.std.specs.Prelude.{◌≡◌, ◌≢◌, ◌-◌, ◌<◌, List, length, MatchOption, IfOk, OnOk};
 ghost use Rattle.bus_model.specs.Buses.{BusValue, arch_value};
 ghost use Rattle.bus_model.specs.Sound.{IsSoundArch};

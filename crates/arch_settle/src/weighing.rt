@@ -1,4 +1,4 @@
-// What a merge would cost, from the widths and times of the buses alone: no candidate is made.
+//! What a merge would cost, from the widths and times of the buses alone: no candidate is made.
 ghost use Rattle.std.specs.Prelude.{◌≡◌, ◌≢◌, ℕ, ◌+◌, ◌-◌, ◌^◌, ◌<◌, ◌≤◌, length, min, max, IfOk, vec_len};
 ghost use Rattle.std.specs.List.{IsFirstMaxByKey};
 ghost use Rattle.bus_model.specs.Buses.{arch_value, bus_at, places_time, cost_of, spread_of};

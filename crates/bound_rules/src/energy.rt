@@ -1,4 +1,4 @@
-// What tests draw together over their lower times, in power times cycles.
+//! What tests draw together over their lower times, in power times cycles.
 ghost use Rattle.std.specs.Prelude.{◌≡◌, ℕ, ◌*◌, ◌^◌, ◌<◌, ◌≤◌, Some, length, map, position, slice_get, IfSome};
 ghost use Rattle.indexmap.specs.IndexSet.{keys};
 ghost use Rattle.soc_model.specs.Chips.{soc_value, same_test};

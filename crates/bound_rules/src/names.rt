@@ -1,4 +1,4 @@
-// Lower times of live tests by their names.
+//! Lower times of live tests by their names.
 ghost use Rattle.std.specs.Prelude.{◌≡◌, ◌^◌, ◌≤◌, IfSome, option_map};
 ghost use Rattle.std.specs.List.{find, sum_by};
 ghost use Rattle.soc_model.specs.Chips.{soc_value, live_tests};

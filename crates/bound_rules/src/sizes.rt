@@ -1,5 +1,5 @@
-// The sizes of a module, and the lower times of its tests by them. They are taken once for a module, so that the times of
-// its tests at any widths don't walk its scan chains again.
+//! The sizes of a module, and the lower times of its tests by them. They are taken once for a module, so that the times of
+//! its tests at any widths don't walk its scan chains again.
 ghost use Rattle.std.specs.Prelude.{◌≡◌, ◌+◌, ◌^◌, ◌<◌, ◌≤◌, length, sum};
 ghost use Rattle.soc_model.specs.Chips.{module_value};
 ghost use Rattle.plan_model.specs.Listing.{module_size};

@@ -1,4 +1,4 @@
-// The times of buses, the cost of an architecture, and the first buses of greatest and of least time.
+//! The times of buses, the cost of an architecture, and the first buses of greatest and of least time.
 ghost use Rattle.std.specs.Prelude.{◌≡◌, ℕ, ◌+◌, ◌<◌, ◌≤◌, [], length, All, MatchOption};
 ghost use Rattle.bus_model.specs.Buses.{bus_value, arch_value, places_time, bus_time_of, cost_of, bottleneck_of, quickest_of};
 ghost use Rattle.bus_model.specs.Sound.{IsSoundBus, IsSoundArch, times_listed, due};

@@ -1,5 +1,5 @@
-// Test access architectures of fixed buses: their times and cost, the spreading of free wires, and the start solution
-// (after the start solution of TR-ARCHITECT, Goel and Marinissen 2002, for fixed buses in place of TestRails).
+//! Test access architectures of fixed buses: their times and cost, the spreading of free wires, and the start solution
+//! (after the start solution of TR-ARCHITECT, Goel and Marinissen 2002, for fixed buses in place of TestRails).
 #![tactic(auto)]
 
 mod costs;

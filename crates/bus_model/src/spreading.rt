@@ -1,4 +1,4 @@
-// Free wires, given out one after another.
+//! Free wires, given out one after another.
 ghost use Rattle.std.specs.Prelude.{◌≡◌, ◌+◌, ◌<◌, ◌≤◌, length};
 ghost use Rattle.bus_model.specs.Buses.{arch_value, spread_of};
 ghost use Rattle.bus_model.specs.Sound.{IsSoundArch, wires_used};

@@ -1,4 +1,4 @@
-// The start solution.
+//! The start solution.
 ghost use Rattle.std.specs.Prelude.{◌≡◌, ℕ, ◌<◌, ◌≤◌, List, length, All, IfOk, OnOk, map};
 ghost use Rattle.width_table.specs.Tables.{time_of};
 ghost use Rattle.bus_model.specs.Buses.{BusValue, arch_value, quickest_of};

@@ -1,4 +1,4 @@
-// Draws the schedule of a plan as text.
+//! Draws the schedule of a plan as text.
 #![tactic(auto)]
 
 ghost use Rattle.std.specs.Prelude.{◌≡◌, ◌++◌, ◌∷◌, [], ◌<◌, decimal, OnOk, IfOk};

@@ -1,5 +1,5 @@
-// What commands over files have in common: how their files are loaded and refused, how they are decided, and the one place
-// that writes. A program over it gives its words, its procedures and its texts.
+//! What commands over files have in common: how their files are loaded and refused, how they are decided, and the one place
+//! that writes. A program over it gives its words, its procedures and its texts.
 #![tactic(auto)]
 
 ghost use Rattle.std.specs.Prelude.{◌≡◌};

@@ -1,4 +1,4 @@
-// The lines that programs over files have in common, and what other lines are made of.
+//! The lines that programs over files have in common, and what other lines are made of.
 ghost use Rattle.std.specs.Prelude.{◌≡◌, ◌++◌, ◌&&◌, OnOk, IfOk, decimal, codes, IsTrue};
 ghost use Rattle.bound_certificate.specs.Checks.{certificate_fault};
 ghost use Rattle.plan_checker.specs.FaultValues.{fault_value};

@@ -1,4 +1,4 @@
-// Which top call takes the words of a command line: that of the eleven commands, or that of a command beside them.
+//! Which top call takes the words of a command line: that of the eleven commands, or that of a command beside them.
 ghost use Rattle.std.specs.Prelude.{◌≡◌, map, string_bytes};
 ghost use Rattle.commands.specs.TopCalls.{top_call_of, top_call_value};
 

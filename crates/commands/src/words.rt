@@ -1,4 +1,4 @@
-// The words of a program's command line.
+//! The words of a program's command line.
 use std::env;
 use std::io::ErrorKind;
 use std::rt::Env;

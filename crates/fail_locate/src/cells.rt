@@ -1,4 +1,4 @@
-// The cell that stands so many places from the end of a chain, of those whose bits are read.
+//! The cell that stands so many places from the end of a chain, of those whose bits are read.
 ghost use Rattle.std.specs.Prelude.{◌≡◌, ◌+◌, ◌^◌, ◌<◌, ◌≤◌, ◌++◌, length, map, option_map, reverse, slice_get, take};
 ghost use Rattle.std.specs.List.{All, flat_map, sum_by};
 ghost use Rattle.soc_model.specs.Chips.{module_value};

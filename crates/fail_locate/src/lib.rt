@@ -1,5 +1,5 @@
-// From a tester's fail log to the failing cells: what a log says, and which response bit of which test a tester reads at a
-// cycle on a wire.
+//! From a tester's fail log to the failing cells: what a log says, and which response bit of which test a tester reads at a
+//! cycle on a wire.
 #![tactic(auto)]
 
 mod cells;

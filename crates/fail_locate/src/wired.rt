@@ -1,4 +1,4 @@
-// The tests over the wires of a chip as a plan places them.
+//! The tests over the wires of a chip as a plan places them.
 ghost use Rattle.std.specs.Prelude.{◌≡◌, ℕ, ◌++◌, ◌∷◌, [], List, Some, slice_get, IfOk, OnOk, IsTrue};
 ghost use Rattle.soc_model.specs.Chips.{is_live, module_value, soc_value};
 ghost use Rattle.soc_model.specs.SoundChips.{IsSoundChip};

@@ -1,4 +1,4 @@
-// Lists that grow, and say so where memory was refused.
+//! Lists that grow, and say so where memory was refused.
 ghost use Rattle.std.specs.Prelude.{◌≡◌, ◌++◌, ◌∷◌, [], OnOk, OnErr, IfOk};
 
 use crate::NoMemory;

@@ -1,4 +1,4 @@
-// Decimal numbers, read and written.
+//! Decimal numbers, read and written.
 ghost use Rattle.std.specs.Prelude.{◌≡◌, ◌++◌, ◌≤◌, length, take, OnOk, OnErr, decimal};
 ghost use Rattle.outside.specs.Decimal.{number_of, spaced_number, dotted_numbers};
 

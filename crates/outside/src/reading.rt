@@ -1,4 +1,4 @@
-// Reads whole texts, word by word.
+//! Reads whole texts, word by word.
 ghost use Rattle.std.specs.Prelude.{◌≡◌, ◌≤◌, ℕ, List, [], length};
 ghost use Rattle.outside.specs.Words.{Word as ReadWord};
 ghost use Rattle.outside.specs.Grammars.{Steps, Ends, IsRead};

@@ -1,4 +1,4 @@
-// The files of the system. No contract can say what they hold.
+//! The files of the system. No contract can say what they hold.
 ghost use Rattle.std.specs.Prelude.{◌≡◌, ◌≢◌, ◌≤◌, ◌⊎◌, [], None, vec_len};
 ghost use Rattle.outside.specs.Counts.{next_count};
 ghost use Rattle.outside.specs.Held.{Rose, IsMissing, IsTooLong};

@@ -1,4 +1,4 @@
-// A writer of the system, as standard output. No contract can say what it received.
+//! A writer of the system, as standard output. No contract can say what it received.
 ghost use Rattle.std.specs.Prelude.{◌≡◌, ◌≢◌, ◌≤◌, ◌<◌, length, IfSome, ℕ};
 ghost use Rattle.outside.specs.Counts.{next_count, IsCounted};
 ghost use Rattle.outside.specs.Held.{Rose};

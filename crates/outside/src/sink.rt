@@ -1,4 +1,4 @@
-// Where output is written to.
+//! Where output is written to.
 ghost use Rattle.std.specs.Prelude.{◌≡◌, ℕ, ◌<◌, ◌≤◌, List, [], Option, length, IsOk, OnOk, OnErr, take};
 ghost use Rattle.outside.specs.Held.{Rose, Appended, AppendedFront, AppendedShorter};
 ghost use Rattle.outside.specs.Puts.{PutDownTo, PutUntilFailed};

@@ -1,4 +1,4 @@
-// The laws of pictures. They are the contract of a function that does nothing: a caller learns them by the call.
+//! The laws of pictures. They are the contract of a function that does nothing: a caller learns them by the call.
 ghost use Rattle.std.specs.Prelude.{◌≡◌, ℕ, ◌≤◌, ◌<◌, ◌^◌, true, List, []};
 ghost use Rattle.std.specs.List.{list_all};
 ghost use Rattle.soc_model.specs.Chips.{SocValue};

@@ -1,4 +1,4 @@
-// From cycles and rows to the units of a picture.
+//! From cycles and rows to the units of a picture.
 ghost use Rattle.std.specs.Prelude.{◌≡◌, ◌-◌, ◌^◌, ◌≤◌, max};
 ghost use Rattle.picture.specs.Panels.{below as end_of_panel, column as the_column, lanes_panel as the_lanes, outline_of as the_outline, row_line as the_line, scaled as the_scaled, wires_panel as the_wires};
 

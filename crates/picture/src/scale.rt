@@ -1,4 +1,4 @@
-// The scale of a picture: thin lines at round cycles, with their numbers below all panels.
+//! The scale of a picture: thin lines at round cycles, with their numbers below all panels.
 ghost use Rattle.std.specs.Prelude.{◌≡◌, ◌+◌, ◌*◌, ◌/◌, ◌++◌, ◌≤◌, ◌^◌, OnOk};
 ghost use Rattle.std.specs.List.{flat_map};
 ghost use Rattle.picture.specs.Scale.{leading_power as the_power, mark_line, mark_number, mark_step as the_step, marks_by, number_middle as the_middle, scale_by, scale_text, step_within as the_step_within};

@@ -1,4 +1,4 @@
-// The parts of a picture, from its head to its lines.
+//! The parts of a picture, from its head to its lines.
 ghost use Rattle.std.specs.Prelude.{◌≡◌, ◌++◌, ◌≤◌, ◌^◌, OnOk};
 ghost use Rattle.std.specs.List.{flat_map};
 ghost use Rattle.soc_model.specs.Chips.{soc_value};

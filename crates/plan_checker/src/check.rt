@@ -1,4 +1,4 @@
-// The checker's room and its public call.
+//! The checker's room and its public call.
 
 ghost use Rattle.std.specs.Prelude.{◌≡◌, ℕ, ◌+◌, ◌≤◌, None, OnOk, IfOk, IfErr, IfSome, IsOk, length, vec_capacity};
 ghost use Rattle.std.specs.List.{All, filter};

@@ -1,4 +1,4 @@
-// The first pair of tests that may not meet and do: the least cycle first, then the least pair there.
+//! The first pair of tests that may not meet and do: the least cycle first, then the least pair there.
 
 ghost use Rattle.std.specs.Prelude.{◌≡◌, ℕ, ◌<◌, length, slice_index, false, IsTrue, IfSome, IfNone};
 ghost use Rattle.live_tests.specs.Parents.{AreParents};

@@ -1,4 +1,4 @@
-// Every module that a plan names is in the chip, and every wrapper is proper.
+//! Every module that a plan names is in the chip, and every wrapper is proper.
 
 ghost use Rattle.std.specs.Prelude.{◌≡◌, map, [], IsTrue, IfSome, IfNone, false};
 ghost use Rattle.std.specs.List.{flat_map, Contains};

@@ -1,4 +1,4 @@
-// What the checker asks of a chip.
+//! What the checker asks of a chip.
 
 ghost use Rattle.std.specs.Prelude.{◌≡◌, ◌≢◌, ℕ, length, IsTrue, IfSome, IfNone, false, Some, slice_get};
 ghost use Rattle.std.specs.List.{Contains};

@@ -1,4 +1,4 @@
-// The live tests by their names, so that a name is found without a walk.
+//! The live tests by their names, so that a name is found without a walk.
 
 ghost use Rattle.std.specs.Prelude.{◌≡◌, ℕ, ◌+◌, ◌<◌, ◌≤◌, ◌∷◌, ◌++◌, [], length, false, Some, slice_get, IfSome, IfNone};
 ghost use Rattle.std.specs.List.{list_any};

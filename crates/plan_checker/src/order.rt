@@ -1,4 +1,4 @@
-// Precedences, and the cycles that a plan says it takes.
+//! Precedences, and the cycles that a plan says it takes.
 
 ghost use Rattle.std.specs.Prelude.{◌≡◌, [], IsTrue, false, Some};
 ghost use Rattle.soc_model.specs.declared.TestId.{TestId};

@@ -1,5 +1,5 @@
-// The live tests as a plan places them, in the order of the chip. A plan that is checked may lack tests or repeat them, and no
-// memory is taken, so what the rules before have noted of it in lent rooms stands in for an index of the plan.
+//! The live tests as a plan places them, in the order of the chip. A plan that is checked may lack tests or repeat them, and no
+//! memory is taken, so what the rules before have noted of it in lent rooms stands in for an index of the plan.
 
 ghost use Rattle.std.specs.Prelude.{◌≡◌, ℕ, ◌++◌, take, ◌+◌, ◌^◌, ◌<◌, ◌≤◌, length, Some, slice_get, slice_index};
 ghost use Rattle.std.specs.List.{Contains};

@@ -1,4 +1,4 @@
-// Each module with a test over the wires is on one bus, and none is on two.
+//! Each module with a test over the wires is on one bus, and none is on two.
 
 ghost use Rattle.std.specs.Prelude.{◌≡◌, ℕ, ◌<◌, Some, length, map, slice_get, IfSome, IfNone};
 ghost use Rattle.std.specs.List.{flat_map, Contains};

@@ -1,4 +1,4 @@
-// What the tests of a plan draw together, against the limit.
+//! What the tests of a plan draw together, against the limit.
 
 ghost use Rattle.std.specs.Prelude.{◌≡◌, ℕ, ◌+◌, ◌*◌, ◌<◌, ◌≤◌, ◌++◌, Some, length, set, slice_get, vec_capacity};
 ghost use Rattle.indexmap.specs.IndexSet.{keys};

@@ -1,4 +1,4 @@
-// Each live test has one start, and no other test has any.
+//! Each live test has one start, and no other test has any.
 
 ghost use Rattle.std.specs.Prelude.{◌≡◌, ℕ, ◌+◌, ◌<◌, ◌≤◌, length, [], nat_eq, IfSome, IfNone, Some};
 ghost use Rattle.std.specs.List.{position};

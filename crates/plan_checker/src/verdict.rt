@@ -1,4 +1,4 @@
-// The stages one after another, in the order of the rules.
+//! The stages one after another, in the order of the rules.
 
 ghost use Rattle.std.specs.Prelude.{◌≡◌, ℕ, ◌+◌, ◌*◌, ◌≤◌, length, map, vec_capacity, IfSome, IfNone, Some};
 ghost use Rattle.std.specs.List.{Contains};

@@ -1,4 +1,4 @@
-// Each bus has a wire, and all buses together have no more wires than the limits.
+//! Each bus has a wire, and all buses together have no more wires than the limits.
 
 ghost use Rattle.std.specs.Prelude.{◌≡◌, map};
 ghost use Rattle.soc_model.specs.Chips.{SocValue};

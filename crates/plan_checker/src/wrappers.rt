@@ -1,4 +1,4 @@
-// Each pair of a module and a mode that a test over the wires uses has one wrapper, and no other pair has any.
+//! Each pair of a module and a mode that a test over the wires uses has one wrapper, and no other pair has any.
 
 ghost use Rattle.std.specs.Prelude.{◌≡◌, ℕ, ◌+◌, ◌<◌, ◌≤◌, ◌∷◌, ◌++◌, [], length, map, IsTrue, IfSome, IfNone, true, false, slice_index};
 ghost use Rattle.std.specs.List.{list_any, Contains};

@@ -1,4 +1,4 @@
-// A plan from what a search found. It is checked before it is answered.
+//! A plan from what a search found. It is checked before it is answered.
 ghost use Rattle.std.specs.Prelude.{◌≡◌, ◌+◌, ◌<◌, true, length, map, IfOk, IfSome};
 ghost use Rattle.soc_model.specs.Chips.{soc_value};
 ghost use Rattle.soc_model.specs.SoundChips.{IsSoundChip};

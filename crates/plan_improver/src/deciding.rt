@@ -1,4 +1,4 @@
-// Decides how a call ends before anything is written.
+//! Decides how a call ends before anything is written.
 ghost use Rattle.std.specs.Prelude.{◌≡◌, ◌<◌, ◌≤◌, None, map, string_bytes, IfOk};
 ghost use Rattle.soc_model.specs.Chips.{soc_value};
 ghost use Rattle.soc_model.specs.SoundChips.{IsSoundChip};

@@ -1,4 +1,4 @@
-// A better plan, with the greater of two bounds.
+//! A better plan, with the greater of two bounds.
 ghost use Rattle.std.specs.Prelude.{◌≡◌, ℕ, ◌<◌, ◌≤◌, None, length, IfOk, IfSome};
 ghost use Rattle.soc_model.specs.Chips.{soc_value, live_tests};
 ghost use Rattle.resource_table.specs.Jobs.{job_value, IsSoundJob};

@@ -1,4 +1,4 @@
-// The law of a plan's numbers. It is the contract of a function that does nothing: a caller learns it by the call.
+//! The law of a plan's numbers. It is the contract of a function that does nothing: a caller learns it by the call.
 ghost use Rattle.soc_model.specs.Chips.{SocValue};
 ghost use Rattle.soc_model.specs.SoundChips.{IsSoundChip};
 ghost use Rattle.plan_model.specs.Plans.{LimitsValue, PlanValue};

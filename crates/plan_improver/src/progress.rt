@@ -1,4 +1,4 @@
-// How far a search is, told as it goes.
+//! How far a search is, told as it goes.
 ghost use Rattle.std.specs.Prelude.{◌≡◌, ◌<◌, ◌≤◌, OnOk};
 ghost use Rattle.plan_improver.specs.declared.progress.TheConstants.{TOLD_FROM};
 ghost use Rattle.plan_improver.specs.Told.{MayAdd, MayTell, told_line};

@@ -1,4 +1,4 @@
-// The top call: it decides first, and then writes once.
+//! The top call: it decides first, and then writes once.
 ghost use Rattle.std.specs.Prelude.{◌≡◌, ◌≤◌, false, None, map, string_bytes};
 ghost use Rattle.outside.specs.Held.{Rose};
 ghost use Rattle.commands.specs.Procedures.{asked};

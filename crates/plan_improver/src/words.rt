@@ -1,4 +1,4 @@
-// The words of the command line.
+//! The words of the command line.
 ghost use Rattle.std.specs.Prelude.{◌≡◌, map, string_bytes, option_map};
 ghost use Rattle.plan_improver.specs.declared.TheConstants.{TRIES_MOST};
 ghost use Rattle.plan_improver.specs.declared.Request.{Request};

@@ -1,4 +1,4 @@
-// The laws over the definitions. Each is the contract of a function that does nothing: a caller learns it by the call.
+//! The laws over the definitions. Each is the contract of a function that does nothing: a caller learns it by the call.
 ghost use Rattle.std.specs.Prelude.{◌≡◌, ◌⊎◌, ℕ, ◌≤◌, Some, List, length, sum, true, false, slice_get};
 ghost use Rattle.soc_model.specs.declared.Test.{Test};
 ghost use Rattle.soc_model.specs.declared.TheConstants.{WORK_MOST};

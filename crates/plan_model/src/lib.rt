@@ -1,5 +1,5 @@
-// Test plans of a chip (after the ITC'02 SOC Test Benchmarks, Marinissen, Iyengar and Chakrabarty 2002): plans and their
-// limits, the definitions of what a plan does cycle by cycle and when it is good, and the laws over them.
+//! Test plans of a chip (after the ITC'02 SOC Test Benchmarks, Marinissen, Iyengar and Chakrabarty 2002): plans and their
+//! limits, the definitions of what a plan does cycle by cycle and when it is good, and the laws over them.
 #![tactic(auto)]
 
 mod laws;

@@ -1,5 +1,5 @@
-// What a test over the wires does at a cycle, by division: its cycles are the setup, the Shifts before the first capture, and
-// then one block after another of a capture and the Shifts after it.
+//! What a test over the wires does at a cycle, by division: its cycles are the setup, the Shifts before the first capture, and
+//! then one block after another of a capture and the Shifts after it.
 ghost use Rattle.std.specs.Prelude.{◌≡◌, ◌+◌, ◌^◌, ◌<◌, suc, Some, None, cond, length, nat_lt, option_map};
 ghost use Rattle.plan_model.specs.Moments.{phase_ops, turn_value, moment_ahead, moment_behind, IsMoment, ArePhases};
 

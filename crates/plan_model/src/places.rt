@@ -1,4 +1,4 @@
-// Where the bus and the wrapper of a module stand in a plan, and the profile of a test in the limits.
+//! Where the bus and the wrapper of a module stand in a plan, and the profile of a test in the limits.
 ghost use Rattle.std.specs.Prelude.{◌≡◌, map, position};
 ghost use Rattle.soc_model.specs.Chips.{same_test};
 ghost use Rattle.plan_model.specs.declared.Profile.{Profile};

@@ -1,4 +1,4 @@
-// The time of a wrapped module's test.
+//! The time of a wrapped module's test.
 ghost use Rattle.std.specs.Prelude.{◌≡◌, ◌+◌, ◌*◌, ◌^◌, ◌≤◌, length, max, min};
 ghost use Rattle.plan_model.specs.Operations.{ops_of};
 

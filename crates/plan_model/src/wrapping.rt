@@ -1,4 +1,4 @@
-// Whether a wrapper is proper, and the lengths and times that it gives.
+//! Whether a wrapper is proper, and the lengths and times that it gives.
 
 ghost use Rattle.std.specs.Prelude.{◌≡◌, ◌≢◌, ℕ, ◌+◌, ◌*◌, ◌^◌, ◌<◌, ◌≤◌, length, map, IsTrue, false, slice_index, nat_eq, nat_lt, if◌then◌else◌};
 ghost use Rattle.std.specs.List.{All, sum_by, list_all};

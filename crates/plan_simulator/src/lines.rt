@@ -1,4 +1,4 @@
-// The lines that are written.
+//! The lines that are written.
 ghost use Rattle.std.specs.Prelude.{◌≡◌, IfOk, IsTrue};
 ghost use Rattle.commands.specs.Texts.{is_line};
 ghost use Rattle.plan_simulator.specs.Runs.{counts_line as counts_text};

@@ -1,4 +1,4 @@
-// The words of the command line.
+//! The words of the command line.
 ghost use Rattle.std.specs.Prelude.{◌≡◌, map, string_bytes, option_map};
 ghost use Rattle.outside.specs.Decimal.{number_of};
 ghost use Rattle.soc_model.specs.declared.TheConstants.{NUMBER_WORD_MOST};

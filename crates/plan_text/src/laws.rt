@@ -1,4 +1,4 @@
-// What a text says is settled. Each law is the contract of a function that does nothing: a caller learns it by the call.
+//! What a text says is settled. Each law is the contract of a function that does nothing: a caller learns it by the call.
 ghost use Rattle.plan_text.specs.Laws.{SayOnePlan, PlansAreNotRefused, RefusedOnce, PrintedPlansAreRead, PlansAreAnswered, PrintedPlansAreAnswered, EachTextHasAnAnswer};
 
 /// A text says at most one plan.

@@ -1,4 +1,4 @@
-// Prints a plan, line by line.
+//! Prints a plan, line by line.
 ghost use Rattle.std.specs.Prelude.{◌≡◌, ◌++◌, ◌∷◌, true, map, OnOk, IfOk};
 ghost use Rattle.plan_model.specs.Views.{bus_value, chain_value, wrapper_value, bound_value, why_value, plan_value};
 ghost use Rattle.plan_text.specs.declared.tokens.Token.TheVariants.{Number};

@@ -1,4 +1,4 @@
-// Reads a whole text.
+//! Reads a whole text.
 ghost use Rattle.plan_text.specs.Answers.{PlanRead};
 
 use crate::PlanTextFault;

@@ -1,4 +1,4 @@
-// Reads the words of a plan one by one.
+//! Reads the words of a plan one by one.
 ghost use Rattle.std.specs.Prelude.{◌≡◌, ◌++◌, ◌∷◌, [], Ok, OnOk, OnErr, option_map};
 ghost use Rattle.plan_model.specs.Views.{bus_value, wrapper_value, chain_value, bound_value};
 ghost use Rattle.plan_text.specs.PartValues.{draft_value, part_value, Begins, Steps};

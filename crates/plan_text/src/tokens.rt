@@ -1,4 +1,4 @@
-// The words of a plan's text, as what they stand for.
+//! The words of a plan's text, as what they stand for.
 ghost use Rattle.std.specs.Prelude.{◌≡◌};
 ghost use Rattle.plan_text.specs.Tokens.{keywords, named, token_of as token_that_is};
 

@@ -1,4 +1,4 @@
-// A copy of a job.
+//! A copy of a job.
 ghost use Rattle.std.specs.Prelude.{◌≡◌, map, IfOk};
 ghost use Rattle.resource_table.specs.Jobs.{test_value, job_value};
 

@@ -1,4 +1,4 @@
-// Where a profile of power leaves enough free for a step of a test, and for long enough.
+//! Where a profile of power leaves enough free for a step of a test, and for long enough.
 ghost use Rattle.std.specs.Prelude.{◌≡◌, ℕ, ◌+◌, ◌^◌, ◌<◌, ◌≤◌, ◌⊎◌, nat_lt, length, slice_index_or, IfSome, IfNone};
 ghost use Rattle.resource_table.specs.Profiles.{no_point, IsEndedProfile, IsFreeFor};
 

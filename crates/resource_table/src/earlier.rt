@@ -1,4 +1,4 @@
-// The tests that precede each test. Tests go by their places in the job.
+//! The tests that precede each test. Tests go by their places in the job.
 ghost use Rattle.std.specs.Prelude.{◌≡◌, ℕ, ◌<◌, [], length, map, slice_index_or, IfOk};
 ghost use Rattle.std.specs.List.{All};
 ghost use Rattle.resource_table.specs.Befores.{tests_before, listed};

@@ -1,4 +1,4 @@
-// Empty timelines, with room for the times of all tests of a job.
+//! Empty timelines, with room for the times of all tests of a job.
 ghost use Rattle.std.specs.Prelude.{◌≡◌, ℕ, ◌+◌, ◌^◌, ◌<◌, ◌≤◌, Some, [], length, map, slice_get, slice_index_or, replicate, vec_capacity, if◌then◌else◌, IfSome, IfOk};
 ghost use Rattle.std.specs.List.{All, sum_by};
 ghost use Rattle.resource_table.specs.declared.JobTest.{JobTest};

@@ -1,4 +1,4 @@
-// Which tests are never active together.
+//! Which tests are never active together.
 ghost use Rattle.std.specs.Prelude.{◌≡◌};
 ghost use Rattle.resource_table.specs.Jobs.{test_value};
 ghost use Rattle.resource_table.specs.Schedules.{same_bus as go_over_one, is_at as stands_at, exclude};

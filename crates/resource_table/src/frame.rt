@@ -1,4 +1,4 @@
-// Frames: a placement that is to be taken back or kept.
+//! Frames: a placement that is to be taken back or kept.
 ghost use Rattle.std.specs.Prelude.{◌≡◌, ◌≤◌, ◌++◌, ◌∷◌, [], length, take};
 ghost use Rattle.std.specs.Borrow.{sem};
 ghost use Rattle.resource_table.specs.Schedules.{at_start, MayPlace, IsSoundTable};

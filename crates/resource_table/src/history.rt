@@ -1,4 +1,4 @@
-// Notes of tests, which are changed one by one and taken back to what they were at a mark.
+//! Notes of tests, which are changed one by one and taken back to what they were at a mark.
 ghost use Rattle.std.specs.Prelude.{◌≡◌, ℕ, ◌+◌, ◌<◌, ◌≤◌, ◌⊎◌, ◌++◌, ◌∷◌, [], length, slice_set, replicate, vec_capacity, IfOk};
 ghost use Rattle.resource_table.specs.Histories.{no_note, at_change, past_of, ArePlaces, IsHistory};
 

@@ -1,4 +1,4 @@
-// Until when the children of each module run at the latest, and how that is taken back.
+//! Until when the children of each module run at the latest, and how that is taken back.
 ghost use Rattle.std.specs.Prelude.{◌≡◌, ℕ, ◌<◌, ◌≤◌, true, Some, [], length, slice_get, vec_capacity, IfSome, IfOk};
 ghost use Rattle.resource_table.specs.LatestEnds.{end_at as end_at_place, with_end, IsLater, IsBack};
 

@@ -1,4 +1,4 @@
-// The laws over the definitions. Each is the contract of a function that does nothing: a caller learns it by the call.
+//! The laws over the definitions. Each is the contract of a function that does nothing: a caller learns it by the call.
 ghost use Rattle.std.specs.Prelude.{◌≡◌, ℕ, ◌+◌, ◌^◌, ◌<◌, ◌≤◌, ◌++◌, ◌∷◌, [], List, length, Some, true, false, slice_get, IfSome};
 ghost use Rattle.std.specs.List.{sum_by};
 ghost use Rattle.resource_table.specs.declared.Placement.{Placement};

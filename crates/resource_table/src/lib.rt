@@ -1,7 +1,7 @@
-// A table of placed tests: which resources they take (buses, modules, power), and where one more test fits first. It
-// serves the schedules of a chip's tests (after Iyengar, Chakrabarty and Marinissen 2002).
-//
-// Times are in cycles, and power is in the unit of the limits. Only [`Table::new`] takes memory.
+//! A table of placed tests: which resources they take (buses, modules, power), and where one more test fits first. It
+//! serves the schedules of a chip's tests (after Iyengar, Chakrabarty and Marinissen 2002).
+//!
+//! Times are in cycles, and power is in the unit of the limits. Only [`Table::new`] takes memory.
 #![tactic(auto)]
 
 mod copies;

@@ -1,6 +1,6 @@
-// The marks of a test in a profile of power: one at its start, and one at the end of each of its draws. Each stands at a
-// point of its cycle. A point stays where its marks are taken away, since the same marks often come again; such points
-// are taken out together, where there is no room.
+//! The marks of a test in a profile of power: one at its start, and one at the end of each of its draws. Each stands at a
+//! point of its cycle. A point stays where its marks are taken away, since the same marks often come again; such points
+//! are taken out together, where there is no room.
 ghost use Rattle.std.specs.Prelude.{◌≡◌, ℕ, ◌+◌, ◌-◌, ◌^◌, ◌<◌, ◌≤◌, ◌++◌, ◌∷◌, true, false, List, drop, length, slice_index_or, vec_capacity};
 ghost use Rattle.std.specs.List.{sum_by};
 ghost use Rattle.std.specs.List.Sorted.{IsNonDecreasingBy};

@@ -1,4 +1,4 @@
-// Points of a profile of the power that is drawn, in the order of their cycles.
+//! Points of a profile of the power that is drawn, in the order of their cycles.
 ghost use Rattle.std.specs.Prelude.{◌≡◌, ◌+◌, ◌-◌, ◌^◌, ◌<◌, ◌≤◌, true, false, nat_eq, not, length, slice_index_or, slice_set, vec_capacity};
 ghost use Rattle.std.specs.List.{filter, insert};
 ghost use Rattle.std.specs.List.Sorted.{IsNonDecreasingBy, IsPartitionPoint};

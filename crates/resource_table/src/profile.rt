@@ -1,5 +1,5 @@
-// A profile of the power that is drawn: the load at the cycles where a draw begins or ends, in the order of cycles. From
-// each of them on the load stays the same up to the next.
+//! A profile of the power that is drawn: the load at the cycles where a draw begins or ends, in the order of cycles. From
+//! each of them on the load stays the same up to the next.
 ghost use Rattle.std.specs.Prelude.{◌≡◌, ℕ, ◌+◌, ◌-◌, ◌^◌, ◌<◌, ◌≤◌, ◌++◌, true, false, List, map, take, drop, length, slice_index_or, slice_set, vec_capacity, IfSome};
 ghost use Rattle.std.specs.List.{All};
 ghost use Rattle.std.specs.List.Sorted.{IsNonDecreasingBy};

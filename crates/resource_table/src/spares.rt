@@ -1,5 +1,5 @@
-// Spare points: points without a mark, several in a row at one cycle, over which the points of new marks are put. So all points
-// behind the last mark of a test move once, and not once for each of its marks.
+//! Spare points: points without a mark, several in a row at one cycle, over which the points of new marks are put. So all points
+//! behind the last mark of a test move once, and not once for each of its marks.
 ghost use Rattle.std.specs.Prelude.{◌≡◌, ◌+◌, ◌-◌, ◌<◌, ◌≤◌, ◌++◌, true, length, take, drop, replicate, slice_index_or, vec_capacity};
 ghost use Rattle.std.specs.List.{insert, remove};
 ghost use Rattle.resource_table.specs.declared.points.Point.{Point};

@@ -1,4 +1,4 @@
-// The table of placed tests.
+//! The table of placed tests.
 ghost use Rattle.std.specs.Prelude.{◌≡◌, ℕ, ◌+◌, ◌-◌, ◌^◌, ◌<◌, ◌≤◌, ◌++◌, ◌∷◌, [], length, map, take, Some, replicate, None, IfOk, ◌⊎◌, ◌*◌, vec_capacity, slice_index_or, unwrap_or, IfSome};
 ghost use Rattle.std.specs.List.{All, Contains, sum_by};
 ghost use Rattle.plan_model.specs.declared.TheConstants.{WIRES_MOST};

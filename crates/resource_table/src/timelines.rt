@@ -1,4 +1,4 @@
-// Busy times, kept apart by what they take: a bus, a module, or the children of a module.
+//! Busy times, kept apart by what they take: a bus, a module, or the children of a module.
 ghost use Rattle.std.specs.Prelude.{◌≡◌, ℕ, ◌+◌, ◌-◌, ◌^◌, ◌<◌, ◌≤◌, Option, Some, true, length as length_of, nat_lt, nat_le, slice_get, vec_len, vec_capacity};
 ghost use Rattle.std.specs.List.{All, AllWithin};
 ghost use Rattle.std.specs.List.Sorted.{IsNonDecreasingBy, IsPartitionPoint};

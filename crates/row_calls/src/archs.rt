@@ -1,4 +1,4 @@
-// Steps over the buses of an architecture, each by itself: the planner makes them in rounds.
+//! Steps over the buses of an architecture, each by itself: the planner makes them in rounds.
 ghost use Rattle.std.specs.Prelude.{◌≡◌, ◌≤◌, IfOk};
 ghost use Rattle.soc_model.specs.Chips.{soc_value};
 ghost use Rattle.soc_model.specs.SoundChips.{IsSoundChip};

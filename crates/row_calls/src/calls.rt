@@ -1,5 +1,5 @@
-// Calls that no command over files in memory makes: limits and plans that are printed, vectors that are written, a search and
-// frames of placed tests, and a chip and one of its modules that are stepped by themselves.
+//! Calls that no command over files in memory makes: limits and plans that are printed, vectors that are written, a search and
+//! frames of placed tests, and a chip and one of its modules that are stepped by themselves.
 ghost use Rattle.soc_model.specs.Chips.{soc_value};
 ghost use Rattle.soc_model.specs.SoundChips.{IsSoundChip};
 ghost use Rattle.plan_model.specs.Faults.{IsFaultless};

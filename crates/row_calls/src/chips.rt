@@ -1,4 +1,4 @@
-// A whole chip under an accepted plan, stepped by itself.
+//! A whole chip under an accepted plan, stepped by itself.
 ghost use Rattle.std.specs.Prelude.{◌≡◌, ◌+◌, ◌<◌, ◌≤◌, length, IfOk};
 ghost use Rattle.soc_model.specs.Chips.{soc_value};
 ghost use Rattle.soc_model.specs.SoundChips.{IsSoundChip};

@@ -1,4 +1,4 @@
-// Tests of an accepted plan that are placed in nested frames of a table, and taken back.
+//! Tests of an accepted plan that are placed in nested frames of a table, and taken back.
 ghost use Rattle.std.specs.Prelude.{◌≡◌, ℕ, ◌<◌, true, false, length};
 ghost use Rattle.soc_model.specs.Chips.{soc_value};
 ghost use Rattle.soc_model.specs.SoundChips.{IsSoundChip};

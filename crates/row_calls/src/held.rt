@@ -1,4 +1,4 @@
-// The chip, the limits and the plan that the files SOC, LIMITS and PLAN of the rig hold.
+//! The chip, the limits and the plan that the files SOC, LIMITS and PLAN of the rig hold.
 ghost use Rattle.std.specs.Prelude.{IfSome};
 ghost use Rattle.soc_model.specs.Chips.{soc_value};
 ghost use Rattle.soc_model.specs.SoundChips.{IsSoundChip};

@@ -1,4 +1,4 @@
-// The lines of a file of rows.
+//! The lines of a file of rows.
 use outside::number;
 
 /// A line of a file of rows.

@@ -1,4 +1,4 @@
-// What rows run over: files in memory, what the outputs of a run are like, and what the last run wrote.
+//! What rows run over: files in memory, what the outputs of a run are like, and what the last run wrote.
 use crate::lines::{count_of, part};
 use crate::texts::bytes_of_text;
 use outside::{MemShelf, MemSink, NoMemory, copied, extend, push};

@@ -1,5 +1,5 @@
-// Searches for an order of the tests of an accepted plan, by either end of a test as the estimate: the commands search by one
-// of them alone.
+//! Searches for an order of the tests of an accepted plan, by either end of a test as the estimate: the commands search by one
+//! of them alone.
 ghost use Rattle.std.specs.Prelude.{IfOk};
 ghost use Rattle.soc_model.specs.Chips.{soc_value};
 ghost use Rattle.soc_model.specs.SoundChips.{IsSoundChip};

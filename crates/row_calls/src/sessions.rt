@@ -1,4 +1,4 @@
-// One module in its wrapper, stepped by itself.
+//! One module in its wrapper, stepped by itself.
 ghost use Rattle.std.specs.Prelude.{◌≡◌, ◌+◌, ◌≤◌, ◌^◌, true, length, map, sum_by, IfOk};
 ghost use Rattle.std.specs.List.{sum};
 ghost use Rattle.soc_model.specs.Chips.{module_value};

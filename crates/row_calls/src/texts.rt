@@ -1,4 +1,4 @@
-// The texts of rows. A text stands in one line: `/` ends a line of it, and a backslash begins what can't be written so.
+//! The texts of rows. A text stands in one line: `/` ends a line of it, and a backslash begins what can't be written so.
 ghost use Rattle.std.specs.Prelude.{◌<◌, ◌≤◌, length, IfSome};
 
 use outside::{NoMemory, push};

@@ -1,4 +1,4 @@
-// Files of the rig, and plans in them, beside each other.
+//! Files of the rig, and plans in them, beside each other.
 use outside::{NoMemory, copied};
 use plan_text::read_plan;
 use row_calls::{Rig, part};

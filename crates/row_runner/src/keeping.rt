@@ -1,4 +1,4 @@
-// Parts of what a run wrote, by the words with which lines begin.
+//! Parts of what a run wrote, by the words with which lines begin.
 use outside::{NoMemory, extend};
 use row_calls::Rig;
 

@@ -1,6 +1,6 @@
-// Runs rows of data: what the commands answer to files and words that are held in memory, and what a few calls answer that
-// no command makes. The words of the command line name the files of rows. A line is printed for each row whose answer
-// differs, and then how many rows passed.
+//! Runs rows of data: what the commands answer to files and words that are held in memory, and what a few calls answer that
+//! no command makes. The words of the command line name the files of rows. A line is printed for each row whose answer
+//! differs, and then how many rows passed.
 #![tactic(auto)]
 
 mod comparing;

@@ -1,4 +1,4 @@
-// Files of the system: loads of them, and runs of the top calls over them with a file as the output.
+//! Files of the system: loads of them, and runs of the top calls over them with a file as the output.
 use crate::runs::{call, ended, words_of};
 use outside::{Loaded, MemSink, NoMemory, RealShelf, RealSink, Shelf, copied, push_number};
 use row_calls::{Rig, count_of, part};

@@ -1,4 +1,4 @@
-// How many rows passed and failed, and what is said of the latter.
+//! How many rows passed and failed, and what is said of the latter.
 use outside::{NoMemory, extend, push_number};
 use std::alloc::Global;
 

@@ -1,4 +1,4 @@
-// A file of rows, line by line.
+//! A file of rows, line by line.
 
 use crate::comparing::{are_same, takes_fewer};
 use crate::keeping::keep_lines;

@@ -1,4 +1,4 @@
-// Runs of the top calls over files in memory.
+//! Runs of the top calls over files in memory.
 use commands::{Status, TopCall, top_call};
 use outside::{NoMemory, Shelf, Sink, extend, push, push_number};
 use plan_improver::improve;

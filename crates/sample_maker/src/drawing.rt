@@ -1,4 +1,4 @@
-// The numbers that a seed draws.
+//! The numbers that a seed draws.
 ghost use Rattle.std.specs.Prelude.{◌≡◌, ◌^◌, ◌<◌, ◌≤◌};
 ghost use Rattle.sample_maker.specs.Samples.{drawn};
 

@@ -1,4 +1,4 @@
-// Made chips for whoever wants to try the planner: a number of modules and a seed fix the chip.
+//! Made chips for whoever wants to try the planner: a number of modules and a seed fix the chip.
 #![tactic(auto)]
 
 ghost use Rattle.std.specs.Prelude.{◌≡◌, ℕ, ◌↔◌, ◌⊎◌, ◌+◌, ◌<◌, ◌≤◌, ◌^◌, ◌++◌, ◌∷◌, [], false, IfOk, OnOk, Err};

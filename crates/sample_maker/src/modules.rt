@@ -1,4 +1,4 @@
-// One made module: its level, its terminals, its scan chains and its tests are drawn by its number.
+//! One made module: its level, its terminals, its scan chains and its tests are drawn by its number.
 ghost use Rattle.std.specs.Prelude.{◌≡◌, ◌^◌, ◌<◌, ◌≤◌, IfOk};
 ghost use Rattle.soc_model.specs.Chips.{module_value};
 ghost use Rattle.sample_maker.specs.Samples.{chain_lengths, has_self_test, is_below, made_module, scan_test, self_test, tests_of};

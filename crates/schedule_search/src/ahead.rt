@@ -1,4 +1,4 @@
-// Estimates of where a test ends that isn't placed yet.
+//! Estimates of where a test ends that isn't placed yet.
 ghost use Rattle.std.specs.Prelude.{◌≡◌};
 ghost use Rattle.schedule_search.specs.Estimates.{CanAsk, IsAtLeastReady, IsAtMostNow, IsEstimate};
 

@@ -1,4 +1,4 @@
-// Exchanges of neighbours in an order, as long as one gives fewer cycles. No memory is taken.
+//! Exchanges of neighbours in an order, as long as one gives fewer cycles. No memory is taken.
 ghost use Rattle.std.specs.Prelude.{◌≡◌, ℕ, ◌+◌, ◌^◌, ◌<◌, ◌≤◌, [], true, false, length, take, IfSome, IfNone};
 ghost use Rattle.std.specs.List.{Contains};
 ghost use Rattle.resource_table.specs.Jobs.{job_value};

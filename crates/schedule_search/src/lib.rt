@@ -1,5 +1,5 @@
-// Orders of the tests of a job, and a search for one whose list schedule ends early: a walk in depth over the orders, within
-// a budget, and exchanges of neighbours. Tests go by their places in the job.
+//! Orders of the tests of a job, and a search for one whose list schedule ends early: a walk in depth over the orders, within
+//! a budget, and exchanges of neighbours. Tests go by their places in the job.
 #![tactic(auto)]
 
 mod ahead;

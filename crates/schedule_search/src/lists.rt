@@ -1,4 +1,4 @@
-// Lists that stand in room that was taken for them before.
+//! Lists that stand in room that was taken for them before.
 ghost use Rattle.std.specs.Prelude.{◌≡◌, ◌<◌, ◌≤◌, length, slice_index_or, slice_set, vec_capacity, IfOk};
 ghost use Rattle.std.specs.List.{insert, remove};
 

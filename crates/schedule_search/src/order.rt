@@ -1,5 +1,5 @@
-// The first order of the tests of a job: again and again the longest test is taken whose predecessors are all taken. Tests
-// go by their places in the job.
+//! The first order of the tests of a job: again and again the longest test is taken whose predecessors are all taken. Tests
+//! go by their places in the job.
 ghost use Rattle.std.specs.Prelude.{◌≡◌, ◌<◌, length, IfOk};
 ghost use Rattle.resource_table.specs.Jobs.{job_value, cycles_of, IsSoundJob};
 ghost use Rattle.schedule_search.specs.Orders.{IsFirstOrder};

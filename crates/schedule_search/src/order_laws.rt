@@ -1,4 +1,4 @@
-// Laws of orders. Each is the contract of a function that does nothing: a caller learns it by the call.
+//! Laws of orders. Each is the contract of a function that does nothing: a caller learns it by the call.
 ghost use Rattle.std.specs.Prelude.{◌≡◌, ℕ, ◌+◌, ◌-◌, ◌*◌, ◌<◌, ◌≤◌, ◌++◌, Bool, true, Some, List, length, slice_get};
 ghost use Rattle.std.specs.List.{All, Contains, sum_by};
 ghost use Rattle.plan_model.specs.Rules.{Each};

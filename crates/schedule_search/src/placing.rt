@@ -1,4 +1,4 @@
-// The list schedule of an order: its tests are placed one by one, each at the least start at which it fits.
+//! The list schedule of an order: its tests are placed one by one, each at the least start at which it fits.
 ghost use Rattle.std.specs.Prelude.{◌≡◌, ℕ, ◌+◌, ◌^◌, ◌<◌, ◌≤◌, ◌++◌, ◌∷◌, [], List, true, false, length, take, IfSome, IfNone};
 ghost use Rattle.resource_table.specs.declared.Placement.{Placement};
 ghost use Rattle.resource_table.specs.Jobs.{job_value, cycles_of, Precedes};

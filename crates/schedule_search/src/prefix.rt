@@ -1,4 +1,4 @@
-// A prefix of an order, as a walk over the orders goes on from it and comes back to it.
+//! A prefix of an order, as a walk over the orders goes on from it and comes back to it.
 ghost use Rattle.std.specs.Prelude.{◌≡◌, ℕ, ◌+◌, ◌-◌, ◌^◌, ◌<◌, ◌≤◌, ◌++◌, ◌∷◌, [], List, Some, true, false, nat_eq, length, slice_get, slice_index_or, slice_set, vec_capacity, IfOk};
 ghost use Rattle.std.specs.List.{All, filter, remove};
 ghost use Rattle.resource_table.specs.Jobs.{job_value};

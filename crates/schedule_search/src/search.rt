@@ -1,4 +1,4 @@
-// The search for an order of the tests of a job whose list schedule takes few cycles.
+//! The search for an order of the tests of a job whose list schedule takes few cycles.
 ghost use Rattle.std.specs.Prelude.{◌≡◌, ◌≤◌, false, not, [], length, vec_capacity, IfOk};
 ghost use Rattle.std.specs.Borrow.{sem};
 ghost use Rattle.resource_table.specs.Jobs.{job_value, IsSoundJob};

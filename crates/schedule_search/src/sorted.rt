@@ -1,4 +1,4 @@
-// Some tests of a job, in the order in which they are tried. Tests go by their places in the job.
+//! Some tests of a job, in the order in which they are tried. Tests go by their places in the job.
 ghost use Rattle.std.specs.Prelude.{◌≡◌, ℕ, ◌<◌, Bool, Some, true, length, slice_get, vec_capacity};
 ghost use Rattle.std.specs.List.{filter};
 ghost use Rattle.resource_table.specs.Jobs.{job_value};

@@ -1,4 +1,4 @@
-// The starts of the list schedule of an order.
+//! The starts of the list schedule of an order.
 ghost use Rattle.std.specs.Prelude.{◌≡◌, ◌≤◌, [], length, take, vec_capacity};
 ghost use Rattle.schedule_search.specs.Orders.{IsTopological};
 ghost use Rattle.schedule_search.specs.Noted.{HasNoted, AreStarts};

@@ -1,4 +1,4 @@
-// The walk over the orders of a job, depth first, within a budget of prefixes that are entered.
+//! The walk over the orders of a job, depth first, within a budget of prefixes that are entered.
 ghost use Rattle.std.specs.Prelude.{◌≡◌, ℕ, ◌+◌, ◌-◌, ◌<◌, ◌≤◌, ◌++◌, ◌∷◌, [], true, false, length, vec_capacity, Some, IfSome};
 ghost use Rattle.resource_table.specs.Jobs.{job_value, cycles_of, Precedes};
 ghost use Rattle.resource_table.specs.Schedules.{last_end, ready_at, IsEarliest, IsSoundTable};

@@ -1,4 +1,4 @@
-// The checker's room and its public call.
+//! The checker's room and its public call.
 ghost use Rattle.std.specs.Prelude.{◌≡◌, ◌^◌, ◌≤◌, length, map, IfOk, IfErr, OnOk, IsOk, Err};
 ghost use Rattle.std.specs.List.{All};
 ghost use Rattle.soc_model.specs.Chips.{module_value};

@@ -1,4 +1,4 @@
-// What a program does, counted entry by entry, and the faults that the counts show.
+//! What a program does, counted entry by entry, and the faults that the counts show.
 ghost use Rattle.std.specs.Prelude.{◌≡◌, ℕ, ◌+◌, ◌^◌, ◌<◌, ◌≤◌, List, ◌∷◌, ◌++◌, [], nat_eq, length, IfOk, IfErr, OnOk, false};
 ghost use Rattle.std.specs.List.{list_any};
 ghost use Rattle.indexmap.specs.IndexSet.{keys, spare};

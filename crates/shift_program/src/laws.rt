@@ -1,5 +1,5 @@
-// What is settled of programs and of their texts. Each law is the contract of a function that does nothing: a caller learns
-// it by the call.
+//! What is settled of programs and of their texts. Each law is the contract of a function that does nothing: a caller learns
+//! it by the call.
 ghost use Rattle.shift_program.specs.Laws.{FaultlessAreRight, RightAreFaultless, RightAreLong, OneFault, FaultlessOrFault, EachTextHasAnAnswer, TextsHaveOneAnswer};
 
 /// The programs for a live test in a proper wrapper in which no fault shows are exactly those that are right for every

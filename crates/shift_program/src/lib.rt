@@ -1,8 +1,8 @@
-// Checks programs of Shifts, Captures and Rests for one test over the wires of a wrapped module: whether they load each
-// pattern and read each response, whatever the contents are.
-//
-// A program is read from its text word by word; the grammar is a set of whole lists of words. What makes a program right is
-// said of its run, bit by bit (specs/RightPrograms.antt); the checker counts Shifts.
+//! Checks programs of Shifts, Captures and Rests for one test over the wires of a wrapped module: whether they load each
+//! pattern and read each response, whatever the contents are.
+//!
+//! A program is read from its text word by word; the grammar is a set of whole lists of words. What makes a program right is
+//! said of its run, bit by bit (specs/RightPrograms.antt); the checker counts Shifts.
 #![tactic(auto)]
 
 mod check;

@@ -1,4 +1,4 @@
-// Reads a whole text.
+//! Reads a whole text.
 ghost use Rattle.shift_program.specs.Answers.{ProgramRead};
 
 use crate::steps::{Draft, Part, new_draft, step};

@@ -1,4 +1,4 @@
-// Reads the words of a program one by one.
+//! Reads the words of a program one by one.
 ghost use Rattle.std.specs.Prelude.{◌≡◌, OnOk, OnErr};
 ghost use Rattle.shift_program.specs.PartValues.{draft_value, Begins, Steps};
 ghost use Rattle.shift_program.specs.Steps.{at, start as state_at_first, begin as begins, begin_program as begins_program, begin_test as begins_test, with_entry, step_key as steps_key, step_number as steps_number, step as steps};

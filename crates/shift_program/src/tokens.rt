@@ -1,4 +1,4 @@
-// The words of a program's text, as what they stand for.
+//! The words of a program's text, as what they stand for.
 ghost use Rattle.std.specs.Prelude.{◌≡◌};
 ghost use Rattle.shift_program.specs.Tokens.{keywords, named, token_of as token_that_is};
 

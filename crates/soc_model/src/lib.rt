@@ -1,4 +1,4 @@
-// A chip for test after the ITC'02 SOC Test Benchmarks: its modules in order of first mention, and their tests.
+//! A chip for test after the ITC'02 SOC Test Benchmarks: its modules in order of first mention, and their tests.
 #![tactic(auto)]
 
 ghost use Rattle.std.specs.Prelude.{◌≡◌, ◌++◌, ◌∷◌, [], false, OnOk, OnErr, IfErr};

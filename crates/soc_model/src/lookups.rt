@@ -1,4 +1,4 @@
-// Where modules and tests stand in a chip.
+//! Where modules and tests stand in a chip.
 ghost use Rattle.std.specs.Prelude.{◌≡◌, ℕ, ◌<◌, ◌≤◌, true, Some, length, position, slice_get, nat_eq, IfSome, IfNone};
 ghost use Rattle.soc_model.specs.Chips.{soc_value, module_value, is_live, level_at, parent_place, IsParent};
 ghost use Rattle.soc_model.specs.Lookups.{module_place, test_places};

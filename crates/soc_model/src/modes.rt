@@ -1,4 +1,4 @@
-// The modes of a module: mode `scan` uses its scan chains, mode `terminals` has none.
+//! The modes of a module: mode `scan` uses its scan chains, mode `terminals` has none.
 ghost use Rattle.std.specs.Prelude.{◌≡◌};
 ghost use Rattle.soc_model.specs.Chips.{module_value};
 ghost use Rattle.soc_model.specs.Modes.{has_tam, is_of_mode, is_tam, scan_lengths, uses_mode};

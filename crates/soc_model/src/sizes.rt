@@ -1,4 +1,4 @@
-// The limits on the size of a chip.
+//! The limits on the size of a chip.
 ghost use Rattle.std.specs.Prelude.{◌≡◌, ◌<◌, ◌≤◌, ◌+◌, ◌*◌, ◌^◌, None, length, find, map, nat_lt, sum, sum_by, OnOk, IfErr, if◌then◌else◌};
 ghost use Rattle.std.specs.List.{All, filter};
 ghost use Rattle.soc_model.specs.declared.Test.{Test};

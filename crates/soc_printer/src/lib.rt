@@ -1,4 +1,4 @@
-// Prints a chip as the text that `soc_reader` reads.
+//! Prints a chip as the text that `soc_reader` reads.
 #![tactic(auto)]
 
 ghost use Rattle.std.specs.Prelude.{◌≡◌, ◌∷◌, [], ◌++◌, decimal, map, OnOk, IfOk};

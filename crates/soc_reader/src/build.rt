@@ -1,4 +1,4 @@
-// Makes the chip that items say.
+//! Makes the chip that items say.
 ghost use Rattle.std.specs.Prelude.{◌≡◌, OnOk, IfOk, IsOk, map, reverse, nat_eq, position, true};
 ghost use Rattle.std.specs.List.{list_any};
 ghost use Rattle.soc_model.specs.Chips.{soc_value, module_value};

@@ -1,4 +1,4 @@
-// Adds items to those that were read.
+//! Adds items to those that were read.
 ghost use Rattle.std.specs.Prelude.{◌≡◌, ◌∷◌, ◌||◌, ℕ, List, not, IfOk, OnOk, OnErr, true, false, []};
 ghost use Rattle.soc_reader.specs.Grammar.{opens_item, after_item as after_the_item, after_entry, gives_xy as gives, may_give as may_be_given, may_name as may_be_named, is_given as gives_this, renames as gives_other};
 ghost use Rattle.soc_reader.specs.Table.{may_repeat as repeats, name as named_item};

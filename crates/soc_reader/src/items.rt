@@ -1,4 +1,4 @@
-// The items of a text, as they are read.
+//! The items of a text, as they are read.
 
 use crate::keys::{After, Key, Shape, Subject};
 use crate::marks::Marks;

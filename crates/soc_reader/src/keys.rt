@@ -1,4 +1,4 @@
-// The rows of the table of items, and what its columns hold.
+//! The rows of the table of items, and what its columns hold.
 
 /// A keyword that begins an item, one row of the table.
 #[derive(Clone, Copy, PartialEq, Eq, Hash, Debug)]

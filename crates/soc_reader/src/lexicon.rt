@@ -1,4 +1,4 @@
-// What kinds of words there are.
+//! What kinds of words there are.
 ghost use Rattle.std.specs.Prelude.{◌≡◌, ◌||◌, ◌&&◌, length, nat_eq, nat_le, true, false};
 ghost use Rattle.soc_reader.specs.Keywords.{keywords, sized, named, key_of as key_that_is, is_lengths_word as says_lengths, is_printable as prints, is_free_word as is_free, is_letter_word as has_letter, is_coordinate as is_number_like, number as number_in, flag_of as flag_in};
 

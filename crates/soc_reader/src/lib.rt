@@ -1,4 +1,4 @@
-// Reads the text of a chip, after the files of the ITC'02 SOC Test Benchmarks.
+//! Reads the text of a chip, after the files of the ITC'02 SOC Test Benchmarks.
 #![tactic(auto)]
 
 ghost use Rattle.std.specs.Prelude.{◌≡◌, ℕ, List, IfOk, IfErr};

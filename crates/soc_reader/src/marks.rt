@@ -1,4 +1,4 @@
-// What was given, found by its subject: a bit for each row of the table.
+//! What was given, found by its subject: a bit for each row of the table.
 ghost use Rattle.std.specs.Prelude.{◌≡◌, ◌&&◌, ◌^◌, nat_eq, OnOk, OnErr, IfSome, ◌||◌, true, false, is_some, if◌then◌else◌};
 ghost use Rattle.std.specs.Int.Bits.{bit_or};
 ghost use Rattle.std.specs.Option.{option_map_or};

@@ -1,4 +1,4 @@
-// Reads a text word by word.
+//! Reads a text word by word.
 ghost use Rattle.std.specs.Prelude.{◌≡◌, ◌∷◌, [], true, false, option_map, IfOk, OnErr};
 ghost use Rattle.soc_reader.specs.Grammar.{after as after_done, open_after, may_name as may_be_named};
 ghost use Rattle.soc_reader.specs.Steps.{begin_if, after_value, at, between, begun, begin_entry as begins_entry, begin_data as begins_data, begin_free as begins_free, begin as begins, list_from as lists_from, after_length as lists_after, step_value as steps_value, step_counted as steps_counted, step_name as steps_name, step_at, closed_at};

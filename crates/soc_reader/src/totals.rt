@@ -1,4 +1,4 @@
-// Compares totals with what a text says.
+//! Compares totals with what a text says.
 ghost use Rattle.std.specs.Prelude.{◌≡◌, map, reverse};
 ghost use Rattle.soc_model.specs.Chips.{soc_value};
 ghost use Rattle.soc_model.specs.Lookups.{has_module_number};

@@ -1,4 +1,4 @@
-// Reads whole texts.
+//! Reads whole texts.
 ghost use Rattle.std.specs.Prelude.{ℕ, List};
 ghost use Rattle.outside.specs.Words.{words_of};
 ghost use Rattle.soc_reader.specs.Grammar.{InGrammar};

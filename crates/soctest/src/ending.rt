@@ -1,4 +1,4 @@
-// The end of a call: a verdict that is written at once, or vectors that are written as they are made.
+//! The end of a call: a verdict that is written at once, or vectors that are written as they are made.
 ghost use Rattle.std.specs.Prelude.{◌≤◌};
 ghost use Rattle.soc_model.specs.Chips.{soc_value};
 ghost use Rattle.soc_model.specs.SoundChips.{IsSoundChip};

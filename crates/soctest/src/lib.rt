@@ -1,5 +1,5 @@
-// The commands: from the words of a command line and a shelf of files to an answer that is decided first and then written
-// once. The program over real files and standard output is `soctest_main`.
+//! The commands: from the words of a command line and a shelf of files to an answer that is decided first and then written
+//! once. The program over real files and standard output is `soctest_main`.
 #![tactic(auto)]
 
 mod deciding;

@@ -1,4 +1,4 @@
-// The lines that are written of plans and logs.
+//! The lines that are written of plans and logs.
 ghost use Rattle.std.specs.Prelude.{◌≡◌, IfOk, IsTrue};
 ghost use Rattle.plan_model.specs.Views.{plan_value};
 ghost use Rattle.commands.specs.Texts.{is_line};

@@ -1,4 +1,4 @@
-// `sample`: a made chip, planned and checked.
+//! `sample`: a made chip, planned and checked.
 ghost use Rattle.std.specs.Prelude.{◌≡◌, ◌≤◌, ◌++◌, ℕ, Option, IfOk, IsTrue, OnOk, codes, decimal, length};
 ghost use Rattle.std.specs.List.{filter};
 ghost use Rattle.outside.specs.Held.{Files};

@@ -1,4 +1,4 @@
-// The command `split`: tests cut into parts, with a plan of the parts.
+//! The command `split`: tests cut into parts, with a plan of the parts.
 ghost use Rattle.std.specs.Prelude.{◌≡◌, ◌≤◌, ◌++◌, ℕ, List, IfOk, OnOk, IsTrue};
 ghost use Rattle.soc_model.specs.Chips.{soc_value};
 ghost use Rattle.soc_model.specs.SoundChips.{IsSoundChip};

@@ -1,4 +1,4 @@
-// The top call: it decides first, and then writes.
+//! The top call: it decides first, and then writes.
 ghost use Rattle.std.specs.Prelude.{◌≡◌, ◌≤◌, None, map, string_bytes};
 ghost use Rattle.outside.specs.Held.{Rose};
 ghost use Rattle.commands.specs.Procedures.{asked};

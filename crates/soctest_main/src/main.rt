@@ -1,5 +1,5 @@
-// The program: the words of its command line go to the top call that takes them, over the files of the system, standard output
-// and standard error.
+//! The program: the words of its command line go to the top call that takes them, over the files of the system, standard output
+//! and standard error.
 #![tactic(auto)]
 
 use commands::{Status, TopCall, top_call, words_after_name};

@@ -1,4 +1,4 @@
-// The limits of the parts.
+//! The limits of the parts.
 ghost use Rattle.std.specs.Prelude.{◌≡◌, ◌++◌, map, OnOk, IfOk, IfSome};
 ghost use Rattle.std.specs.List.{All, flat_map};
 ghost use Rattle.soc_model.specs.declared.TestId.{TestId};

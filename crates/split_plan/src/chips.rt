@@ -1,4 +1,4 @@
-// The chip of parts.
+//! The chip of parts.
 ghost use Rattle.std.specs.Prelude.{◌≡◌, ◌++◌, ◌∷◌, [], ◌^◌, ◌<◌, ◌≤◌, false, length, map, OnOk, IfOk};
 ghost use Rattle.std.specs.List.{All};
 ghost use Rattle.soc_model.specs.declared.Test.{Test};

@@ -1,5 +1,5 @@
-// Cuts the tests of a chip between their patterns into parts, so that long tests fit into the gaps of a plan. The parts
-// are tests of a chip of their own, under limits of their own.
+//! Cuts the tests of a chip between their patterns into parts, so that long tests fit into the gaps of a plan. The parts
+//! are tests of a chip of their own, under limits of their own.
 #![tactic(auto)]
 
 ghost use Rattle.std.specs.Prelude.{◌≡◌, ◌≤◌, IfOk, IfErr};

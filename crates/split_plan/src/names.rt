@@ -1,4 +1,4 @@
-// Tests by name, with their places in a list.
+//! Tests by name, with their places in a list.
 ghost use Rattle.std.specs.Prelude.{◌≡◌, IfOk};
 ghost use Rattle.live_tests.specs.Names.{AllDiffer};
 

@@ -1,4 +1,4 @@
-// The parts of a test: as tests, in the list of parts, and one before the next.
+//! The parts of a test: as tests, in the list of parts, and one before the next.
 ghost use Rattle.std.specs.Prelude.{◌≡◌, ◌++◌, ◌<◌, ◌≤◌, map, OnOk, IfOk};
 ghost use Rattle.std.specs.List.{All};
 ghost use Rattle.split_plan.specs.Cuts.{live_cuts, part_id as id_of_part, patterns_of as patterns_in, part_test as test_of_part, part_at as listed, pieces, pieces_of};

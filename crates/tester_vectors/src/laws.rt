@@ -1,4 +1,4 @@
-// The laws over the definitions. Each is the contract of a function that does nothing: a caller learns it by the call.
+//! The laws over the definitions. Each is the contract of a function that does nothing: a caller learns it by the call.
 ghost use Rattle.soc_model.specs.Chips.{SocValue};
 ghost use Rattle.plan_model.specs.Plans.{PlanValue, LimitsValue};
 ghost use Rattle.plan_model.specs.Rules.{IsGood};

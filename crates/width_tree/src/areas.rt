@@ -1,4 +1,4 @@
-// The least areas, in wires times cycles, that modules take within the intervals of their widths, and their sum.
+//! The least areas, in wires times cycles, that modules take within the intervals of their widths, and their sum.
 ghost use Rattle.std.specs.Prelude.{◌≡◌, ◌+◌, ◌*◌, ◌^◌, ◌<◌, ◌≤◌, length, slice_index, slice_set, sum};
 ghost use Rattle.width_tree.specs.Tables.{place_of_time};
 ghost use Rattle.width_tree.specs.Findings.{area_by};

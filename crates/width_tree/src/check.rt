@@ -1,4 +1,4 @@
-// The room of the check, and its public call.
+//! The room of the check, and its public call.
 ghost use Rattle.std.specs.Prelude.{◌≡◌, ◌*◌, ◌^◌, ◌<◌, ◌≤◌, Ok, IfOk, IfErr, OnOk, length, map, sum};
 ghost use Rattle.soc_model.specs.Chips.{soc_value};
 ghost use Rattle.soc_model.specs.SoundChips.{IsSoundChip};

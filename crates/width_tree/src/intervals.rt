@@ -1,4 +1,4 @@
-// The widths that the buses of modules may have.
+//! The widths that the buses of modules may have.
 ghost use Rattle.std.specs.Prelude.{◌≡◌, length, replicate};
 
 /// The least and the greatest width of the bus of a module, in wires.

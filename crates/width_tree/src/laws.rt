@@ -1,5 +1,5 @@
-// What a text says is settled, and what a tree shows. Each law is the contract of a function that does nothing: a caller
-// learns it by the call.
+//! What a text says is settled, and what a tree shows. Each law is the contract of a function that does nothing: a caller
+//! learns it by the call.
 ghost use Rattle.width_tree.specs.Laws.{SayOneTree, TreesAreNotRefused, RefusedOnce, TreesAreAnswered, EachTextHasAnAnswer, NodesTellTheTree, AcceptedTreesAreBounds, TreesHaveOneFault, AcceptedTreesHaveNoFault};
 
 /// A text says at most one tree.

@@ -1,4 +1,4 @@
-// What the check of a tree finds at a node: whether it keeps its rule, and the cycles that it shows.
+//! What the check of a tree finds at a node: whether it keeps its rule, and the cycles that it shows.
 ghost use Rattle.std.specs.Prelude.{◌≡◌, ◌+◌, ◌<◌, ◌≤◌, length};
 ghost use Rattle.plan_model.specs.Bounds.{quotient_up};
 ghost use Rattle.width_tree.specs.Trees.{OfTime, OfArea, OfBus, OfApart, OfSplit, OfLeaf, node_value};

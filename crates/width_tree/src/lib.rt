@@ -1,7 +1,7 @@
-// Lower bounds on the cycles of a chip's plans by cases on the widths of buses: the text of a width tree, and its check.
-//
-// A tree splits on the width of the bus of a module, again and again, and ends in reasons why no good plan of a case is
-// shorter than claimed. Modules go by their numbers, widths are in wires, claims and values in cycles.
+//! Lower bounds on the cycles of a chip's plans by cases on the widths of buses: the text of a width tree, and its check.
+//!
+//! A tree splits on the width of the bus of a module, again and again, and ends in reasons why no good plan of a case is
+//! shorter than claimed. Modules go by their numbers, widths are in wires, claims and values in cycles.
 #![tactic(auto)]
 
 mod areas;

@@ -1,4 +1,4 @@
-// Modules of which no two have buses beside each other, so that all are on one bus.
+//! Modules of which no two have buses beside each other, so that all are on one bus.
 ghost use Rattle.std.specs.Prelude.{◌≡◌, ℕ, ◌+◌, ◌^◌, ◌<◌, ◌≤◌, Some, IfSome, IfNone, is_some, length, nat_lt, slice_get, take, MatchOption};
 ghost use Rattle.std.specs.List.{sum_by};
 ghost use Rattle.soc_model.specs.Lookups.{module_place};

@@ -1,4 +1,4 @@
-// What was read of a tree, up to some word of its text.
+//! What was read of a tree, up to some word of its text.
 
 use crate::Node;
 

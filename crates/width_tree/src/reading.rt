@@ -1,4 +1,4 @@
-// Reads a whole text.
+//! Reads a whole text.
 ghost use Rattle.width_tree.specs.Answers.{TreeRead};
 
 use crate::parts::{Draft, Part};

@@ -1,4 +1,4 @@
-// Reads the words of a tree one by one.
+//! Reads the words of a tree one by one.
 ghost use Rattle.std.specs.Prelude.{◌≡◌, ◌++◌, ◌∷◌, [], OnOk, OnErr};
 ghost use Rattle.width_tree.specs.Trees.{node_value};
 ghost use Rattle.width_tree.specs.Steps.{draft_value, part_value, Steps, at, start as state_at_first, with_node, with_split, begin as begins, begin_node as begins_node, begin_tree as begins_tree, begin_bound as begins_bound, step_number as steps_number, step_key as steps_key, step as steps, tree_at, wants_form, in_bus};

@@ -1,5 +1,5 @@
-// Goes over the nodes of a tree in the order of the text, with the case of each. Splits are kept in a list, so that nothing
-// recurses over the tree.
+//! Goes over the nodes of a tree in the order of the text, with the case of each. Splits are kept in a list, so that nothing
+//! recurses over the tree.
 ghost use Rattle.std.specs.Prelude.{◌≡◌, true, ℕ, ◌+◌, ◌^◌, ◌<◌, ◌≤◌, ◌++◌, ◌∷◌, List, IfOk, length, map, slice_set};
 ghost use Rattle.soc_model.specs.Chips.{SocValue};
 ghost use Rattle.width_tree.specs.Trees.{WidthTree, NodeValue, nodes_of, node_value, IsOneTree};

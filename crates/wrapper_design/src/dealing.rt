@@ -1,4 +1,4 @@
-// Scan chains, input cells and output cells, dealt over chains.
+//! Scan chains, input cells and output cells, dealt over chains.
 ghost use Rattle.std.specs.Prelude.{◌≡◌, ℕ, ◌+◌, ◌^◌, ◌<◌, ◌≤◌, length, max, map, List, [], replicate, IfOk};
 ghost use Rattle.std.specs.List.{All, sum, sum_by};
 ghost use Rattle.std.specs.BinaryHeap.{IsHeap, heap_items, heap_len};

@@ -1,7 +1,7 @@
-// The wrapper of a module for one mode on so many wires: balanced chains, scan chains longest first (after the wrapper
-// design of Iyengar, Chakrabarty and Marinissen 2002; the order, the ties and the filling are this program's own).
-//
-// Widths are in wires, one chain a wire; lengths are in cells.
+//! The wrapper of a module for one mode on so many wires: balanced chains, scan chains longest first (after the wrapper
+//! design of Iyengar, Chakrabarty and Marinissen 2002; the order, the ties and the filling are this program's own).
+//!
+//! Widths are in wires, one chain a wire; lengths are in cells.
 #![tactic(auto)]
 
 ghost use Rattle.std.specs.Prelude.{◌≡◌, ◌^◌, ◌≤◌, length, map, IfOk};

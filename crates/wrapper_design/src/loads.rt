@@ -1,5 +1,5 @@
-// Chains by their scan lengths: a heap whose top is the first of the shortest, and a heap of the scan lengths alone, which
-// is several times faster.
+//! Chains by their scan lengths: a heap whose top is the first of the shortest, and a heap of the scan lengths alone, which
+//! is several times faster.
 ghost use Rattle.std.specs.Prelude.{◌≡◌, ℕ, ◌+◌, ◌*◌, ◌^◌, ◌<◌, ◌≤◌, length, List, slice_index, slice_set, replicate, IfOk, OnOk};
 ghost use Rattle.std.specs.List.{sum_by};
 ghost use Rattle.std.specs.BinaryHeap.{IsHeap, heap_items, heap_len};

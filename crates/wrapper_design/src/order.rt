@@ -1,4 +1,4 @@
-// The scan chains of a mode, in the order in which they go into chains.
+//! The scan chains of a mode, in the order in which they go into chains.
 ghost use Rattle.std.specs.Prelude.{◌≡◌, ◌^◌, ◌<◌, map, IfOk, sum};
 ghost use Rattle.plan_model.specs.Plans.{greatest};
 ghost use Rattle.wrapper_design.specs.declared.order.ScanChain.{ScanChain};

@@ -1,4 +1,4 @@
-// The longest scan-in and scan-out paths of the designs of one mode, at any width, without the wrappers.
+//! The longest scan-in and scan-out paths of the designs of one mode, at any width, without the wrappers.
 ghost use Rattle.std.specs.Prelude.{◌≡◌, ℕ, ◌+◌, ◌^◌, ◌≤◌, max, IfOk};
 ghost use Rattle.std.specs.List.{sum};
 ghost use Rattle.soc_model.specs.Chips.{module_value};
