@@ -4,6 +4,7 @@ pub mod Forced
 pub mod Best
 pub mod Winners
 pub mod Needs
+pub mod ProfileNames
 pub mod Nodes
 pub mod Sums
 pub mod Chains

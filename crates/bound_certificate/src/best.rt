@@ -6,7 +6,6 @@ ghost use Rattle.plan_model.specs.Views.{limits_value, bound_value, why_value};
 ghost use Rattle.plan_model.specs.Rules.{Each, IsBound};
 ghost use Rattle.plan_model.specs.SoundLimits.{IsSoundLimits};
 ghost use Rattle.plan_model.specs.Certificates.{IsAccepted, IsElementary, IsChainItem};
-ghost use Rattle.live_tests.specs.Parents.{AreParentPlaces};
 ghost use Rattle.live_tests.specs.Resolved.{IsResolved};
 ghost use Rattle.bound_certificate.specs.Best.{IsBestWith, IsBestBound, NamesInChip, HasPlanNumbers};
 ghost use Rattle.bound_certificate.specs.Winners.{names_of, IsClaimed};
@@ -36,20 +35,20 @@ fn best_with(
     alloc: Global,
     soc: &Soc,
     limits: &Limits,
-    parents: &[Option<usize>],
+    resolved: &Resolved,
     cycles: u64,
     chain: Option<Vec<TestId>>,
 ) -> Result<Bound, NoMemory>
     requires sound { IsSoundChip (soc_value soc.now) }
     requires limits { IsSoundLimits (soc_value soc.now) (limits_value limits.now) }
-    requires parents { AreParentPlaces (soc_value soc.now) parents.now }
+    requires resolved { IsResolved (soc_value soc.now) limits.now resolved.now }
     requires chain { IfSome chain (λ v. Each (IsChainItem (soc_value soc.now) (limits_value limits.now)) v.items) }
     requires good { (n : ℕ) → IsBound (soc_value soc.now) (limits_value limits.now) n → n ≤ cycles }
     ensures best { IfOk result (λ bound. IsBestWith (soc_value soc.now) (limits_value limits.now) cycles (names_of chain) (bound_value bound)) }
     ensures accepted { IfOk result (λ bound. IsAccepted (soc_value soc.now) (limits_value limits.now) (bound_value bound)) }
     ensures few { IfOk result (λ bound. bound.cycles ≤ cycles) }
 {
-    let (shown, why) = claimed(winner_of(soc, limits, parents, chain));
+    let (shown, why) = claimed(winner_of(soc, limits, resolved, chain));
     let wanted = u128::from(cycles);
     if shown < wanted {
         let modules = forced_part(alloc, soc, limits, cycles)?;
@@ -107,5 +106,5 @@ pub fn best_bound_with(
     ensures numbers { IfOk result (λ bound. HasPlanNumbers (why_value bound.why)) }
 {
     let chain = printed_chain(alloc, soc, limits, &resolved.precedences)?;
-    best_with(alloc, soc, limits, &resolved.parents, cycles, chain)
+    best_with(alloc, soc, limits, resolved, cycles, chain)
 }

@@ -10,10 +10,14 @@ ghost use Rattle.plan_model.specs.Rules.{Each};
 ghost use Rattle.plan_model.specs.SoundLimits.{IsSoundLimits};
 ghost use Rattle.plan_model.specs.Certificates.{certificate_value, passes, IsChainItem};
 ghost use Rattle.live_tests.specs.Parents.{AreParentPlaces};
+ghost use Rattle.live_tests.specs.Profiles.{AreProfilePlaces};
+ghost use Rattle.live_tests.specs.Resolved.{IsResolved};
 ghost use Rattle.bound_certificate.specs.Best.{has_live, has_live_at, module_why, pair_why, chain_why, power_why, places, candidates, better, winner};
 ghost use Rattle.bound_certificate.specs.Winners.{considered, seen, HasValue, names_of};
 
-use bound_rules::{area_bound, chain_bound, module_bound, pair_bound_with, power_bound};
+use bound_rules::{area_bound, chain_bound, module_bound, pair_bound_with, power_bound_with};
+use indexmap::IndexMap;
+use live_tests::Resolved;
 use plan_model::{Limits, Why};
 use soc_model::{Module, Soc, TestId, live, module_at};
 
@@ -159,16 +163,25 @@ fn consider_area(soc: &Soc, limits: &Limits, best: Option<(u128, Why)>) -> Optio
 }
 
 /// The candidate Power, where the limits have a power.
-fn consider_power(soc: &Soc, limits: &Limits, best: Option<(u128, Why)>) -> Option<(u128, Why)>
+fn consider_power(
+    soc: &Soc,
+    limits: &Limits,
+    places: &IndexMap<TestId, usize>,
+    best: Option<(u128, Why)>,
+) -> Option<(u128, Why)>
     requires sound { IsSoundChip (soc_value soc.now) }
     requires limits { IsSoundLimits (soc_value soc.now) (limits_value limits.now) }
+    requires places { AreProfilePlaces places.now limits.now.profiles.items }
     requires value { HasValue (soc_value soc.now) (limits_value limits.now) best }
     ensures seen { seen result ≡ fold (better (certificate_value (soc_value soc.now) (limits_value limits.now))) (seen best) (power_why limits.now.power) }
     ensures value { HasValue (soc_value soc.now) (limits_value limits.now) result }
 {
     match limits.power {
         None => best,
-        Some(_) => consider(best, u128::from(power_bound(soc, limits)), Why::Power),
+        Some(_) => {
+            let shown = u128::from(power_bound_with(soc, limits, places));
+            consider(best, shown, Why::Power)
+        }
     }
 }
 
@@ -199,19 +212,19 @@ fn consider_chain(
 pub fn winner_of(
     soc: &Soc,
     limits: &Limits,
-    parents: &[Option<usize>],
+    resolved: &Resolved,
     chain: Option<Vec<TestId>>,
 ) -> Option<(u128, Why)>
     requires sound { IsSoundChip (soc_value soc.now) }
     requires limits { IsSoundLimits (soc_value soc.now) (limits_value limits.now) }
-    requires parents { AreParentPlaces (soc_value soc.now) parents.now }
+    requires resolved { IsResolved (soc_value soc.now) limits.now resolved.now }
     requires chain { IfSome chain (λ v. Each (IsChainItem (soc_value soc.now) (limits_value limits.now)) v.items) }
     ensures seen { seen result ≡ winner (certificate_value (soc_value soc.now) (limits_value limits.now)) (candidates (soc_value soc.now) (limits_value limits.now) (names_of chain)) }
     ensures value { HasValue (soc_value soc.now) (limits_value limits.now) result }
 {
     let best = consider_modules(soc, limits, None);
-    let best = consider_pairs(soc, limits, parents, best);
+    let best = consider_pairs(soc, limits, &resolved.parents, best);
     let best = consider_chain(soc, limits, chain, best);
     let best = consider_area(soc, limits, best);
-    consider_power(soc, limits, best)
+    consider_power(soc, limits, &resolved.profiles, best)
 }

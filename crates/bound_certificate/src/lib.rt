@@ -4,8 +4,7 @@
 #![tactic(auto)]
 
 ghost use Rattle.std.specs.Prelude.{◌≡◌, ◌+◌, ◌<◌, ◌≤◌, Ok, Err, IfErr, OnOk, length, nat_lt, if◌then◌else◌, vec_len};
-ghost use Rattle.indexmap.specs.IndexMap.{index_map_len, spare as spare_pairs};
-ghost use Rattle.indexmap.specs.IndexSet.{keys, spare};
+ghost use Rattle.indexmap.specs.IndexMap.{index_map_len, spare};
 ghost use Rattle.soc_model.specs.Chips.{soc_value};
 ghost use Rattle.soc_model.specs.declared.TheConstants.{MODULES_MOST, TESTS_MOST};
 ghost use Rattle.soc_model.specs.SoundChips.{IsSoundChip};
@@ -29,7 +28,7 @@ mod sums;
 pub use best::{best_bound, best_bound_with};
 use bound_rules::{area_bound, module_bound, pair_bound};
 use forced_lists::check_forced;
-use indexmap::{IndexMap, IndexSet};
+use indexmap::IndexMap;
 use outside::NoMemory;
 use plan_model::{Bound, Limits, Why};
 use power_value::power_value;
@@ -55,11 +54,11 @@ pub struct BoundScratch {
     marks: Vec<bool>,
     /// The neighbours in a chain, and whether a precedence sets the second behind the first.
     pairs: Pairs,
-    /// The names of the tests that have profiles.
-    names: IndexSet<TestId>,
+    /// The places of profiles, by the names of their tests.
+    places: IndexMap<TestId, usize>,
     ghost marks_len: { vec_len marks ≡ MODULES_MOST },
-    ghost pairs_room: { TESTS_MOST ≤ index_map_len pairs + spare_pairs pairs },
-    ghost names_room: { TESTS_MOST ≤ length (keys names) + spare names },
+    ghost pairs_room: { TESTS_MOST ≤ index_map_len pairs + spare pairs },
+    ghost places_room: { TESTS_MOST ≤ index_map_len places + spare places },
 }
 
 impl BoundScratch {
@@ -67,11 +66,11 @@ impl BoundScratch {
     pub fn new(alloc: Global, _bound: &Bound) -> Result<BoundScratch, NoMemory> {
         let marks = Vec::from_elem(alloc, false, MODULES_MOST as usize)?;
         let pairs = IndexMap::with_capacity(alloc, TESTS_MOST as usize)?;
-        let names = IndexSet::with_capacity(alloc, TESTS_MOST as usize)?;
+        let places = IndexMap::with_capacity(alloc, TESTS_MOST as usize)?;
         Ok(BoundScratch {
             marks,
             pairs,
-            names,
+            places,
         })
     }
 }
@@ -127,15 +126,15 @@ fn check_power(
     soc: &Soc,
     limits: &Limits,
     claimed: u64,
-    names: &mut IndexSet<TestId>,
+    places: &mut IndexMap<TestId, usize>,
 ) -> Result<(), BoundFault>
     requires sound { IsSoundChip (soc_value soc.now) }
     requires limits { IsSoundLimits (soc_value soc.now) (limits_value limits.now) }
-    requires room { TESTS_MOST ≤ length (keys names.old) + spare names.old }
+    requires room { TESTS_MOST ≤ index_map_len places.old + spare places.old }
     ensures check { IsCheck (soc_value soc.now) (limits_value limits.now) claimed OfPower result }
-    ensures room { TESTS_MOST ≤ length (keys names.new) + spare names.new }
+    ensures room { TESTS_MOST ≤ index_map_len places.new + spare places.new }
 {
-    enough(claimed, u128::from(power_value(soc, limits, names)))
+    enough(claimed, u128::from(power_value(soc, limits, places)))
 }
 
 /// The check by the kind of the certificate.
@@ -155,7 +154,7 @@ fn check_why(
         Why::Pair { module } => check_pair(soc, limits, *module, claimed),
         Why::Chain { tests } => check_chain(soc, limits, tests, claimed, &mut room.pairs),
         Why::Area => check_area(soc, limits, claimed),
-        Why::Power => check_power(soc, limits, claimed, &mut room.names),
+        Why::Power => check_power(soc, limits, claimed, &mut room.places),
         Why::Forced { modules } => check_forced(soc, limits, modules, claimed, &mut room.marks),
     }
 }

@@ -1,30 +1,13 @@
--- The first profile of a test, by its place and by the names of the tests.
-use Rattle.std.proofs.Common.{◌≡◌, ℕ, suc, ◌+◌, ◌≤◌, ◌<◌, eqb, Some, None, List, [], ◌∷◌, length, map, refl, arith, inl, inr}
+-- The first profile of a test, by its place.
+use Rattle.std.proofs.Common.{◌≡◌, ℕ, suc, ◌+◌, ◌≤◌, ◌<◌, Some, None, List, [], ◌∷◌, length, map, refl, arith, inl, inr}
 use Rattle.std.specs.Prelude.{slice_get}
 use Rattle.std.specs.List.{position, position_or_len}
 use Rattle.std.proofs.lemmas.Bool.{cases_Bool, cases_lt, lt-ltb, le-ltb}
-use Rattle.std.proofs.lemmas.Bool.Decides.{nat_tests}
-use Rattle.std.proofs.lemmas.List.{length-map}
 use Rattle.soc_model.specs.declared.TestId.{TestId}
 use Rattle.soc_model.specs.Chips.{same_test}
 use Rattle.plan_model.specs.declared.Profile.{Profile}
 use Rattle.plan_model.specs.Views.{profile_value}
 use Rattle.plan_model.specs.Plans.{ProfileValue, of_first}
-use Rattle.bound_rules.specs.ProfileNames.{names_of}
-
-eqb-turned : (a b : ℕ) → eqb a b ≡ eqb b a
-eqb-turned a b = grind (arith, nat_tests)
-
-same_test-turned : (a b : TestId) → same_test a b ≡ same_test b a
-same_test-turned a b = rw (eqb-turned a.«module» b.«module», eqb-turned a.test b.test) refl
-
-named_or_len : (id : TestId) (ps : List Profile) → position_or_len (same_test id) (names_of ps) ≡ position_or_len (λ (p : Profile). same_test p.test id) ps
-named_or_len id [] = refl
-named_or_len id (p ∷ ps) = rw (same_test-turned id p.test, named_or_len id ps) refl
-
--- the place of a name is that of the profile
-pub named_place : (id : TestId) (ps : List Profile) → position (same_test id) (names_of ps) ≡ position (λ (p : Profile). same_test p.test id) ps
-named_place id ps = rw (named_or_len id ps, length-map ps (λ (p : Profile). p.test)) refl
 
 -- what the first profile of a test says
 said_from : {Y : Type 0} (id : TestId) (f : ProfileValue → Y) (d : Y) (ps : List Profile) (p : Profile) → slice_get ps (position_or_len (λ (p : Profile). same_test p.test id) ps) ≡ Some p →

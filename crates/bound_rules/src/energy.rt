@@ -1,6 +1,5 @@
 //! What tests draw together over their lower times, in power times cycles.
 ghost use Rattle.std.specs.Prelude.{◌≡◌, ℕ, ◌*◌, ◌^◌, ◌<◌, ◌≤◌, Some, length, map, position, slice_get, IfSome};
-ghost use Rattle.indexmap.specs.IndexSet.{keys};
 ghost use Rattle.soc_model.specs.Chips.{soc_value, same_test};
 ghost use Rattle.soc_model.specs.SoundChips.{IsSoundChip};
 ghost use Rattle.plan_model.specs.declared.Profile.{Profile};
@@ -11,11 +10,11 @@ ghost use Rattle.plan_model.specs.SoundLimits.{IsSoundLimits, Grow};
 ghost use Rattle.plan_model.specs.Bounds.{sum_below, least_energy, power_bound};
 ghost use Rattle.bound_rules.specs.Sizes.{works_by, IsFitting};
 ghost use Rattle.bound_rules.specs.Energy.{powers_of, energies};
-ghost use Rattle.bound_rules.specs.ProfileNames.{names_of, HasNames};
+ghost use Rattle.bound_rules.specs.ProfilePlaces.{FindProfiles, HasPlaces};
 
 use crate::quotient_up;
 use crate::sizes::Sizes;
-use indexmap::IndexSet;
+use indexmap::IndexMap;
 use plan_model::{Limits, Profile, profile_of};
 use soc_model::{Soc, Test, TestId, live, module_at};
 
@@ -44,27 +43,27 @@ fn steps_energy(steps: &[(u64, u64)], length: u64) -> u128
     sum + drawn(power, length - begun)
 }
 
-/// The profiles of limits, and the names of their tests by the same places where these are at hand.
+/// The profiles of limits, and their places by the names of their tests where these are at hand.
 #[derive(Clone, Copy, Drop)]
 struct Profiles<'a> {
     list: &'a [Profile],
-    names: Option<&'a IndexSet<TestId>>,
+    places: Option<&'a IndexMap<TestId, usize>>,
 }
 
 /// The place of the profile of a test. None comes exactly where it has none.
 fn place_in(profiles: &Profiles<'_>, id: TestId) -> Option<usize>
-    requires { HasNames profiles.now }
+    requires { HasPlaces profiles.now }
     ensures { result ≡ position (λ (p : Profile). same_test p.test id) profiles.now.list.now }
 {
-    match profiles.names {
-        Some(names) => names.get_index_of(&id),
+    match profiles.places {
+        Some(places) => places.get(&id).copied(),
         None => profile_of(profiles.list, id),
     }
 }
 
 /// What a test draws over its first `length` cycles, added up: by its profile, or its own power at every cycle.
 fn test_energy(profiles: &Profiles<'_>, id: TestId, own: u64, length: u64) -> u128
-    requires names { HasNames profiles.now }
+    requires places { HasPlaces profiles.now }
     requires steps { (i : ℕ) (p : Profile) → slice_get profiles.now.list.now i ≡ Some p → Grow 0 p.steps.items }
     ensures { result ≡ sum_below (powers_of id own (map profile_value profiles.now.list.now)) length }
 {
@@ -85,7 +84,7 @@ fn module_energy(
     requires some_wire { 1 ≤ wires }
     requires fitting { IsFitting sizes.now }
     requires work { works_by sizes.now tests.now ≤ 10 ^ 18 }
-    requires names { HasNames profiles.now }
+    requires places { HasPlaces profiles.now }
     requires steps { (i : ℕ) (p : Profile) → slice_get profiles.now.list.now i ≡ Some p → Grow 0 p.steps.items }
     requires fits { energies sizes.now number (map profile_value profiles.now.list.now) wires tests.now ≤ 10 ^ 27 }
     ensures { result ≡ energies sizes.now number (map profile_value profiles.now.list.now) wires tests.now }
@@ -105,16 +104,16 @@ fn module_energy(
 }
 
 /// What all live tests draw over their lower times, added up.
-fn total_energy(soc: &Soc, limits: &Limits, names: Option<&IndexSet<TestId>>) -> u128
+fn total_energy(soc: &Soc, limits: &Limits, places: Option<&IndexMap<TestId, usize>>) -> u128
     requires sound { IsSoundChip (soc_value soc.now) }
     requires limits { IsSoundLimits (soc_value soc.now) (limits_value limits.now) }
-    requires names { IfSome names (λ found. keys found.now ≡ names_of limits.now.profiles.items) }
+    requires places { IfSome places (λ found. FindProfiles found.now.entries limits.now.profiles.items) }
     requires fits { least_energy (soc_value soc.now) (limits_value limits.now) ≤ 10 ^ 27 }
     ensures { result ≡ least_energy (soc_value soc.now) (limits_value limits.now) }
 {
     let profiles = Profiles {
         list: &limits.profiles,
-        names,
+        places,
     };
     let mut sum = 0u128;
     for place in 0..soc.modules.len() {
@@ -130,11 +129,11 @@ fn total_energy(soc: &Soc, limits: &Limits, names: Option<&IndexSet<TestId>>) ->
     sum
 }
 
-/// The power bound, with the names of the tests that have profiles where these are at hand.
-fn bound_with(soc: &Soc, limits: &Limits, names: Option<&IndexSet<TestId>>) -> u64
+/// The power bound, with the places of profiles by the names of their tests where these are at hand.
+fn bound_with(soc: &Soc, limits: &Limits, places: Option<&IndexMap<TestId, usize>>) -> u64
     requires sound { IsSoundChip (soc_value soc.now) }
     requires limits { IsSoundLimits (soc_value soc.now) (limits_value limits.now) }
-    requires names { IfSome names (λ found. keys found.now ≡ names_of limits.now.profiles.items) }
+    requires places { IfSome places (λ found. FindProfiles found.now.entries limits.now.profiles.items) }
     ensures quotient { result ≡ power_bound (soc_value soc.now) (limits_value limits.now) limits.now.power }
     ensures small { result ≤ 10 ^ 18 }
     ensures bound { IsBound (soc_value soc.now) (limits_value limits.now) result }
@@ -143,7 +142,7 @@ fn bound_with(soc: &Soc, limits: &Limits, names: Option<&IndexSet<TestId>>) -> u
     if most == 0 {
         return 0;
     }
-    quotient_up(total_energy(soc, limits, names), most)
+    quotient_up(total_energy(soc, limits, places), most)
 }
 
 /// The cycles in which all live tests can draw what they draw over their lower times, where no cycle has more than the
@@ -159,13 +158,15 @@ pub fn power_bound(soc: &Soc, limits: &Limits) -> u64
     bound_with(soc, limits, None)
 }
 
-/// The same value as that of `power_bound`, where the names of the tests that have profiles are at hand as a set, in the
-/// order of the profiles.
-pub fn power_bound_by_names(soc: &Soc, limits: &Limits, names: &IndexSet<TestId>) -> u64
+/// The same value as that of `power_bound`, where the places of the profiles are at hand by the names of their tests; of
+/// more than one of a test the first.
+pub fn power_bound_with(soc: &Soc, limits: &Limits, places: &IndexMap<TestId, usize>) -> u64
     requires sound { IsSoundChip (soc_value soc.now) }
     requires limits { IsSoundLimits (soc_value soc.now) (limits_value limits.now) }
-    requires names { keys names.now ≡ names_of limits.now.profiles.items }
-    ensures { result ≡ power_bound (soc_value soc.now) (limits_value limits.now) limits.now.power }
+    requires places { FindProfiles places.now.entries limits.now.profiles.items }
+    ensures quotient { result ≡ power_bound (soc_value soc.now) (limits_value limits.now) limits.now.power }
+    ensures small { result ≤ 10 ^ 18 }
+    ensures bound { IsBound (soc_value soc.now) (limits_value limits.now) result }
 {
-    bound_with(soc, limits, Some(names))
+    bound_with(soc, limits, Some(places))
 }

@@ -18,7 +18,7 @@ mod names;
 mod sizes;
 mod widths;
 
-pub use energy::{power_bound, power_bound_by_names};
+pub use energy::{power_bound, power_bound_with};
 pub use lower_times::LowerTimes;
 pub use names::{chain_bound, live_time};
 use sizes::Sizes;
