@@ -1,8 +1,8 @@
-// Reads and prints the text of a test plan.
-//
-// The grammar is a set of whole lists of words: the words of a plan's lines, where keywords may be written in any case
-// and numbers by any digits of their value. What begins a list of the set, and where a text first leaves all of them,
-// follows from that set alone.
+//! Reads and prints the text of a test plan.
+//!
+//! The grammar is a set of whole lists of words: the words of a plan's lines, where keywords may be written in any case
+//! and numbers by any digits of their value. What begins a list of the set, and where a text first leaves all of them,
+//! follows from that set alone.
 #![tactic(auto)]
 
 mod laws;

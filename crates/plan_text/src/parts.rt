@@ -1,4 +1,4 @@
-// What was read of a plan, up to some word of its text.
+//! What was read of a plan, up to some word of its text.
 
 use plan_model::{Bound, Bus, ChainPlan, Wrapper};
 use soc_model::TestId;
