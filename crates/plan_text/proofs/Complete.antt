@@ -19,7 +19,7 @@ use Rattle.plan_text.specs.declared.tokens.Keyword.{Keyword}
 use Rattle.plan_text.specs.declared.tokens.Keyword.TheVariants as key
 use Rattle.plan_text.specs.PlanLines.{bus_line, chain_line, mode_key, wrapper_lines, start_line, test_numbers, bound_line, bound_line_by, plan_tokens}
 use Rattle.plan_text.specs.Grammar.{AreSmallStarts}
-use Rattle.plan_text.specs.Steps.{DraftValue, PartValue, after_cycles, wants_width, in_bus, wants_module, in_wrapper, in_chain, wants_test_module, after_start, wants_bound, in_tests, in_forced, whole, State, at, start, with_bus, with_wrapper, with_start, with_chain, is_chain, step_wrapper, next_if, step, plan_with, bound_at, ended, plan_machine}
+use Rattle.plan_text.specs.Steps.{DraftValue, PartValue, after_cycles, wants_width, in_bus, wants_module, in_wrapper, in_chain, wants_test_module, after_start, wants_bound, in_tests, in_forced, whole, State, at, with_bus, with_wrapper, with_start, with_chain, is_chain, step_wrapper, next_if, step, plan_with, bound_at, ended, plan_machine}
 
 -- the state after these words
 abbrev pub run : Option State → List (Token Keyword) → Option State

@@ -2,13 +2,12 @@
 use Rattle.std.proofs.Common.{◌≤◌, ℕ, List, [], ◌∷◌, ◌++◌, map, sym, subst, arith}
 use Rattle.std.specs.List.{All, flat_map}
 use Rattle.std.proofs.lemmas.List.Elements.{All-nil, All-cons, All-head, All-tail}
-use Rattle.std.proofs.lemmas.List.Concat.{flat_map-append}
 use Rattle.soc_model.specs.declared.TestId.{TestId}
 use Rattle.plan_model.specs.declared.TheConstants.{PLAN_NUMBER_MOST, START_MOST}
 use Rattle.plan_model.specs.Cells.{ChainValue}
 use Rattle.plan_model.specs.Plans.{BusValue, WrapperValue, WhyValue, OfModule, OfPair, OfChain, OfArea, OfPower, OfForced, PlanValue}
 use Rattle.keyword_text.specs.declared.tokens.Token.{Token}
-use Rattle.keyword_text.specs.declared.tokens.Token.TheVariants.{Key, Number}
+use Rattle.keyword_text.specs.declared.tokens.Token.TheVariants.{Number}
 use Rattle.keyword_text.specs.Lines.{Line, line_tokens, tokens_of}
 use Rattle.keyword_text.specs.Texts.{AllSmall}
 use Rattle.keyword_text.proofs.Ranges.{small_append, small_split}

@@ -399,7 +399,12 @@ fn step_number(alloc: Global, draft: &mut Draft, part: &mut Part, n: u64) -> Res
 }
 
 /// The next word.
-pub fn step(alloc: Global, draft: &mut Draft, part: &mut Part, token: Token<Keyword>) -> Result<(), Stop>
+pub fn step(
+    alloc: Global,
+    draft: &mut Draft,
+    part: &mut Part,
+    token: Token<Keyword>,
+) -> Result<(), Stop>
     ensures { Steps (steps (at (draft_value draft.old) (part_value part.old)) token) result part.new draft.new }
 {
     match token {
