@@ -46,7 +46,7 @@ improves laws reads files r text old new answer put =
       right = λ content. laws.right b.0 b.1 c.2.1.0 content c.2.1.1.good;
       bound = laws.bound b.0 b.1 c.2.1.0.bound b.3.says.sound.some_wire c.2.1.1.accepted;
       written = subst (λ (t : List ℕ). Appended old t new) c.2.1.2 put;
-      reads_back = reads c.2.1.0 (c.2.1.1.in_range c.1.says.0.small_starts);
+      reads_back = reads c.2.1.0 (c.2.1.1.in_range c.1.says.0.allowed);
     }
 
 pub headline : TrustLaws → PrintedPlansAreRead → (request : Option RequestValue) (held : Option Files) (sb sa kb ka : ℕ) (old new : Option (List ℕ)) (end : Status) → Ends (MayAnswer (asked procedure_of request) held sb sa) kb ka old end new → Headline request held old end new

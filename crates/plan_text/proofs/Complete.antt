@@ -1,26 +1,29 @@
 -- The words of a plan are read whole.
 use Rattle.std.proofs.Common.{◌≡◌, ◌≤◌, ℕ, List, [], ◌∷◌, ◌++◌, map, Bool, true, false, Option, Some, refl, sym, ◌∙◌, ap, subst, arith, append_assoc, append-nil}
-use Rattle.std.specs.Prelude.{nat_le}
+use Rattle.std.specs.Prelude.{nat_le, option_map}
 use Rattle.std.specs.List.{flat_map}
 use Rattle.std.proofs.lemmas.Grind.{common_steps}
 use Rattle.std.proofs.lemmas.List.Concat.{flat_map-append}
 use Rattle.std.proofs.lemmas.List.Elements.{All-head, All-tail}
-use Rattle.outside.proofs.Runs.{run-append}
+use Rattle.outside.specs.Runs.{run_by}
 use Rattle.soc_model.specs.declared.TestId.{TestId}
 use Rattle.plan_model.specs.declared.TheConstants.{START_MOST}
 use Rattle.plan_model.specs.Cells.{ChainValue}
 use Rattle.plan_model.specs.Plans.{BusValue, WrapperValue, WhyValue, OfModule, OfPair, OfChain, OfArea, OfPower, OfForced, BoundValue, PlanValue}
+use Rattle.keyword_text.specs.declared.tokens.Token.{Token}
+use Rattle.keyword_text.specs.declared.tokens.Token.TheVariants.{Key, Number}
+use Rattle.keyword_text.specs.Lines.{Line, line_tokens, tokens_of}
+use Rattle.keyword_text.specs.Machines.{IsReadWhole}
+use Rattle.keyword_text.proofs.Kept.{run_both}
 use Rattle.plan_text.specs.declared.tokens.Keyword.{Keyword}
 use Rattle.plan_text.specs.declared.tokens.Keyword.TheVariants as key
-use Rattle.plan_text.specs.declared.tokens.Token.{Token}
-use Rattle.plan_text.specs.declared.tokens.Token.TheVariants.{Key, Number}
-use Rattle.plan_text.specs.PlanLines.{Line, bus_line, chain_line, mode_key, wrapper_lines, start_line, test_numbers, bound_line, bound_line_by, line_tokens, tokens_of, plan_tokens}
+use Rattle.plan_text.specs.PlanLines.{bus_line, chain_line, mode_key, wrapper_lines, start_line, test_numbers, bound_line, bound_line_by, plan_tokens}
 use Rattle.plan_text.specs.Grammar.{AreSmallStarts}
-use Rattle.plan_text.specs.Steps.{DraftValue, PartValue, after_cycles, wants_width, in_bus, wants_module, in_wrapper, in_chain, wants_test_module, after_start, wants_bound, in_tests, in_forced, whole, State, at, start, with_bus, with_wrapper, with_start, with_chain, is_chain, step_wrapper, next_if, step, run, plan_with, bound_at}
+use Rattle.plan_text.specs.Steps.{DraftValue, PartValue, after_cycles, wants_width, in_bus, wants_module, in_wrapper, in_chain, wants_test_module, after_start, wants_bound, in_tests, in_forced, whole, State, at, with_bus, with_wrapper, with_start, with_chain, is_chain, step_wrapper, next_if, step, plan_with, bound_at, ended, plan_machine}
 
--- first these words, and then the others
-then : (s m e : State) (a b : List Token) → run (Some s) a ≡ Some m → run (Some m) b ≡ Some e → run (Some s) (a ++ b) ≡ Some e
-then s m e a b first rest = run-append step (Some s) a b ∙ ap (λ o. run o b) first ∙ rest
+-- the state after these words
+abbrev pub run : Option State → List (Token Keyword) → Option State
+run s ts = run_by step s ts
 
 -- ---- what may begin in a state, after these whole parts
 
@@ -62,7 +65,7 @@ buses_read (b ∷ bs) s d may =
     let m = at d (in_bus b) in
     let rest = buses_read bs m (with_bus d b) (record { bus = refl; wrapper = refl; start = refl; bound = refl }) in (
       rest.0,
-      then s m rest.0 (line_tokens (bus_line b)) (tokens_of (map bus_line bs)) (bus_read s d b may) rest.1,
+      run_both plan_machine s m rest.0 (line_tokens (bus_line b)) (tokens_of (map bus_line bs)) (bus_read s d b may) rest.1,
       subst (λ x. MayBus rest.0 (record d { buses = x })) (append_assoc d.buses (b ∷ []) bs) rest.2,
     )
 
@@ -92,7 +95,7 @@ chains_read (c ∷ cs) s d w may =
     let m = at d (in_chain w c) in
     let rest = chains_read cs m d (with_chain w c) (λ k. refl) in (
       rest.0,
-      then s m rest.0 (line_tokens (chain_line c)) (tokens_of (map chain_line cs)) (chain_read s d w c may) rest.1,
+      run_both plan_machine s m rest.0 (line_tokens (chain_line c)) (tokens_of (map chain_line cs)) (chain_read s d w c may) rest.1,
       subst (λ x. MayChain rest.0 d (record w { chains = x })) (append_assoc w.chains (c ∷ []) cs) rest.2,
     )
 
@@ -107,7 +110,7 @@ wrapper_read s d w may =
     let head : run (Some s) (Key key.Wrapper ∷ Number w.«module» ∷ Key (mode_key w.scan) ∷ []) ≡ Some m =
     ap (λ o. run o (Number w.«module» ∷ Key (mode_key w.scan) ∷ [])) may.wrapper ∙ mode_read w.scan d w.«module» in
     let rest = chains_read w.chains m d empty (λ k. refl) in
-    (rest.0, then s m rest.0 (Key key.Wrapper ∷ Number w.«module» ∷ Key (mode_key w.scan) ∷ []) (tokens_of (map chain_line w.chains)) head rest.1, rest.2)
+    (rest.0, run_both plan_machine s m rest.0 (Key key.Wrapper ∷ Number w.«module» ∷ Key (mode_key w.scan) ∷ []) (tokens_of (map chain_line w.chains)) head rest.1, rest.2)
 
 abbrev with_wrappers : DraftValue → List WrapperValue → DraftValue
 with_wrappers d ws = record d { wrappers = d.wrappers ++ ws }
@@ -122,7 +125,7 @@ wrappers_read (w ∷ ws) s d may =
     let rest = wrappers_read ws one.0 (with_wrapper d w) (wrap_after one.0 d w one.2) in (
       rest.0,
       ap (run (Some s)) (flat_map-append line_tokens (wrapper_lines w) (flat_map wrapper_lines ws))
-          ∙ then s one.0 rest.0 (tokens_of (wrapper_lines w)) (tokens_of (flat_map wrapper_lines ws)) one.1 rest.1,
+          ∙ run_both plan_machine s one.0 rest.0 (tokens_of (wrapper_lines w)) (tokens_of (flat_map wrapper_lines ws)) one.1 rest.1,
       subst (λ x. MayWrap rest.0 (record d { wrappers = x })) (append_assoc d.wrappers (w ∷ []) ws) rest.2,
     )
 
@@ -145,7 +148,7 @@ starts_read (x ∷ xs) s d may small =
     let m = at (with_start d x.0 x.1) after_start in
     let rest = starts_read xs m (with_start d x.0 x.1) (record { start = refl; bound = refl }) (All-tail (λ (s : TestId × ℕ). s.1 ≤ START_MOST) x xs small) in (
       rest.0,
-      then s m rest.0 (line_tokens (start_line x)) (tokens_of (map start_line xs)) (start_read s d x may (All-head (λ (s : TestId × ℕ). s.1 ≤ START_MOST) x xs small)) rest.1,
+      run_both plan_machine s m rest.0 (line_tokens (start_line x)) (tokens_of (map start_line xs)) (start_read s d x may (All-head (λ (s : TestId × ℕ). s.1 ≤ START_MOST) x xs small)) rest.1,
       subst (λ l. MayStart rest.0 (record d { starts = l })) (append_assoc d.starts (x ∷ []) xs) rest.2,
     )
 
@@ -183,18 +186,10 @@ empty_draft cycles = record { cycles = cycles; buses = []; wrappers = []; starts
 abbrev draft_of : PlanValue → DraftValue
 draft_of p = record { cycles = p.cycles; buses = p.buses; wrappers = p.wrappers; starts = p.starts }
 
--- a plan's words end in a state with its parts and its bound
-pub record PlanRead (ts : List Token) (p : PlanValue) : Type 0 where
-  pub end : State
-  pub read : run (Some start) ts ≡ Some end
-  pub bound : BoundValue
-  pub ends : bound_at end.part ≡ Some bound
-  pub is : plan_with end.draft bound ≡ p
-
 -- sections that are read one after another
-sections_read : (first b w s e : State) (bs ws ss : List Line) (l : Line) → run (Some first) (tokens_of bs) ≡ Some b → run (Some b) (tokens_of ws) ≡ Some w → run (Some w) (tokens_of ss) ≡ Some s → run (Some s) (line_tokens l) ≡ Some e → run (Some first) (tokens_of (bs ++ (ws ++ (ss ++ l ∷ [])))) ≡ Some e
+sections_read : (first b w s e : State) (bs ws ss : List (Line Keyword)) (l : Line Keyword) → run (Some first) (tokens_of bs) ≡ Some b → run (Some b) (tokens_of ws) ≡ Some w → run (Some w) (tokens_of ss) ≡ Some s → run (Some s) (line_tokens l) ≡ Some e → run (Some first) (tokens_of (bs ++ (ws ++ (ss ++ l ∷ [])))) ≡ Some e
 sections_read first b w s e bs ws ss l buses wrappers starts bound =
-    ap (run (Some first)) lines ∙ then first b e (tokens_of bs) _ buses (then b w e (tokens_of ws) _ wrappers (then w s e (tokens_of ss) _ starts bound))
+    ap (run (Some first)) lines ∙ run_both plan_machine first b e (tokens_of bs) _ buses (run_both plan_machine b w e (tokens_of ws) _ wrappers (run_both plan_machine w s e (tokens_of ss) _ starts bound))
   where
     lines : tokens_of (bs ++ (ws ++ (ss ++ l ∷ []))) ≡ tokens_of bs ++ (tokens_of ws ++ (tokens_of ss ++ line_tokens l))
     lines =
@@ -202,7 +197,11 @@ sections_read first b w s e bs ws ss l buses wrappers starts bound =
         ∙ ap (λ x. tokens_of bs ++ x) (flat_map-append line_tokens ws (ss ++ l ∷ [])
         ∙ ap (λ x. tokens_of ws ++ x) (flat_map-append line_tokens ss (l ∷ []) ∙ ap (λ x. tokens_of ss ++ x) (append-nil (line_tokens l))))
 
-pub plan_read : (p : PlanValue) → AreSmallStarts p.starts → PlanRead (plan_tokens p) p
+-- whole parts and a bound are a plan
+pub ended_at : (d : DraftValue) (part : PartValue) (b : BoundValue) → bound_at part ≡ Some b → ended (at d part) ≡ Some (plan_with d b)
+ended_at d part b is = ap (option_map (plan_with d)) is
+
+pub plan_read : (p : PlanValue) → AreSmallStarts p.starts → IsReadWhole plan_machine (plan_tokens p) p
 unfolding plan_tokens
 plan_read p small =
     let first = at (empty_draft p.cycles) after_cycles in
@@ -213,8 +212,6 @@ plan_read p small =
     let e = at (draft_of p) last.part in
     record {
       end = e;
-      read = sections_read first buses.0 wrappers.0 starts.0 e (map bus_line p.buses) (flat_map wrapper_lines p.wrappers) (map start_line p.starts) (bound_line p.bound) buses.1 wrappers.1 starts.1 last.read;
-      bound = p.bound;
-      ends = last.ends;
-      is = refl {a = p};
+      runs = sections_read first buses.0 wrappers.0 starts.0 e (map bus_line p.buses) (flat_map wrapper_lines p.wrappers) (map start_line p.starts) (bound_line p.bound) buses.1 wrappers.1 starts.1 last.read;
+      ends = ended_at (draft_of p) last.part p.bound last.ends;
     }

@@ -1,8 +1,7 @@
 pub mod Sound
 pub mod Complete
+pub mod Endable
 pub mod Ranges
-pub mod Viable
-pub mod Exact
-pub mod Progress
 pub mod Printed
-pub mod EachText
+pub mod ReadPlans
+pub mod Exact

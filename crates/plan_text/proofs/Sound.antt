@@ -7,20 +7,22 @@ use Rattle.std.proofs.lemmas.List.{map-append}
 use Rattle.std.proofs.lemmas.List.Concat.{flat_map-append}
 use Rattle.std.proofs.lemmas.List.Elements.{All-push}
 use Rattle.std.proofs.lemmas.Bool.{eqb-true}
-use Rattle.outside.proofs.Runs.{run-none}
 use Rattle.soc_model.specs.declared.TestId.{TestId}
 use Rattle.plan_model.specs.declared.TheConstants.{START_MOST}
 use Rattle.plan_model.specs.Cells.{ChainValue}
 use Rattle.plan_model.specs.Plans.{BusValue, WrapperValue, OfChain, OfForced, BoundValue, PlanValue}
+use Rattle.keyword_text.specs.declared.tokens.Token.{Token}
+use Rattle.keyword_text.specs.declared.tokens.Token.TheVariants.{Key, Number}
+use Rattle.keyword_text.specs.Lines.{Line, line, line_tokens, tokens_of}
+use Rattle.keyword_text.specs.Machines.{IsRun, IsSaid}
+use Rattle.keyword_text.proofs.Kept.{IsKept, kept_holds}
 use Rattle.plan_text.specs.declared.tokens.Keyword.{Keyword}
 use Rattle.plan_text.specs.declared.tokens.Keyword.TheVariants as key
-use Rattle.plan_text.specs.declared.tokens.Token.{Token}
-use Rattle.plan_text.specs.declared.tokens.Token.TheVariants.{Key, Number}
 use Rattle.plan_text.specs.declared.parts.Section.{Section}
 use Rattle.plan_text.specs.declared.parts.Section.TheVariants.{Buses, Wrappers, Starts}
-use Rattle.plan_text.specs.PlanLines.{Line, line, bus_line, chain_line, wrapper_lines, start_line, test_numbers, bound_line, bound_line_by, line_tokens, tokens_of, plan_tokens}
-use Rattle.plan_text.specs.Grammar.{AreSmallStarts}
-use Rattle.plan_text.specs.Steps.{DraftValue, PartValue, wants_plan, wants_form, wants_cycles_word, wants_cycles, after_cycles, wants_width, in_bus, wants_module, wants_mode, in_wrapper, wants_ins, wants_outs, in_chain, wants_test_module, wants_test, wants_start, after_start, wants_bound, wants_reason, wants_bound_module, wants_pair_module, in_tests, wants_test_of, in_forced, whole, State, at, start, with_bus, with_wrapper, with_start, with_chain, next_if, step_number, begin, begun, begin_mode, begin_reason, is_chain, step_wrapper, begin_plan, begin_cycles, step_key, step, run, plan_with, bound_at}
+use Rattle.plan_text.specs.PlanLines.{bus_line, chain_line, wrapper_lines, start_line, test_numbers, bound_line, bound_line_by, plan_tokens}
+use Rattle.plan_text.specs.Grammar.{AreSmallStarts, plan_grammar}
+use Rattle.plan_text.specs.Steps.{DraftValue, PartValue, wants_plan, wants_form, wants_cycles_word, wants_cycles, after_cycles, wants_width, in_bus, wants_module, wants_mode, in_wrapper, wants_ins, wants_outs, in_chain, wants_test_module, wants_test, wants_start, after_start, wants_bound, wants_reason, wants_bound_module, wants_pair_module, in_tests, wants_test_of, in_forced, whole, State, at, with_bus, with_wrapper, with_start, with_chain, next_if, step_number, begin, begun, begin_mode, begin_reason, is_chain, step_wrapper, begin_plan, begin_cycles, step_key, step, plan_with, ended, plan_machine}
 
 -- how far a text has come
 data Stage : Type 0 where
@@ -52,18 +54,18 @@ Ordered at_buses d = (d.wrappers ≡ []) × (d.starts ≡ [])
 Ordered at_wrappers d = d.starts ≡ []
 Ordered at_starts d = Unit {0}
 
-abbrev headed : DraftValue → List Line → List Line
+abbrev headed : DraftValue → List (Line Keyword) → List (Line Keyword)
 headed d lines = line key.Plan (Number 1 ∷ []) ∷ line key.Cycles (Number d.cycles ∷ []) ∷ lines
 
 -- the lines of the whole parts
-abbrev front : Stage → DraftValue → List Line
+abbrev front : Stage → DraftValue → List (Line Keyword)
 front at_head d = []
 front at_buses d = headed d (map bus_line d.buses)
 front at_wrappers d = headed d (map bus_line d.buses ++ flat_map wrapper_lines d.wrappers)
 front at_starts d = headed d (map bus_line d.buses ++ (flat_map wrapper_lines d.wrappers ++ map start_line d.starts))
 
 -- the words of the part that comes next
-abbrev part_tokens : PartValue → List Token
+abbrev part_tokens : PartValue → List (Token Keyword)
 part_tokens wants_plan = []
 part_tokens wants_form = Key key.Plan ∷ []
 part_tokens wants_cycles_word = Key key.Plan ∷ Number 1 ∷ []
@@ -91,24 +93,27 @@ part_tokens (in_forced b ms) = line_tokens (bound_line_by b (OfForced ms))
 part_tokens (whole b) = line_tokens (bound_line b)
 
 -- the words that were read are those of this draft and this part
-record Holds (d : DraftValue) (p : PartValue) (ts : List Token) : Type 0 where
+record Holds (d : DraftValue) (p : PartValue) (ts : List (Token Keyword)) : Type 0 where
   ordered : Ordered (stage p) d
   read : ts ≡ tokens_of (front (stage p) d) ++ part_tokens p
   small : AreSmallStarts d.starts
 
-abbrev HoldsNext : Option State → List Token → Type 0
+abbrev HoldsNext : Option State → List (Token Keyword) → Type 0
 HoldsNext None ts = Unit {0}
 HoldsNext (Some s) ts = Holds s.draft s.part ts
 
 -- ---- lists of lines
 
-pub tokens_append : (a b : List Line) → tokens_of (a ++ b) ≡ tokens_of a ++ tokens_of b
+pub tokens_append : (a b : List (Line Keyword)) → tokens_of (a ++ b) ≡ tokens_of a ++ tokens_of b
 tokens_append a b = flat_map-append line_tokens a b
 
-tokens_push : (a : List Line) (l : Line) → tokens_of (a ++ l ∷ []) ≡ tokens_of a ++ line_tokens l
+tokens_push : (a : List (Line Keyword)) (l : Line Keyword) → tokens_of (a ++ l ∷ []) ≡ tokens_of a ++ line_tokens l
 tokens_push a l = tokens_append a (l ∷ []) ∙ ap (λ ts. tokens_of a ++ ts) (append-nil (line_tokens l))
 
-numbers_push : (ns : List ℕ) (n : ℕ) → map Number (ns ++ n ∷ []) ≡ map Number ns ++ Number n ∷ []
+abbrev numbers : List ℕ → List (Token Keyword)
+numbers ns = map Number ns
+
+numbers_push : (ns : List ℕ) (n : ℕ) → numbers (ns ++ n ∷ []) ≡ numbers ns ++ Number n ∷ []
 numbers_push ns n = map-append Number ns (n ∷ [])
 
 bus_pushed : (d : DraftValue) (b : BusValue) → tokens_of (front at_buses d) ++ line_tokens (bus_line b) ≡ tokens_of (front at_buses (with_bus d b))
@@ -133,7 +138,7 @@ start_pushed d t n =
 chain_pushed : (w : WrapperValue) (c : ChainValue) → tokens_of (wrapper_lines w) ++ line_tokens (chain_line c) ≡ tokens_of (wrapper_lines (with_chain w c))
 chain_pushed w c =
     sym (tokens_push (wrapper_lines w) (chain_line c))
-    ∙ ap (λ (ls : List Line). tokens_of (wrapper_lines (record w { chains = [] }) ++ ls)) (sym (map-append chain_line w.chains (c ∷ [])))
+    ∙ ap (λ (ls : List (Line Keyword)). tokens_of (wrapper_lines (record w { chains = [] }) ++ ls)) (sym (map-append chain_line w.chains (c ∷ [])))
 
 to_wrappers : (d : DraftValue) → Ordered at_buses d → front at_buses d ≡ front at_wrappers d
 to_wrappers d h = ap (headed d) (sym (append-nil (map bus_line d.buses)) ∙ ap (λ ws. map bus_line d.buses ++ flat_map wrapper_lines ws) (sym h.0))
@@ -145,12 +150,12 @@ to_starts d h =
 
 -- ---- one more word
 
-more : (ts own new : List Token) (lines : List Line) (t : Token) → ts ≡ tokens_of lines ++ own → new ≡ own ++ t ∷ [] → ts ++ t ∷ [] ≡ tokens_of lines ++ new
+more : (ts own new : List (Token Keyword)) (lines : List (Line Keyword)) (t : Token Keyword) → ts ≡ tokens_of lines ++ own → new ≡ own ++ t ∷ [] → ts ++ t ∷ [] ≡ tokens_of lines ++ new
 more ts own new lines t read is =
     ap (λ l. l ++ t ∷ []) read ∙ append_assoc (tokens_of lines) own (t ∷ []) ∙ ap (λ l. tokens_of lines ++ l) (sym is)
 
 -- the words are those of whole parts
-record Closed (s : Stage) (d : DraftValue) (ts : List Token) : Type 0 where
+record Closed (s : Stage) (d : DraftValue) (ts : List (Token Keyword)) : Type 0 where
   ordered : Ordered s d
   read : ts ≡ tokens_of (front s d)
   small : AreSmallStarts d.starts
@@ -160,17 +165,17 @@ stage_of Buses = at_buses
 stage_of Wrappers = at_wrappers
 stage_of Starts = at_starts
 
-closed_wrappers : (section : Section) (d : DraftValue) (ts : List Token) → begin key.Wrapper section ≡ Some wants_module → Closed (stage_of section) d ts → Closed at_wrappers d ts
+closed_wrappers : (section : Section) (d : DraftValue) (ts : List (Token Keyword)) → begin key.Wrapper section ≡ Some wants_module → Closed (stage_of section) d ts → Closed at_wrappers d ts
 closed_wrappers Buses d ts e c = record { ordered = c.ordered.1; read = c.read ∙ ap tokens_of (to_wrappers d c.ordered); small = c.small }
 closed_wrappers Wrappers d ts e c = c
 closed_wrappers Starts d ts e c = cc
 
-closed_starts : (section : Section) (d : DraftValue) (ts : List Token) → Closed (stage_of section) d ts → Closed at_starts d ts
+closed_starts : (section : Section) (d : DraftValue) (ts : List (Token Keyword)) → Closed (stage_of section) d ts → Closed at_starts d ts
 closed_starts Buses d ts c = record { ordered = tt; read = c.read ∙ ap tokens_of (to_wrappers d c.ordered ∙ to_starts d c.ordered.1); small = c.small }
 closed_starts Wrappers d ts c = record { ordered = tt; read = c.read ∙ ap tokens_of (to_starts d c.ordered); small = c.small }
 closed_starts Starts d ts c = c
 
-begin_holds : (k : Keyword) (section : Section) (d : DraftValue) (ts : List Token) → Closed (stage_of section) d ts → HoldsNext (begun d (begin k section)) (ts ++ Key k ∷ [])
+begin_holds : (k : Keyword) (section : Section) (d : DraftValue) (ts : List (Token Keyword)) → Closed (stage_of section) d ts → HoldsNext (begun d (begin k section)) (ts ++ Key k ∷ [])
 begin_holds key.Bus Buses d ts c = record { ordered = c.ordered; read = ap (λ l. l ++ Key key.Bus ∷ []) c.read; small = c.small }
 begin_holds key.Bus Wrappers d ts c = tt
 begin_holds key.Bus Starts d ts c = tt
@@ -190,7 +195,7 @@ begin_holds key.Area section d ts c = tt
 begin_holds key.Power section d ts c = tt
 begin_holds key.Forced section d ts c = tt
 
-wrapper_holds : (d : DraftValue) (w : WrapperValue) (k : Keyword) (ts : List Token) → Holds d (in_wrapper w) ts → HoldsNext (step_wrapper d w k (is_chain k)) (ts ++ Key k ∷ [])
+wrapper_holds : (d : DraftValue) (w : WrapperValue) (k : Keyword) (ts : List (Token Keyword)) → Holds d (in_wrapper w) ts → HoldsNext (step_wrapper d w k (is_chain k)) (ts ++ Key k ∷ [])
 wrapper_holds d w k ts h = by_kind (is_chain k) refl
   where
     chain_key : (j : Keyword) → is_chain j ≡ true → j ≡ key.Chain
@@ -207,12 +212,12 @@ wrapper_holds d w k ts h = by_kind (is_chain k) refl
     by_kind false e =
         begin_holds k Wrappers (with_wrapper d w) ts (record { ordered = h.ordered; read = h.read ∙ wrapper_pushed d w; small = h.small })
 
-mode_holds : (k : Keyword) (d : DraftValue) (m : ℕ) (ts : List Token) → Holds d (wants_mode m) ts → HoldsNext (begun d (begin_mode k m)) (ts ++ Key k ∷ [])
+mode_holds : (k : Keyword) (d : DraftValue) (m : ℕ) (ts : List (Token Keyword)) → Holds d (wants_mode m) ts → HoldsNext (begun d (begin_mode k m)) (ts ++ Key k ∷ [])
 mode_holds key.Scan d m ts h = record { ordered = h.ordered; read = more ts _ _ (front at_wrappers d) (Key key.Scan) h.read refl; small = h.small }
 mode_holds key.Terminals d m ts h = record { ordered = h.ordered; read = more ts _ _ (front at_wrappers d) (Key key.Terminals) h.read refl; small = h.small }
 mode_holds k d m ts h = tt
 
-reason_holds : (k : Keyword) (d : DraftValue) (b : ℕ) (ts : List Token) → Holds d (wants_reason b) ts → HoldsNext (begun d (begin_reason k b)) (ts ++ Key k ∷ [])
+reason_holds : (k : Keyword) (d : DraftValue) (b : ℕ) (ts : List (Token Keyword)) → Holds d (wants_reason b) ts → HoldsNext (begun d (begin_reason k b)) (ts ++ Key k ∷ [])
 reason_holds key.Module d b ts h = record { ordered = tt; read = more ts _ _ (front at_starts d) (Key key.Module) h.read refl; small = h.small }
 reason_holds key.Pair d b ts h = record { ordered = tt; read = more ts _ _ (front at_starts d) (Key key.Pair) h.read refl; small = h.small }
 reason_holds key.Chain d b ts h = record { ordered = tt; read = more ts _ _ (front at_starts d) (Key key.Chain) h.read refl; small = h.small }
@@ -221,15 +226,15 @@ reason_holds key.Power d b ts h = record { ordered = tt; read = more ts _ _ (fro
 reason_holds key.Forced d b ts h = record { ordered = tt; read = more ts _ _ (front at_starts d) (Key key.Forced) h.read refl; small = h.small }
 reason_holds k d b ts h = tt
 
-plan_holds : (k : Keyword) (d : DraftValue) (ts : List Token) → Holds d wants_plan ts → HoldsNext (begun d (begin_plan k)) (ts ++ Key k ∷ [])
+plan_holds : (k : Keyword) (d : DraftValue) (ts : List (Token Keyword)) → Holds d wants_plan ts → HoldsNext (begun d (begin_plan k)) (ts ++ Key k ∷ [])
 plan_holds key.Plan d ts h = record { ordered = h.ordered; read = more ts _ _ (front at_head d) (Key key.Plan) h.read refl; small = h.small }
 plan_holds k d ts h = tt
 
-cycles_holds : (k : Keyword) (d : DraftValue) (ts : List Token) → Holds d wants_cycles_word ts → HoldsNext (begun d (begin_cycles k)) (ts ++ Key k ∷ [])
+cycles_holds : (k : Keyword) (d : DraftValue) (ts : List (Token Keyword)) → Holds d wants_cycles_word ts → HoldsNext (begun d (begin_cycles k)) (ts ++ Key k ∷ [])
 cycles_holds key.Cycles d ts h = record { ordered = h.ordered; read = more ts _ _ (front at_head d) (Key key.Cycles) h.read refl; small = h.small }
 cycles_holds k d ts h = tt
 
-key_holds : (p : PartValue) (d : DraftValue) (k : Keyword) (ts : List Token) → Holds d p ts → HoldsNext (step_key d p k) (ts ++ Key k ∷ [])
+key_holds : (p : PartValue) (d : DraftValue) (k : Keyword) (ts : List (Token Keyword)) → Holds d p ts → HoldsNext (step_key d p k) (ts ++ Key k ∷ [])
 key_holds wants_plan d k ts h = plan_holds k d ts h
 key_holds wants_cycles_word d k ts h = cycles_holds k d ts h
 key_holds after_cycles d k ts h = begin_holds k Buses d ts (record { ordered = h.ordered; read = h.read ∙ append-nil (tokens_of (front at_buses d)); small = h.small })
@@ -242,7 +247,7 @@ key_holds after_start d k ts h = begin_holds k Starts d ts (record { ordered = t
 key_holds (wants_reason b) d k ts h = reason_holds k d b ts h
 key_holds p d k ts h = tt
 
-number_holds : (p : PartValue) (d : DraftValue) (n : ℕ) (ts : List Token) → Holds d p ts → HoldsNext (step_number d p n) (ts ++ Number n ∷ [])
+number_holds : (p : PartValue) (d : DraftValue) (n : ℕ) (ts : List (Token Keyword)) → Holds d p ts → HoldsNext (step_number d p n) (ts ++ Number n ∷ [])
 number_holds wants_form d n ts h = by_test (nat_eq n 1) refl
   where
     by_test : (b : Bool) → nat_eq n 1 ≡ b → HoldsNext (next_if b (at d wants_cycles_word)) (ts ++ Number n ∷ [])
@@ -294,23 +299,23 @@ number_holds (wants_test_of b tests m) d n ts h =
 number_holds (in_forced b ms) d n ts h = record { ordered = tt; read = more ts _ _ (front at_starts d) (Number n) h.read (ap (λ l. Key key.Bound ∷ Number b ∷ Key key.Forced ∷ l) (numbers_push ms n)); small = h.small }
 number_holds p d n ts h = tt
 
-step_holds : (t : Token) (s : State) (ts : List Token) → Holds s.draft s.part ts → HoldsNext (step s t) (ts ++ t ∷ [])
+step_holds : (t : Token Keyword) (s : State) (ts : List (Token Keyword)) → Holds s.draft s.part ts → HoldsNext (step s t) (ts ++ t ∷ [])
 step_holds (Number n) s ts h = number_holds s.part s.draft n ts h
 step_holds (Key k) s ts h = key_holds s.part s.draft k ts h
 
-run_holds : (o : Option State) (ts before : List Token) → HoldsNext o before → HoldsNext (run o ts) (before ++ ts)
-run_holds None ts before h = rw (run-none step ts) tt
-run_holds (Some s) [] before h = rw (append-nil before) h
-run_holds (Some s) (t ∷ ts) before h =
-    subst (HoldsNext (run (step s t) ts)) (append_assoc before (t ∷ []) ts) (run_holds (step s t) ts (before ++ t ∷ []) (step_holds t s before h))
-
-holds_at : (o : Option State) (s : State) (ts : List Token) → HoldsNext o ts → o ≡ Some s → Holds s.draft s.part ts
+holds_at : (o : Option State) (s : State) (ts : List (Token Keyword)) → HoldsNext o ts → o ≡ Some s → Holds s.draft s.part ts
 holds_at o s ts h e = (rw e at h)
 
+abbrev IsRead : List (Token Keyword) → State → Type 0
+IsRead ts s = Holds s.draft s.part ts
+
+read_kept : IsKept plan_machine IsRead
+read_kept ts s next t h goes = holds_at (step s t) next (ts ++ t ∷ []) (step_holds t s ts h) goes
+
 -- words that were read to a state are its words
-read_holds : (ts : List Token) (s : State) → run (Some start) ts ≡ Some s → Holds s.draft s.part ts
-read_holds ts s e =
-    holds_at (run (Some start) ts) s ts (run_holds (Some start) ts [] (record { ordered = (refl, refl, refl); read = refl; small = λ k d h. absurd (omega arith) })) e
+read_holds : (ts : List (Token Keyword)) (s : State) → IsRun plan_machine ts s → Holds s.draft s.part ts
+read_holds ts s runs =
+    kept_holds plan_machine IsRead (record { ordered = (refl, refl, refl); read = refl; small = λ k d h. absurd (omega arith) }) read_kept ts s runs
 
 -- ---- where the words end
 
@@ -322,26 +327,19 @@ whole_lines d b =
     (append_assoc (map bus_line d.buses) (flat_map wrapper_lines d.wrappers ++ map start_line d.starts) (bound_line b ∷ [])
     ∙ ap (λ ls. map bus_line d.buses ++ ls) (append_assoc (flat_map wrapper_lines d.wrappers) (map start_line d.starts) (bound_line b ∷ [])))
 
--- words that end in a state that closes are the words of its plan
-pub record Says (ts : List Token) (plan : PlanValue) : Type 0 where
-  pub words : ts ≡ plan_tokens plan
-  pub small_starts : AreSmallStarts plan.starts
+-- the words of whole parts and a bound are those of the plan with both
+bound_said : (d : DraftValue) (ts : List (Token Keyword)) (b : BoundValue) (p : PlanValue) → AreSmallStarts d.starts → ts ≡ tokens_of (front at_starts d) ++ line_tokens (bound_line b) →
+    Some (plan_with d b) ≡ Some p → IsSaid plan_grammar ts p
+bound_said d ts b p small read e =
+    let same : plan_with d b ≡ p = cc in
+    subst (IsSaid plan_grammar ts) same (record { words = read ∙ whole_lines d b; allowed = small })
 
-same_bound : (x y : BoundValue) → Some x ≡ Some y → x ≡ y
-same_bound x y e = cc
+part_said : (part : PartValue) (d : DraftValue) (ts : List (Token Keyword)) (p : PlanValue) → Holds d part ts → ended (at d part) ≡ Some p → IsSaid plan_grammar ts p
+part_said (whole b) d ts p h e = bound_said d ts b p h.small h.read e
+part_said (in_tests c tests) d ts p h e = bound_said d ts (record { cycles = c; why = OfChain tests }) p h.small h.read e
+part_said (in_forced c ms) d ts p h e = bound_said d ts (record { cycles = c; why = OfForced ms }) p h.small h.read e
+part_said part d ts p h e = absurd cc
 
-bound_says : (p : PartValue) (d : DraftValue) (ts : List Token) (b : BoundValue) → Holds d p ts → bound_at p ≡ Some b → Says ts (plan_with d b)
-bound_says (whole c) d ts b h e =
-    record { words = h.read ∙ whole_lines d c ∙ ap (λ x. plan_tokens (plan_with d x)) (same_bound c b e); small_starts = h.small }
-bound_says (in_tests c tests) d ts b h e =
-    let own : BoundValue = record { cycles = c; why = OfChain tests } in
-    let same : own ≡ b = same_bound own b e in
-    record { words = h.read ∙ whole_lines d own ∙ ap (λ x. plan_tokens (plan_with d x)) same; small_starts = h.small }
-bound_says (in_forced c ms) d ts b h e =
-    let own : BoundValue = record { cycles = c; why = OfForced ms } in
-    let same : own ≡ b = same_bound own b e in
-    record { words = h.read ∙ whole_lines d own ∙ ap (λ x. plan_tokens (plan_with d x)) same; small_starts = h.small }
-bound_says p d ts b h e = cc
-
-pub closed_says : (ts : List Token) (s : State) (b : BoundValue) → run (Some start) ts ≡ Some s → bound_at s.part ≡ Some b → Says ts (plan_with s.draft b)
-closed_says ts s b e is = bound_says s.part s.draft ts b (read_holds ts s e) is
+-- words that may end are those of their plan
+pub plan_said : (ts : List (Token Keyword)) (s : State) (p : PlanValue) → IsRun plan_machine ts s → ended s ≡ Some p → IsSaid plan_grammar ts p
+plan_said ts s p runs ends = part_said s.part s.draft ts p (read_holds ts s runs) ends

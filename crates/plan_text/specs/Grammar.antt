@@ -1,35 +1,22 @@
 -- The grammar of a plan's text: a set of whole lists of words.
-use Rattle.std.specs.Prelude.{◌≡◌, ◌≤◌, ℕ, List, Option, Some, map}
+use Rattle.std.specs.Prelude.{◌≤◌, ℕ, List}
 use Rattle.std.specs.List.{All}
-use Rattle.outside.specs.Words.{Word}
 use Rattle.soc_model.specs.declared.TestId.{TestId}
 use Rattle.plan_model.specs.Cells.{ChainValue}
 use Rattle.plan_model.specs.Plans.{BusValue, WrapperValue, WhyValue, OfModule, OfPair, OfChain, OfArea, OfPower, OfForced, PlanValue}
 use Rattle.plan_model.specs.declared.TheConstants.{PLAN_NUMBER_MOST, START_MOST}
-use Rattle.plan_text.specs.declared.tokens.Token.{Token}
-use Rattle.plan_text.specs.Tokens.{token_of}
+use Rattle.keyword_text.specs.Texts.{Grammar}
+use Rattle.plan_text.specs.declared.tokens.Keyword.{Keyword}
+use Rattle.plan_text.specs.Tokens.{plan_lexicon}
 use Rattle.plan_text.specs.PlanLines.{plan_tokens}
-
--- what each word stands for
-abbrev pub meanings : List Word → List (Option Token)
-meanings ws = map (λ (w : Word). token_of w.0) ws
-
--- the words stand for these, one by one
-abbrev pub Spells : List Word → List Token → Type 0
-Spells ws ts = meanings ws ≡ map Some ts
 
 -- no start is after the greatest that a text may give
 abbrev pub AreSmallStarts : List (TestId × ℕ) → Type 0
 AreSmallStarts starts = All (λ (s : TestId × ℕ). s.1 ≤ START_MOST) starts
 
--- The words are the plan: those of its lines, where no start is too great.
-pub record IsPlanText (ws : List Word) (plan : PlanValue) : Type 0 where
-  pub words : Spells ws (plan_tokens plan)
-  pub small_starts : AreSmallStarts plan.starts
-
--- the set of whole lists of words
-abbrev pub InGrammar : List Word → Type 0
-InGrammar ws = (plan : PlanValue) × IsPlanText ws plan
+-- the words of a plan are those of its lines, where no start is too great
+abbrev pub plan_grammar : Grammar Keyword PlanValue
+plan_grammar = record { lexicon = plan_lexicon; tokens = plan_tokens; Allowed = λ (p : PlanValue). AreSmallStarts p.starts }
 
 -- ---- the numbers of a text's plan
 

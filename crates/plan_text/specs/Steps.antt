@@ -1,15 +1,15 @@
 -- Reading word by word: the parts that were read whole, and what was read of the next. Only the reader's own contracts
 -- speak of it.
-use Rattle.std.specs.Prelude.{ℕ, ◌++◌, List, [], ◌∷◌, Bool, true, false, nat_eq, nat_le, Option, None, Some}
-use Rattle.outside.specs.Runs.{step_after, run_by}
+use Rattle.std.specs.Prelude.{ℕ, ◌++◌, List, [], ◌∷◌, Bool, true, false, nat_eq, nat_le, Option, None, Some, option_map}
 use Rattle.soc_model.specs.declared.TestId.{TestId}
 use Rattle.plan_model.specs.declared.TheConstants.{START_MOST}
 use Rattle.plan_model.specs.Cells.{ChainValue}
 use Rattle.plan_model.specs.Plans.{BusValue, WrapperValue, OfModule, OfPair, OfChain, OfArea, OfPower, OfForced, BoundValue, PlanValue}
+use Rattle.keyword_text.specs.declared.tokens.Token.{Token}
+use Rattle.keyword_text.specs.declared.tokens.Token.TheVariants.{Key, Number}
+use Rattle.keyword_text.specs.Machines.{Machine}
 use Rattle.plan_text.specs.declared.tokens.Keyword.{Keyword}
 use Rattle.plan_text.specs.declared.tokens.Keyword.TheVariants as key
-use Rattle.plan_text.specs.declared.tokens.Token.{Token}
-use Rattle.plan_text.specs.declared.tokens.Token.TheVariants.{Key, Number}
 use Rattle.plan_text.specs.declared.parts.Section.{Section}
 use Rattle.plan_text.specs.declared.parts.Section.TheVariants.{Buses, Wrappers, Starts}
 
@@ -190,15 +190,9 @@ step_key d (wants_test_of b tests m) k = None
 step_key d (in_forced b ms) k = None
 step_key d (whole b) k = None
 
-abbrev pub step : State → Token → Option State
+abbrev pub step : State → Token Keyword → Option State
 step s (Number n) = step_number s.draft s.part n
 step s (Key k) = step_key s.draft s.part k
-
-abbrev pub step_from : Option State → Token → Option State
-step_from s t = step_after step s t
-
-abbrev pub run : Option State → List Token → Option State
-run s ts = run_by step s ts
 
 -- ---- the end of a text
 
@@ -211,3 +205,10 @@ bound_at (whole b) = Some b
 bound_at (in_tests b tests) = Some (record { cycles = b; why = OfChain tests })
 bound_at (in_forced b ms) = Some (record { cycles = b; why = OfForced ms })
 bound_at part = None
+
+-- the plan, where the words end here
+abbrev pub ended : State → Option PlanValue
+ended s = option_map (plan_with s.draft) (bound_at s.part)
+
+abbrev pub plan_machine : Machine Keyword State PlanValue
+plan_machine = record { start = start; step = step; end = ended }

@@ -1,12 +1,9 @@
--- The words of a plan's text, as what they stand for.
-use Rattle.std.specs.Prelude.{ℕ, List, [], ◌∷◌, Option, None, Some, codes, if◌then◌else◌}
-use Rattle.outside.specs.Decimal.{number_of}
-use Rattle.outside.specs.Words.{same_letters}
+-- The words of a plan's text.
+use Rattle.std.specs.Prelude.{ℕ, List, [], ◌∷◌, codes, map}
 use Rattle.plan_model.specs.declared.TheConstants.{PLAN_NUMBER_MOST}
+use Rattle.keyword_text.specs.Tokens.{Lexicon}
 use Rattle.plan_text.specs.declared.tokens.Keyword.{Keyword}
 use Rattle.plan_text.specs.declared.tokens.Keyword.TheVariants as key
-use Rattle.plan_text.specs.declared.tokens.Token.{Token}
-use Rattle.plan_text.specs.declared.tokens.Token.TheVariants.{Key, Number}
 
 -- how a keyword is printed; it is read in any case of its letters
 abbrev pub spelling : Keyword → List ℕ
@@ -30,16 +27,6 @@ keywords =
     key.Plan ∷ key.Cycles ∷ key.Bus ∷ key.Wrapper ∷ key.Scan ∷ key.Terminals ∷ key.Chain ∷ key.Start ∷ key.Bound
     ∷ key.Module ∷ key.Pair ∷ key.Area ∷ key.Power ∷ key.Forced ∷ []
 
--- the keyword of the list that a word is
-abbrev pub named : List Keyword → List ℕ → Option Keyword
-named [] w = None
-named (k ∷ ks) w = if same_letters w (spelling k) then Some k else named ks w
-
-abbrev pub number_or_key : Option ℕ → Option Keyword → Option Token
-number_or_key (Some n) k = Some (Number n)
-number_or_key None (Some k) = Some (Key k)
-number_or_key None None = None
-
--- what a word stands for: a number of the range of a plan's text, or a keyword
-unfoldable pub token_of : List ℕ → Option Token
-token_of w = number_or_key (number_of w PLAN_NUMBER_MOST) (named keywords w)
+-- the keywords, and the range of a plan's numbers
+abbrev pub plan_lexicon : Lexicon Keyword
+plan_lexicon = record { table = map (λ (k : Keyword). (k, spelling k)) keywords; most = PLAN_NUMBER_MOST }

@@ -1,20 +1,30 @@
 //! What a text says is settled. Each law is the contract of a function that does nothing: a caller learns it by the call.
-ghost use Rattle.plan_text.specs.Laws.{SayOnePlan, PlansAreNotRefused, RefusedOnce, PrintedPlansAreRead, PlansAreAnswered, PrintedPlansAreAnswered, EachTextHasAnAnswer};
+ghost use Rattle.plan_text.specs.Laws.{SayOnePlan, PlansAreNotRefused, RefusedOnce};
+ghost use Rattle.plan_text.specs.Laws.{PrintedPlansAreRead, PlansAreAnswered, PrintedPlansAreAnswered, EachTextHasAnAnswer};
+
+use crate::reading::PlanText;
+use keyword_text::texts_are_settled;
 
 /// A text says at most one plan.
 pub fn say_one_plan()
     ensures { SayOnePlan }
-{}
+{
+    texts_are_settled::<PlanText>()
+}
 
 /// A text that says a plan is refused at no line.
 pub fn plans_are_not_refused()
     ensures { PlansAreNotRefused }
-{}
+{
+    texts_are_settled::<PlanText>()
+}
 
 /// A text is refused at no more than one line.
 pub fn refused_once()
     ensures { RefusedOnce }
-{}
+{
+    texts_are_settled::<PlanText>()
+}
 
 /// The printed text of a plan in the grammar's range says that plan.
 pub fn printed_plans_are_read()

@@ -1,41 +1,22 @@
 //! Prints a plan, line by line.
-ghost use Rattle.std.specs.Prelude.{◌≡◌, ◌++◌, ◌∷◌, true, map, OnOk, IfOk};
+ghost use Rattle.std.specs.Prelude.{◌≡◌, ◌++◌, ◌∷◌, map, OnOk, IfOk};
 ghost use Rattle.plan_model.specs.Views.{bus_value, chain_value, wrapper_value, bound_value, why_value, plan_value};
-ghost use Rattle.plan_text.specs.declared.tokens.Token.TheVariants.{Number};
 ghost use Rattle.std.specs.List.{flat_map};
 ghost use Rattle.plan_text.specs.Tokens.{spelling};
-ghost use Rattle.plan_text.specs.PlanLines.{spaced, listed_text, line_text, text_of, head_lines, bus_line, mode_key, chain_line, wrapper_line, wrapper_lines, start_line, reason_key, reason_numbers, bound_line, test_numbers, plan_text};
+ghost use Rattle.keyword_text.specs.Lines.{spaced_numbers, line_text, text_of};
+ghost use Rattle.plan_text.specs.PlanLines.{head_lines, bus_line, mode_key, chain_line, wrapper_line, wrapper_lines};
+ghost use Rattle.plan_text.specs.PlanLines.{start_line, reason_key, reason_numbers, bound_line, test_numbers, plan_text};
 ghost use Rattle.plan_text.specs.Grammar.{IsInRange};
 ghost use Rattle.plan_text.specs.Answers.{SaysPlan};
 
+use keyword_text::{push_listed, push_numbers};
 use outside::{NoMemory, extend, push_spaced};
 use plan_model::{Bound, Bus, ChainPlan, Plan, Why, Wrapper};
 use soc_model::TestId;
 use std::alloc::Global;
 
-/// Numbers, each with a space before it.
-fn push_numbers(to: &mut Vec<u8>, numbers: &[u64]) -> Result<(), NoMemory>
-    ensures { OnOk result (to.new.items ≡ to.old.items ++ spaced (map Number numbers.now)) }
-{
-    for n in numbers {
-        push_spaced(to, *n)?;
-    }
-    Ok(())
-}
-
-/// A list, with a space and a colon before it where it isn't empty.
-fn push_listed(to: &mut Vec<u8>, numbers: &[u64]) -> Result<(), NoMemory>
-    ensures { OnOk result (to.new.items ≡ to.old.items ++ listed_text true numbers.now) }
-{
-    if numbers.is_empty() {
-        return Ok(());
-    }
-    extend(to, b" :")?;
-    push_numbers(to, numbers)
-}
-
 fn push_bus(to: &mut Vec<u8>, bus: &Bus) -> Result<(), NoMemory>
-    ensures { OnOk result (to.new.items ≡ to.old.items ++ line_text (bus_line (bus_value bus.now))) }
+    ensures { OnOk result (to.new.items ≡ to.old.items ++ line_text spelling (bus_line (bus_value bus.now))) }
 {
     extend(to, b"Bus")?;
     push_spaced(to, bus.width)?;
@@ -44,7 +25,7 @@ fn push_bus(to: &mut Vec<u8>, bus: &Bus) -> Result<(), NoMemory>
 }
 
 fn push_chain(to: &mut Vec<u8>, chain: &ChainPlan) -> Result<(), NoMemory>
-    ensures { OnOk result (to.new.items ≡ to.old.items ++ line_text (chain_line (chain_value chain.now))) }
+    ensures { OnOk result (to.new.items ≡ to.old.items ++ line_text spelling (chain_line (chain_value chain.now))) }
 {
     extend(to, b"Chain")?;
     push_spaced(to, chain.ins)?;
@@ -54,7 +35,7 @@ fn push_chain(to: &mut Vec<u8>, chain: &ChainPlan) -> Result<(), NoMemory>
 }
 
 fn push_start(to: &mut Vec<u8>, test: &TestId, start: u64) -> Result<(), NoMemory>
-    ensures { OnOk result (to.new.items ≡ to.old.items ++ line_text (start_line (test.now, start))) }
+    ensures { OnOk result (to.new.items ≡ to.old.items ++ line_text spelling (start_line (test.now, start))) }
 {
     extend(to, b"Start")?;
     push_spaced(to, test.module)?;
@@ -74,7 +55,7 @@ fn push_mode(to: &mut Vec<u8>, scan: bool) -> Result<(), NoMemory>
 }
 
 fn push_wrapper_head(to: &mut Vec<u8>, module: u64, scan: bool) -> Result<(), NoMemory>
-    ensures { OnOk result (to.new.items ≡ to.old.items ++ line_text (wrapper_line «module» scan)) }
+    ensures { OnOk result (to.new.items ≡ to.old.items ++ line_text spelling (wrapper_line «module» scan)) }
 {
     extend(to, b"Wrapper")?;
     push_spaced(to, module)?;
@@ -83,7 +64,7 @@ fn push_wrapper_head(to: &mut Vec<u8>, module: u64, scan: bool) -> Result<(), No
 }
 
 fn push_chains(to: &mut Vec<u8>, chains: &[ChainPlan]) -> Result<(), NoMemory>
-    ensures { OnOk result (to.new.items ≡ to.old.items ++ text_of (map chain_line (map chain_value chains.now))) }
+    ensures { OnOk result (to.new.items ≡ to.old.items ++ text_of spelling (map chain_line (map chain_value chains.now))) }
 {
     for chain in chains {
         push_chain(to, chain)?;
@@ -92,7 +73,7 @@ fn push_chains(to: &mut Vec<u8>, chains: &[ChainPlan]) -> Result<(), NoMemory>
 }
 
 fn push_wrapper(to: &mut Vec<u8>, wrapper: &Wrapper) -> Result<(), NoMemory>
-    ensures { OnOk result (to.new.items ≡ to.old.items ++ text_of (wrapper_lines (wrapper_value wrapper.now))) }
+    ensures { OnOk result (to.new.items ≡ to.old.items ++ text_of spelling (wrapper_lines (wrapper_value wrapper.now))) }
 {
     push_wrapper_head(to, wrapper.module, wrapper.scan)?;
     push_chains(to, wrapper.chains.as_slice())
@@ -114,7 +95,7 @@ fn reason_word(why: &Why) -> &'static [u8]
 
 /// The numbers of tests, each with a space before it.
 fn push_tests(to: &mut Vec<u8>, tests: &[TestId]) -> Result<(), NoMemory>
-    ensures { OnOk result (to.new.items ≡ to.old.items ++ spaced (map Number (flat_map test_numbers tests.now))) }
+    ensures { OnOk result (to.new.items ≡ to.old.items ++ spaced_numbers (flat_map test_numbers tests.now)) }
 {
     for test in tests {
         push_spaced(to, test.module)?;
@@ -125,7 +106,7 @@ fn push_tests(to: &mut Vec<u8>, tests: &[TestId]) -> Result<(), NoMemory>
 
 /// The numbers of a bound's reason, each with a space before it.
 fn push_reason_numbers(to: &mut Vec<u8>, why: &Why) -> Result<(), NoMemory>
-    ensures { OnOk result (to.new.items ≡ to.old.items ++ spaced (map Number (reason_numbers (why_value why.now)))) }
+    ensures { OnOk result (to.new.items ≡ to.old.items ++ spaced_numbers (reason_numbers (why_value why.now))) }
 {
     match why {
         Why::Module { module } | Why::Pair { module } => push_spaced(to, *module),
@@ -136,7 +117,7 @@ fn push_reason_numbers(to: &mut Vec<u8>, why: &Why) -> Result<(), NoMemory>
 }
 
 fn push_bound(to: &mut Vec<u8>, bound: &Bound) -> Result<(), NoMemory>
-    ensures { OnOk result (to.new.items ≡ to.old.items ++ line_text (bound_line (bound_value bound.now))) }
+    ensures { OnOk result (to.new.items ≡ to.old.items ++ line_text spelling (bound_line (bound_value bound.now))) }
 {
     extend(to, b"Bound")?;
     push_spaced(to, bound.cycles)?;
@@ -146,7 +127,7 @@ fn push_bound(to: &mut Vec<u8>, bound: &Bound) -> Result<(), NoMemory>
 }
 
 fn push_buses(to: &mut Vec<u8>, buses: &[Bus]) -> Result<(), NoMemory>
-    ensures { OnOk result (to.new.items ≡ to.old.items ++ text_of (map bus_line (map bus_value buses.now))) }
+    ensures { OnOk result (to.new.items ≡ to.old.items ++ text_of spelling (map bus_line (map bus_value buses.now))) }
 {
     for bus in buses {
         push_bus(to, bus)?;
@@ -155,7 +136,7 @@ fn push_buses(to: &mut Vec<u8>, buses: &[Bus]) -> Result<(), NoMemory>
 }
 
 fn push_wrappers(to: &mut Vec<u8>, wrappers: &[Wrapper]) -> Result<(), NoMemory>
-    ensures { OnOk result (to.new.items ≡ to.old.items ++ text_of (flat_map wrapper_lines (map wrapper_value wrappers.now))) }
+    ensures { OnOk result (to.new.items ≡ to.old.items ++ text_of spelling (flat_map wrapper_lines (map wrapper_value wrappers.now))) }
 {
     for wrapper in wrappers {
         push_wrapper(to, wrapper)?;
@@ -164,7 +145,7 @@ fn push_wrappers(to: &mut Vec<u8>, wrappers: &[Wrapper]) -> Result<(), NoMemory>
 }
 
 fn push_starts(to: &mut Vec<u8>, starts: &[(TestId, u64)]) -> Result<(), NoMemory>
-    ensures { OnOk result (to.new.items ≡ to.old.items ++ text_of (map start_line starts.now)) }
+    ensures { OnOk result (to.new.items ≡ to.old.items ++ text_of spelling (map start_line starts.now)) }
 {
     for start in starts {
         push_start(to, &start.0, start.1)?;
@@ -174,7 +155,7 @@ fn push_starts(to: &mut Vec<u8>, starts: &[(TestId, u64)]) -> Result<(), NoMemor
 
 /// The first two lines: the form, and the cycles.
 fn push_head(to: &mut Vec<u8>, cycles: u64) -> Result<(), NoMemory>
-    ensures { OnOk result (to.new.items ≡ to.old.items ++ text_of (head_lines cycles)) }
+    ensures { OnOk result (to.new.items ≡ to.old.items ++ text_of spelling (head_lines cycles)) }
 {
     extend(to, b"Plan")?;
     push_spaced(to, 1)?;

@@ -1,41 +1,64 @@
 //! Reads a whole text.
 ghost use Rattle.plan_text.specs.Answers.{PlanRead};
+ghost use Rattle.plan_text.specs.Steps.{step as step_value};
+ghost use Rattle.plan_text.specs.Reads.{state_of};
+ghost use Rattle.keyword_text.specs.Reads.{Makes};
 
 use crate::PlanTextFault;
 use crate::parts::{Part, ReadSoFar};
 use crate::steps::{bound_at, new_draft, step};
-use crate::tokens::token_of;
-use outside::{Reader, Stop, Unread, Word, read_text};
-use plan_model::Plan;
+use crate::tokens::{KEYWORDS, Keyword};
+use keyword_text::{Format, Spelled, Token, read_by};
+use outside::{Stop, Unread};
+use plan_model::{PLAN_NUMBER_MOST, Plan};
 use std::alloc::Global;
 
 /// What was read of a plan's text so far. It stands in a box, so that no more than a pointer moves from word to word.
 #[derive(Drop)]
-struct PlanText {
+pub struct PlanText {
     alloc: Global,
     read: Box<ReadSoFar>,
 }
 
-impl<'a> Reader<'a> for PlanText {
+impl Format for PlanText {
+    type Keyword = Keyword;
+
     type Value = Plan;
 
-    ghost use Rattle.std.specs.Prelude.{◌^◌};
-    ghost use Rattle.plan_text.specs.Grammar.{InGrammar};
-    ghost use Rattle.plan_text.specs.Reads.{HasRead, SaysInRange};
+    type Fault = PlanTextFault;
 
-    ghost whole = { InGrammar };
+    ghost use Rattle.plan_model.specs.Plans.{PlanValue};
+    ghost use Rattle.plan_model.specs.Views.{plan_value};
+    ghost use Rattle.plan_text.specs.Grammar.{plan_grammar};
+    ghost use Rattle.plan_text.specs.Steps.{State, plan_machine};
+    ghost use Rattle.plan_text.specs.Answers.{plan_unread};
 
-    ghost most = { 2 ^ 64 };
+    ghost State = { State };
 
-    ghost has_read = { HasRead };
+    ghost Meaning = { PlanValue };
 
-    ghost says = { SaysInRange };
+    ghost grammar = { plan_grammar };
 
-    fn step(self, word: Word<'a>) -> Result<PlanText, Stop> {
+    ghost machine = { plan_machine };
+
+    ghost state_of = { state_of };
+
+    ghost meaning_of = { plan_value };
+
+    ghost unread_of = { plan_unread };
+
+    fn keywords() -> &'static [Spelled<Keyword>] {
+        &KEYWORDS
+    }
+
+    fn most() -> u64 {
+        PLAN_NUMBER_MOST
+    }
+
+    fn step(self, token: Token<Keyword>) -> Result<PlanText, Stop>
+        ensures { Makes state_of (step_value (state_of self) token) result }
+    {
         let PlanText { alloc, mut read } = self;
-        let Some(token) = token_of(word.bytes) else {
-            return Err(Stop::Refused);
-        };
         let so_far = &mut *read;
         match step(alloc, &mut so_far.draft, &mut so_far.part, token) {
             Ok(()) => Ok(PlanText { alloc, read }),
@@ -56,6 +79,13 @@ impl<'a> Reader<'a> for PlanText {
             None => Err(Stop::Refused),
         }
     }
+
+    fn fault(unread: Unread) -> PlanTextFault {
+        match unread {
+            Unread::Refused { line } => PlanTextFault::Text { line },
+            Unread::NoMemory => PlanTextFault::NoMemory,
+        }
+    }
 }
 
 /// The plan that a text says, with all its numbers in the grammar's range.
@@ -73,10 +103,8 @@ pub fn read_plan(alloc: Global, bytes: &[u8]) -> Result<Plan, PlanTextFault>
         Ok(read) => read,
         Err(_) => return Err(PlanTextFault::NoMemory),
     };
-    let start = PlanText { alloc, read };
-    match read_text(start, bytes) {
+    match read_by(PlanText { alloc, read }, bytes) {
         Ok(plan) => Ok(plan),
-        Err(Unread::Refused { line }) => Err(PlanTextFault::Text { line }),
-        Err(Unread::NoMemory) => Err(PlanTextFault::NoMemory),
+        Err(fault) => Err(fault),
     }
 }

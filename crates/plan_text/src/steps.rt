@@ -5,7 +5,8 @@ ghost use Rattle.plan_text.specs.PartValues.{draft_value, part_value, Begins, St
 ghost use Rattle.plan_text.specs.Steps.{with_bus, with_wrapper, with_start, with_chain, with_module, with_scan, at, start as state_at_first, step_number as steps_number, step_key as steps_key, step_wrapper as steps_wrapper, step as steps, begin as begins, begin_mode as begins_mode, begin_reason as begins_reason, begin_plan as begins_plan, begin_cycles as begins_cycles, is_chain as chains, bound_at as bound_there, in_bus, in_tests, wants_form, wants_start};
 
 use crate::parts::{Draft, Part, Section};
-use crate::tokens::{Keyword, Token};
+use crate::tokens::Keyword;
+use keyword_text::Token;
 use outside::Stop;
 use plan_model::{Bound, Bus, ChainPlan, START_MOST, Why, Wrapper};
 use soc_model::TestId;
@@ -398,7 +399,12 @@ fn step_number(alloc: Global, draft: &mut Draft, part: &mut Part, n: u64) -> Res
 }
 
 /// The next word.
-pub fn step(alloc: Global, draft: &mut Draft, part: &mut Part, token: Token) -> Result<(), Stop>
+pub fn step(
+    alloc: Global,
+    draft: &mut Draft,
+    part: &mut Part,
+    token: Token<Keyword>,
+) -> Result<(), Stop>
     ensures { Steps (steps (at (draft_value draft.old) (part_value part.old)) token) result part.new draft.new }
 {
     match token {

@@ -11,5 +11,5 @@ pub mod Passing
 pub mod Exact
 pub mod Checked
 pub mod TextsRead
-pub mod TextsViable
+pub mod Endable
 pub mod Texts

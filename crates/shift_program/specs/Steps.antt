@@ -1,13 +1,13 @@
 -- Reading word by word: the test and the entries that were read whole, and what was read of the next. Only the reader's own
 -- contracts speak of it.
-use Rattle.std.specs.Prelude.{ℕ, ◌++◌, List, [], ◌∷◌, Bool, true, false, nat_eq, nat_le, Option, None, Some}
-use Rattle.outside.specs.Runs.{run_by}
+use Rattle.std.specs.Prelude.{ℕ, ◌++◌, [], ◌∷◌, Bool, true, false, nat_eq, nat_le, Option, None, Some}
+use Rattle.keyword_text.specs.declared.tokens.Token.{Token}
+use Rattle.keyword_text.specs.declared.tokens.Token.TheVariants.{Key, Number}
+use Rattle.keyword_text.specs.Machines.{Machine}
 use Rattle.shift_program.specs.declared.Entry.{Entry}
 use Rattle.shift_program.specs.declared.Entry.TheVariants as entry
 use Rattle.shift_program.specs.declared.tokens.Keyword.{Keyword}
 use Rattle.shift_program.specs.declared.tokens.Keyword.TheVariants as key
-use Rattle.shift_program.specs.declared.tokens.Token.{Token}
-use Rattle.shift_program.specs.declared.tokens.Token.TheVariants.{Key, Number}
 use Rattle.shift_program.specs.declared.steps.Part.{Part}
 use Rattle.shift_program.specs.declared.steps.Part.TheVariants as part
 use Rattle.shift_program.specs.Programs.{ProgramValue}
@@ -83,22 +83,25 @@ step_key d part.AfterEntry k = begun d (begin k)
 step_key d (part.WantsCycles shifts) k = None
 step_key d part.WantsPattern k = None
 
-abbrev pub step : State → Token → Option State
+abbrev pub step : State → Token Keyword → Option State
 step s (Number n) = step_number s.draft s.part n
 step s (Key k) = step_key s.draft s.part k
 
-abbrev pub run : Option State → List Token → Option State
-run s ts = run_by step s ts
-
 -- ---- the end of a text
 
--- whether the words may end here
-abbrev pub is_whole : Part → Bool
-is_whole part.WantsProgram = false
-is_whole part.WantsForm = false
-is_whole part.WantsTestWord = false
-is_whole part.WantsModule = false
-is_whole (part.WantsTest m) = false
-is_whole part.AfterEntry = true
-is_whole (part.WantsCycles shifts) = false
-is_whole part.WantsPattern = false
+-- the program, where the words may end here
+abbrev pub ended_by : ProgramValue → Part → Option ProgramValue
+ended_by d part.WantsProgram = None
+ended_by d part.WantsForm = None
+ended_by d part.WantsTestWord = None
+ended_by d part.WantsModule = None
+ended_by d (part.WantsTest m) = None
+ended_by d part.AfterEntry = Some d
+ended_by d (part.WantsCycles shifts) = None
+ended_by d part.WantsPattern = None
+
+abbrev pub ended : State → Option ProgramValue
+ended s = ended_by s.draft s.part
+
+abbrev pub program_machine : Machine Keyword State ProgramValue
+program_machine = record { start = start; step = step; end = ended }

@@ -1,39 +1,62 @@
 //! Reads a whole text.
+ghost use Rattle.keyword_text.specs.Reads.{Makes};
 ghost use Rattle.shift_program.specs.Answers.{ProgramRead};
+ghost use Rattle.shift_program.specs.Reads.{state_of};
+ghost use Rattle.shift_program.specs.Steps.{step as step_value};
 
 use crate::steps::{Draft, Part, new_draft, step};
-use crate::tokens::token_of;
+use crate::tokens::{KEYWORDS, Keyword};
 use crate::{Program, ProgramTextFault};
-use outside::{Reader, Stop, Unread, Word, read_text};
+use keyword_text::{Format, Spelled, Token, read_by};
+use outside::{Stop, Unread};
+use plan_model::PLAN_NUMBER_MOST;
 use std::alloc::Global;
 
 /// What was read of a program's text so far.
 #[derive(Drop)]
-struct ProgramText {
+pub struct ProgramText {
     draft: Draft,
     part: Part,
 }
 
-impl<'a> Reader<'a> for ProgramText {
+impl Format for ProgramText {
+    type Keyword = Keyword;
+
     type Value = Program;
 
-    ghost use Rattle.std.specs.Prelude.{◌^◌};
-    ghost use Rattle.shift_program.specs.Grammar.{InGrammar};
-    ghost use Rattle.shift_program.specs.Reads.{HasRead, SaysInRange};
+    type Fault = ProgramTextFault;
 
-    ghost whole = { InGrammar };
+    ghost use Rattle.shift_program.specs.Programs.{ProgramValue, program_value};
+    ghost use Rattle.shift_program.specs.Grammar.{program_grammar};
+    ghost use Rattle.shift_program.specs.Steps.{State, program_machine};
+    ghost use Rattle.shift_program.specs.Answers.{program_unread};
 
-    ghost most = { 2 ^ 64 };
+    ghost State = { State };
 
-    ghost has_read = { HasRead };
+    ghost Meaning = { ProgramValue };
 
-    ghost says = { SaysInRange };
+    ghost grammar = { program_grammar };
 
-    fn step(self, word: Word<'a>) -> Result<ProgramText, Stop> {
+    ghost machine = { program_machine };
+
+    ghost state_of = { state_of };
+
+    ghost meaning_of = { program_value };
+
+    ghost unread_of = { program_unread };
+
+    fn keywords() -> &'static [Spelled<Keyword>] {
+        &KEYWORDS
+    }
+
+    fn most() -> u64 {
+        PLAN_NUMBER_MOST
+    }
+
+    fn step(self, token: Token<Keyword>) -> Result<ProgramText, Stop>
+        ensures { Makes state_of (step_value (state_of self) token) result }
+    {
         let ProgramText { mut draft, part } = self;
-        let Some(token) = token_of(word.bytes) else {
-            return Err(Stop::Refused);
-        };
         match step(&mut draft, part, token) {
             Ok(part) => Ok(ProgramText { draft, part }),
             Err(stop) => Err(stop),
@@ -50,6 +73,13 @@ impl<'a> Reader<'a> for ProgramText {
             _ => Err(Stop::Refused),
         }
     }
+
+    fn fault(unread: Unread) -> ProgramTextFault {
+        match unread {
+            Unread::Refused { line } => ProgramTextFault::Text { line },
+            Unread::NoMemory => ProgramTextFault::NoMemory,
+        }
+    }
 }
 
 /// The program that a text says. Its Rests and Shifts have at least one cycle, and all its numbers are in the grammar's
@@ -64,9 +94,8 @@ pub fn read_program(alloc: Global, bytes: &[u8]) -> Result<Program, ProgramTextF
         draft: new_draft(alloc),
         part: Part::WantsProgram,
     };
-    match read_text(start, bytes) {
+    match read_by(start, bytes) {
         Ok(program) => Ok(program),
-        Err(Unread::Refused { line }) => Err(ProgramTextFault::Text { line }),
-        Err(Unread::NoMemory) => Err(ProgramTextFault::NoMemory),
+        Err(fault) => Err(fault),
     }
 }

@@ -4,7 +4,8 @@ ghost use Rattle.shift_program.specs.PartValues.{draft_value, Begins, Steps};
 ghost use Rattle.shift_program.specs.Steps.{at, start as state_at_first, begin as begins, begin_program as begins_program, begin_test as begins_test, with_entry, step_key as steps_key, step_number as steps_number, step as steps};
 
 use crate::Entry;
-use crate::tokens::{Keyword, Token};
+use crate::tokens::Keyword;
+use keyword_text::Token;
 use outside::Stop;
 use soc_model::TestId;
 use std::alloc::Global;
@@ -149,7 +150,7 @@ fn step_number(draft: &mut Draft, part: Part, n: u64) -> Result<Part, Stop>
 }
 
 /// The next word.
-pub fn step(draft: &mut Draft, part: Part, token: Token) -> Result<Part, Stop>
+pub fn step(draft: &mut Draft, part: Part, token: Token<Keyword>) -> Result<Part, Stop>
     ensures { Steps (steps (at (draft_value draft.old) part) token) result draft.new }
 {
     match token {

@@ -1,5 +1,5 @@
-use Rattle.plan_text.proofs.Exact.{plans_not_refused}
+use Rattle.plan_text.proofs.ReadPlans.{reads_plans}
 use Rattle.plan_text.proofs.laws.plans_are_not_refused.Goals as goal
 
-pub returns : goal.returns
-returns c = plans_not_refused
+pub texts_are_settled-requires-after_bounds : goal.texts_are_settled-requires-after_bounds
+texts_are_settled-requires-after_bounds c κs = reads_plans

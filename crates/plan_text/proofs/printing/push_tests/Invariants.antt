@@ -1,8 +1,8 @@
-use Rattle.std.proofs.Common.{◌≡◌, ◌++◌, map, drop}
+use Rattle.std.proofs.Common.{◌≡◌, ◌++◌, drop}
 use Rattle.std.specs.List.{flat_map}
-use Rattle.plan_text.specs.declared.tokens.Token.TheVariants.{Number}
-use Rattle.plan_text.specs.PlanLines.{spaced, test_numbers}
+use Rattle.keyword_text.specs.Lines.{spaced_numbers}
+use Rattle.plan_text.specs.PlanLines.{test_numbers}
 use Rattle.plan_text.proofs.printing.push_tests.Given as goal
 
 abbrev pub invariant-loop-test : goal.invariant-loop-test
-invariant-loop-test l = l.to.items ++ spaced (map Number (flat_map test_numbers (drop l.test-index l.tests))) ≡ l.fn.to.items ++ spaced (map Number (flat_map test_numbers l.tests))
+invariant-loop-test l = l.to.items ++ spaced_numbers (flat_map test_numbers (drop l.test-index l.tests)) ≡ l.fn.to.items ++ spaced_numbers (flat_map test_numbers l.tests)
