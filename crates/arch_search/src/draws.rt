@@ -1,4 +1,4 @@
-// Random draws.
+//! Random draws.
 ghost use Rattle.std.specs.Prelude.{◌<◌, ◌≤◌};
 
 use rand_core::Rng;
@@ -15,4 +15,9 @@ pub(crate) fn below(rng: &mut Xoshiro256PlusPlus, n: usize) -> usize
 /// Yes or no, by even chance.
 pub(crate) fn coin(rng: &mut Xoshiro256PlusPlus) -> bool {
     rng.next_u64() % 2 == 1
+}
+
+/// Yes, three times in four.
+pub(crate) fn often(rng: &mut Xoshiro256PlusPlus) -> bool {
+    rng.next_u64() % 4 > 0
 }
