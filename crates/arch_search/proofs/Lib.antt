@@ -3,3 +3,6 @@ pub mod Listing
 pub mod Sent
 pub mod Beginnings
 pub mod Wires
+pub mod Written
+pub mod Searching
+pub mod KindTable

@@ -7,7 +7,7 @@ use Rattle.resource_table.specs.Jobs.{JobValue, job_over}
 use Rattle.resource_table.proofs.Restarts.{length-tests_over}
 use Rattle.arch_search.specs.declared.problem.Problem.{Problem}
 use Rattle.arch_search.specs.declared.state.State.{State}
-use Rattle.arch_search.specs.declared.scheduling.Room.{Room}
+use Rattle.arch_search.specs.declared.room.Room.{Room}
 use Rattle.arch_search.specs.Problems.{IsProblem, IsStateOf}
 use Rattle.arch_search.specs.Rooms.{HasRoom, HasRoomFor}
 use Rattle.arch_search.proofs.OtherBuses.{listed_over}
@@ -29,8 +29,8 @@ order_in job p s order problem state is =
 pub before_in : (job : JobValue) (p : Problem) (before : List Neighbours) → IsProblem job p → before ≡ p.before.items → AreListed job (map listed before)
 before_in job p before problem is = subst (λ (l : List Neighbours). AreListed job (map listed l)) (sym is) problem.before
 
-pub room_in : (job : JobValue) (p : Problem) (r : Room) → IsProblem job p → HasRoomFor p r → HasRoom (length job.tests) p.wires r
-room_in job p r problem room = subst (λ (n : ℕ). HasRoom n p.wires r) problem.tests room
+pub room_in : (job : JobValue) (p : Problem) (r : Room) → IsProblem job p → HasRoomFor p r → HasRoom (length job.tests) r
+room_in job p r problem room = subst (λ (n : ℕ). HasRoom n r) problem.tests room
 
-pub room_back : (job : JobValue) (p : Problem) (r : Room) → IsProblem job p → HasRoom (length job.tests) p.wires r → HasRoomFor p r
-room_back job p r problem room = subst (λ (n : ℕ). HasRoom n p.wires r) (sym problem.tests) room
+pub room_back : (job : JobValue) (p : Problem) (r : Room) → IsProblem job p → HasRoom (length job.tests) r → HasRoomFor p r
+room_back job p r problem room = subst (λ (n : ℕ). HasRoom n r) (sym problem.tests) room

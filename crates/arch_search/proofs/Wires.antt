@@ -17,6 +17,9 @@ total_moved ws from to a less b more f t has has' moves few =
 pub within_moved : (ws slots : List ℕ) (i j a b : ℕ) → All (λ slot. slot < length ws) slots → All (λ slot. slot < length (set (set ws i a) j b)) slots
 within_moved ws slots i j a b all = subst (λ (n : ℕ). All (λ slot. slot < n) slots) (sym (length-set (set ws i a) j b ∙ length-set ws i a)) all
 
+pub long_moved : (ws loads : List ℕ) (i j a b : ℕ) → length loads ≡ length ws → length loads ≡ length (set (set ws i a) j b)
+long_moved ws loads i j a b long = long ∙ sym (length-set (set ws i a) j b ∙ length-set ws i a)
+
 pub total_given : (ws : List ℕ) (i a left : ℕ) → i < length ws → a ≡ get_or ws i a → sum_by (λ (w : ℕ). w) ws + left ≡ length ws → sum_by (λ (w : ℕ). w) (set ws i (a + left)) ≤ length (set ws i (a + left))
 total_given ws i a left within has all = omega (arith, sum_by-set (λ (w : ℕ). w) ws i (a + left) a within, has, all, length-set ws i (a + left))
 

@@ -33,3 +33,4 @@ pub record AreFirstBuses (p : Problem) (b : Buses) (left : ℕ) : Type 0 where
   pub all_wires : sum_by (λ (w : ℕ). w) b.widths.items + left ≡ length b.widths.items
   pub as_many_slots : length b.widths.items ≡ p.wires
   pub as_many_modules : length b.slots.items ≡ length p.modules.items
+  pub as_many_loads : length b.loads.items ≡ length b.widths.items

@@ -1,26 +1,38 @@
 -- Room for the schedules of a search.
-use Rattle.std.specs.Prelude.{◌≡◌, ℕ, ◌<◌, ◌≤◌, List, length, IfSome, Option, slice_index}
+use Rattle.std.specs.Prelude.{◌≡◌, ℕ, ◌<◌, ◌≤◌, List, length, map, IfSome, Option, slice_index}
 use Rattle.std.specs.List.{All, sum_by}
 use Rattle.plan_model.specs.declared.TheConstants.{WIRES_MOST, START_MOST}
-use Rattle.resource_table.specs.Jobs.{JobValue, cycles_of}
+use Rattle.live_tests.specs.declared.neighbours.Neighbours.{Neighbours}
+use Rattle.resource_table.specs.Befores.{listed, AreListed}
+use Rattle.resource_table.specs.Jobs.{JobValue, cycles_of, IsSoundJob}
 use Rattle.arch_search.specs.declared.problem.Problem.{Problem}
-use Rattle.arch_search.specs.declared.scheduling.Room.{Room}
+use Rattle.arch_search.specs.declared.room.Room.{Room}
 
 -- no chip has a bus of a later slot
 abbrev pub IsSlot : Option ℕ → Type 0
 IsSlot bus = IfSome bus (λ k. k < WIRES_MOST)
 
--- room for so many tests over so many wires
-pub record HasRoom (tests wires : ℕ) (r : Room) : Type 0 where
+-- room for so many tests
+pub record HasRoom (tests : ℕ) (r : Room) : Type 0 where
   pub slots : length r.slots.items ≡ tests
   pub cycles : length r.cycles.items ≡ tests
-  pub loads : length r.loads.items ≡ wires
+  pub chains : length r.chains.items ≡ tests
   pub starts : length r.starts.items ≡ tests
+  pub keys : length r.keys.items ≡ tests
+  pub second : length r.second.items ≡ tests
   pub in_slots : All IsSlot r.slots.items
   pub small_starts : All (λ s. s ≤ START_MOST) r.starts.items
+  pub in_second : All (λ test. test < tests) r.second.items
 
 abbrev pub HasRoomFor : Problem → Room → Type 0
-HasRoomFor p r = HasRoom (length p.tests.items) p.wires r
+HasRoomFor p r = HasRoom (length p.tests.items) r
+
+-- for each of so many tests those that precede it, in a sound job
+pub record AreBeforeSo (tests : ℕ) (before : List Neighbours) : Type 0 where
+  pub job : JobValue
+  pub sound : IsSoundJob job
+  pub are : AreListed job (map listed before)
+  pub many : length job.tests ≡ tests
 
 -- each test lasts a cycle at least, and all of them together end by the greatest start
 pub record AreShort (cycles : List ℕ) : Type 0 where

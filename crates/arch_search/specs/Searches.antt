@@ -1,22 +1,29 @@
 -- What a search keeps, and what it lends.
-use Rattle.std.specs.Prelude.{◌≡◌, ◌<◌, ◌≤◌, length}
+use Rattle.std.specs.Prelude.{◌≡◌, ℕ, ◌<◌, ◌≤◌, List, length}
 use Rattle.std.specs.List.{All}
 use Rattle.plan_model.specs.declared.TheConstants.{START_MOST}
 use Rattle.resource_table.specs.Schedules.{TableValue, IsSoundTable}
 use Rattle.arch_search.specs.declared.problem.Problem.{Problem}
-use Rattle.arch_search.specs.declared.scheduling.Room.{Room}
+use Rattle.arch_search.specs.declared.room.Room.{Room}
 use Rattle.arch_search.specs.declared.search.Found.{Found}
+use Rattle.arch_search.specs.declared.dealing.Taken.{Taken}
+use Rattle.arch_search.specs.declared.setting.Setting.{Setting}
 use Rattle.arch_search.specs.declared.state.State.{State}
 use Rattle.arch_search.specs.Problems.{IsProblem, IsStateOf}
+use Rattle.arch_search.specs.States.{IsTaken}
+use Rattle.arch_search.specs.Settings.{IsSetting}
 use Rattle.arch_search.specs.Rooms.{HasRoomFor}
 
-pub record IsSearch (p : Problem) (table : TableValue) (room : Room) (best current next : State) : Type 0 where
-  pub is_problem : IsProblem table.job p
+pub record IsSearch (s : Setting) (table : TableValue) (room : Room) (taken : List Taken) (less : List ℕ) (best current next : State) : Type 0 where
+  pub setting : IsSetting s
+  pub is_problem : IsProblem table.job s.problem.now
   pub is_sound : IsSoundTable table
-  pub has_room : HasRoomFor p room
-  pub best_is : IsStateOf p best
-  pub current_is : IsStateOf p current
-  pub next_is : IsStateOf p next
+  pub has_room : HasRoomFor s.problem.now room
+  pub are_taken : All (IsTaken s.problem.now.wires (length s.problem.now.modules.items)) taken
+  pub as_many_less : length less ≡ s.problem.now.wires
+  pub best_is : IsStateOf s.problem.now best
+  pub current_is : IsStateOf s.problem.now current
+  pub next_is : IsStateOf s.problem.now next
 
 -- what is lent of a search: a slot for each module, an order of the tests, and their starts, none of which is too great
 pub record IsLent (f : Found) : Type 0 where

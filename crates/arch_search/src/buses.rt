@@ -1,9 +1,8 @@
-//! The buses of a state of the search, and how they are changed.
+//! The buses of a state of the search, with their loads, and what every change of them is made of.
 ghost use Rattle.std.specs.Prelude.{◌≡◌, ◌<◌, ◌≤◌, length, slice_index, IfSome};
-ghost use Rattle.arch_search.specs.States.{AreBuses, AreAlike};
+ghost use Rattle.arch_search.specs.States.{AreBuses, AreAlike, AreTimesOn};
 
-use crate::draws::{below, coin};
-use rand_xoshiro::Xoshiro256PlusPlus;
+use crate::times::Times;
 
 /// Fixed buses. There is a slot for each bus that there may be, which is one for each wire.
 #[derive(Drop)]
@@ -12,27 +11,46 @@ pub struct Buses {
     pub widths: Vec<u64>,
     /// For each module with tests over the wires the slot of its bus.
     pub slots: Vec<usize>,
+    /// For each slot the cycles of the tests over its bus, together.
+    pub loads: Vec<u64>,
 }
 
 impl Buses {
     /// The first slot without wires.
-    fn unused(&self) -> Option<usize>
+    pub(crate) fn unused(&self) -> Option<usize>
         ensures { IfSome result (λ slot. slot < length self.now.widths.items) }
     {
         self.widths.iter().position(|width| *width == 0)
     }
 
-    /// Whether a module is the only one on its bus.
-    fn is_alone(&self, module: usize) -> bool
-        requires { «module» < length self.now.slots.items }
+    /// The first slot whose load is greater than so many cycles.
+    pub(crate) fn first_over(&self, cap: u64) -> Option<usize>
+        requires { AreBuses self.now }
+        ensures { IfSome result (λ slot. slot < length self.now.widths.items) }
     {
-        let own = self.slots[module];
-        for other in 0..self.slots.len() {
-            if other != module && self.slots[other] == own {
-                return false;
+        self.loads.iter().position(|load| *load > cap)
+    }
+
+    /// The slot of the greatest load, the first of several; None where there is no slot.
+    pub(crate) fn fullest(&self) -> Option<usize>
+        requires { AreBuses self.now }
+        ensures { IfSome result (λ slot. slot < length self.now.widths.items) }
+    {
+        let mut fullest = None;
+        let mut most = 0;
+        for slot in 0..self.loads.len() {
+            let load = self.loads[slot];
+            if slot == 0 || load > most {
+                fullest = Some(slot);
+                most = load;
             }
         }
-        true
+        fullest
+    }
+
+    /// Whether a slot has modules.
+    pub(crate) fn has_modules(&self, slot: usize) -> bool {
+        self.slots.contains(&slot)
     }
 
     /// From a module on, round, the first one on the bus of a slot; the module itself where there is none.
@@ -53,8 +71,8 @@ impl Buses {
         module
     }
 
-    /// Moves so many wires from the bus of one slot to that of another.
-    fn move_wires(&mut self, from: usize, to: usize, wires: u64)
+    /// Moves so many wires from the bus of one slot to that of another. It leaves the loads as they were.
+    pub(crate) fn move_wires(&mut self, from: usize, to: usize, wires: u64)
         requires buses { AreBuses self.old }
         requires from { from < length self.old.widths.items }
         requires to { to < length self.old.widths.items }
@@ -67,8 +85,8 @@ impl Buses {
         self.widths[to] += wires;
     }
 
-    /// Hands all wires of a slot on to another one.
-    fn hand_on(&mut self, from: usize, to: usize)
+    /// Hands all wires of a slot on to another one. It leaves the loads as they were.
+    pub(crate) fn hand_on(&mut self, from: usize, to: usize)
         requires buses { AreBuses self.old }
         requires from { from < length self.old.widths.items }
         requires to { to < length self.old.widths.items }
@@ -79,8 +97,8 @@ impl Buses {
         self.move_wires(from, to, wires);
     }
 
-    /// Puts a module on the bus of a slot.
-    fn put(&mut self, module: usize, slot: usize)
+    /// Puts a module on the bus of a slot. It leaves the loads as they were.
+    pub(crate) fn put(&mut self, module: usize, slot: usize)
         requires buses { AreBuses self.old }
         requires there { «module» < length self.old.slots.items }
         requires slot { slot < length self.old.widths.items }
@@ -108,126 +126,92 @@ impl Buses {
         self.widths[slot]
     }
 
-    /// Moves a module to the bus of a slot. Where its own bus is empty then, the wires go with it. Whether anything changed.
-    pub(crate) fn give(&mut self, module: usize, to: usize) -> bool
-        requires buses { AreBuses self.old }
-        requires there { «module» < length self.old.slots.items }
-        requires to { to < length self.old.widths.items }
-        ensures buses { AreBuses self.new }
-        ensures alike { AreAlike self.old self.new }
+    /// The cycles of the modules on the bus of a slot, together, if it had so many wires.
+    pub(crate) fn load_on(&self, times: &Times, slot: usize, width: u64) -> u64
+        requires buses { AreBuses self.now }
+        requires times { AreTimesOn self.now times.now }
+        requires width { width ≤ length self.now.widths.items }
     {
-        let from = self.slot_of(module);
-        if from == to {
-            return false;
-        }
-        let moves_all = self.is_alone(module);
-        self.put(module, to);
-        if moves_all {
-            self.hand_on(from, to);
-        }
-        true
-    }
-
-    /// Lets two modules change buses. Whether anything changed.
-    pub(crate) fn swap(&mut self, one: usize, other: usize) -> bool
-        requires buses { AreBuses self.old }
-        requires one { one < length self.old.slots.items }
-        requires other { other < length self.old.slots.items }
-        ensures buses { AreBuses self.new }
-        ensures alike { AreAlike self.old self.new }
-    {
-        let from = self.slot_of(one);
-        let to = self.slot_of(other);
-        if from == to {
-            return false;
-        }
-        self.put(one, to);
-        self.put(other, from);
-        true
-    }
-
-    /// Moves a wire from the bus of one slot to that of another, where a wire is left. Whether anything changed.
-    pub(crate) fn move_wire(&mut self, from: usize, to: usize) -> bool
-        requires buses { AreBuses self.old }
-        requires from { from < length self.old.widths.items }
-        requires to { to < length self.old.widths.items }
-        ensures buses { AreBuses self.new }
-        ensures alike { AreAlike self.old self.new }
-    {
-        if from == to || self.widths[from] < 2 {
-            return false;
-        }
-        self.move_wires(from, to, 1);
-        true
-    }
-
-    /// Merges the bus of one slot into that of another, with its wires. Whether anything changed.
-    pub(crate) fn merge(&mut self, from: usize, to: usize) -> bool
-        requires buses { AreBuses self.old }
-        requires from { from < length self.old.widths.items }
-        requires to { to < length self.old.widths.items }
-        ensures buses { AreBuses self.new }
-        ensures alike { AreAlike self.old self.new }
-    {
-        if from == to {
-            return false;
-        }
+        let mut sum: u64 = 0;
         for module in 0..self.slots.len() {
-            if self.slots[module] == from {
-                self.put(module, to);
+            if self.slots[module] == slot {
+                sum = sum.saturating_add(times.on(module, width));
             }
+        }
+        sum
+    }
+
+    /// Sets the load of a slot.
+    pub(crate) fn set_load(&mut self, slot: usize, load: u64)
+        requires buses { AreBuses self.old }
+        requires slot { slot < length self.old.widths.items }
+        ensures buses { AreBuses self.new }
+        ensures alike { AreAlike self.old self.new }
+    {
+        self.loads[slot] = load;
+    }
+
+    /// Makes the load of a slot that of the modules on its bus.
+    pub(crate) fn reload(&mut self, times: &Times, slot: usize)
+        requires buses { AreBuses self.old }
+        requires times { AreTimesOn self.old times.now }
+        requires slot { slot < length self.old.widths.items }
+        ensures buses { AreBuses self.new }
+        ensures alike { AreAlike self.old self.new }
+    {
+        let width = self.width_of(slot);
+        let load = self.load_on(times, slot, width);
+        self.set_load(slot, load);
+    }
+
+    /// Makes all loads those of the modules on the buses.
+    pub(crate) fn reload_all(&mut self, times: &Times)
+        requires buses { AreBuses self.old }
+        requires times { AreTimesOn self.old times.now }
+        ensures buses { AreBuses self.new }
+        ensures alike { AreAlike self.old self.new }
+    {
+        for slot in 0..self.widths.len() {
+            self.reload(times, slot);
+        }
+    }
+
+    /// Hands all wires of a slot without modules on to another one.
+    pub(crate) fn release(&mut self, times: &Times, from: usize, to: usize)
+        requires buses { AreBuses self.old }
+        requires times { AreTimesOn self.old times.now }
+        requires from { from < length self.old.widths.items }
+        requires to { to < length self.old.widths.items }
+        ensures buses { AreBuses self.new }
+        ensures alike { AreAlike self.old self.new }
+    {
+        if from == to || self.has_modules(from) {
+            return;
         }
         self.hand_on(from, to);
-        true
+        self.reload(times, to);
     }
 
-    /// Moves a module from the bus of one slot to that of another, and each other module of that bus by even chance; one at
-    /// least stays, where there is another.
-    fn part(&mut self, rng: &mut Xoshiro256PlusPlus, module: usize, from: usize, to: usize)
-        requires buses { AreBuses self.old }
-        requires there { «module» < length self.old.slots.items }
-        requires from { from < length self.old.widths.items }
-        requires to { to < length self.old.widths.items }
-        ensures buses { AreBuses self.new }
-        ensures alike { AreAlike self.old self.new }
+    /// When the bus of a slot would end with one more module.
+    pub(crate) fn end_with(&self, times: &Times, module: usize, slot: usize) -> u64
+        requires buses { AreBuses self.now }
+        requires times { AreTimesOn self.now times.now }
+        requires there { «module» < length self.now.slots.items }
+        requires slot { slot < length self.now.widths.items }
     {
-        let mut last = module;
-        let mut stays = false;
-        for other in 0..self.slots.len() {
-            if other != module && self.slots[other] == from {
-                if coin(rng) {
-                    self.put(other, to);
-                    last = other;
-                } else {
-                    stays = true;
-                }
-            }
-        }
-        self.put(module, to);
-        if !stays {
-            self.put(last, from);
-        }
+        let width = self.width_of(slot);
+        self.loads[slot].saturating_add(times.on(module, width))
     }
 
-    /// Splits the bus of a module that has two modules and two wires at least: some of its wires go to an unused slot,
-    /// with the module and each other one by even chance, of which one at least stays. Whether anything changed.
-    pub(crate) fn split(&mut self, rng: &mut Xoshiro256PlusPlus, module: usize) -> bool
-        requires buses { AreBuses self.old }
-        requires there { «module» < length self.old.slots.items }
-        ensures buses { AreBuses self.new }
-        ensures alike { AreAlike self.old self.new }
+    /// Half of the wires of two slots together.
+    pub(crate) fn half_of(&self, one: usize, other: usize) -> u64
+        requires buses { AreBuses self.now }
+        requires one { one < length self.now.widths.items }
+        requires other { other < length self.now.widths.items }
+        ensures { result ≤ length self.now.widths.items }
     {
-        let from = self.slot_of(module);
-        let width = self.widths[from];
-        if width < 2 || self.is_alone(module) {
-            return false;
-        }
-        let Some(to) = self.unused() else {
-            return false;
-        };
-        let wires = 1 + below(rng, width as usize - 1) as u64;
-        self.move_wires(from, to, wires);
-        self.part(rng, module, from, to);
-        true
+        let width = self.width_of(one);
+        let other_width = self.width_of(other);
+        width.saturating_add(other_width) / 2
     }
 }

@@ -16,3 +16,8 @@ pub(crate) fn below(rng: &mut Xoshiro256PlusPlus, n: usize) -> usize
 pub(crate) fn coin(rng: &mut Xoshiro256PlusPlus) -> bool {
     rng.next_u64() % 2 == 1
 }
+
+/// Yes, three times in four.
+pub(crate) fn often(rng: &mut Xoshiro256PlusPlus) -> bool {
+    rng.next_u64() % 4 > 0
+}

@@ -7,12 +7,25 @@
 #![tactic(auto)]
 
 mod buses;
+mod chains;
 mod changes;
+mod dealing;
 mod draws;
+mod kinds;
+mod moves;
+mod order;
+mod pairs;
 mod problem;
+mod repair;
+mod room;
 mod scheduling;
 mod search;
+mod setting;
+mod sorting;
+mod splits;
 mod state;
+mod times;
+mod weighing;
 
 pub use problem::Problem;
 pub use search::{Found, Search};

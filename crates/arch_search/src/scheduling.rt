@@ -1,5 +1,5 @@
 //! The schedule of a state: its tests are placed in its order, each at the least start at which it fits.
-ghost use Rattle.std.specs.Prelude.{◌≡◌, ℕ, ◌+◌, ◌^◌, ◌<◌, ◌≤◌, ◌++◌, ◌∷◌, [], true, false, length, map, replicate, None, slice_set, IfOk, IfSome};
+ghost use Rattle.std.specs.Prelude.{◌≡◌, ℕ, ◌+◌, ◌^◌, ◌<◌, ◌≤◌, ◌++◌, ◌∷◌, [], true, false, length, map, replicate, slice_set, IfOk, IfSome};
 ghost use Rattle.std.specs.List.{All};
 ghost use Rattle.plan_model.specs.declared.TheConstants.{START_MOST};
 ghost use Rattle.resource_table.specs.Jobs.{Precedes, cycles_of};
@@ -11,56 +11,18 @@ ghost use Rattle.arch_search.specs.Rooms.{HasRoom, HasRoomFor, AreShort, AreCycl
 
 use crate::buses::Buses;
 use crate::problem::{Problem, TestTimes};
-use crate::state::State;
+use crate::room::Room;
 use live_tests::Neighbours;
 use outside::NoMemory;
 use plan_model::START_MOST;
 use resource_table::{TableOf, earlier_than, list_schedules_are_short};
 use std::alloc::Global;
 
-/// Room for what a schedule is made from, and for its starts.
-#[derive(Drop)]
-pub struct Room {
-    /// For each test the slot of its bus.
-    pub slots: Vec<Option<usize>>,
-    /// For each test its cycles.
-    pub cycles: Vec<u64>,
-    /// For each slot the cycles of the tests over its bus, together.
-    pub loads: Vec<u64>,
-    /// For each test its start.
-    pub starts: Vec<u64>,
-}
-
 /// So many zeros.
 pub(crate) fn zeros(alloc: Global, count: usize) -> Result<Vec<u64>, NoMemory>
     ensures { IfOk result (λ v. v.items ≡ replicate count 0) }
 {
     vec![in alloc; 0; count].map_err(|_| NoMemory)
-}
-
-/// No slot for so many tests.
-fn no_slots(alloc: Global, count: usize) -> Result<Vec<Option<usize>>, NoMemory>
-    ensures { IfOk result (λ v. v.items ≡ replicate count None) }
-{
-    vec![in alloc; None; count].map_err(|_| NoMemory)
-}
-
-impl Room {
-    /// Room for so many tests over so many wires.
-    pub(crate) fn new(alloc: Global, tests: usize, wires: usize) -> Result<Room, NoMemory>
-        ensures { IfOk result (HasRoom tests wires) }
-    {
-        let slots = no_slots(alloc, tests)?;
-        let cycles = zeros(alloc, tests)?;
-        let loads = zeros(alloc, wires)?;
-        let starts = zeros(alloc, tests)?;
-        Ok(Room {
-            slots,
-            cycles,
-            loads,
-            starts,
-        })
-    }
 }
 
 /// When a schedule ends.
@@ -81,6 +43,15 @@ impl Ends {
             cycles: 0,
             late: None,
             late_end: 0,
+        }
+    }
+
+    /// All tests end by a cycle, those over the bus of a slot last.
+    pub(crate) fn at(cycles: u64, late: Option<usize>) -> Ends {
+        Ends {
+            cycles,
+            late,
+            late_end: cycles,
         }
     }
 
@@ -120,45 +91,21 @@ fn cycles_over(test: &TestTimes, buses: &Buses, slot: Option<usize>) -> u64
     test.cycles[buses.width_of(slot) as usize]
 }
 
-/// Adds the cycles of a test to the load of its bus; false where that passes the most.
-fn load(loads: &mut Vec<u64>, slot: Option<usize>, cycles: u64, most: u64) -> bool
-    requires { IfSome slot (λ k. k < length loads.old.items) }
-    ensures { length loads.new.items ≡ length loads.old.items }
-{
-    let Some(slot) = slot else {
-        return cycles <= most;
-    };
-    let sum = loads[slot].saturating_add(cycles);
-    loads[slot] = sum;
-    sum <= most
-}
-
-/// Empties the loads.
-fn empty_loads(problem: &Problem, room: &mut Room)
-    requires { HasRoomFor problem.now room.old }
-    ensures { HasRoomFor problem.now room.new }
-{
-    let _wires = problem.wires;
-    room.loads.fill(0);
-}
-
-/// Notes that a test goes over the bus of a slot and takes so many cycles; false where its bus is busy for more than `most`
-/// cycles then.
-fn assign(room: &mut Room, test: usize, slot: Option<usize>, cycles: u64, most: u64) -> bool
+/// Notes that a test goes over the bus of a slot and takes so many cycles.
+fn assign(room: &mut Room, test: usize, slot: Option<usize>, cycles: u64)
     requires test { test < length room.old.slots.items }
     requires cycles { test < length room.old.cycles.items }
-    requires slot { IfSome slot (λ k. k < length room.old.loads.items) }
-    requires few { length room.old.loads.items ≤ 256 }
-    ensures room { (tests wires : ℕ) → HasRoom tests wires room.old → HasRoom tests wires room.new }
+    requires slot { IfSome slot (λ k. k < 256) }
+    ensures room { (tests : ℕ) → HasRoom tests room.old → HasRoom tests room.new }
     ensures cycles { room.new.cycles.items ≡ slice_set room.old.cycles.items test cycles }
 {
     room.slots[test] = slot;
     room.cycles[test] = cycles;
-    load(&mut room.loads, slot, cycles, most)
 }
 
-/// Sends each test over its bus. False where a test can't be tested so, or where a bus is busy for more than `most` cycles.
-fn send(problem: &Problem, buses: &Buses, room: &mut Room, most: u64) -> bool
+/// Sends each test over its bus. False where a test can't be tested so, or where the tests take more cycles together than a plan
+/// may have.
+pub(crate) fn send(problem: &Problem, buses: &Buses, room: &mut Room) -> bool
     requires buses { AreBuses buses.now }
     requires wires { length buses.now.widths.items ≡ problem.now.wires }
     requires few_wires { problem.now.wires ≤ 256 }
@@ -167,7 +114,6 @@ fn send(problem: &Problem, buses: &Buses, room: &mut Room, most: u64) -> bool
     ensures room { HasRoomFor problem.now room.new }
     ensures short { result ≡ true → AreShort room.new.cycles.items }
 {
-    empty_loads(problem, room);
     let mut left = START_MOST;
     for test in 0..problem.tests.len() {
         let slot = slot_for(&problem.tests[test], buses);
@@ -178,9 +124,7 @@ fn send(problem: &Problem, buses: &Buses, room: &mut Room, most: u64) -> bool
         if cycles > left {
             return false;
         }
-        if !assign(room, test, slot, cycles, most) {
-            return false;
-        }
+        assign(room, test, slot, cycles);
         left -= cycles;
     }
     true
@@ -237,12 +181,13 @@ fn place_at<J>(table: &mut TableOf<J>, test: usize, start: u64)
 }
 
 /// Places a test at the least start at which it fits, and answers that start; None where it comes before a test that
-/// precedes it, or ends after `most` cycles.
+/// precedes it, or if the chain of precedences that it begins would end after `most` cycles.
 fn place_next<J>(
     table: &mut TableOf<J>,
     before: &[Neighbours],
     test: usize,
     cycles: u64,
+    chain: u64,
     most: u64,
 ) -> Option<u64>
     requires in_job { test < length table.old.job.tests }
@@ -260,63 +205,67 @@ fn place_next<J>(
     }
     list_schedules_are_short();
     let start = table.earliest(test);
-    if start + cycles > most {
+    if start.saturating_add(chain) > most {
         return None;
     }
     place_at(table, test, start);
     Some(start)
 }
 
-/// Places the tests of an order, each at the least start at which it fits, and answers when they end; None where one comes
-/// before a test that precedes it, or ends after `most` cycles.
+/// Places the tests of an order, each at the least start at which it fits, and answers when they end. Else the place in the order of
+/// the first one that comes before a test that precedes it, or with which a chain of precedences begins that ends after `most`
+/// cycles.
 fn place_all<J>(
     table: &mut TableOf<J>,
     before: &[Neighbours],
     order: &[usize],
     room: &mut Room,
     most: u64,
-) -> Option<Ends>
+) -> Result<Ends, usize>
     requires order { All (λ test. test < length table.old.job.tests) order.now }
     requires before { AreListed table.old.job (map listed before.now) }
     requires list { IsListSchedule table.old.job table.old.placed }
     requires sound { IsSoundTable table.old }
     requires cycles { AreCyclesOf table.old.job room.old.cycles.items }
-    requires room { (wires : ℕ) × HasRoom (length table.old.job.tests) wires room.old }
+    requires room { HasRoom (length table.old.job.tests) room.old }
     ensures job { table.new.job ≡ table.old.job }
     ensures sound { IsSoundTable table.new }
-    ensures room { (wires : ℕ) → HasRoom (length table.old.job.tests) wires room.old → HasRoom (length table.old.job.tests) wires room.new }
+    ensures room { HasRoom (length table.old.job.tests) room.new }
+    ensures cycles { room.new.cycles ≡ room.old.cycles }
 {
     let mut ends = Ends::none();
     for place in 0..order.len() {
         let test = order[place];
         let cycles = room.cycles[test];
-        let start = place_next(table, before, test, cycles, most)?;
+        let chain = room.chains[test];
+        let Some(start) = place_next(table, before, test, cycles, chain, most) else {
+            return Err(place);
+        };
         room.starts[test] = start;
         ends = ends.with(start + cycles, room.slots[test]);
     }
-    Some(ends)
+    Ok(ends)
 }
 
-/// Makes the schedule of a state, and answers when its tests end; None where that is after `most` cycles.
-pub(crate) fn schedule<J>(
+/// Places the tests of an order in the emptied table.
+pub(crate) fn place_order<J>(
     problem: &Problem,
     table: &mut TableOf<J>,
-    state: &State,
+    order: &[usize],
     room: &mut Room,
     most: u64,
-) -> Option<Ends>
+) -> Result<Ends, usize>
     requires problem { IsProblem table.old.job problem.now }
     requires sound { IsSoundTable table.old }
-    requires state { IsStateOf problem.now state.now }
+    requires order { All (λ test. test < length problem.now.tests.items) order.now }
     requires room { HasRoomFor problem.now room.old }
+    requires short { AreShort room.old.cycles.items }
     ensures problem { IsProblem table.new.job problem.now }
     ensures sound { IsSoundTable table.new }
     ensures room { HasRoomFor problem.now room.new }
+    ensures cycles { room.new.cycles ≡ room.old.cycles }
 {
-    if !send(problem, &state.buses, room, most) {
-        return None;
-    }
     restart(problem, table, room);
     list_schedules_are_short();
-    place_all(table, &problem.before, &state.order, room, most)
+    place_all(table, &problem.before, order, room, most)
 }

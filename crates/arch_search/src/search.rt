@@ -1,15 +1,24 @@
 //! The search.
-ghost use Rattle.std.specs.Prelude.{◌≡◌, ◌≤◌, length};
+ghost use Rattle.std.specs.Prelude.{◌≡◌, ◌≤◌, length, replicate, IfOk};
+ghost use Rattle.std.specs.List.{All};
 ghost use Rattle.soc_model.specs.Chips.{soc_value};
 ghost use Rattle.plan_model.specs.Rules.{live_ids};
-ghost use Rattle.resource_table.specs.Jobs.{job_value, IsSoundJob};
+ghost use Rattle.resource_table.specs.Jobs.{JobValue, job_value, IsSoundJob};
 ghost use Rattle.arch_search.specs.Problems.{IsProblem, IsStateOf};
 ghost use Rattle.arch_search.specs.Searches.{IsLent};
+ghost use Rattle.arch_search.specs.States.{IsTaken};
 
 use crate::changes::change;
+use crate::dealing::{DEALT_MOST, Taken};
+use crate::draws::coin;
+use crate::order::change_order;
 use crate::problem::Problem;
-use crate::scheduling::{Room, schedule};
+use crate::repair::fits;
+use crate::room::Room;
+use crate::scheduling::zeros;
+use crate::setting::Setting;
 use crate::state::{State, first_state};
+use crate::weighing::{finish, weigh};
 use outside::NoMemory;
 use plan_model::Plan;
 use rand_core::SeedableRng;
@@ -20,21 +29,28 @@ use std::alloc::Global;
 use std::marker::Model;
 use std::mem;
 
-/// After so many tries without a new best state the search goes on from the best one.
+/// After so many tries without a new best state the search goes on from another one.
 const PATIENCE: u64 = 1_000;
 /// How many changes are made at once then.
 const KICK: usize = 4;
+/// They are made from the current state, where that takes at most so many times the cycles of the best one, counted as the part
+/// by which it may take more: one in so many.
+const NEAR: u64 = 64;
 
 /// A search for an architecture of fixed buses, and an order of the tests, whose schedule ends early. Its model is the cycles
 /// of the best state so far, which never rise.
 #[derive(Drop)]
 pub struct Search<'a> {
     /// What it goes by.
-    problem: &'a Problem,
+    setting: Setting<'a>,
     /// The table in which schedules are made.
     table: Table<'a>,
     /// Room for schedules.
     room: Room,
+    /// Room for the modules that are dealt again.
+    taken: Vec<Taken>,
+    /// Room for the loads on one wire less.
+    less: Vec<u64>,
     /// Where the draws come from.
     rng: Xoshiro256PlusPlus,
     /// The state of the fewest cycles so far.
@@ -55,7 +71,7 @@ impl<'a> Model for Search<'a> {
 
     ghost view = { λ s. s.best.cycles };
 
-    ghost invariant = { λ s. IsSearch s.problem.now s.table s.room s.best s.current s.next };
+    ghost invariant = { λ s. IsSearch s.setting s.table s.room s.taken.items s.less.items s.best s.current s.next };
 }
 
 /// What a search found: its best state. The schedule is that of the last call of [`Search::finish`].
@@ -73,6 +89,24 @@ pub struct Found<'s> {
     pub starts: &'s [u64],
     /// The end of the test that ends last, in cycles.
     pub cycles: u64,
+}
+
+/// Room for so many modules that are dealt again.
+fn taken_room(alloc: Global, count: usize) -> Result<Vec<Taken>, NoMemory>
+    ensures { IfOk result (λ taken. taken.items ≡ replicate count (record { «module» = 0; from = 0 })) }
+{
+    let none = Taken { module: 0, from: 0 };
+    vec![in alloc; none; count].map_err(|_| NoMemory)
+}
+
+/// Room for the modules of a problem that are dealt again.
+fn no_modules(alloc: Global, problem: &Problem) -> Result<Vec<Taken>, NoMemory>
+    requires { (job : JobValue) × IsProblem job problem.now }
+    ensures { IfOk result (λ taken. All (IsTaken problem.now.wires (length problem.now.modules.items)) taken.items) }
+{
+    let count = problem.modules.len().min(DEALT_MOST);
+    let taken = taken_room(alloc, count)?;
+    Ok(taken)
 }
 
 impl<'a> Search<'a> {
@@ -112,47 +146,110 @@ impl<'a> Search<'a> {
         requires current { IsStateOf problem.now current }
         requires next { IsStateOf problem.now next }
     {
-        let room = Room::new(alloc, problem.tests.len(), problem.wires)?;
+        let setting = Setting::new(alloc, problem, job)?;
+        let room = Room::new(alloc, problem.tests.len())?;
+        let taken = no_modules(alloc, problem)?;
+        let less = zeros(alloc, problem.wires)?;
         let table = Table::new(alloc, job)?;
         let mut search = Search {
-            problem,
+            setting,
             table,
             room,
+            taken,
+            less,
             rng: Xoshiro256PlusPlus::seed_from_u64(seed),
             best,
             current,
             next,
             since: 0,
         };
-        search.weigh(u64::MAX);
+        search.begin();
         Ok(search)
     }
 
-    /// Makes the next state from the current one by one change. Whether anything changed.
+    /// Weighs the first state.
+    fn begin(&mut self)
+        ensures { self.new ≤ self.old }
+    {
+        self.next.buses.reload_all(&self.setting.times);
+        self.weigh_next(u64::MAX);
+    }
+
+    /// Makes one change of the next state, of its buses where there are others, else of its order. Whether anything changed.
+    fn change_next(&mut self, late: Option<usize>) -> bool
+        ensures { self.new ≡ self.old }
+    {
+        if self.setting.has_other_buses() {
+            return change(
+                &self.setting.times,
+                &mut self.next.buses,
+                &mut self.taken,
+                late,
+                &mut self.rng,
+            );
+        }
+        change_order(
+            &self.setting.problem.before,
+            &mut self.next.order,
+            &mut self.rng,
+        )
+    }
+
+    /// Makes the next state from the current one by one change. Whether its buses take no more cycles than the current state.
     fn step(&mut self) -> bool
         ensures { self.new ≡ self.old }
     {
-        self.next.become_as(self.problem, &self.current);
-        let late = self.current.late;
-        change(self.problem, &mut self.next, late, &mut self.rng)
+        self.next.become_as(self.setting.problem, &self.current);
+        if !self.change_next(self.current.late) {
+            return false;
+        }
+        fits(
+            &self.setting.times,
+            &mut self.next.buses,
+            &mut self.less,
+            self.current.cycles,
+        )
     }
 
-    /// Makes one change of the next state. Whether anything changed.
-    fn change_next(&mut self) -> bool
+    /// Changes the order of the next state by even chance, where it tells.
+    fn change_next_order(&mut self)
         ensures { self.new ≡ self.old }
     {
-        change(self.problem, &mut self.next, None, &mut self.rng)
+        if !self.setting.wires_alone && self.setting.has_other_buses() && coin(&mut self.rng) {
+            let _changed = change_order(
+                &self.setting.problem.before,
+                &mut self.next.order,
+                &mut self.rng,
+            );
+        }
     }
 
-    /// Makes the next state from the best one by several changes. Whether anything changed.
+    /// Whether the current state takes few more cycles than the best one.
+    fn is_near(&self) -> bool {
+        let most = self.best.cycles.saturating_add(self.best.cycles / NEAR);
+        self.current.cycles <= most
+    }
+
+    /// Makes the next state as the current one, where that is near the best one, else as the best one.
+    fn return_near(&mut self)
+        ensures { self.new ≡ self.old }
+    {
+        if self.is_near() {
+            self.next.become_as(self.setting.problem, &self.current);
+        } else {
+            self.next.become_as(self.setting.problem, &self.best);
+        }
+    }
+
+    /// Makes the next state by several changes. Whether anything changed.
     fn kick(&mut self) -> bool
         ensures { self.new ≡ self.old }
     {
-        self.next.become_as(self.problem, &self.best);
+        self.return_near();
         self.since = 0;
         let mut changed = false;
         for _change in 0..KICK {
-            if self.change_next() {
+            if self.change_next(None) {
                 changed = true;
             }
         }
@@ -164,21 +261,22 @@ impl<'a> Search<'a> {
         ensures { self.new ≤ self.old }
     {
         if self.current.cycles < self.best.cycles {
-            self.best.become_as(self.problem, &self.current);
+            self.best.become_as(self.setting.problem, &self.current);
             self.since = 0;
         }
     }
 
     /// Takes the next state as the current one, where its tests end by `most` cycles.
-    fn weigh(&mut self, most: u64)
+    fn weigh_next(&mut self, most: u64)
         ensures { self.new ≤ self.old }
     {
-        let ends = schedule(
-            self.problem,
+        let ends = weigh(
+            &self.setting,
             &mut self.table,
-            &self.next,
+            &mut self.next,
             &mut self.room,
             most,
+            &mut self.rng,
         );
         let Some(ends) = ends else {
             return;
@@ -189,20 +287,21 @@ impl<'a> Search<'a> {
         self.note_best();
     }
 
-    /// Tries one change, or from time to time, where none has helped for long, several changes of the best state. What
-    /// comes of them is taken on where it takes no more cycles than now, and after several changes always.
+    /// Tries one change, or from time to time, where none has helped for long, several changes of a good state. What comes of
+    /// them is taken on where it takes no more cycles than now, and after several changes always.
     fn try_once(&mut self)
         ensures { self.new ≤ self.old }
     {
         if self.since >= PATIENCE {
             if self.kick() {
-                self.weigh(u64::MAX);
+                self.weigh_next(u64::MAX);
             }
             return;
         }
         self.since += 1;
         if self.step() {
-            self.weigh(self.current.cycles);
+            self.change_next_order();
+            self.weigh_next(self.current.cycles);
         }
     }
 
@@ -227,12 +326,11 @@ impl<'a> Search<'a> {
     pub fn finish(&mut self)
         ensures { self.new ≡ self.old }
     {
-        let _ends = schedule(
-            self.problem,
+        finish(
+            self.setting.problem,
             &mut self.table,
             &self.best,
             &mut self.room,
-            u64::MAX,
         );
     }
 
@@ -242,7 +340,7 @@ impl<'a> Search<'a> {
         ensures cycles { result.cycles ≡ self.now }
     {
         Found {
-            problem: self.problem,
+            problem: self.setting.problem,
             widths: &self.best.buses.widths,
             slots: &self.best.buses.slots,
             order: &self.best.order,

@@ -1,7 +1,6 @@
 //! A state of the search: buses, an order of the tests, and the cycles that their schedule takes.
 ghost use Rattle.std.specs.Prelude.{◌≡◌, ℕ, ◌+◌, ◌<◌, length, replicate, IfOk, IfSome};
 ghost use Rattle.std.specs.List.{All, sum_by};
-ghost use Rattle.std.specs.List.Sorted.{IsPermutation};
 ghost use Rattle.soc_model.specs.Chips.{soc_value};
 ghost use Rattle.plan_model.specs.Rules.{live_ids};
 ghost use Rattle.resource_table.specs.Jobs.{job_value, IsSoundJob};
@@ -11,8 +10,9 @@ ghost use Rattle.arch_search.specs.Problems.{IsProblem, IsStateOf, AreFirstBuses
 use crate::buses::Buses;
 use crate::problem::Problem;
 use crate::scheduling::zeros;
+use crate::sorting::sorted_by;
 use live_tests::LiveTests;
-use outside::{NoMemory, copied, push};
+use outside::{NoMemory, copied};
 use plan_model::Plan;
 use resource_table::Job;
 use soc_model::Soc;
@@ -46,9 +46,14 @@ impl State {
     {
         let widths = copied(alloc, &self.buses.widths)?;
         let slots = copied(alloc, &self.buses.slots)?;
+        let loads = copied(alloc, &self.buses.loads)?;
         let order = copied(alloc, &self.order)?;
         Ok(State {
-            buses: Buses { widths, slots },
+            buses: Buses {
+                widths,
+                slots,
+                loads,
+            },
             order,
             cycles: self.cycles,
             late: self.late,
@@ -65,59 +70,11 @@ impl State {
         let _wires = problem.wires;
         write_over(&mut self.buses.widths, &other.buses.widths);
         write_over(&mut self.buses.slots, &other.buses.slots);
+        write_over(&mut self.buses.loads, &other.buses.loads);
         write_over(&mut self.order, &other.order);
         self.cycles = other.cycles;
         self.late = other.late;
     }
-}
-
-/// A test with what it is sorted by.
-#[derive(Clone, Copy, Drop)]
-struct Keyed {
-    key: u64,
-    test: usize,
-}
-
-/// The tests with their keys.
-fn with_keys(alloc: Global, keys: &[u64]) -> Result<Vec<Keyed>, NoMemory>
-    ensures long { IfOk result (λ all. length all.items ≡ length keys.now) }
-    ensures tests { IfOk result (λ all. All (λ (k : Keyed). k.test < length keys.now) all.items) }
-{
-    let mut all = Vec::new(alloc);
-    for test in 0..keys.len() {
-        let key = keys[test];
-        push(&mut all, Keyed { key, test })?;
-    }
-    Ok(all)
-}
-
-/// Sorts tests by their keys.
-fn sort_keyed(all: &mut [Keyed])
-    ensures { IsPermutation all.old all.new }
-{
-    all.sort_unstable_by_key(|keyed| keyed.key);
-}
-
-/// The tests of a list.
-fn tests_of(alloc: Global, all: &[Keyed]) -> Result<Vec<usize>, NoMemory>
-    ensures long { IfOk result (λ order. length order.items ≡ length all.now) }
-    ensures tests { (n : ℕ) → All (λ (k : Keyed). k.test < n) all.now → IfOk result (λ order. All (λ test. test < n) order.items) }
-{
-    let mut order = Vec::new(alloc);
-    for keyed in all {
-        push(&mut order, keyed.test)?;
-    }
-    Ok(order)
-}
-
-/// The tests, sorted by a key for each.
-fn sorted_by(alloc: Global, keys: &[u64]) -> Result<Vec<usize>, NoMemory>
-    ensures long { IfOk result (λ order. length order.items ≡ length keys.now) }
-    ensures tests { IfOk result (λ order. All (λ test. test < length keys.now) order.items) }
-{
-    let mut sorted = with_keys(alloc, keys)?;
-    sort_keyed(&mut sorted);
-    tests_of(alloc, &sorted)
 }
 
 /// Whether each precedence goes from a lesser to a greater key.
@@ -196,6 +153,7 @@ fn settle(buses: &mut Buses, module: usize, slot: usize, width: u64, left: u64) 
     ensures within { All (λ k. k < length buses.new.widths.items) buses.new.slots.items }
     ensures wires { sum_by (λ (w : ℕ). w) buses.new.widths.items + result ≡ length buses.new.widths.items }
     ensures alike { AreAlike buses.old buses.new }
+    ensures loads { buses.new.loads ≡ buses.old.loads }
 {
     buses.slots[module] = slot;
     let own = buses.widths[slot];
@@ -211,6 +169,7 @@ fn settle(buses: &mut Buses, module: usize, slot: usize, width: u64, left: u64) 
 fn give_rest(buses: &mut Buses, left: u64)
     requires within { All (λ k. k < length buses.old.widths.items) buses.old.slots.items }
     requires wires { sum_by (λ (w : ℕ). w) buses.old.widths.items + left ≡ length buses.old.widths.items }
+    requires loads { length buses.old.loads.items ≡ length buses.old.widths.items }
     ensures buses { AreBuses buses.new }
     ensures alike { AreAlike buses.old buses.new }
 {
@@ -266,7 +225,12 @@ fn first_buses(alloc: Global, problem: &Problem, job: &Job, plan: &Plan) -> Resu
 {
     let widths = zeros(alloc, problem.wires)?;
     let slots = first_slots(alloc, problem.modules.len())?;
-    let mut buses = Buses { widths, slots };
+    let loads = zeros(alloc, problem.wires)?;
+    let mut buses = Buses {
+        widths,
+        slots,
+        loads,
+    };
     let mut left = problem.wires as u64;
     for test in 0..problem.tests.len() {
         left = settle_test(&mut buses, problem, job, plan, test, left);

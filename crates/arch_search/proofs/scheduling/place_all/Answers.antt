@@ -8,18 +8,21 @@ loop-place-preserved g c =
     let test : ℕ = get_or c.args.order.now c.loop-place.place 0 in
     let starts = c.loop-place.room.starts.items in
     record {
-      job = c.in_ok-start.ensures.job ∙ c.loop-place.invariant.job;
-      list = c.in_ok-start.ensures.list;
-      sound = c.in_ok-start.ensures.sound;
+      job = c.place_next.ensures.job ∙ c.loop-place.invariant.job;
+      list = c.place_next.ensures.list;
+      sound = c.place_next.ensures.sound;
       cycles = c.loop-place.invariant.cycles;
-      room = λ wires first.
-          let has = c.loop-place.invariant.room wires first in
+      room =
+          (let has = c.loop-place.invariant.room in
           record {
             slots = has.slots;
             cycles = has.cycles;
-            loads = has.loads;
-            starts = length-set starts test c.in_ok-start.start ∙ has.starts;
+            chains = has.chains;
+            starts = length-set starts test c.in-Some.start ∙ has.starts;
+            keys = has.keys;
+            second = has.second;
             in_slots = has.in_slots;
-            small_starts = All-set (λ s. s ≤ START_MOST) starts test c.in_ok-start.start (omega (arith, c.in_ok-start.ensures.ends)) has.small_starts;
-          };
+            small_starts = All-set (λ s. s ≤ START_MOST) starts test c.in-Some.start (omega (arith, c.in-Some.ensures.ends)) has.small_starts;
+            in_second = has.in_second;
+          });
     }

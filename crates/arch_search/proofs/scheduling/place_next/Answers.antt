@@ -1,4 +1,4 @@
-use Rattle.std.proofs.Common.{◌≡◌, ◌+◌, ◌≤◌, ◌^◌, ℕ, false, arith, sym, subst}
+use Rattle.std.proofs.Common.{◌≡◌, ◌+◌, ◌≤◌, ◌^◌, ℕ, false, sym, subst}
 use Rattle.resource_table.specs.Jobs.{cycles_of}
 use Rattle.resource_table.specs.Schedules.{TableValue, is_placed, IsListSchedule}
 use Rattle.arch_search.proofs.scheduling.place_next.Goals as goal
@@ -26,9 +26,3 @@ pub returns-clause-list : goal.returns-clause-list
 returns-clause-list g c =
     subst (λ (t : TableValue). IsListSchedule t.job t.placed) (sym c.place_at.ensures.table)
     (c.list_schedules_are_short.ensures.next c.args.table.now.job c.args.table.now.placed c.args.test c.earliest-start.result c.requires.list c.earliest-start.ensures.earliest)
-
-pub overflow_add-start : goal.overflow_add-start
-overflow_add-start g c =
-    let small = ends c.earliest-start.result c.args.cycles (cycles_of c.args.table.now.job c.args.test) c.requires.cycles
-    (c.list_schedules_are_short.ensures.fits c.args.table.now c.args.test c.earliest-start.result c.earliest-start.ensures.sound c.requires.list c.requires.in_job (c.is_next.ensures.new c.if-not-is_next.false) c.earliest-start.ensures.earliest) in
-    omega (arith, small)

@@ -13,7 +13,7 @@ loop-test-preserved c =
     let within : t < length old = omega (arith, i.room.cycles, c.loop-test-test.true) in
     let some : 1 ≤ cycles = omega (arith, c.if-cycles-eq0.false) in
     record {
-      room = c.assign.ensures.room (length c.args.problem.now.tests.items) c.args.problem.now.wires i.room;
+      room = c.assign.ensures.room (length c.args.problem.now.tests.items) i.room;
       last = subst (λ (l : List ℕ). All (λ c. 1 ≤ c) (take (t + 1) l)) (sym c.assign.ensures.cycles) (last_more old t cycles within some i.last);
       short = subst (λ (l : List ℕ). sum_by (λ (c : ℕ). c) (take (t + 1) l) + (c.loop-test.left - cycles) ≡ START_MOST) (sym c.assign.ensures.cycles)
           (short_more old t cycles c.loop-test.left (c.loop-test.left - cycles) START_MOST within (omega (arith, c.if-cycles-left.false)) i.short);
@@ -21,6 +21,3 @@ loop-test-preserved c =
 
 pub returns-clause-short : goal.returns-clause-short
 returns-clause-short c = λ yes. short_all c.loop-test.room.cycles.items c.loop-test.test c.loop-test.left (omega (arith, c.loop-test.invariant.room.cycles, c.loop-test-test.false)) c.loop-test.invariant.last c.loop-test.invariant.short
-
-pub returns-then-not-assign-clause-room : goal.returns-then-not-assign-clause-room
-returns-then-not-assign-clause-room c = c.assign.ensures.room (length c.args.problem.now.tests.items) c.args.problem.now.wires c.loop-test.invariant.room

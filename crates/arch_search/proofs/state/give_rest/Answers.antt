@@ -1,4 +1,4 @@
-use Rattle.std.proofs.Common.{◌<◌, ℕ, length, arith, sym, subst, length-set}
+use Rattle.std.proofs.Common.{◌∙◌, ◌<◌, ℕ, length, arith, sym, subst, length-set}
 use Rattle.std.specs.List.{All}
 use Rattle.arch_search.proofs.Wires.{total_given, some_there}
 use Rattle.arch_search.proofs.state.give_rest.Goals as goal
@@ -13,4 +13,5 @@ returns-clause-buses c =
     record {
       few_wires = total_given widths first c.index_mut.result.now c.args.left there c.index_mut.ensures.value c.requires.wires;
       within = subst (λ (n : ℕ). All (λ slot. slot < n) slots) (sym (length-set widths first _)) c.requires.within;
+      as_many_loads = c.requires.loads ∙ sym (length-set widths first _);
     }

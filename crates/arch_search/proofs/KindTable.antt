@@ -1,0 +1,17 @@
+-- The table of the kinds of change.
+use Rattle.std.proofs.Common.{ℕ, ◌≤◌, [], ◌∷◌, arith, refl}
+use Rattle.std.specs.List.{Contains}
+use Rattle.arch_search.specs.declared.kinds.Kind.{Kind}
+use Rattle.arch_search.specs.declared.kinds.Kind.TheVariants.{Move, Merge, Split, DealModules, DealBuses}
+use Rattle.arch_search.specs.declared.kinds.Weighted.{Weighted}
+use Rattle.arch_search.specs.Kinds.{HasEachKind}
+
+abbrev one : Kind → Weighted
+one kind = record { kind = kind; weight = 1 }
+
+pub each_kind : HasEachKind (one Move ∷ one Merge ∷ one Split ∷ one DealModules ∷ one DealBuses ∷ [])
+each_kind Move = (1, omega arith, (0, omega arith, refl))
+each_kind Merge = (1, omega arith, (1, omega arith, refl))
+each_kind Split = (1, omega arith, (2, omega arith, refl))
+each_kind DealModules = (1, omega arith, (3, omega arith, refl))
+each_kind DealBuses = (1, omega arith, (4, omega arith, refl))

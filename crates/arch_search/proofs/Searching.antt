@@ -1,0 +1,36 @@
+-- What a search begins with is a search.
+use Rattle.std.proofs.Common.{◌≡◌, ◌∙◌, ℕ, zero, suc, ◌≤◌, List, length, map, replicate, arith, sym, ap, subst}
+use Rattle.std.specs.List.{All}
+use Rattle.std.proofs.lemmas.List.{length-replicate}
+use Rattle.std.proofs.lemmas.List.Elements.{All-nil, All-replicate}
+use Rattle.resource_table.specs.Schedules.{TableValue, IsSoundTable}
+use Rattle.arch_search.specs.declared.dealing.Taken.{Taken}
+use Rattle.arch_search.specs.declared.problem.Problem.{Problem}
+use Rattle.arch_search.specs.declared.room.Room.{Room}
+use Rattle.arch_search.specs.declared.setting.Setting.{Setting}
+use Rattle.arch_search.specs.declared.state.State.{State}
+use Rattle.arch_search.specs.Problems.{IsProblem, IsStateOf}
+use Rattle.arch_search.specs.Rooms.{HasRoomFor}
+use Rattle.arch_search.specs.Searches.{IsSearch}
+use Rattle.arch_search.specs.Settings.{IsSetting}
+use Rattle.arch_search.specs.States.{IsTaken}
+
+pub is_search : (s : Setting) (p : Problem) (table : TableValue) (room : Room) (taken : List Taken) (less : List ℕ) (best current next : State) → s.problem.now ≡ p →
+    IsSetting s → IsProblem table.job p → IsSoundTable table → HasRoomFor p room → All (IsTaken p.wires (length p.modules.items)) taken → length less ≡ p.wires → IsStateOf p best → IsStateOf p current → IsStateOf p next →
+    IsSearch s table room taken less best current next
+is_search s p table room taken less best current next is setting problem sound has are long b c n = record {
+  setting = setting;
+  is_problem = subst (λ (q : Problem). IsProblem table.job q) (sym is) problem;
+  is_sound = sound;
+  has_room = subst (λ (q : Problem). HasRoomFor q room) (sym is) has;
+  are_taken = subst (λ (q : Problem). All (IsTaken q.wires (length q.modules.items)) taken) (sym is) are;
+  as_many_less = long ∙ ap (λ (q : Problem). q.wires) (sym is);
+  best_is = subst (λ (q : Problem). IsStateOf q best) (sym is) b;
+  current_is = subst (λ (q : Problem). IsStateOf q current) (sym is) c;
+  next_is = subst (λ (q : Problem). IsStateOf q next) (sym is) n;
+}
+
+-- room for modules that are taken: the first module, where there is one
+pub none_taken : (wires modules count : ℕ) (t : Taken) → 1 ≤ wires → count ≤ modules → t.«module» ≡ 0 → t.from ≡ 0 → All (IsTaken wires modules) (replicate count t)
+none_taken wires modules zero t some few m f = All-nil (IsTaken wires modules)
+none_taken wires modules (suc n) t some few m f = All-replicate (IsTaken wires modules) (suc n) t (record { is_module = omega (arith, few, m); is_slot = omega (arith, some, f) })

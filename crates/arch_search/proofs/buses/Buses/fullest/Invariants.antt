@@ -1,0 +1,6 @@
+use Rattle.std.proofs.Common.{◌<◌, length}
+use Rattle.std.specs.Prelude.{IfSome}
+use Rattle.arch_search.proofs.buses.Buses.fullest.Given as goal
+
+abbrev pub invariant-loop-slot : goal.invariant-loop-slot
+invariant-loop-slot l = IfSome l.fullest (λ slot. slot < length l.self.widths.items)

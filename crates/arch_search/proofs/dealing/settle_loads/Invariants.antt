@@ -1,0 +1,16 @@
+use Rattle.arch_search.specs.States.{AreBuses, AreAlike, AreTimesOn}
+use Rattle.arch_search.proofs.dealing.settle_loads.Given as goal
+
+abbrev pub invariant-loop-place : goal.invariant-loop-place
+invariant-loop-place l = record {
+  buses : AreBuses l.buses;
+  alike : AreAlike l.initial.buses l.buses;
+  times : AreTimesOn l.buses l.times;
+}
+
+abbrev pub invariant-loop-place-2 : goal.invariant-loop-place-2
+invariant-loop-place-2 l = record {
+  buses : AreBuses l.buses;
+  alike : AreAlike l.initial.buses l.buses;
+  times : AreTimesOn l.buses l.times;
+}

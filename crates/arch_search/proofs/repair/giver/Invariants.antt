@@ -1,0 +1,6 @@
+use Rattle.std.proofs.Common.{◌<◌, length}
+use Rattle.std.specs.Prelude.{IfSome}
+use Rattle.arch_search.proofs.repair.giver.Given as goal
+
+abbrev pub invariant-loop-slot : goal.invariant-loop-slot
+invariant-loop-slot l = IfSome l.found (λ slot. slot < length l.less)

@@ -1,0 +1,14 @@
+use Rattle.std.proofs.Common.{◌<◌, length, rules, arith}
+use Rattle.arch_search.proofs.Written.{set_more, set_all}
+use Rattle.arch_search.proofs.room.write_places.Goals as goal
+
+pub loop-place-preserved : goal.loop-place-preserved
+loop-place-preserved c =
+    let within : c.loop-place.place < length c.loop-place.order = omega (arith, c.loop-place-test.true, c.loop-place.invariant.long, c.requires) in
+    record {
+      long = search rules;
+      done = λ n all. set_more (λ place. place < n) c.loop-place.order c.loop-place.place _ within (all c.loop-place.place _ (omega (arith, within, c.loop-place.invariant.long))) (c.loop-place.invariant.done n all);
+    }
+
+pub returns-clause-places : goal.returns-clause-places
+returns-clause-places c = λ n all. set_all (λ place. place < n) c.loop-place.order c.loop-place.place (omega (arith, c.loop-place-test.false)) (c.loop-place.invariant.done n all)

@@ -1,0 +1,26 @@
+-- The cycles of modules on each width.
+use Rattle.std.specs.Prelude.{◌≡◌, ℕ, ◌+◌, ◌<◌, length}
+use Rattle.std.specs.List.{All}
+use Rattle.arch_search.specs.declared.problem.Problem.{Problem}
+use Rattle.arch_search.specs.declared.times.Row.{Row}
+use Rattle.arch_search.specs.declared.times.Ranking.{Ranking}
+use Rattle.arch_search.specs.declared.times.Times.{Times}
+
+-- the cycles of a module on up to so many wires
+abbrev pub IsRow : ℕ → Row → Type 0
+IsRow wires r = length r.cycles.items ≡ wires + 1
+
+-- an order of some of so many modules
+abbrev pub IsRanking : ℕ → Ranking → Type 0
+IsRanking modules r = All (λ m. m < modules) r.modules.items
+
+-- the cycles of each module on each width, with an order of the modules for each width
+pub record AreTimes (t : Times) : Type 0 where
+  pub rows : All (IsRow t.wires) t.rows.items
+  pub as_many_rankings : length t.rankings.items ≡ t.wires + 1
+  pub rankings : All (IsRanking (length t.rows.items)) t.rankings.items
+
+pub record AreTimesOf (p : Problem) (t : Times) : Type 0 where
+  pub times : AreTimes t
+  pub wires : t.wires ≡ p.wires
+  pub modules : length t.rows.items ≡ length p.modules.items

@@ -1,0 +1,195 @@
+//! A change of the buses of a state: some modules are taken off their buses and dealt again.
+ghost use Rattle.std.specs.Prelude.{◌≡◌, ◌<◌, ◌≤◌, length};
+ghost use Rattle.std.specs.List.{All};
+ghost use Rattle.arch_search.specs.States.{AreBuses, AreAlike, AreTimesOn, IsTaken};
+
+use crate::buses::Buses;
+use crate::draws::{below, often};
+use crate::times::Times;
+use rand_xoshiro::Xoshiro256PlusPlus;
+
+/// The most modules that are dealt again at once.
+pub(crate) const DEALT_MOST: usize = 4;
+
+/// A module that is dealt again.
+#[derive(Clone, Copy, Drop)]
+pub struct Taken {
+    /// The module.
+    pub module: usize,
+    /// The slot that it was on.
+    pub from: usize,
+}
+
+/// Whether a module is among those that are taken.
+fn is_taken(taken: &[Taken], module: usize) -> bool {
+    taken.iter().any(|one| one.module == module)
+}
+
+/// From a module on, round, the first one that isn't taken yet; the module itself where there is none.
+fn next_free(taken: &[Taken], module: usize, modules: usize) -> usize
+    requires { «module» < modules }
+    ensures { result < modules }
+{
+    for next in module..modules {
+        if !is_taken(taken, next) {
+            return next;
+        }
+    }
+    for next in 0..module {
+        if !is_taken(taken, next) {
+            return next;
+        }
+    }
+    module
+}
+
+/// Takes a module off its bus.
+fn take_off(times: &Times, buses: &mut Buses, module: usize) -> Taken
+    requires buses { AreBuses buses.old }
+    requires times { AreTimesOn buses.old times.now }
+    requires there { «module» < length buses.old.slots.items }
+    ensures buses { AreBuses buses.new }
+    ensures alike { AreAlike buses.old buses.new }
+    ensures taken { IsTaken (length buses.new.widths.items) (length buses.new.slots.items) result }
+{
+    let from = buses.slot_of(module);
+    let width = buses.width_of(from);
+    let load = buses.loads[from].saturating_sub(times.on(module, width));
+    buses.set_load(from, load);
+    Taken { module, from }
+}
+
+/// Takes so many modules off their buses, the first one and others that are drawn.
+fn take_all(
+    times: &Times,
+    buses: &mut Buses,
+    taken: &mut Vec<Taken>,
+    count: usize,
+    first: usize,
+    rng: &mut Xoshiro256PlusPlus,
+)
+    requires buses { AreBuses buses.old }
+    requires times { AreTimesOn buses.old times.now }
+    requires first { first < length buses.old.slots.items }
+    requires count { count ≤ length taken.old.items }
+    requires taken { All (IsTaken (length buses.old.widths.items) (length buses.old.slots.items)) taken.old.items }
+    ensures buses { AreBuses buses.new }
+    ensures alike { AreAlike buses.old buses.new }
+    ensures long { length taken.new.items ≡ length taken.old.items }
+    ensures taken { All (IsTaken (length buses.new.widths.items) (length buses.new.slots.items)) taken.new.items }
+{
+    let modules = buses.slots.len();
+    let mut any = first;
+    for place in 0..count {
+        let module = next_free(&taken[..place], any, modules);
+        taken[place] = take_off(times, buses, module);
+        any = below(rng, modules);
+    }
+}
+
+/// A slot with wires for a module: the first one, or a later one in its place where that would end earlier, three times in
+/// four.
+fn chosen_slot(times: &Times, buses: &Buses, module: usize, rng: &mut Xoshiro256PlusPlus) -> usize
+    requires buses { AreBuses buses.now }
+    requires times { AreTimesOn buses.now times.now }
+    requires there { «module» < length buses.now.slots.items }
+    ensures { result < length buses.now.widths.items }
+{
+    let mut chosen = buses.slot_of(module);
+    let mut least = u64::MAX;
+    for slot in 0..buses.widths.len() {
+        if buses.widths[slot] > 0 {
+            let end = buses.end_with(times, module, slot);
+            if end < least && (least == u64::MAX || often(rng)) {
+                chosen = slot;
+                least = end;
+            }
+        }
+    }
+    chosen
+}
+
+/// Deals a module that was taken off. Whether it is on another bus than before.
+fn deal(times: &Times, buses: &mut Buses, one: Taken, rng: &mut Xoshiro256PlusPlus) -> bool
+    requires buses { AreBuses buses.old }
+    requires times { AreTimesOn buses.old times.now }
+    requires taken { IsTaken (length buses.old.widths.items) (length buses.old.slots.items) one }
+    ensures buses { AreBuses buses.new }
+    ensures alike { AreAlike buses.old buses.new }
+{
+    let slot = chosen_slot(times, buses, one.module, rng);
+    let end = buses.end_with(times, one.module, slot);
+    buses.put(one.module, slot);
+    buses.set_load(slot, end);
+    slot != one.from
+}
+
+/// Deals the first so many modules that were taken off. Whether any is on another bus than before.
+fn deal_all(
+    times: &Times,
+    buses: &mut Buses,
+    taken: &[Taken],
+    count: usize,
+    rng: &mut Xoshiro256PlusPlus,
+) -> bool
+    requires buses { AreBuses buses.old }
+    requires times { AreTimesOn buses.old times.now }
+    requires count { count ≤ length taken.now }
+    requires taken { All (IsTaken (length buses.old.widths.items) (length buses.old.slots.items)) taken.now }
+    ensures buses { AreBuses buses.new }
+    ensures alike { AreAlike buses.old buses.new }
+{
+    let mut changed = false;
+    for place in 0..count {
+        if deal(times, buses, taken[place], rng) {
+            changed = true;
+        }
+    }
+    changed
+}
+
+/// Makes the loads those of the modules on the buses again, and hands the wires of slots that are left without modules on to
+/// the slot of the greatest load.
+fn settle_loads(times: &Times, buses: &mut Buses, taken: &[Taken], count: usize)
+    requires buses { AreBuses buses.old }
+    requires times { AreTimesOn buses.old times.now }
+    requires count { count ≤ length taken.now }
+    requires taken { All (IsTaken (length buses.old.widths.items) (length buses.old.slots.items)) taken.now }
+    ensures buses { AreBuses buses.new }
+    ensures alike { AreAlike buses.old buses.new }
+{
+    for place in 0..count {
+        let slot = buses.slot_of(taken[place].module);
+        buses.reload(times, taken[place].from);
+        buses.reload(times, slot);
+    }
+    for place in 0..count {
+        if let Some(fullest) = buses.fullest() {
+            buses.release(times, taken[place].from, fullest);
+        }
+    }
+}
+
+/// Takes two to four modules, of which one is given, off their buses, and puts each in turn on a bus that ends early with it.
+/// Whether anything changed.
+pub(crate) fn deal_modules(
+    times: &Times,
+    buses: &mut Buses,
+    taken: &mut Vec<Taken>,
+    first: usize,
+    rng: &mut Xoshiro256PlusPlus,
+) -> bool
+    requires buses { AreBuses buses.old }
+    requires times { AreTimesOn buses.old times.now }
+    requires first { first < length buses.old.slots.items }
+    requires taken { All (IsTaken (length buses.old.widths.items) (length buses.old.slots.items)) taken.old.items }
+    ensures buses { AreBuses buses.new }
+    ensures alike { AreAlike buses.old buses.new }
+    ensures taken { All (IsTaken (length buses.old.widths.items) (length buses.old.slots.items)) taken.new.items }
+{
+    let count = (2 + below(rng, DEALT_MOST - 1)).min(taken.len());
+    take_all(times, buses, taken, count, first, rng);
+    let changed = deal_all(times, buses, taken, count, rng);
+    settle_loads(times, buses, taken, count);
+    changed
+}

@@ -1,0 +1,82 @@
+//! The kinds of change of the buses of a state, with how often each is drawn.
+ghost use Rattle.std.specs.Prelude.{◌≤◌};
+ghost use Rattle.arch_search.specs.Kinds.{HasEachKind};
+
+use crate::draws::below;
+use rand_xoshiro::Xoshiro256PlusPlus;
+
+/// What is changed. Two modules are drawn for it, a first one and a second one.
+#[derive(Clone, Copy, PartialEq, Eq, Debug)]
+pub enum Kind {
+    /// The first module goes to the bus of the second.
+    Move,
+    /// The first module's bus goes to the second one's, with its wires.
+    Merge,
+    /// The first module's bus is split.
+    Split,
+    /// The first module and some others are dealt again.
+    DealModules,
+    /// The modules of both buses are dealt again, and their wires.
+    DealBuses,
+}
+
+/// A kind with its weight.
+#[derive(Clone, Copy, Debug)]
+pub struct Weighted {
+    /// The kind.
+    pub kind: Kind,
+    /// Of as many draws as all weights together it comes in so many.
+    pub weight: usize,
+}
+
+/// The table of the kinds. Each kind stands in it.
+fn table() -> [Weighted; 5]
+    ensures { HasEachKind result }
+{
+    [
+        Weighted {
+            kind: Kind::Move,
+            weight: 1,
+        },
+        Weighted {
+            kind: Kind::Merge,
+            weight: 1,
+        },
+        Weighted {
+            kind: Kind::Split,
+            weight: 1,
+        },
+        Weighted {
+            kind: Kind::DealModules,
+            weight: 1,
+        },
+        Weighted {
+            kind: Kind::DealBuses,
+            weight: 1,
+        },
+    ]
+}
+
+/// All weights together, one at least.
+fn all_weights(kinds: &[Weighted]) -> usize
+    ensures { 1 ≤ result }
+{
+    let mut sum: usize = 0;
+    for one in kinds {
+        sum = sum.saturating_add(one.weight);
+    }
+    sum.max(1)
+}
+
+/// A kind that is drawn, each by its weight.
+pub(crate) fn drawn_kind(rng: &mut Xoshiro256PlusPlus) -> Kind {
+    let kinds = table();
+    let mut left = below(rng, all_weights(&kinds));
+    for one in kinds {
+        if left < one.weight {
+            return one.kind;
+        }
+        left -= one.weight;
+    }
+    Kind::Move
+}

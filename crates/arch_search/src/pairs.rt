@@ -1,0 +1,116 @@
+//! A change of the buses of a state: the wires and the modules of two buses are dealt again.
+ghost use Rattle.std.specs.Prelude.{◌<◌, ◌≤◌, length};
+ghost use Rattle.arch_search.specs.States.{AreBuses, AreAlike, AreTimesOn};
+
+use crate::buses::Buses;
+use crate::draws::{below, coin, often};
+use crate::times::Times;
+use rand_xoshiro::Xoshiro256PlusPlus;
+
+/// How many modules are on two buses.
+fn count_on(buses: &Buses, one: usize, other: usize) -> usize {
+    buses
+        .slots
+        .iter()
+        .filter(|slot| **slot == one || **slot == other)
+        .count()
+}
+
+/// Deals the wires of two buses again, so that each has one at least.
+fn deal_wires(buses: &mut Buses, one: usize, other: usize, rng: &mut Xoshiro256PlusPlus)
+    requires buses { AreBuses buses.old }
+    requires one { one < length buses.old.widths.items }
+    requires other { other < length buses.old.widths.items }
+    ensures buses { AreBuses buses.new }
+    ensures alike { AreAlike buses.old buses.new }
+{
+    buses.hand_on(other, one);
+    let both = buses.widths[one];
+    if both < 2 {
+        return;
+    }
+    let wires = 1 + below(rng, both as usize - 1) as u64;
+    buses.move_wires(one, other, wires);
+}
+
+/// Deals a module of two buses: it goes to the one that would end earlier with it, three times in four, else to the other.
+fn deal_module(
+    times: &Times,
+    buses: &mut Buses,
+    module: usize,
+    one: usize,
+    other: usize,
+    rng: &mut Xoshiro256PlusPlus,
+)
+    requires buses { AreBuses buses.old }
+    requires times { AreTimesOn buses.old times.now }
+    requires there { «module» < length buses.old.slots.items }
+    requires one { one < length buses.old.widths.items }
+    requires other { other < length buses.old.widths.items }
+    ensures buses { AreBuses buses.new }
+    ensures alike { AreAlike buses.old buses.new }
+{
+    let end = buses.end_with(times, module, one);
+    let other_end = buses.end_with(times, module, other);
+    if (end <= other_end) == often(rng) {
+        buses.put(module, one);
+        buses.set_load(one, end);
+    } else {
+        buses.put(module, other);
+        buses.set_load(other, other_end);
+    }
+}
+
+/// Deals the modules of two buses again, those of the most cycles first.
+fn deal_modules_of(
+    times: &Times,
+    buses: &mut Buses,
+    one: usize,
+    other: usize,
+    rng: &mut Xoshiro256PlusPlus,
+)
+    requires buses { AreBuses buses.old }
+    requires times { AreTimesOn buses.old times.now }
+    requires one { one < length buses.old.widths.items }
+    requires other { other < length buses.old.widths.items }
+    ensures buses { AreBuses buses.new }
+    ensures alike { AreAlike buses.old buses.new }
+{
+    let half = buses.half_of(one, other);
+    buses.set_load(one, 0);
+    buses.set_load(other, 0);
+    for module in times.ranked(half) {
+        let slot = buses.slot_of(*module);
+        if slot == one || slot == other {
+            deal_module(times, buses, *module, one, other, rng);
+        }
+    }
+}
+
+/// Deals the modules of two buses again, which have three at least, and by even chance the wires too. A bus that is left without
+/// modules gives its wires to the other. Whether anything changed.
+pub(crate) fn deal_buses(
+    times: &Times,
+    buses: &mut Buses,
+    one: usize,
+    other: usize,
+    rng: &mut Xoshiro256PlusPlus,
+) -> bool
+    requires buses { AreBuses buses.old }
+    requires times { AreTimesOn buses.old times.now }
+    requires one { one < length buses.old.widths.items }
+    requires other { other < length buses.old.widths.items }
+    ensures buses { AreBuses buses.new }
+    ensures alike { AreAlike buses.old buses.new }
+{
+    if one == other || count_on(buses, one, other) < 3 {
+        return false;
+    }
+    if coin(rng) {
+        deal_wires(buses, one, other, rng);
+    }
+    deal_modules_of(times, buses, one, other, rng);
+    buses.release(times, one, other);
+    buses.release(times, other, one);
+    true
+}

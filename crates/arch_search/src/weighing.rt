@@ -1,0 +1,179 @@
+//! What a state of the search costs: the cycles that its tests take.
+ghost use Rattle.std.specs.Prelude.{◌≡◌, ◌<◌, length};
+ghost use Rattle.std.specs.List.{All};
+ghost use Rattle.resource_table.specs.Schedules.{IsSoundTable};
+ghost use Rattle.arch_search.specs.States.{AreBuses};
+ghost use Rattle.arch_search.specs.Problems.{IsProblem, IsStateOf};
+ghost use Rattle.arch_search.specs.Rooms.{HasRoomFor, AreShort};
+ghost use Rattle.arch_search.specs.Settings.{IsSetting};
+
+use crate::buses::Buses;
+use crate::chains::{draw_too_much, set_chains};
+use crate::order::advance_drawn;
+use crate::problem::Problem;
+use crate::room::Room;
+use crate::scheduling::{Ends, place_order, send};
+use crate::setting::Setting;
+use crate::state::State;
+use plan_model::START_MOST;
+use rand_xoshiro::Xoshiro256PlusPlus;
+use resource_table::TableOf;
+use std::mem;
+
+/// The cycles that all tests take together, where nothing but the wires binds.
+fn all_cycles(setting: &Setting<'_>, buses: &Buses) -> u64 {
+    let mut sum = setting.longest_self_test;
+    for load in &buses.loads {
+        sum = sum.saturating_add(*load);
+    }
+    sum
+}
+
+/// When the tests end, where nothing but the wires binds: with the fullest bus, or the longest self test. None where that is after
+/// `most` cycles.
+fn load_ends(setting: &Setting<'_>, buses: &Buses, most: u64) -> Option<Ends>
+    requires { AreBuses buses.now }
+{
+    let late = buses.fullest();
+    let load = match late {
+        Some(slot) => buses.loads[slot],
+        None => 0,
+    };
+    let cycles = load.max(setting.longest_self_test);
+    if cycles > most || all_cycles(setting, buses) > START_MOST {
+        return None;
+    }
+    Some(Ends::at(cycles, late))
+}
+
+/// Whether the tests, as they were sent, could end within so many cycles, by their chains of precedences and by their power.
+fn could_end(setting: &Setting<'_>, order: &[usize], room: &mut Room, most: u64) -> bool
+    requires setting { IsSetting setting.now }
+    requires order { All (λ test. test < length setting.now.problem.now.tests.items) order.now }
+    requires room { HasRoomFor setting.now.problem.now room.old }
+    ensures room { HasRoomFor setting.now.problem.now room.new }
+    ensures cycles { room.new.cycles ≡ room.old.cycles }
+{
+    let longest = set_chains(
+        &setting.problem.before,
+        order,
+        &room.cycles,
+        &mut room.chains,
+    );
+    if longest > most {
+        return false;
+    }
+    match setting.job.power {
+        Some(limit) => !draw_too_much(setting.job, &room.cycles, limit, most),
+        None => true,
+    }
+}
+
+/// Places the tests by their chains of precedences, the longest first. Where they end within `most` cycles, that is the order of
+/// the state from then on.
+fn place_by_chains<J>(
+    problem: &Problem,
+    table: &mut TableOf<J>,
+    state: &mut State,
+    room: &mut Room,
+    most: u64,
+) -> Option<Ends>
+    requires problem { IsProblem table.old.job problem.now }
+    requires sound { IsSoundTable table.old }
+    requires state { IsStateOf problem.now state.old }
+    requires room { HasRoomFor problem.now room.old }
+    requires short { AreShort room.old.cycles.items }
+    ensures problem { IsProblem table.new.job problem.now }
+    ensures sound { IsSoundTable table.new }
+    ensures state { IsStateOf problem.now state.new }
+    ensures room { HasRoomFor problem.now room.new }
+    ensures cycles { room.new.cycles ≡ room.old.cycles }
+{
+    room.order_by_chains();
+    mem::swap(&mut state.order, &mut room.second);
+    if let Ok(ends) = place_order(problem, table, &state.order, room, most) {
+        return Some(ends);
+    }
+    mem::swap(&mut state.order, &mut room.second);
+    None
+}
+
+/// Places the tests in the order of a state; where they don't end within `most` cycles, by their chains; and where they still don't,
+/// with the first one that was refused at an earlier place. The order that serves is that of the state from then on.
+fn place_somehow<J>(
+    problem: &Problem,
+    table: &mut TableOf<J>,
+    state: &mut State,
+    room: &mut Room,
+    most: u64,
+    rng: &mut Xoshiro256PlusPlus,
+) -> Option<Ends>
+    requires problem { IsProblem table.old.job problem.now }
+    requires sound { IsSoundTable table.old }
+    requires state { IsStateOf problem.now state.old }
+    requires room { HasRoomFor problem.now room.old }
+    requires short { AreShort room.old.cycles.items }
+    ensures problem { IsProblem table.new.job problem.now }
+    ensures sound { IsSoundTable table.new }
+    ensures state { IsStateOf problem.now state.new }
+    ensures room { HasRoomFor problem.now room.new }
+{
+    let refused = match place_order(problem, table, &state.order, room, most) {
+        Ok(ends) => return Some(ends),
+        Err(place) => place,
+    };
+    if let Some(ends) = place_by_chains(problem, table, state, room, most) {
+        return Some(ends);
+    }
+    if !advance_drawn(&problem.before, &mut state.order, refused, rng) {
+        return None;
+    }
+    place_order(problem, table, &state.order, room, most).ok()
+}
+
+/// When the tests of a state end; None where that is after `most` cycles.
+pub(crate) fn weigh<J>(
+    setting: &Setting<'_>,
+    table: &mut TableOf<J>,
+    state: &mut State,
+    room: &mut Room,
+    most: u64,
+    rng: &mut Xoshiro256PlusPlus,
+) -> Option<Ends>
+    requires setting { IsSetting setting.now }
+    requires problem { IsProblem table.old.job setting.now.problem.now }
+    requires sound { IsSoundTable table.old }
+    requires state { IsStateOf setting.now.problem.now state.old }
+    requires room { HasRoomFor setting.now.problem.now room.old }
+    ensures problem { IsProblem table.new.job setting.now.problem.now }
+    ensures sound { IsSoundTable table.new }
+    ensures state { IsStateOf setting.now.problem.now state.new }
+    ensures room { HasRoomFor setting.now.problem.now room.new }
+{
+    if setting.wires_alone {
+        return load_ends(setting, &state.buses, most);
+    }
+    if !send(setting.problem, &state.buses, room) {
+        return None;
+    }
+    if !could_end(setting, &state.order, room, most) {
+        return None;
+    }
+    place_somehow(setting.problem, table, state, room, most, rng)
+}
+
+/// Makes the schedule of a state.
+pub(crate) fn finish<J>(problem: &Problem, table: &mut TableOf<J>, state: &State, room: &mut Room)
+    requires problem { IsProblem table.old.job problem.now }
+    requires sound { IsSoundTable table.old }
+    requires state { IsStateOf problem.now state.now }
+    requires room { HasRoomFor problem.now room.old }
+    ensures problem { IsProblem table.new.job problem.now }
+    ensures sound { IsSoundTable table.new }
+    ensures room { HasRoomFor problem.now room.new }
+{
+    if !send(problem, &state.buses, room) {
+        return;
+    }
+    let _ends = place_order(problem, table, &state.order, room, u64::MAX);
+}
