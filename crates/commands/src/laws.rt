@@ -1,5 +1,5 @@
-// The law that the files of a command say one thing. It is the contract of a function that does nothing: a caller learns it
-// by the call.
+//! The law that the files of a command say one thing. It is the contract of a function that does nothing: a caller learns it
+//! by the call.
 ghost use Rattle.commands.specs.Settled.{FilesSayOneThing};
 
 use limits_text::texts_have_one_answer;

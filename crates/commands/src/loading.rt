@@ -1,4 +1,4 @@
-// Loads and reads the files of a command, each only where the ones before it are taken.
+//! Loads and reads the files of a command, each only where the ones before it are taken.
 ghost use Rattle.std.specs.Prelude.{◌≡◌, ◌≤◌, IfOk};
 ghost use Rattle.soc_model.specs.Chips.{soc_value};
 ghost use Rattle.soc_model.specs.SoundChips.{IsSoundChip};

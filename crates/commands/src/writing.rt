@@ -1,4 +1,4 @@
-// The end of a call: what was decided is written, once.
+//! The end of a call: what was decided is written, once.
 ghost use Rattle.std.specs.Prelude.{◌≤◌};
 ghost use Rattle.commands.specs.Ends.{IsWritten, Writes};
 

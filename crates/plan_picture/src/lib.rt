@@ -1,4 +1,4 @@
-// The top call of `picture`, which draws the plan of three files, beside that of the eleven commands.
+//! The top call of `picture`, which draws the plan of three files, beside that of the eleven commands.
 #![tactic(auto)]
 
 mod top;

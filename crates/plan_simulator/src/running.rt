@@ -1,4 +1,4 @@
-// A whole chip is stepped through its plan.
+//! A whole chip is stepped through its plan.
 ghost use Rattle.std.specs.Prelude.{◌≡◌, ℕ, ◌+◌, ◌*◌, ◌<◌, ◌≤◌, length, max, nat_lt, IfOk};
 ghost use Rattle.soc_model.specs.Chips.{SocValue, soc_value};
 ghost use Rattle.soc_model.specs.SoundChips.{IsSoundChip};

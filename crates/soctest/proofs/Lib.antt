@@ -7,7 +7,6 @@ mod MadeLimits
 mod NamedTests
 pub mod PartsServed
 pub mod ProgramAnswers
-mod Rows
 pub mod SettledCommands
 pub mod TreeFiles
 pub mod WidthLines

@@ -1,4 +1,4 @@
-// Loads and reads a fail log, and answers which cells its fails name.
+//! Loads and reads a fail log, and answers which cells its fails name.
 ghost use Rattle.std.specs.Prelude.{◌≡◌, ◌≤◌};
 ghost use Rattle.soc_model.specs.Chips.{soc_value};
 ghost use Rattle.soc_model.specs.SoundChips.{IsSoundChip};

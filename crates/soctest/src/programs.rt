@@ -1,4 +1,4 @@
-// What `shift` answers of a program.
+//! What `shift` answers of a program.
 ghost use Rattle.std.specs.Prelude.{◌≡◌, ◌^◌, ◌≤◌, None, Some, IfOk, IfSome, IfNone, IsTrue, map, slice_get, true};
 ghost use Rattle.std.specs.List.{All};
 ghost use Rattle.soc_model.specs.declared.Test.{Test};

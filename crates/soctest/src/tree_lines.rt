@@ -1,4 +1,4 @@
-// The lines that are written of width trees.
+//! The lines that are written of width trees.
 ghost use Rattle.std.specs.Prelude.{◌≡◌, IfOk, IsTrue};
 ghost use Rattle.width_tree.specs.Trees.{tree_value};
 ghost use Rattle.width_tree.specs.declared.TreeFault.TheVariants.{Less};

@@ -1,4 +1,4 @@
-// Loads, reads and checks a width tree for a chip under limits that are read, and answers its bound.
+//! Loads, reads and checks a width tree for a chip under limits that are read, and answers its bound.
 ghost use Rattle.std.specs.Prelude.{◌≡◌, ◌≤◌};
 ghost use Rattle.soc_model.specs.Chips.{soc_value};
 ghost use Rattle.soc_model.specs.SoundChips.{IsSoundChip};

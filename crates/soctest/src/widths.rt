@@ -1,4 +1,4 @@
-// The text of `widths`.
+//! The text of `widths`.
 ghost use Rattle.std.specs.Prelude.{◌≡◌, ◌++◌, ◌≤◌, ◌<◌, Some, OnOk, IfOk, slice_get};
 ghost use Rattle.soc_model.specs.Chips.{soc_value, module_value};
 ghost use Rattle.soc_model.specs.SoundChips.{IsSoundChip};
