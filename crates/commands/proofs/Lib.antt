@@ -3,6 +3,7 @@ pub mod Completeness
 pub mod FileStages
 pub mod LineFacts
 pub mod Refusals
+pub mod OwnFiles
 mod Rows
 pub mod SaidOnce
 pub mod Settled

@@ -5,6 +5,7 @@ mod LiveCounts
 pub mod LogFiles
 mod MadeLimits
 mod NamedTests
+pub mod OwnFiles
 pub mod PartsServed
 pub mod ProgramAnswers
 pub mod SettledCommands

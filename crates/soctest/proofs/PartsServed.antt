@@ -1,5 +1,5 @@
 -- The command over parts: its refusal, its answer, and that each pattern of the chip that was cut is loaded and read once.
-use Rattle.std.proofs.Common.{◌≡◌, ℕ, ◌+◌, ◌-◌, ◌≤◌, true, List, Option, None, Some, IfSome, option_map, refl, sym, ap, ◌∙◌, subst, arith}
+use Rattle.std.proofs.Common.{◌≡◌, ℕ, ◌+◌, ◌-◌, ◌≤◌, true, List, Option, None, Some, option_map, refl, sym, ap, ◌∙◌, subst, arith}
 use Rattle.std.specs.Prelude.{slice_get}
 use Rattle.std.specs.FinMap.{get}
 use Rattle.std.proofs.lemmas.Option.{same_Some}
@@ -26,8 +26,6 @@ use Rattle.split_plan.specs.Parts.{split_chip, split_limits, split_parts, split_
 use Rattle.split_plan.proofs.Lists.{at_map}
 use Rattle.split_plan.proofs.PartContents.{contents}
 use Rattle.split_plan.proofs.PartLaws.{each_once, are_parts}
-use Rattle.soctest.specs.declared.Command.{Command}
-use Rattle.soctest.specs.declared.Command.TheVariants as command
 use Rattle.commands.specs.declared.FileKind.TheVariants.{Soc, Limits}
 use Rattle.commands.specs.declared.Status.TheVariants.{Done}
 use Rattle.commands.specs.Answers.{Answers}

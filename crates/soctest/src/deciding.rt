@@ -20,11 +20,9 @@ ghost use Rattle.commands.specs.Ends.{IsCommand};
 
 use crate::ending::Ending;
 use crate::lines::accepted_line;
-use crate::logs::answer_log;
-use crate::programs::answer_program_file;
+use crate::own_files::{OwnFile, answer_own_file};
 use crate::samples::decide_sample;
 use crate::splitting::decide_split;
-use crate::trees::answer_tree;
 use crate::widths::widths_text;
 use chart::print_chart;
 use commands::{
@@ -178,7 +176,11 @@ fn decide_tree<H: Shelf>(
 {
     match load_both(alloc, soc, limits, shelf) {
         Ok(both) => {
-            let verdict = answer_tree(alloc, &both.soc, &both.limits, tree, shelf);
+            let own = OwnFile::Tree {
+                soc: &both.soc,
+                limits: &both.limits,
+            };
+            let verdict = answer_own_file(alloc, own, tree, shelf);
             drop(both);
             verdict
         }
@@ -202,7 +204,11 @@ fn decide_locate<H: Shelf>(
     match load_all(alloc, soc, limits, plan, shelf) {
         Ok(all) => {
             good_without_limits();
-            let verdict = answer_log(alloc, &all.soc, &all.plan, log, shelf);
+            let own = OwnFile::Log {
+                soc: &all.soc,
+                plan: &all.plan,
+            };
+            let verdict = answer_own_file(alloc, own, log, shelf);
             drop(all);
             verdict
         }
@@ -225,14 +231,12 @@ fn decide_shift<H: Shelf>(
 {
     match load_all(alloc, soc, limits, plan, shelf) {
         Ok(all) => {
-            let verdict = answer_program_file(
-                alloc,
-                &all.soc,
-                &all.limits,
-                &all.plan,
-                program,
-                shelf,
-            );
+            let own = OwnFile::Program {
+                soc: &all.soc,
+                limits: &all.limits,
+                plan: &all.plan,
+            };
+            let verdict = answer_own_file(alloc, own, program, shelf);
             drop(all);
             verdict
         }

@@ -7,6 +7,7 @@ mod ending;
 mod fails;
 mod lines;
 mod logs;
+mod own_files;
 mod programs;
 mod samples;
 mod splitting;

@@ -7,7 +7,7 @@ ghost use Rattle.plan_model.specs.SoundLimits.{IsSoundLimits};
 ghost use Rattle.plan_model.specs.Views.{limits_value, plan_value};
 ghost use Rattle.planner.specs.Plans.{IsPlanned};
 ghost use Rattle.split_plan.specs.Parts.{split_chip, split_limits, split_of as parts_of, split_value};
-ghost use Rattle.commands.specs.Commands.{Split};
+ghost use Rattle.commands.specs.Commands.{Split as SplitTests};
 ghost use Rattle.commands.specs.Decides.{Follows, GivesAny};
 ghost use Rattle.soctest.specs.Procedures.{procedure_of};
 ghost use Rattle.soctest.specs.SplitText.{part_line, parts_text, soc_and_limits, split_line as split_line_text, split_refusal, split_text as text_of_parts};
@@ -126,7 +126,7 @@ pub(crate) fn decide_split<H: Shelf>(
     requires { 1 ≤ most }
     ensures held_stays { H.held shelf.new ≡ H.held shelf.old }
     ensures faults_never_fall { H.faults shelf.old ≤ H.faults shelf.new }
-    ensures follows { Follows (procedure_of (Split soc.now limits.now most)) (H.held shelf.old) (H.faults shelf.old) (H.faults shelf.new) result }
+    ensures follows { Follows (procedure_of (SplitTests soc.now limits.now most)) (H.held shelf.old) (H.faults shelf.old) (H.faults shelf.new) result }
 {
     match load_both(alloc, soc, limits, shelf) {
         Ok(both) => answer_split(alloc, &both.soc, &both.limits, most),
