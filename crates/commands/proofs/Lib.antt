@@ -3,8 +3,11 @@ pub mod Completeness
 pub mod FileStages
 pub mod LineFacts
 pub mod Refusals
+pub mod OwnFiles
+mod Rows
 pub mod SaidOnce
 pub mod Settled
 pub mod Trusted
 pub mod UnlessRefused
+pub mod WordLaws
 pub mod Written

@@ -125,6 +125,16 @@ abbrev pub LoadsAll : (soc limits plan : List ℕ) → Option Files → ℕ → 
 LoadsAll soc limits plan held before after (Ok all) = IfSome held (λ files. AreRead files soc limits plan all)
 LoadsAll soc limits plan held before after (Err verdict) = Follows (with_all soc limits plan (λ chip bounds value. nothing)) held before after verdict
 
+-- ---- a file of a command's own
+
+-- The verdict on the bytes of such a file: the answer to what they say, or the line that refuses them, or want of memory.
+abbrev pub AnswersBytes : {V : Type 0} → (Says : List ℕ → V → Type 0) → (Refused' : List ℕ → List ℕ → Type 0) → (answer : V → List ℕ) → List ℕ → Verdict → Type 0
+AnswersBytes {V} Says Refused' answer bytes (Answered status text) =
+    ((status ≡ Done) × ((value : V) × Says bytes value × (text.items ≡ answer value)))
+    ⊎ ((status ≡ Refused) × Refused' bytes text.items × IsTrue (is_line text.items))
+AnswersBytes Says Refused' answer bytes (CannotRead file) = ⊥
+AnswersBytes Says Refused' answer bytes OutOfMemory = Unit {0}
+
 -- ---- texts that aren't taken
 
 -- a verdict is this line, or wants memory

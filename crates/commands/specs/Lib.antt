@@ -1,4 +1,5 @@
 pub mod Answers
+pub mod Commands
 pub mod Decides
 pub mod Ends
 pub mod Procedures

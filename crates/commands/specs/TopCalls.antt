@@ -1,27 +1,23 @@
 -- Which top call takes the words of a command line.
-use Rattle.std.specs.Prelude.{ℕ, List, [], ◌∷◌, codes, map, nat_eq, string_bytes, if◌then◌else◌}
-use Rattle.std.specs.Cmp.Lexicographic.{pointwise}
+use Rattle.std.specs.Prelude.{Option, None, Some}
+use Rattle.commands.specs.Commands.{CommandValue, Print, Widths, Plan, Check, Chart, Vectors, Sample, Locate, Tree, Split, Shift, Improve, Picture, Simulate}
 use Rattle.commands.specs.declared.top_calls.TopCall.{TopCall}
 use Rattle.commands.specs.declared.top_calls.TopCall.TheVariants as top_call
 
--- a top call with the words that it takes
-pub data TopCallValue : Type 0 where
-  Improve : (words : List (List ℕ)) → TopCallValue
-  Picture : (words : List (List ℕ)) → TopCallValue
-  Simulate : (words : List (List ℕ)) → TopCallValue
-  Soctest : (words : List (List ℕ)) → TopCallValue
-
-abbrev pub top_call_value : TopCall → TopCallValue
-top_call_value (top_call.Improve words) = Improve (map string_bytes words.now)
-top_call_value (top_call.Picture words) = Picture (map string_bytes words.now)
-top_call_value (top_call.Simulate words) = Simulate (map string_bytes words.now)
-top_call_value (top_call.Soctest words) = Soctest (map string_bytes words.now)
-
--- the words `improve`, `picture` and `simulate` are taken away from what stands behind them; all other words stay as they are
-unfoldable pub top_call_of : List (List ℕ) → TopCallValue
-top_call_of [] = Soctest []
-top_call_of (first ∷ behind) =
-    if pointwise nat_eq first (codes "improve") then Improve behind
-    else if pointwise nat_eq first (codes "picture") then Picture behind
-    else if pointwise nat_eq first (codes "simulate") then Simulate behind
-    else Soctest (first ∷ behind)
+-- `improve`, `picture` and `simulate` have a top call each; all other words go to that of the eleven commands
+abbrev pub top_call_of : Option CommandValue → TopCall
+top_call_of None = top_call.Soctest
+top_call_of (Some (Print soc)) = top_call.Soctest
+top_call_of (Some (Widths soc wires)) = top_call.Soctest
+top_call_of (Some (Plan soc limits)) = top_call.Soctest
+top_call_of (Some (Check soc limits plan)) = top_call.Soctest
+top_call_of (Some (Chart soc limits plan)) = top_call.Soctest
+top_call_of (Some (Vectors soc limits plan seed)) = top_call.Soctest
+top_call_of (Some (Sample n seed)) = top_call.Soctest
+top_call_of (Some (Locate soc limits plan log)) = top_call.Soctest
+top_call_of (Some (Tree soc limits tree)) = top_call.Soctest
+top_call_of (Some (Split soc limits most)) = top_call.Soctest
+top_call_of (Some (Shift soc limits plan program)) = top_call.Soctest
+top_call_of (Some (Improve soc limits plan tries seed)) = top_call.Improve
+top_call_of (Some (Picture soc limits plan)) = top_call.Picture
+top_call_of (Some (Simulate soc limits plan seed)) = top_call.Simulate

@@ -1,5 +1,5 @@
-//! What commands over files have in common: how their files are loaded and refused, how they are decided, and the one place
-//! that writes. A program over it gives its words, its procedures and its texts.
+//! What commands over files have in common: their words, how their files are loaded and refused, how they are decided, and the
+//! one place that writes. A program over it gives its procedures and its texts.
 #![tactic(auto)]
 
 ghost use Rattle.std.specs.Prelude.{◌≡◌};
@@ -12,19 +12,112 @@ mod words;
 mod writing;
 
 pub use laws::files_say_one_thing;
-pub use lines::{limit_word, numbered, push, push_decimal, push_test, push_two};
+pub use lines::{limit_word, numbered, push, push_decimal, push_test, push_two, run_line};
 pub use loading::{
     Accepted, Both, answered_with, bad_words, load_accepted_plan, load_all, load_both, load_chip,
     load_file, load_limits, refused_with,
 };
 pub use top_calls::{TopCall, top_call};
-pub use words::words_after_name;
+pub use words::{command_of, each_command_has_words, words_after_name};
 pub use writing::write_verdict;
 
 /// The greatest length of a .soc file, a limits file, a log, a tree or a program, in bytes.
 pub const FILE_MOST: u64 = 1_048_576;
 /// The greatest length of a plan file, in bytes.
 pub const PLAN_FILE_MOST: u64 = 33_554_432;
+
+/// The most tries of `improve`.
+pub const TRIES_MOST: u64 = 10_000_000;
+
+/// A command, with the names of its files and its numbers in the order of its words.
+#[derive(Clone, Copy)]
+pub enum Command<'a> {
+    /// The text of a chip, in one form.
+    Print {
+        soc: &'a str,
+    },
+    /// The cycles that the tests of each module take over 1 to so many wires.
+    Widths {
+        soc: &'a str,
+        wires: u64,
+    },
+    /// A plan for a chip under limits.
+    Plan {
+        soc: &'a str,
+        limits: &'a str,
+    },
+    /// Whether a plan is good, and its certificate accepted.
+    Check {
+        soc: &'a str,
+        limits: &'a str,
+        plan: &'a str,
+    },
+    /// The schedule of a plan that is accepted, as text.
+    Chart {
+        soc: &'a str,
+        limits: &'a str,
+        plan: &'a str,
+    },
+    /// What a tester drives and compares in a plan that is accepted, with contents that are made from a seed.
+    Vectors {
+        soc: &'a str,
+        limits: &'a str,
+        plan: &'a str,
+        seed: u64,
+    },
+    /// A made chip of so many modules, planned and checked.
+    Sample {
+        n: u64,
+        seed: u64,
+    },
+    /// The cells that a fail log of a plan that is accepted names.
+    Locate {
+        soc: &'a str,
+        limits: &'a str,
+        plan: &'a str,
+        log: &'a str,
+    },
+    /// The bound of a width tree that is accepted, in cycles.
+    Tree {
+        soc: &'a str,
+        limits: &'a str,
+        tree: &'a str,
+    },
+    /// The tests cut into parts of so many patterns, and a plan of the parts.
+    Split {
+        soc: &'a str,
+        limits: &'a str,
+        most: u64,
+    },
+    /// Whether a program of Shifts, Captures and Rests is right for its test in a plan that is accepted.
+    Shift {
+        soc: &'a str,
+        limits: &'a str,
+        plan: &'a str,
+        program: &'a str,
+    },
+    /// A plan of no more cycles than one that is accepted, by so many tries with draws from a seed.
+    Improve {
+        soc: &'a str,
+        limits: &'a str,
+        plan: &'a str,
+        tries: u64,
+        seed: u64,
+    },
+    /// The picture of a plan that is accepted.
+    Picture {
+        soc: &'a str,
+        limits: &'a str,
+        plan: &'a str,
+    },
+    /// The counts of a chip that is stepped through a plan that is accepted, with contents that are made from a seed.
+    Simulate {
+        soc: &'a str,
+        limits: &'a str,
+        plan: &'a str,
+        seed: u64,
+    },
+}
 
 /// How a call ended. Its number is the status of the program.
 #[derive(Clone, Copy, PartialEq, Eq, Debug)]

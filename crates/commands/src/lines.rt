@@ -2,7 +2,7 @@
 ghost use Rattle.std.specs.Prelude.{◌≡◌, ◌++◌, ◌&&◌, OnOk, IfOk, decimal, codes, IsTrue};
 ghost use Rattle.bound_certificate.specs.Checks.{certificate_fault};
 ghost use Rattle.plan_checker.specs.FaultValues.{fault_value};
-ghost use Rattle.commands.specs.Texts.{is_line, no_feed, unread_line as unread_text, too_long_line as too_long_text, chip_line as chip_line_text, chip_limit_line as chip_limit_text, limits_line as limits_line_text, unknown_test_line as unknown_test_text, tests_text, cycle_line as cycle_line_text, test_power_line as test_power_text, plan_line as plan_line_text, limit_name, test_text, wrapper_text, pair_text, clash_text, two_numbers, certificate_text, fault_keyword, carried_text, fault_line as fault_line_text};
+ghost use Rattle.commands.specs.Texts.{is_line, no_feed, unread_line as unread_text, too_long_line as too_long_text, chip_line as chip_line_text, chip_limit_line as chip_limit_text, limits_line as limits_line_text, unknown_test_line as unknown_test_text, tests_text, cycle_line as cycle_line_text, test_power_line as test_power_text, plan_line as plan_line_text, limit_name, test_text, wrapper_text, pair_text, clash_text, two_numbers, certificate_text, fault_keyword, carried_text, fault_line as fault_line_text, run_line as run_line_text};
 
 use crate::FileKind;
 use bound_certificate::BoundFault;
@@ -292,4 +292,12 @@ pub(crate) fn fault_line(alloc: Global, fault: &PlanFault) -> Result<Vec<u8>, No
     push_carried(&mut text, fault)?;
     push(&mut text, b"\n")?;
     Ok(text)
+}
+
+/// `refused run` and the wire cycles of the run.
+pub fn run_line(alloc: Global, cells: u128) -> Result<Vec<u8>, NoMemory>
+    ensures text { IfOk result (λ text. text.items ≡ run_line_text cells) }
+    ensures line { IfOk result (λ text. IsTrue (is_line text.items)) }
+{
+    numbered(alloc, b"refused run ", cells)
 }

@@ -1,36 +1,45 @@
 //! Which top call takes the words of a command line: that of the eleven commands, or that of a command beside them.
 ghost use Rattle.std.specs.Prelude.{◌≡◌, map, string_bytes};
-ghost use Rattle.commands.specs.TopCalls.{top_call_of, top_call_value};
+ghost use Rattle.commands.specs.Commands.{command_of as asked_command};
+ghost use Rattle.commands.specs.TopCalls.{top_call_of};
 
-/// The top call that takes the words of a command line, with the words that it takes.
-#[derive(Clone, Copy)]
-pub enum TopCall<'a> {
-    /// That of `improve`, with the words behind this one.
-    Improve { words: &'a [String] },
-    /// That of `picture`, with the words behind this one.
-    Picture { words: &'a [String] },
-    /// That of `simulate`, with the words behind this one.
-    Simulate { words: &'a [String] },
-    /// That of the eleven commands, with all words. It also takes words that are no command.
-    Soctest { words: &'a [String] },
+use crate::Command;
+use crate::words::command_of;
+
+/// A top call. Each takes the whole words of a command line.
+#[derive(Clone, Copy, PartialEq, Eq, Debug)]
+pub enum TopCall {
+    /// That of the eleven commands, which also answers words that are no command.
+    Soctest,
+    /// That of `improve`.
+    Improve,
+    /// That of `picture`.
+    Picture,
+    /// That of `simulate`.
+    Simulate,
 }
 
-/// The top call that takes these words, by the first of them.
-#[tactic(auto, unfolding(crate::specs::TopCalls::top_call_of))]
-pub fn top_call(words: &[String]) -> TopCall<'_>
-    ensures { top_call_value result ≡ top_call_of (map string_bytes words.now) }
+/// The top call that takes these words, by the command that they are.
+pub fn top_call(words: &[String]) -> TopCall
+    ensures { result ≡ top_call_of (asked_command (map string_bytes words.now)) }
 {
-    let [first, behind @ ..] = words else {
-        return TopCall::Soctest { words };
-    };
-    if first.as_str() == "improve" {
-        return TopCall::Improve { words: behind };
+    match command_of(words) {
+        Some(Command::Improve { .. }) => TopCall::Improve,
+        Some(Command::Picture { .. }) => TopCall::Picture,
+        Some(Command::Simulate { .. }) => TopCall::Simulate,
+        Some(
+            Command::Print { .. }
+            | Command::Widths { .. }
+            | Command::Plan { .. }
+            | Command::Check { .. }
+            | Command::Chart { .. }
+            | Command::Vectors { .. }
+            | Command::Sample { .. }
+            | Command::Locate { .. }
+            | Command::Tree { .. }
+            | Command::Split { .. }
+            | Command::Shift { .. },
+        )
+        | None => TopCall::Soctest,
     }
-    if first.as_str() == "picture" {
-        return TopCall::Picture { words: behind };
-    }
-    if first.as_str() == "simulate" {
-        return TopCall::Simulate { words: behind };
-    }
-    TopCall::Soctest { words }
 }

@@ -19,21 +19,22 @@ use Rattle.commands.proofs.Settled.{left_open}
 use Rattle.commands.proofs.Completeness.{settled_all}
 use Rattle.commands.proofs.Trusted.{TrustLaws, done_answer, stage_done, both_done, read_as_well}
 use Rattle.plan_improver.specs.Improved.{IsImproved}
-use Rattle.plan_improver.specs.Requests.{RequestValue, procedure_of}
+use Rattle.commands.specs.Commands.{CommandValue, Improve}
+use Rattle.plan_improver.specs.Requests.{procedure_of}
 use Rattle.plan_improver.specs.Headlines.{Improves, Headline}
 
 -- the text of an improved plan
 abbrev pub Improved : ℕ → SocValue → LimitsValue → PlanValue → List ℕ → Type 0
 Improved tries chip bounds given text = (value : PlanValue) × IsImproved chip bounds tries given value × (text ≡ plan_text value)
 
-pub settled_asked : FilesSayOneThing → (request : Option RequestValue) → IsSettled false (asked procedure_of request)
-settled_asked laws None = tt
-settled_asked laws (Some r) = settled_all laws false r.soc r.limits r.plan (λ chip bounds given. done_with_any (Improved r.tries chip bounds given)) (λ chip bounds given. left_open (Improved r.tries chip bounds given))
+pub settled_asked : FilesSayOneThing → (command : Option CommandValue) → IsSettled false (asked procedure_of command)
+settled_asked laws (Some (Improve soc limits plan tries seed)) = settled_all laws false soc limits plan (λ chip bounds given. done_with_any (Improved tries chip bounds given)) (λ chip bounds given. left_open (Improved tries chip bounds given))
+settled_asked laws other = tt
 
-improves : TrustLaws → PrintedPlansAreRead → (files : Files) (r : RequestValue) (text : List ℕ) (old new : Option (List ℕ)) → Answers (procedure_of r) files Done text → Appended old text new → Improves r files old new
-improves laws reads files r text old new answer put =
-    let b = both_done files r.soc r.limits text (λ chip bounds. with_accepted chip bounds r.plan (λ given. done_with_any (Improved r.tries chip bounds given))) answer in
-    let c = stage_done Plan (SaysAccepted b.0 b.1) (RefusesPlan b.0 b.1) (λ given. Answers (done_with_any (Improved r.tries b.0 b.1 given)) files) (get files r.plan) text b.4 in
+improves : TrustLaws → PrintedPlansAreRead → (files : Files) (soc limits plan : List ℕ) (tries seed : ℕ) (text : List ℕ) (old new : Option (List ℕ)) → Answers (procedure_of (Improve soc limits plan tries seed)) files Done text → Appended old text new → Improves soc limits plan tries files old new
+improves laws reads files soc limits plan tries seed text old new answer put =
+    let b = both_done files soc limits text (λ chip bounds. with_accepted chip bounds plan (λ given. done_with_any (Improved tries chip bounds given))) answer in
+    let c = stage_done Plan (SaysAccepted b.0 b.1) (RefusesPlan b.0 b.1) (λ given. Answers (done_with_any (Improved tries b.0 b.1 given)) files) (get files plan) text b.4 in
     record {
       chip = b.0;
       bounds = b.1;
@@ -41,7 +42,7 @@ improves laws reads files r text old new answer put =
       value = c.2.1.0;
       chip_is = b.2;
       limits_are = b.3;
-      given_is = read_as_well Plan (SaysAccepted b.0 b.1) SaysPlan (get files r.plan) c.0 (λ bytes says. says.0) c.1;
+      given_is = read_as_well Plan (SaysAccepted b.0 b.1) SaysPlan (get files plan) c.0 (λ bytes says. says.0) c.1;
       improved = c.2.1.1;
       right = λ content. laws.right b.0 b.1 c.2.1.0 content c.2.1.1.good;
       bound = laws.bound b.0 b.1 c.2.1.0.bound b.3.says.sound.some_wire c.2.1.1.accepted;
@@ -49,7 +50,7 @@ improves laws reads files r text old new answer put =
       reads_back = reads c.2.1.0 (c.2.1.1.in_range c.1.says.0.allowed);
     }
 
-pub headline : TrustLaws → PrintedPlansAreRead → (request : Option RequestValue) (held : Option Files) (sb sa kb ka : ℕ) (old new : Option (List ℕ)) (end : Status) → Ends (MayAnswer (asked procedure_of request) held sb sa) kb ka old end new → Headline request held old end new
-headline laws reads request held sb sa kb ka old new end ends files given is named done =
-    let a = done_answer (asked procedure_of request) held sb sa kb ka old new end files ends is done in
-    improves laws reads files given a.0 old new (subst (λ (q : Option RequestValue). Answers (asked procedure_of q) files Done a.0) named a.1) a.2
+pub headline : TrustLaws → PrintedPlansAreRead → (command : Option CommandValue) (held : Option Files) (sb sa kb ka : ℕ) (old new : Option (List ℕ)) (end : Status) → Ends (MayAnswer (asked procedure_of command) held sb sa) kb ka old end new → Headline command held old end new
+headline laws reads command held sb sa kb ka old new end ends files soc limits plan tries seed is named done =
+    let a = done_answer (asked procedure_of command) held sb sa kb ka old new end files ends is done in
+    improves laws reads files soc limits plan tries seed a.0 old new (subst (λ (q : Option CommandValue). Answers (asked procedure_of q) files Done a.0) named a.1) a.2

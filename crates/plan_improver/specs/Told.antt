@@ -1,8 +1,8 @@
 -- What is told of a search, line by line.
-use Rattle.std.specs.Prelude.{◌≡◌, ℕ, ◌-◌, ◌⊎◌, ◌++◌, List, Option, None, Some, codes, decimal, min}
+use Rattle.std.specs.Prelude.{◌≡◌, ℕ, ◌-◌, ◌⊎◌, ◌++◌, List, Option, Some, codes, decimal, min}
 use Rattle.std.specs.Int.{div_ceil}
 use Rattle.outside.specs.Held.{AppendedFront}
-use Rattle.plan_improver.specs.Requests.{RequestValue}
+use Rattle.commands.specs.Commands.{CommandValue, Improve}
 
 -- so many tries, and the best cycles so far
 abbrev pub told_line : (tries cycles : ℕ) → List ℕ
@@ -23,6 +23,6 @@ abbrev pub MayTell : (tries : ℕ) → (old new : Option (List ℕ)) → Type 0
 MayTell tries old new = (new ≡ old) ⊎ TellsDownTo tries (div_ceil tries 10) old 0 new
 
 -- and so for what the words ask for
-abbrev pub MayTellOf : Option RequestValue → (old new : Option (List ℕ)) → Type 0
-MayTellOf None old new = new ≡ old
-MayTellOf (Some r) old new = MayTell r.tries old new
+abbrev pub MayTellOf : Option CommandValue → (old new : Option (List ℕ)) → Type 0
+MayTellOf (Some (Improve soc limits plan tries seed)) old new = MayTell tries old new
+MayTellOf other old new = new ≡ old

@@ -1,5 +1,5 @@
 //! Decides how a call ends before anything is written.
-ghost use Rattle.std.specs.Prelude.{◌≡◌, ◌<◌, ◌≤◌, None, map, string_bytes, IfOk};
+ghost use Rattle.std.specs.Prelude.{◌≡◌, ◌<◌, ◌≤◌, map, string_bytes, IfOk};
 ghost use Rattle.soc_model.specs.Chips.{soc_value};
 ghost use Rattle.soc_model.specs.SoundChips.{IsSoundChip};
 ghost use Rattle.plan_model.specs.Plans.{PlanValue};
@@ -7,17 +7,19 @@ ghost use Rattle.plan_model.specs.SoundLimits.{IsSoundLimits};
 ghost use Rattle.plan_model.specs.Faults.{IsFaultless};
 ghost use Rattle.plan_model.specs.Views.{limits_value, plan_value};
 ghost use Rattle.plan_text.specs.PlanLines.{plan_text};
+ghost use Rattle.commands.specs.Commands.{Improve, command_of as asked_command};
 ghost use Rattle.commands.specs.Procedures.{asked};
 ghost use Rattle.commands.specs.Decides.{Follows, Decides};
+ghost use Rattle.commands.specs.Ends.{IsCommand};
 ghost use Rattle.plan_improver.specs.declared.progress.TheConstants.{TOLD_FROM};
 ghost use Rattle.plan_improver.specs.Improved.{IsImproved};
-ghost use Rattle.plan_improver.specs.Requests.{request_value, request_of, procedure_of, IsQuiet};
+ghost use Rattle.plan_improver.specs.Requests.{procedure_of, IsQuiet};
 ghost use Rattle.plan_improver.specs.Told.{MayTell, MayTellOf};
 
-use crate::Request;
 use crate::improving::improved;
-use crate::words::asked_for;
-use commands::{Accepted, Status, Verdict, answered_with, bad_words, load_all};
+use commands::{
+    Accepted, Command, Status, Verdict, answered_with, bad_words, command_of, load_all,
+};
 use outside::{NoMemory, Shelf, Sink};
 use plan_model::{Limits, Plan};
 use plan_text::print_plan;
@@ -46,41 +48,37 @@ fn text_of<T: Sink>(
     print_plan(alloc, &better)
 }
 
-/// Improves the plan of what is asked for.
-fn decide_request<H: Shelf, T: Sink>(
+/// `improve SOC LIMITS PLAN TRIES SEED`: a plan of no more cycles than one that is accepted.
+fn decide_improve<H: Shelf, T: Sink>(
     alloc: Global,
-    request: &Request<'_>,
+    soc: &str,
+    limits: &str,
+    plan: &str,
+    tries: u64,
+    seed: u64,
     shelf: &mut H,
     told: &mut T,
 ) -> Verdict
     ensures held_stays { H.held shelf.new ≡ H.held shelf.old }
     ensures faults_never_fall { H.faults shelf.old ≤ H.faults shelf.new }
     ensures told_faults_never_fall { T.faults told.old ≤ T.faults told.new }
-    ensures follows { Follows (procedure_of (request_value request.now)) (H.held shelf.old) (H.faults shelf.old) (H.faults shelf.new) result }
-    ensures quiet { request.now.tries < TOLD_FROM → told.new ≡ told.old }
-    ensures told { MayTell request.now.tries (T.written told.old) (T.written told.new) }
+    ensures follows { Follows (procedure_of (Improve soc.now limits.now plan.now tries seed)) (H.held shelf.old) (H.faults shelf.old) (H.faults shelf.new) result }
+    ensures quiet { tries < TOLD_FROM → told.new ≡ told.old }
+    ensures told { MayTell tries (T.written told.old) (T.written told.new) }
 {
-    match load_all(alloc, request.soc, request.limits, request.plan, shelf) {
+    match load_all(alloc, soc, limits, plan, shelf) {
         Ok(all) => {
             let Accepted { soc, limits, plan } = all;
             answered_with(
                 Status::Done,
-                text_of(
-                    alloc,
-                    &soc,
-                    &limits,
-                    plan,
-                    request.tries,
-                    request.seed,
-                    told,
-                ),
+                text_of(alloc, &soc, &limits, plan, tries, seed, told),
             )
         }
         Err(verdict) => verdict,
     }
 }
 
-/// Decides how the call of these words ends. Words that ask for nothing leave the shelf untouched.
+/// Decides how the call of these words ends. Words that are no `improve` leave the shelf untouched.
 pub(crate) fn decide<H: Shelf, T: Sink>(
     alloc: Global,
     words: &[String],
@@ -90,13 +88,21 @@ pub(crate) fn decide<H: Shelf, T: Sink>(
     ensures held_stays { H.held shelf.new ≡ H.held shelf.old }
     ensures faults_never_fall { H.faults shelf.old ≤ H.faults shelf.new }
     ensures told_faults_never_fall { T.faults told.old ≤ T.faults told.new }
-    ensures decides { Decides (asked procedure_of (request_of (map string_bytes words.now))) (H.held shelf.old) (H.faults shelf.old) (H.faults shelf.new) result }
-    ensures untouched { request_of (map string_bytes words.now) ≡ None → shelf.new ≡ shelf.old }
-    ensures quiet { IsQuiet (request_of (map string_bytes words.now)) → told.new ≡ told.old }
-    ensures told { MayTellOf (request_of (map string_bytes words.now)) (T.written told.old) (T.written told.new) }
+    ensures decides { Decides (asked procedure_of (asked_command (map string_bytes words.now))) (H.held shelf.old) (H.faults shelf.old) (H.faults shelf.new) result }
+    ensures untouched { (IsCommand (asked procedure_of (asked_command (map string_bytes words.now))) → ⊥) → shelf.new ≡ shelf.old }
+    ensures quiet { IsQuiet (asked_command (map string_bytes words.now)) → told.new ≡ told.old }
+    ensures told { MayTellOf (asked_command (map string_bytes words.now)) (T.written told.old) (T.written told.new) }
 {
-    match asked_for(words) {
-        Some(request) => decide_request(alloc, &request, shelf, told),
-        None => bad_words(alloc),
+    match command_of(words) {
+        Some(
+            Command::Improve {
+                soc,
+                limits,
+                plan,
+                tries,
+                seed,
+            },
+        ) => decide_improve(alloc, soc, limits, plan, tries, seed, shelf, told),
+        _ => bad_words(alloc),
     }
 }

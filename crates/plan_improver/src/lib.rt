@@ -10,25 +10,6 @@ mod improving;
 mod laws;
 mod progress;
 mod top;
-mod words;
 
 pub use improving::improved;
 pub use top::improve;
-
-/// Tries, at most.
-pub const TRIES_MOST: u64 = 10_000_000;
-
-/// What is asked for: the names of the files, how often a change is tried, and what the random draws come from.
-#[derive(Clone, Copy)]
-pub struct Request<'a> {
-    /// The name of the chip's file.
-    pub soc: &'a str,
-    /// The name of the file of limits.
-    pub limits: &'a str,
-    /// The name of the plan's file.
-    pub plan: &'a str,
-    /// Tries.
-    pub tries: u64,
-    /// The seed of the draws.
-    pub seed: u64,
-}

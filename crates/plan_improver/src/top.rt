@@ -1,9 +1,10 @@
 //! The top call: it decides first, and then writes once.
-ghost use Rattle.std.specs.Prelude.{◌≡◌, ◌≤◌, false, None, map, string_bytes};
+ghost use Rattle.std.specs.Prelude.{◌≡◌, ◌≤◌, false, map, string_bytes};
 ghost use Rattle.outside.specs.Held.{Rose};
 ghost use Rattle.commands.specs.Procedures.{asked};
-ghost use Rattle.commands.specs.Ends.{MayAnswer, Ends, OneLine, EndsByWords, Complete, Finishes, SaysBadWords};
-ghost use Rattle.plan_improver.specs.Requests.{request_of, procedure_of, IsQuiet};
+ghost use Rattle.commands.specs.Ends.{IsCommand, MayAnswer, Ends, OneLine, EndsByWords, Complete, Finishes, SaysBadWords};
+ghost use Rattle.commands.specs.Commands.{command_of};
+ghost use Rattle.plan_improver.specs.Requests.{procedure_of, IsQuiet};
 ghost use Rattle.plan_improver.specs.Headlines.{Headline};
 ghost use Rattle.plan_improver.specs.Told.{MayTellOf};
 
@@ -16,7 +17,7 @@ use std::alloc::Global;
 
 /// Improves the plan that the words name, for the chip and under the limits that they name, and writes what comes of it.
 ///
-/// The words are the names of three files, a number of tries, at most 10,000,000, and a seed below 10^12. The files are
+/// The words are `improve`, the names of three files, a number of tries, at most 10,000,000, and a seed below 10^12. The files are
 /// taken in this order, each only where the ones before it are taken; the plan has to be accepted. All memory is taken before
 /// the first byte is written. From 100,000 tries on, `told` is told each tenth of them with the best cycles so far, and
 /// for fewer nothing; what becomes of that changes nothing else.
@@ -31,21 +32,21 @@ pub fn improve<H: Shelf, K: Sink, T: Sink>(
     ensures faults_never_fall { (H.faults shelf.old ≤ H.faults shelf.new) × (K.faults out.old ≤ K.faults out.new) × (T.faults told.old ≤ T.faults told.new) }
 
     // What is written is an answer to the words and files, each status where its cause is.
-    ensures ends { Ends (MayAnswer (asked procedure_of (request_of (map string_bytes words.now))) (H.held shelf.old) (H.faults shelf.old) (H.faults shelf.new)) (K.faults out.old) (K.faults out.new) (K.written out.old) result (K.written out.new) }
+    ensures ends { Ends (MayAnswer (asked procedure_of (command_of (map string_bytes words.now))) (H.held shelf.old) (H.faults shelf.old) (H.faults shelf.new)) (K.faults out.old) (K.faults out.new) (K.written out.old) result (K.written out.new) }
     ensures one_line { OneLine (K.written out.old) result (K.written out.new) }
-    ensures by_words { EndsByWords (asked procedure_of (request_of (map string_bytes words.now))) (Rose (K.faults out.old) (K.faults out.new)) result }
-    ensures untouched { request_of (map string_bytes words.now) ≡ None → shelf.new ≡ shelf.old }
-    ensures quiet { IsQuiet (request_of (map string_bytes words.now)) → told.new ≡ told.old }
-    ensures told { MayTellOf (request_of (map string_bytes words.now)) (T.written told.old) (T.written told.new) }
+    ensures by_words { EndsByWords (asked procedure_of (command_of (map string_bytes words.now))) (Rose (K.faults out.old) (K.faults out.new)) result }
+    ensures untouched { (IsCommand (asked procedure_of (command_of (map string_bytes words.now))) → ⊥) → shelf.new ≡ shelf.old }
+    ensures quiet { IsQuiet (command_of (map string_bytes words.now)) → told.new ≡ told.old }
+    ensures told { MayTellOf (command_of (map string_bytes words.now)) (T.written told.old) (T.written told.new) }
 
     // Where the files give an answer and nothing fails, one comes, but for want of memory. The plan is any improved one.
-    ensures complete { Complete false (asked procedure_of (request_of (map string_bytes words.now))) (H.held shelf.old) (Rose (H.faults shelf.old) (H.faults shelf.new)) (Rose (K.faults out.old) (K.faults out.new)) (K.written out.old) result (K.written out.new) }
-    ensures finishes { Finishes (asked procedure_of (request_of (map string_bytes words.now))) (H.held shelf.old) (Rose (H.faults shelf.old) (H.faults shelf.new)) (Rose (K.faults out.old) (K.faults out.new)) result }
+    ensures complete { Complete false (asked procedure_of (command_of (map string_bytes words.now))) (H.held shelf.old) (Rose (H.faults shelf.old) (H.faults shelf.new)) (Rose (K.faults out.old) (K.faults out.new)) (K.written out.old) result (K.written out.new) }
+    ensures finishes { Finishes (asked procedure_of (command_of (map string_bytes words.now))) (H.held shelf.old) (Rose (H.faults shelf.old) (H.faults shelf.new)) (Rose (K.faults out.old) (K.faults out.new)) result }
     ensures bad_words { SaysBadWords (K.written out.old) result (K.written out.new) }
 
     // The headline: the plan that is written is good and no worse than the one that was given; it runs right, its bound is
     // one, and its text reads back as that plan.
-    ensures headline { Headline (request_of (map string_bytes words.now)) (H.held shelf.old) (K.written out.old) result (K.written out.new) }
+    ensures headline { Headline (command_of (map string_bytes words.now)) (H.held shelf.old) (K.written out.old) result (K.written out.new) }
 {
     good_plans_run_right();
     certificates_are_bounds();

@@ -21,12 +21,13 @@ use Rattle.commands.specs.Settled.{FilesSayOneThing, IsSettled}
 use Rattle.commands.proofs.Settled.{done_once}
 use Rattle.commands.proofs.Completeness.{settled_all}
 use Rattle.commands.proofs.Trusted.{TrustLaws, both_done, done_answer, read_as_well, stage_done}
-use Rattle.plan_picture.specs.Pictures.{FilesNamed, Headline, IsDrawn, procedure_of}
+use Rattle.commands.specs.Commands.{CommandValue, Picture}
+use Rattle.plan_picture.specs.Pictures.{Headline, IsDrawn, procedure_of}
 
 -- the files fix the picture
-pub settled : FilesSayOneThing → (names : Option FilesNamed) → IsSettled true (asked procedure_of names)
-settled laws None = tt
-settled laws (Some names) = settled_all laws true names.soc names.limits names.plan (λ chip bounds value. done_with (picture_text chip bounds value)) (λ chip bounds value. done_once true (picture_text chip bounds value))
+pub settled : FilesSayOneThing → (command : Option CommandValue) → IsSettled true (asked procedure_of command)
+settled laws (Some (Picture soc limits plan)) = settled_all laws true soc limits plan (λ chip bounds value. done_with (picture_text chip bounds value)) (λ chip bounds value. done_once true (picture_text chip bounds value))
+settled laws other = tt
 
 -- the laws of pictures
 pub record PictureLaws : Type 0 where
@@ -37,17 +38,17 @@ pub record PictureLaws : Type 0 where
   pub used : (soc : SocValue) (limits : LimitsValue) (plan : PlanValue) → IsGood soc limits plan → ShowsUse (wired (bus_wires plan) (placed_tests soc plan)) (planned soc plan)
   pub self_drawn : (soc : SocValue) (limits : LimitsValue) (plan : PlanValue) → IsGood soc limits plan → AreLaned (laned [] (self_tests soc plan)) (placed_tests soc plan)
 
-drawn : TrustLaws → PictureLaws → (files : Files) (names : FilesNamed) (text : List ℕ) (old new : Option (List ℕ)) → Answers (procedure_of names) files Done text → Appended old text new → IsDrawn files names old new
-drawn laws pictures files names text old new answer put =
-    let b = both_done files names.soc names.limits text (λ chip bounds. with_accepted chip bounds names.plan (λ value. done_with (picture_text chip bounds value))) answer in
-    let c = stage_done Plan (SaysAccepted b.0 b.1) (RefusesPlan b.0 b.1) (λ value. Answers (done_with (picture_text b.0 b.1 value)) files) (get files names.plan) text b.4 in
+drawn : TrustLaws → PictureLaws → (files : Files) (soc limits plan : List ℕ) (text : List ℕ) (old new : Option (List ℕ)) → Answers (procedure_of (Picture soc limits plan)) files Done text → Appended old text new → IsDrawn files soc limits plan old new
+drawn laws pictures files soc limits plan text old new answer put =
+    let b = both_done files soc limits text (λ chip bounds. with_accepted chip bounds plan (λ value. done_with (picture_text chip bounds value))) answer in
+    let c = stage_done Plan (SaysAccepted b.0 b.1) (RefusesPlan b.0 b.1) (λ value. Answers (done_with (picture_text b.0 b.1 value)) files) (get files plan) text b.4 in
     record {
       chip = b.0;
       bounds = b.1;
       value = c.0;
       chip_is = b.2;
       limits_are = b.3;
-      plan_is = read_as_well Plan (SaysAccepted b.0 b.1) SaysPlan (get files names.plan) c.0 (λ bytes says. says.0) c.1;
+      plan_is = read_as_well Plan (SaysAccepted b.0 b.1) SaysPlan (get files plan) c.0 (λ bytes says. says.0) c.1;
       right = λ content. laws.right b.0 b.1 c.0 content c.1.says.1.0;
       bound = laws.bound b.0 b.1 (c.0).bound b.3.says.sound.some_wire c.1.says.1.1;
       drawn = pictures.drawn b.0 b.1 c.0 c.1.says.1.0;
@@ -59,7 +60,7 @@ drawn laws pictures files names text old new answer put =
       written = rw c.2.1 at put;
     }
 
-pub headline : TrustLaws → PictureLaws → (asked_for : Option FilesNamed) (held : Option Files) (sb sa kb ka : ℕ) (old new : Option (List ℕ)) (end : Status) → Ends (MayAnswer (asked procedure_of asked_for) held sb sa) kb ka old end new → Headline asked_for held old end new
-headline laws pictures asked_for held sb sa kb ka old new end ends files names is given done =
-    let a = done_answer (asked procedure_of asked_for) held sb sa kb ka old new end files ends is done in
-    drawn laws pictures files names a.0 old new (subst (λ (o : Option FilesNamed). Answers (asked procedure_of o) files Done a.0) given a.1) a.2
+pub headline : TrustLaws → PictureLaws → (command : Option CommandValue) (held : Option Files) (sb sa kb ka : ℕ) (old new : Option (List ℕ)) (end : Status) → Ends (MayAnswer (asked procedure_of command) held sb sa) kb ka old end new → Headline command held old end new
+headline laws pictures command held sb sa kb ka old new end ends files soc limits plan is given done =
+    let a = done_answer (asked procedure_of command) held sb sa kb ka old new end files ends is done in
+    drawn laws pictures files soc limits plan a.0 old new (subst (λ (o : Option CommandValue). Answers (asked procedure_of o) files Done a.0) given a.1) a.2

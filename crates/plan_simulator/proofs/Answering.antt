@@ -17,35 +17,36 @@ use Rattle.commands.proofs.Settled.{done_once}
 use Rattle.commands.proofs.Completeness.{settled_all}
 use Rattle.commands.proofs.Trusted.{TrustLaws, both_done, done_answer, not_refused, read_as_well, stage_done}
 use Rattle.plan_simulator.specs.Runs.{captures_in, right_loads_in, wired_patterns, counts_line, simulated_text}
-use Rattle.plan_simulator.specs.Requests.{RequestValue, run_refusal, procedure_of}
+use Rattle.commands.specs.Commands.{CommandValue, Simulate}
+use Rattle.plan_simulator.specs.Requests.{long_run, procedure_of}
 use Rattle.plan_simulator.specs.Headlines.{IsSimulated, Headline}
 use Rattle.plan_simulator.proofs.CaptureCounts.{captures_are_patterns}
 use Rattle.plan_simulator.proofs.RightLoads.{right_loads_are_patterns}
 
 -- the files fix the line
-pub settled_asked : FilesSayOneThing → (request : Option RequestValue) → IsSettled true (asked procedure_of request)
-settled_asked laws None = tt
-settled_asked laws (Some r) = settled_all laws true r.soc r.limits r.plan (λ chip bounds value. Unless (run_refusal value) (done_with (simulated_text chip value r.seed))) (λ chip bounds value. done_once true (simulated_text chip value r.seed))
+pub settled_asked : FilesSayOneThing → (command : Option CommandValue) → IsSettled true (asked procedure_of command)
+settled_asked laws (Some (Simulate soc limits plan seed)) = settled_all laws true soc limits plan (λ chip bounds value. Unless (long_run value) (done_with (simulated_text chip value seed))) (λ chip bounds value. done_once true (simulated_text chip value seed))
+settled_asked laws other = tt
 
 -- both counts are one number
 both_counts : (cycles captures loaded n : ℕ) → captures ≡ n → loaded ≡ n → counts_line cycles captures loaded ≡ counts_line cycles n n
 both_counts cycles captures loaded n is is' = ap (λ m. counts_line cycles m loaded) is ∙ ap (λ m. counts_line cycles n m) is'
 
-simulated : TrustLaws → (files : Files) (r : RequestValue) (text : List ℕ) (old new : Option (List ℕ)) → Answers (procedure_of r) files Done text → Appended old text new → IsSimulated files r old new
-simulated laws files r text old new answer put =
-    let b = both_done files r.soc r.limits text (λ chip bounds. with_accepted chip bounds r.plan (λ value. Unless (run_refusal value) (done_with (simulated_text chip value r.seed)))) answer in
-    let c = stage_done Plan (SaysAccepted b.0 b.1) (RefusesPlan b.0 b.1) (λ value. Answers (Unless (run_refusal value) (done_with (simulated_text b.0 value r.seed))) files) (get files r.plan) text b.4 in
-    let done = not_refused files (run_refusal c.0) (done_with (simulated_text b.0 c.0 r.seed)) text c.2 in
+simulated : TrustLaws → (files : Files) (soc limits plan : List ℕ) (seed : ℕ) (text : List ℕ) (old new : Option (List ℕ)) → Answers (procedure_of (Simulate soc limits plan seed)) files Done text → Appended old text new → IsSimulated files soc limits plan old new
+simulated laws files soc limits plan seed text old new answer put =
+    let b = both_done files soc limits text (λ chip bounds. with_accepted chip bounds plan (λ value. Unless (long_run value) (done_with (simulated_text chip value seed)))) answer in
+    let c = stage_done Plan (SaysAccepted b.0 b.1) (RefusesPlan b.0 b.1) (λ value. Answers (Unless (long_run value) (done_with (simulated_text b.0 value seed))) files) (get files plan) text b.4 in
+    let done = not_refused files (long_run c.0) (done_with (simulated_text b.0 c.0 seed)) text c.2 in
     let captured : captures_in (planned b.0 c.0) (c.0).cycles ≡ wired_patterns b.0 = captures_are_patterns b.0 b.1 c.0 c.1.says.1.0 in
-    let line : simulated_text b.0 c.0 r.seed ≡ counts_line (c.0).cycles (wired_patterns b.0) (wired_patterns b.0) =
-    both_counts (c.0).cycles (captures_in (planned b.0 c.0) (c.0).cycles) (right_loads_in (made_content b.0 r.seed) (planned b.0 c.0) (c.0).cycles) (wired_patterns b.0) captured (right_loads_are_patterns b.0 b.1 c.0 c.1.says.1.0 (made_content b.0 r.seed)) in
+    let line : simulated_text b.0 c.0 seed ≡ counts_line (c.0).cycles (wired_patterns b.0) (wired_patterns b.0) =
+    both_counts (c.0).cycles (captures_in (planned b.0 c.0) (c.0).cycles) (right_loads_in (made_content b.0 seed) (planned b.0 c.0) (c.0).cycles) (wired_patterns b.0) captured (right_loads_are_patterns b.0 b.1 c.0 c.1.says.1.0 (made_content b.0 seed)) in
     record {
       chip = b.0;
       bounds = b.1;
       value = c.0;
       chip_is = b.2;
       limits_are = b.3;
-      plan_is = read_as_well Plan (SaysAccepted b.0 b.1) SaysPlan (get files r.plan) c.0 (λ bytes says. says.0) c.1;
+      plan_is = read_as_well Plan (SaysAccepted b.0 b.1) SaysPlan (get files plan) c.0 (λ bytes says. says.0) c.1;
       right = λ content. laws.right b.0 b.1 c.0 content c.1.says.1.0;
       bound = laws.bound b.0 b.1 (c.0).bound b.3.says.sound.some_wire c.1.says.1.1;
       captures = captured;
@@ -53,7 +54,7 @@ simulated laws files r text old new answer put =
       written = subst (λ (t : List ℕ). Appended old t new) line (subst (λ (t : List ℕ). Appended old t new) done.1 put);
     }
 
-pub headline : TrustLaws → (request : Option RequestValue) (held : Option Files) (sb sa kb ka : ℕ) (old new : Option (List ℕ)) (end : Status) → Ends (MayAnswer (asked procedure_of request) held sb sa) kb ka old end new → Headline request held old end new
-headline laws request held sb sa kb ka old new end ends files given is named done =
-    let a = done_answer (asked procedure_of request) held sb sa kb ka old new end files ends is done in
-    simulated laws files given a.0 old new (subst (λ (q : Option RequestValue). Answers (asked procedure_of q) files Done a.0) named a.1) a.2
+pub headline : TrustLaws → (command : Option CommandValue) (held : Option Files) (sb sa kb ka : ℕ) (old new : Option (List ℕ)) (end : Status) → Ends (MayAnswer (asked procedure_of command) held sb sa) kb ka old end new → Headline command held old end new
+headline laws command held sb sa kb ka old new end ends files soc limits plan seed is named done =
+    let a = done_answer (asked procedure_of command) held sb sa kb ka old new end files ends is done in
+    simulated laws files soc limits plan seed a.0 old new (subst (λ (q : Option CommandValue). Answers (asked procedure_of q) files Done a.0) named a.1) a.2

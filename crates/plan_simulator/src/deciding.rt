@@ -1,20 +1,22 @@
 //! Decides how a call ends before anything is written.
-ghost use Rattle.std.specs.Prelude.{◌≡◌, ◌≤◌, None, map, string_bytes, IfOk};
+ghost use Rattle.std.specs.Prelude.{◌≡◌, ◌≤◌, map, string_bytes, IfOk};
 ghost use Rattle.soc_model.specs.Chips.{soc_value};
 ghost use Rattle.soc_model.specs.SoundChips.{IsSoundChip};
 ghost use Rattle.plan_model.specs.Rules.{IsGoodAlone};
 ghost use Rattle.plan_model.specs.Views.{plan_value};
 ghost use Rattle.bit_machine.specs.Chips.{wires_of};
+ghost use Rattle.commands.specs.Commands.{Simulate, command_of as asked_command};
 ghost use Rattle.commands.specs.Procedures.{asked};
 ghost use Rattle.commands.specs.Decides.{Follows, Decides, GivesAny};
+ghost use Rattle.commands.specs.Ends.{IsCommand};
 ghost use Rattle.plan_simulator.specs.Runs.{simulated_text};
-ghost use Rattle.plan_simulator.specs.Requests.{request_value, request_of, procedure_of, run_refusal};
+ghost use Rattle.plan_simulator.specs.Requests.{procedure_of, long_run};
 
-use crate::Request;
-use crate::lines::{counts_line, long_run_line};
+use crate::lines::counts_line;
 use crate::running::{run, too_many_cells};
-use crate::words::asked_for;
-use commands::{Status, Verdict, answered_with, bad_words, load_all, refused_with};
+use commands::{
+    Command, Status, Verdict, answered_with, bad_words, command_of, load_all, refused_with, run_line,
+};
 use outside::{NoMemory, Shelf};
 use plan_model::{Plan, good_without_limits};
 use soc_model::Soc;
@@ -36,24 +38,31 @@ fn simulated(alloc: Global, soc: &Soc, plan: &Plan, seed: u64) -> Verdict
     requires sound { IsSoundChip (soc_value soc.now) }
     requires good { IsGoodAlone (soc_value soc.now) (plan_value plan.now) }
     requires narrow { wires_of (plan_value plan.now) ≤ 256 }
-    ensures { GivesAny (run_refusal (plan_value plan.now)) (λ text. text ≡ simulated_text (soc_value soc.now) (plan_value plan.now) seed) result }
+    ensures { GivesAny (long_run (plan_value plan.now)) (λ text. text ≡ simulated_text (soc_value soc.now) (plan_value plan.now) seed) result }
 {
     match too_many_cells(plan) {
-        Some(cells) => refused_with(long_run_line(alloc, cells)),
+        Some(cells) => refused_with(run_line(alloc, cells)),
         None => answered_with(Status::Done, text_of(alloc, soc, plan, seed)),
     }
 }
 
-/// Simulates the plan of what is asked for.
-fn decide_request<H: Shelf>(alloc: Global, request: &Request<'_>, shelf: &mut H) -> Verdict
+/// `simulate SOC LIMITS PLAN SEED`: the counts of a chip that is stepped through a plan that is accepted.
+fn decide_simulate<H: Shelf>(
+    alloc: Global,
+    soc: &str,
+    limits: &str,
+    plan: &str,
+    seed: u64,
+    shelf: &mut H,
+) -> Verdict
     ensures held_stays { H.held shelf.new ≡ H.held shelf.old }
     ensures faults_never_fall { H.faults shelf.old ≤ H.faults shelf.new }
-    ensures follows { Follows (procedure_of (request_value request.now)) (H.held shelf.old) (H.faults shelf.old) (H.faults shelf.new) result }
+    ensures follows { Follows (procedure_of (Simulate soc.now limits.now plan.now seed)) (H.held shelf.old) (H.faults shelf.old) (H.faults shelf.new) result }
 {
-    match load_all(alloc, request.soc, request.limits, request.plan, shelf) {
+    match load_all(alloc, soc, limits, plan, shelf) {
         Ok(all) => {
             good_without_limits();
-            let verdict = simulated(alloc, &all.soc, &all.plan, request.seed);
+            let verdict = simulated(alloc, &all.soc, &all.plan, seed);
             drop(all);
             verdict
         }
@@ -61,15 +70,22 @@ fn decide_request<H: Shelf>(alloc: Global, request: &Request<'_>, shelf: &mut H)
     }
 }
 
-/// Decides how the call of these words ends. Words that ask for nothing leave the shelf untouched.
+/// Decides how the call of these words ends. Words that are no `simulate` leave the shelf untouched.
 pub(crate) fn decide<H: Shelf>(alloc: Global, words: &[String], shelf: &mut H) -> Verdict
     ensures held_stays { H.held shelf.new ≡ H.held shelf.old }
     ensures faults_never_fall { H.faults shelf.old ≤ H.faults shelf.new }
-    ensures decides { Decides (asked procedure_of (request_of (map string_bytes words.now))) (H.held shelf.old) (H.faults shelf.old) (H.faults shelf.new) result }
-    ensures untouched { request_of (map string_bytes words.now) ≡ None → shelf.new ≡ shelf.old }
+    ensures decides { Decides (asked procedure_of (asked_command (map string_bytes words.now))) (H.held shelf.old) (H.faults shelf.old) (H.faults shelf.new) result }
+    ensures untouched { (IsCommand (asked procedure_of (asked_command (map string_bytes words.now))) → ⊥) → shelf.new ≡ shelf.old }
 {
-    match asked_for(words) {
-        Some(request) => decide_request(alloc, &request, shelf),
-        None => bad_words(alloc),
+    match command_of(words) {
+        Some(
+            Command::Simulate {
+                soc,
+                limits,
+                plan,
+                seed,
+            },
+        ) => decide_simulate(alloc, soc, limits, plan, seed, shelf),
+        _ => bad_words(alloc),
     }
 }

@@ -6,19 +6,5 @@ mod deciding;
 mod lines;
 mod running;
 mod top;
-mod words;
 
 pub use top::simulate;
-
-/// What is asked for: the names of the files, and what the made contents come from.
-#[derive(Clone, Copy)]
-pub struct Request<'a> {
-    /// The name of the chip's file.
-    pub soc: &'a str,
-    /// The name of the file of limits.
-    pub limits: &'a str,
-    /// The name of the plan's file.
-    pub plan: &'a str,
-    /// The seed of the made contents.
-    pub seed: u64,
-}

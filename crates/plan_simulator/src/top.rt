@@ -1,9 +1,10 @@
 //! The top call: it decides first, and then writes once.
-ghost use Rattle.std.specs.Prelude.{◌≡◌, ◌≤◌, true, None, map, string_bytes};
+ghost use Rattle.std.specs.Prelude.{◌≡◌, ◌≤◌, true, map, string_bytes};
 ghost use Rattle.outside.specs.Held.{Rose};
 ghost use Rattle.commands.specs.Procedures.{asked};
-ghost use Rattle.commands.specs.Ends.{MayAnswer, Ends, OneLine, EndsByWords, Complete, Finishes, SaysBadWords};
-ghost use Rattle.plan_simulator.specs.Requests.{request_of, procedure_of};
+ghost use Rattle.commands.specs.Ends.{IsCommand, MayAnswer, Ends, OneLine, EndsByWords, Complete, Finishes, SaysBadWords};
+ghost use Rattle.commands.specs.Commands.{command_of};
+ghost use Rattle.plan_simulator.specs.Requests.{procedure_of};
 ghost use Rattle.plan_simulator.specs.Headlines.{Headline};
 
 use crate::deciding::decide;
@@ -15,8 +16,8 @@ use std::alloc::Global;
 /// Steps the chip that the words name, bit by bit, through the plan that they name, and writes what the run counts: the
 /// cycles of the plan, the captures of all tests in them, and how many of these found their stimulus in the cells.
 ///
-/// The words are the names of three files, of a chip, limits and a plan that is accepted for both, and a seed below 10^12,
-/// which fixes the contents. The files are taken in this order, each only where the ones before it are taken. A run of more
+/// The words are `simulate`, the names of three files, of a chip, limits and a plan that is accepted for both, and a seed below
+/// 10^12, which fixes the contents. The files are taken in this order, each only where the ones before it are taken. A run of more
 /// than 20,000,000 cycles times wires is refused. All memory is taken before the first byte is written.
 pub fn simulate<H: Shelf, K: Sink>(
     alloc: Global,
@@ -28,19 +29,19 @@ pub fn simulate<H: Shelf, K: Sink>(
     ensures faults_never_fall { (H.faults shelf.old ≤ H.faults shelf.new) × (K.faults out.old ≤ K.faults out.new) }
 
     // What is written is an answer to the words and files, each status where its cause is.
-    ensures ends { Ends (MayAnswer (asked procedure_of (request_of (map string_bytes words.now))) (H.held shelf.old) (H.faults shelf.old) (H.faults shelf.new)) (K.faults out.old) (K.faults out.new) (K.written out.old) result (K.written out.new) }
+    ensures ends { Ends (MayAnswer (asked procedure_of (command_of (map string_bytes words.now))) (H.held shelf.old) (H.faults shelf.old) (H.faults shelf.new)) (K.faults out.old) (K.faults out.new) (K.written out.old) result (K.written out.new) }
     ensures one_line { OneLine (K.written out.old) result (K.written out.new) }
-    ensures by_words { EndsByWords (asked procedure_of (request_of (map string_bytes words.now))) (Rose (K.faults out.old) (K.faults out.new)) result }
+    ensures by_words { EndsByWords (asked procedure_of (command_of (map string_bytes words.now))) (Rose (K.faults out.old) (K.faults out.new)) result }
     ensures bad_words { SaysBadWords (K.written out.old) result (K.written out.new) }
-    ensures untouched { request_of (map string_bytes words.now) ≡ None → shelf.new ≡ shelf.old }
+    ensures untouched { (IsCommand (asked procedure_of (command_of (map string_bytes words.now))) → ⊥) → shelf.new ≡ shelf.old }
 
     // Where the files give an answer and nothing fails, it comes, but for want of memory.
-    ensures complete { Complete true (asked procedure_of (request_of (map string_bytes words.now))) (H.held shelf.old) (Rose (H.faults shelf.old) (H.faults shelf.new)) (Rose (K.faults out.old) (K.faults out.new)) (K.written out.old) result (K.written out.new) }
-    ensures finishes { Finishes (asked procedure_of (request_of (map string_bytes words.now))) (H.held shelf.old) (Rose (H.faults shelf.old) (H.faults shelf.new)) (Rose (K.faults out.old) (K.faults out.new)) result }
+    ensures complete { Complete true (asked procedure_of (command_of (map string_bytes words.now))) (H.held shelf.old) (Rose (H.faults shelf.old) (H.faults shelf.new)) (Rose (K.faults out.old) (K.faults out.new)) (K.written out.old) result (K.written out.new) }
+    ensures finishes { Finishes (asked procedure_of (command_of (map string_bytes words.now))) (H.held shelf.old) (Rose (H.faults shelf.old) (H.faults shelf.new)) (Rose (K.faults out.old) (K.faults out.new)) result }
 
     // The headline: the simulated plan runs right, its bound is one, and the numbers that are written are both the number of
     // the patterns of all live tests over the wires.
-    ensures headline { Headline (request_of (map string_bytes words.now)) (H.held shelf.old) (K.written out.old) result (K.written out.new) }
+    ensures headline { Headline (command_of (map string_bytes words.now)) (H.held shelf.old) (K.written out.old) result (K.written out.new) }
 {
     good_plans_run_right();
     certificates_are_bounds();

@@ -38,10 +38,10 @@ pub fn call<H: Shelf, K: Sink, T: Sink>(
     told: &mut T,
 ) -> Status {
     match top_call(words) {
-        TopCall::Improve { words } => improve(alloc, words, shelf, out, told),
-        TopCall::Picture { words } => draw(alloc, words, shelf, out),
-        TopCall::Simulate { words } => simulate(alloc, words, shelf, out),
-        TopCall::Soctest { words } => soctest(alloc, words, shelf, out),
+        TopCall::Improve => improve(alloc, words, shelf, out, told),
+        TopCall::Picture => draw(alloc, words, shelf, out),
+        TopCall::Simulate => simulate(alloc, words, shelf, out),
+        TopCall::Soctest => soctest(alloc, words, shelf, out),
     }
 }
 

@@ -1,5 +1,5 @@
 -- A plan that is printed or accepted runs right, its bound is one, and it is for the chip and the limits in the held files.
-use Rattle.std.proofs.Common.{◌≡◌, ℕ, ◌≤◌, List, Option, Some, refl, ap, ◌∙◌, subst, arith}
+use Rattle.std.proofs.Common.{◌≡◌, ℕ, ◌≤◌, List, Option, Some, IfSome, refl, subst, arith}
 use Rattle.std.specs.FinMap.{empty, get}
 use Rattle.outside.specs.Held.{Files, Appended}
 use Rattle.soc_model.specs.Chips.{SocValue}
@@ -14,19 +14,20 @@ use Rattle.fail_locate.specs.Laws.{SpotsAreReads}
 use Rattle.fail_locate.specs.LogAnswers.{SaysLog}
 use Rattle.commands.specs.declared.FileKind.TheVariants.{Log, Program}
 use Rattle.commands.specs.declared.Status.{Status}
-use Rattle.commands.specs.declared.Status.TheVariants.{Done}
+use Rattle.commands.specs.declared.Status.TheVariants.{Done, BadWords}
 use Rattle.commands.specs.Procedures.{Unless, asked, with_both, done_with}
+use Rattle.commands.specs.Texts.{bad_words_line}
 use Rattle.commands.specs.Answers.{Answers}
 use Rattle.commands.specs.Ends.{MayAnswer, Ends}
 use Rattle.commands.specs.Trusted.{IsChipIn, AreLimitsIn, IsMade, IsTrustworthy}
 use Rattle.commands.proofs.Trusted.{TrustLaws, stage_done, both_done, accepted, accepted_good, made, not_refused, done_answer}
-use Rattle.soctest.specs.Commands.{CommandValue, Print, Widths, MakePlan, Check, Chart, Vectors, Sample, TreeBound, SplitTests, Shift, Locate}
+use Rattle.commands.specs.Commands.{CommandValue, IsInRange, Print, Widths, Plan, Check, Chart, Vectors, Sample, Locate, Tree, Split, Shift, Improve, Picture, Simulate}
 use Rattle.soctest.specs.Samples.{sample_limits, sample_text}
 use Rattle.soctest.specs.Texts.{accepted_line}
 use Rattle.soctest.specs.LogReadings.{RefusesFails, with_log}
 use Rattle.soctest.specs.LocateText.{locate_text}
 use Rattle.soctest.specs.ShiftPrograms.{SaysRight, RefusesProgram, accepted_program}
-use Rattle.soctest.specs.Procedures.{with_program, done_with_plan, done_with_sample, run_refusal, sample_refusal, procedure_of}
+use Rattle.soctest.specs.Procedures.{with_program, done_with_plan, done_with_sample, long_run, sample_refusal, procedure_of}
 use Rattle.soctest.specs.Endings.{Closes, WritesEnding}
 use Rattle.soctest.specs.declared.ending.Ending.{Ending}
 use Rattle.soctest.specs.Headlines.{TellsFails, TellsProgram, Trusts, Headline, SampleHeadline}
@@ -61,36 +62,43 @@ located reads files log chip bounds value text good answer =
     let a = stage_done Log SaysLog RefusesFails (λ fails. Answers (done_with (locate_text chip value fails)) files) (get files log) text answer in
     (a.0, a.1, a.2.1, λ content cycle wire. reads chip bounds value content cycle wire good)
 
+-- words that are no command of the call end with BadWords
+not_here : (text : List ℕ) → (Done ≡ BadWords) × (text ≡ bad_words_line) → ⊥
+not_here text answer = let wrong = answer.0 in absurd cc
+
 -- each command
-trusted : TrustLaws → SpotsAreReads → (files : Files) (command : CommandValue) → ((soc limits : List ℕ) (most : ℕ) → command ≡ SplitTests soc limits most → 1 ≤ most) → (text : List ℕ) (old new : Option (List ℕ)) → Answers (procedure_of command) files Done text → Appended old text new → Trusts command files old new
+trusted : TrustLaws → SpotsAreReads → (files : Files) (command : CommandValue) → IsInRange command → (text : List ℕ) (old new : Option (List ℕ)) → Answers (procedure_of command) files Done text → Appended old text new → Trusts command files old new
 trusted laws reads files (Print soc) range text old new answer put = tt
 trusted laws reads files (Widths soc wires) range text old new answer put = tt
-trusted laws reads files (MakePlan soc limits) range text old new answer put = printed laws files soc limits text old new answer put
+trusted laws reads files (Plan soc limits) range text old new answer put = printed laws files soc limits text old new answer put
 trusted laws reads files (Check soc limits plan) range text old new answer put =
     accepted laws files soc limits plan (λ chip value t. t ≡ accepted_line value) (λ chip bounds value. done_with (accepted_line value)) (λ chip bounds value text a. a.1) text old new answer put
 trusted laws reads files (Chart soc limits plan) range text old new answer put =
     accepted laws files soc limits plan (λ chip value t. t ≡ chart_text chip value) (λ chip bounds value. done_with (chart_text chip value)) (λ chip bounds value text a. a.1) text old new answer put
 trusted laws reads files (Vectors soc limits plan seed) range text old new answer put =
-    accepted laws files soc limits plan (λ chip value t. t ≡ vector_text chip value (made_content chip seed)) (λ chip bounds value. Unless (run_refusal value) (done_with (vector_text chip value (made_content chip seed))))
-    (λ chip bounds value text a. (not_refused files (run_refusal value) (done_with (vector_text chip value (made_content chip seed))) text a).1) text old new answer put
+    accepted laws files soc limits plan (λ chip value t. t ≡ vector_text chip value (made_content chip seed)) (λ chip bounds value. Unless (long_run value) (done_with (vector_text chip value (made_content chip seed))))
+    (λ chip bounds value text a. (not_refused files (long_run value) (done_with (vector_text chip value (made_content chip seed))) text a).1) text old new answer put
 trusted laws reads files (Sample n seed) range text old new answer put = sampled laws files n seed text old new (not_refused files (sample_refusal n) (done_with_sample n seed) text answer) put
 trusted laws reads files (Shift soc limits plan program) range text old new answer put =
     accepted laws files soc limits plan (TellsProgram files program) (λ chip bounds value. with_program chip value program (λ shifts. done_with (accepted_program chip value shifts)))
     (λ chip bounds value text a. told_program files program chip value text a) text old new answer put
 trusted laws reads files (Locate soc limits plan log) range text old new answer put =
     accepted_good laws files soc limits plan (TellsFails files log) (after_plan log) (λ chip bounds value text good a. located reads files log chip bounds value text good a) text old new answer put
-trusted laws reads files (TreeBound soc limits tree) range text old new answer put = shown files soc limits tree text old new answer put
-trusted laws reads files (SplitTests soc limits most) range text old new answer put = parts_printed laws files soc limits most (range soc limits most refl) text old new answer put
+trusted laws reads files (Tree soc limits tree) range text old new answer put = shown files soc limits tree text old new answer put
+trusted laws reads files (Split soc limits most) range text old new answer put = parts_printed laws files soc limits most range.0 text old new answer put
+trusted laws reads files (Improve soc limits plan tries seed) range text old new answer put = not_here text answer
+trusted laws reads files (Picture soc limits plan) range text old new answer put = not_here text answer
+trusted laws reads files (Simulate soc limits plan seed) range text old new answer put = not_here text answer
 
-pub headline : TrustLaws → SpotsAreReads → (command : Option CommandValue) → ((soc limits : List ℕ) (most : ℕ) → command ≡ Some (SplitTests soc limits most) → 1 ≤ most) → (held : Option Files) (sb sa kb ka : ℕ) (old new : Option (List ℕ)) (end : Status) →
+pub headline : TrustLaws → SpotsAreReads → (command : Option CommandValue) → IfSome command IsInRange → (held : Option Files) (sb sa kb ka : ℕ) (old new : Option (List ℕ)) (end : Status) →
     Ends (MayAnswer (asked procedure_of command) held sb sa) kb ka old end new → Headline command held old end new
 headline laws reads command range held sb sa kb ka old new end ends files given is names done =
     let a = done_answer (asked procedure_of command) held sb sa kb ka old new end files ends is done in
-    trusted laws reads files given (λ soc limits most same. range soc limits most (names ∙ ap Some same)) a.0 old new (subst (λ c. Answers (asked procedure_of c) files Done a.0) names a.1) a.2
+    trusted laws reads files given (subst (λ c. IfSome c IsInRange) names range) a.0 old new (subst (λ c. Answers (asked procedure_of c) files Done a.0) names a.1) a.2
 
 -- `sample` reads no file, so that its end is as over any files
-pub sample_headline : TrustLaws → SpotsAreReads → (command : Option CommandValue) (sb sa kb ka : ℕ) (old new : Option (List ℕ)) (end : Status) (e : Ending) →
+pub sample_headline : TrustLaws → SpotsAreReads → (command : Option CommandValue) → IfSome command IsInRange → (sb sa kb ka : ℕ) (old new : Option (List ℕ)) (end : Status) (e : Ending) →
     ((n seed : ℕ) → command ≡ Some (Sample n seed) → (held : Option Files) → Closes (procedure_of (Sample n seed)) held sb sa e) → WritesEnding e kb ka old end new → SampleHeadline command old end new
-sample_headline laws reads command sb sa kb ka old new end e closes written n seed is done =
-    headline laws reads (Some (Sample n seed)) (λ soc limits most same. absurd cc) (Some empty) sb sa kb ka old new end
+sample_headline laws reads command range sb sa kb ka old new end e closes written n seed is done =
+    headline laws reads (Some (Sample n seed)) (subst (λ c. IfSome c IsInRange) is range) (Some empty) sb sa kb ka old new end
     (ends (procedure_of (Sample n seed)) (Some empty) sb sa kb ka old new end e (closes n seed is (Some empty)) written) empty (Sample n seed) refl refl done

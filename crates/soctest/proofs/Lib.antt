@@ -5,9 +5,9 @@ mod LiveCounts
 pub mod LogFiles
 mod MadeLimits
 mod NamedTests
+pub mod OwnFiles
 pub mod PartsServed
 pub mod ProgramAnswers
-mod Rows
 pub mod SettledCommands
 pub mod TreeFiles
 pub mod WidthLines

@@ -1,5 +1,5 @@
 -- The command over parts: its refusal, its answer, and that each pattern of the chip that was cut is loaded and read once.
-use Rattle.std.proofs.Common.{◌≡◌, ℕ, ◌+◌, ◌-◌, ◌≤◌, true, List, Option, None, Some, IfSome, option_map, refl, sym, ap, ◌∙◌, subst, arith}
+use Rattle.std.proofs.Common.{◌≡◌, ℕ, ◌+◌, ◌-◌, ◌≤◌, true, List, Option, None, Some, option_map, refl, sym, ap, ◌∙◌, subst, arith}
 use Rattle.std.specs.Prelude.{slice_get}
 use Rattle.std.specs.FinMap.{get}
 use Rattle.std.proofs.lemmas.Option.{same_Some}
@@ -26,12 +26,10 @@ use Rattle.split_plan.specs.Parts.{split_chip, split_limits, split_parts, split_
 use Rattle.split_plan.proofs.Lists.{at_map}
 use Rattle.split_plan.proofs.PartContents.{contents}
 use Rattle.split_plan.proofs.PartLaws.{each_once, are_parts}
-use Rattle.soctest.specs.declared.Command.{Command}
-use Rattle.soctest.specs.declared.Command.TheVariants as command
 use Rattle.commands.specs.declared.FileKind.TheVariants.{Soc, Limits}
 use Rattle.commands.specs.declared.Status.TheVariants.{Done}
 use Rattle.commands.specs.Answers.{Answers}
-use Rattle.soctest.specs.Commands.{CommandValue, SplitTests, command_value, IsInRange}
+use Rattle.commands.specs.Commands.{Split}
 use Rattle.commands.specs.Procedures.{Unless}
 use Rattle.soctest.specs.Procedures.{done_with_split, procedure_of}
 use Rattle.commands.specs.Readings.{IsRead, SaysLimits}
@@ -77,26 +75,6 @@ passed_first soc Work n first =
     let c = none_as soc Chains (first.earlier Chains (omega arith)) in
     let d = none_as soc Power (first.earlier Power (omega arith)) in
     rw (a, b, c, d, some_as soc Work n first.passes) refl
-
--- ---- words
-
-most_of_command : (c : Command) → IsInRange c → (soc limits : List ℕ) (most : ℕ) → command_value c ≡ SplitTests soc limits most → 1 ≤ most
-most_of_command (command.Print s) range soc limits most is = absurd cc
-most_of_command (command.Widths s w) range soc limits most is = absurd cc
-most_of_command (command.Plan s l) range soc limits most is = absurd cc
-most_of_command (command.Check s l p) range soc limits most is = absurd cc
-most_of_command (command.Chart s l p) range soc limits most is = absurd cc
-most_of_command (command.Vectors s l p d) range soc limits most is = absurd cc
-most_of_command (command.Sample n d) range soc limits most is = absurd cc
-most_of_command (command.Locate s l p f) range soc limits most is = absurd cc
-most_of_command (command.Tree s l t) range soc limits most is = absurd cc
-most_of_command (command.Shift s l p q) range soc limits most is = absurd cc
-most_of_command (command.Split s l m) range soc limits most is = let same : m ≡ most = cc in subst (λ n. 1 ≤ n) same range
-
--- a command over parts is one of at least 1 pattern a part
-pub most_in_range : (result : Option Command) (words : Option CommandValue) → option_map command_value result ≡ words → IfSome result IsInRange → (soc limits : List ℕ) (most : ℕ) → words ≡ Some (SplitTests soc limits most) → 1 ≤ most
-most_in_range None words is range soc limits most split = let wrong : None ≡ Some (SplitTests soc limits most) = is ∙ split in absurd cc
-most_in_range (Some c) words is range soc limits most split = most_of_command c range soc limits most (same_Some (command_value c) (SplitTests soc limits most) (is ∙ split))
 
 -- ---- each pattern of the chip that was cut
 
@@ -176,7 +154,7 @@ served chip bounds most plan some sound right whole content has i l n at one mos
 
 -- ---- the headline
 
-pub parts_printed : TrustLaws → (files : Files) (soc limits : List ℕ) (most : ℕ) → 1 ≤ most → (text : List ℕ) (old new : Option (List ℕ)) → Answers (procedure_of (SplitTests soc limits most)) files Done text → Appended old text new → IsTrustworthySplit files soc limits most old new
+pub parts_printed : TrustLaws → (files : Files) (soc limits : List ℕ) (most : ℕ) → 1 ≤ most → (text : List ℕ) (old new : Option (List ℕ)) → Answers (procedure_of (Split soc limits most)) files Done text → Appended old text new → IsTrustworthySplit files soc limits most old new
 parts_printed laws files soc limits most some text old new answer put =
     let b = both_done files soc limits text (λ chip bounds. Unless (split_refusal chip bounds most) (done_with_split chip bounds most)) answer in
     let m = (not_refused files (split_refusal b.0 b.1 most) (done_with_split b.0 b.1 most) text b.4).1 in

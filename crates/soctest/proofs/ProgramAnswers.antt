@@ -5,7 +5,6 @@ use Rattle.std.proofs.lemmas.Bool.{and_parts}
 use Rattle.std.proofs.lemmas.Option.{get_or_from_slice_get}
 use Rattle.std.specs.Global.{Vec}
 use Rattle.outside.specs.declared.NoMemory.{NoMemory as MemoryFault}
-use Rattle.outside.specs.Held.{Files, WhereTold}
 use Rattle.soc_model.specs.declared.Test.{Test}
 use Rattle.soc_model.specs.Chips.{ModuleValue, SocValue, is_live}
 use Rattle.soc_model.specs.Modes.{is_tam}
@@ -18,19 +17,14 @@ use Rattle.shift_program.specs.declared.ProgramFault.{ProgramFault}
 use Rattle.shift_program.specs.Programs.{ProgramValue, WrappedTest, wrapped_test, operations}
 use Rattle.shift_program.specs.RightPrograms.{AreRight}
 use Rattle.shift_program.specs.Faults.{needed_for, IsFault}
-use Rattle.shift_program.specs.Answers.{Says, RefusedAt, Means, IsReadProgram}
+use Rattle.shift_program.specs.Answers.{Says, RefusedAt, IsReadProgram}
 use Rattle.shift_program.specs.Laws.{RightAreFaultless, OneFault, TextsHaveOneAnswer}
-use Rattle.commands.specs.declared.FileKind.TheVariants.{Program}
 use Rattle.commands.specs.declared.Status.TheVariants.{Done, Refused}
 use Rattle.commands.specs.declared.Verdict.{Verdict}
 use Rattle.commands.specs.declared.Verdict.TheVariants.{Answered, CannotRead, NoMemory as OutOfMemory}
 use Rattle.commands.specs.Texts.{is_line}
-use Rattle.commands.specs.Readings.{most_of}
-use Rattle.soctest.specs.ShiftPrograms.{named_test, test_cycles, wrapper_for, planned_for, IsRightFor, RightIn, SaysRight, RefusedIn, RefusesProgram, program_line, program_fault_line, accepted_with, accepted_program, Judges, AnswersProgram}
-use Rattle.commands.specs.Procedures.{done_with}
-use Rattle.soctest.specs.Procedures.{with_program}
-use Rattle.commands.specs.Decides.{Follows, GivesText, LoadsBytes}
-use Rattle.commands.proofs.FileStages.{after_file, read_from, done, refused, without_bytes, no_value}
+use Rattle.soctest.specs.ShiftPrograms.{named_test, test_cycles, wrapper_for, planned_for, IsRightFor, RightIn, SaysRight, RefusedIn, RefusesProgram, program_line, program_fault_line, accepted_with, accepted_program, Judges}
+use Rattle.commands.specs.Decides.{GivesText, AnswersBytes}
 use Rattle.commands.specs.Settled.{SaysOne, RefusesOne}
 
 -- the laws that this rests on
@@ -76,40 +70,14 @@ program_refused_one laws chip plan = record { one = lines; none = no_program } w
       let same : a.0 ≡ v = same_program laws.texts bytes a.0 v a.1 says.0 in
       not_both laws.faultless plan bytes v (named_test chip v.test) t says.0 (subst (λ p. RefusedIn plan p (named_test chip p.test) t) same a.2) says.1
 
--- ---- from the bytes on
-
--- the verdict on a program's text is one from its file on
-pub program_answered : (chip : SocValue) (plan : PlanValue) (name bytes : List ℕ) (held : Option Files) (before after : ℕ) (verdict : Verdict) → WhereTold held name (λ o. o ≡ Some bytes) → length bytes ≤ most_of Program → AnswersProgram chip plan bytes verdict →
-    Follows (with_program chip plan name (λ shifts. done_with (accepted_program chip plan shifts))) held before after verdict
-program_answered chip plan name bytes held before after (Answered status text) told within (inl a) =
-    after_file Program (SaysRight chip plan) (RefusesProgram chip plan) name (λ shifts. done_with (accepted_program chip plan shifts)) held before before after a.1.0 (Answered status text) (omega arith)
-    (read_from Program (SaysRight chip plan) held name bytes a.1.0 told within a.1.1) (done (accepted_program chip plan a.1.0) held before after (Answered status text) (a.0, a.1.2))
-program_answered chip plan name bytes held before after (Answered status text) told within (inr a) =
-    refused Program (SaysRight chip plan) (RefusesProgram chip plan) name (λ shifts. done_with (accepted_program chip plan shifts)) held before after bytes text.items (Answered status text) told within a.1 (a.0, refl, a.2)
-program_answered chip plan name bytes held before after (CannotRead file) told within a = absurd a
-program_answered chip plan name bytes held before after OutOfMemory told within a = tt
-
--- and so is the verdict without its bytes
-pub program_unread : (chip : SocValue) (plan : PlanValue) (name : List ℕ) (held : Option Files) (before after : ℕ) (verdict : Verdict) → LoadsBytes Program name held before after (Err verdict) → Follows (with_program chip plan name (λ shifts. done_with (accepted_program chip plan shifts))) held before after verdict
-program_unread chip plan name held before after verdict none =
-    no_value Program (SaysRight chip plan) (RefusesProgram chip plan) name (λ shifts. done_with (accepted_program chip plan shifts)) held before after verdict
-    (without_bytes Program (SaysRight chip plan) (RefusesProgram chip plan) name held before after verdict none)
-
 -- ---- from a program that was read
 
 -- a program that is judged for the test that it names
-pub program_judged : (chip : SocValue) (plan : PlanValue) (bytes : List ℕ) (program : ProgramValue) (verdict : Verdict) → IsReadProgram bytes program → Judges plan program (named_test chip program.test) verdict → AnswersProgram chip plan bytes verdict
+pub program_judged : (chip : SocValue) (plan : PlanValue) (bytes : List ℕ) (program : ProgramValue) (verdict : Verdict) → IsReadProgram bytes program → Judges plan program (named_test chip program.test) verdict → AnswersBytes (SaysRight chip plan) (RefusesProgram chip plan) (accepted_program chip plan) bytes verdict
 program_judged chip plan bytes program (Answered status text) read (inl a) = inl (a.0, (program, (read, a.1), a.2))
 program_judged chip plan bytes program (Answered status text) read (inr a) = inr (a.0, inr (program, read, a.1), a.2)
 program_judged chip plan bytes program (CannotRead file) read a = a
 program_judged chip plan bytes program OutOfMemory read a = tt
-
--- a text that is refused at a line
-pub text_refused : (chip : SocValue) (plan : PlanValue) (bytes : List ℕ) (line : ℕ) (made : Result (Vec ℕ) MemoryFault) (verdict : Verdict) → Means bytes (RefusedAt line) → IfOk made (λ text. text.items ≡ program_line line) → IfOk made (λ text. IsTrue (is_line text.items)) → GivesText Refused made verdict → AnswersProgram chip plan bytes verdict
-text_refused chip plan bytes line (Ok text) (Answered status given) why says is_one d = inr (d.0, inl (line, why, d.1 ∙ says), rw d.1 is_one)
-text_refused chip plan bytes line (Ok text) (CannotRead file) why says is_one d = absurd d
-text_refused chip plan bytes line (Ok text) OutOfMemory why says is_one d = tt
-text_refused chip plan bytes line (Err fault) verdict why says is_one d = rw d tt
 
 -- a program that is refused in a line
 pub judged_refused : (plan : PlanValue) (program : ProgramValue) (found : Option (ModuleValue × Test)) (line : List ℕ) (made : Result (Vec ℕ) MemoryFault) (verdict : Verdict) → RefusedIn plan program found line → IfOk made (λ text. text.items ≡ line) → IfOk made (λ text. IsTrue (is_line text.items)) → GivesText Refused made verdict → Judges plan program found verdict

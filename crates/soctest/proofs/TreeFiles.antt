@@ -1,87 +1,32 @@
--- A file with a width tree: its verdicts, that the files give one answer of it, and that the bound that is printed is one.
-use Rattle.std.proofs.Common.{◌≡◌, ◌∙◌, ℕ, ◌≤◌, inl, inr, List, Option, Some, Result, Ok, Err, IfOk, true, length, refl, sym, subst, ap}
-use Rattle.std.specs.Prelude.{IsTrue}
+-- A file with a width tree: the files give one answer of it, and the bound that is printed is one.
+use Rattle.std.proofs.Common.{◌≡◌, ◌∙◌, ℕ, inl, inr, List, Option, true, sym, subst, ap}
 use Rattle.std.specs.FinMap.{get}
-use Rattle.std.specs.Global.{Vec}
-use Rattle.outside.specs.declared.NoMemory.{NoMemory as MemoryFault}
-use Rattle.outside.specs.Held.{Files, WhereTold, Appended}
+use Rattle.outside.specs.Held.{Files, Appended}
 use Rattle.outside.specs.Words.{words_of}
 use Rattle.outside.specs.Grammars.{last_line}
 use Rattle.soc_model.specs.Chips.{SocValue}
 use Rattle.plan_model.specs.Plans.{LimitsValue}
 use Rattle.soc_reader.specs.ChipForm.{SaysChip}
-use Rattle.width_tree.specs.declared.Tree.{Tree as TreeModel}
 use Rattle.width_tree.specs.declared.TreeFault.{TreeFault}
-use Rattle.width_tree.specs.declared.TreeTextFault.{TreeTextFault}
-use Rattle.width_tree.specs.declared.TreeTextFault.TheVariants as tree_fault
-use Rattle.width_tree.specs.Trees.{TreeValue, tree_value}
-use Rattle.width_tree.specs.Answers.{Says, TreeRead}
+use Rattle.width_tree.specs.Trees.{TreeValue}
+use Rattle.width_tree.specs.Answers.{Says}
 use Rattle.width_tree.specs.Bounds.{IsAcceptedTree, IsTreeFault}
 use Rattle.width_tree.proofs.Viable.{one_text}
 use Rattle.width_tree.proofs.Exact.{trees_not_refused, trees_refused_once}
 use Rattle.width_tree.proofs.Faults.{one_fault, no_fault}
 use Rattle.width_tree.proofs.CaseBounds.{accepted_bounds}
 use Rattle.commands.specs.declared.FileKind.TheVariants.{Soc, Limits, Tree}
-use Rattle.commands.specs.declared.Status.TheVariants.{Done, Refused}
-use Rattle.commands.specs.declared.Verdict.{Verdict}
-use Rattle.commands.specs.declared.Verdict.TheVariants.{Answered, CannotRead, NoMemory as OutOfMemory}
-use Rattle.commands.specs.Texts.{is_line}
+use Rattle.commands.specs.declared.Status.TheVariants.{Done}
 use Rattle.soctest.specs.TreeTexts.{bound_line, tree_line, tree_fault_line}
-use Rattle.commands.specs.Readings.{most_of, IsRead, SaysLimits}
+use Rattle.commands.specs.Readings.{IsRead, SaysLimits}
 use Rattle.soctest.specs.TreeReadings.{SaysBound, RefusesTree}
-use Rattle.commands.specs.Procedures.{nothing, with_both, done_with}
-use Rattle.soctest.specs.Procedures.{with_tree, with_bound}
+use Rattle.commands.specs.Procedures.{with_both, done_with}
+use Rattle.soctest.specs.Procedures.{with_bound}
 use Rattle.commands.specs.Answers.{Answers}
-use Rattle.commands.specs.Decides.{Follows, GivesText, LoadsBytes}
-use Rattle.soctest.specs.TreeDecides.{LoadsTree, RefusesTreeText, AnswersTree}
 use Rattle.soctest.specs.TreeBounds.{IsShownBound}
-use Rattle.commands.proofs.FileStages.{without_bytes, refused, read_from, after_file, no_value, done_of}
 use Rattle.commands.proofs.Trusted.{stage_done, read_as_well, both_done}
 use Rattle.commands.specs.Settled.{SaysOne, RefusesOne, IsSettled}
 use Rattle.commands.proofs.Settled.{done_once}
-
--- ---- verdicts
-
--- bytes that aren't there
-pub tree_unread : (chip : SocValue) (bounds : LimitsValue) (name : List ℕ) (held : Option Files) (before after : ℕ) (verdict : Verdict) (result : Result TreeModel Verdict) → LoadsBytes Tree name held before after (Err verdict) → result ≡ Err verdict → LoadsTree chip bounds name held before after result
-tree_unread chip bounds name held before after verdict result none is = rw is (without_bytes Tree (SaysBound chip bounds) (RefusesTree chip bounds) name held before after verdict none)
-
--- a text that is refused
-pub tree_refused : (chip : SocValue) (bounds : LimitsValue) (name bytes : List ℕ) (held : Option Files) (before after : ℕ) (fault : TreeTextFault) (verdict : Verdict) →
-    WhereTold held name (λ o. o ≡ Some bytes) → length bytes ≤ most_of Tree → TreeRead bytes (Err fault) → RefusesTreeText fault verdict → Follows (with_tree chip bounds name (λ value. nothing)) held before after verdict
-tree_refused chip bounds name bytes held before after (tree_fault.Text line) verdict told within why d =
-    refused Tree (SaysBound chip bounds) (RefusesTree chip bounds) name (λ value. nothing) held before after bytes (tree_line line) verdict told within (inl (line, why, refl)) d
-tree_refused chip bounds name bytes held before after tree_fault.NoMemory verdict told within why d = rw d tt
-
--- a tree that is checked: it is accepted, or its fault is the refusal
-pub tree_checked : (chip : SocValue) (bounds : LimitsValue) (name bytes : List ℕ) (held : Option Files) (before after : ℕ) (value : TreeValue) (result : Result TreeModel Verdict) →
-    WhereTold held name (λ o. o ≡ Some bytes) → length bytes ≤ most_of Tree → Says bytes value → AnswersTree chip bounds value result → LoadsTree chip bounds name held before after result
-tree_checked chip bounds name bytes held before after value (Ok tree) told within says d =
-    read_from Tree (SaysBound chip bounds) held name bytes (tree_value tree) told within (subst (SaysBound chip bounds bytes) (sym d.0) (says, d.1))
-tree_checked chip bounds name bytes held before after value (Err verdict) told within says (inl d) =
-    refused Tree (SaysBound chip bounds) (RefusesTree chip bounds) name (λ value. nothing) held before after bytes (tree_fault_line d.0) verdict told within (inr (value, says, (d.0, d.1, refl))) d.2
-tree_checked chip bounds name bytes held before after value (Err verdict) told within says (inr d) = rw d tt
-
--- the answer to a tree with a fault
-pub faulty_tree : (chip : SocValue) (bounds : LimitsValue) (value : TreeValue) (fault : TreeFault) (made : Result (Vec ℕ) MemoryFault) (verdict : Verdict) → IsTreeFault chip bounds value fault → IfOk made (λ text. text.items ≡ tree_fault_line fault) →
-    IfOk made (λ text. IsTrue (is_line text.items)) → GivesText Refused made verdict → AnswersTree chip bounds value (Err verdict)
-faulty_tree chip bounds value fault (Ok text) (Answered status bytes) is says line d = inl (fault, is, (d.0, d.1 ∙ says, rw d.1 line))
-faulty_tree chip bounds value fault (Ok text) (CannotRead missed) is says line d = absurd d
-faulty_tree chip bounds value fault (Ok text) OutOfMemory is says line d = inr refl
-faulty_tree chip bounds value fault (Err none) verdict is says line d = inr d
-
--- ---- what comes after a chip and limits
-
--- the verdict on a tree that isn't taken is one from its file on
-pub bound_unread : (chip : SocValue) (bounds : LimitsValue) (tree : List ℕ) (held : Option Files) (before after : ℕ) (verdict : Verdict) → LoadsTree chip bounds tree held before after (Err verdict) → Follows (with_bound tree chip bounds) held before after verdict
-bound_unread chip bounds tree held before after verdict d = no_value Tree (SaysBound chip bounds) (RefusesTree chip bounds) tree (λ value. done_with (bound_line value)) held before after verdict d
-
--- and so is the bound of a tree that was read
-pub bound_read : (chip : SocValue) (bounds : LimitsValue) (tree : List ℕ) (held : Option Files) (before after : ℕ) (value : TreeModel) (made : Result (Vec ℕ) MemoryFault) (verdict : Verdict) → before ≤ after →
-    LoadsTree chip bounds tree held before after (Ok value) → IfOk made (λ text. text.items ≡ bound_line (tree_value value)) → GivesText Done made verdict → Follows (with_bound tree chip bounds) held before after verdict
-bound_read chip bounds tree held before after value made verdict order read is d =
-    after_file Tree (SaysBound chip bounds) (RefusesTree chip bounds) tree (λ value. done_with (bound_line value)) held before after after (tree_value value) verdict order read
-    (done_of (bound_line (tree_value value)) made held after after verdict is d)
 
 -- ---- one answer
 

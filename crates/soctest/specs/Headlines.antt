@@ -18,7 +18,7 @@ use Rattle.commands.specs.declared.Status.{Status}
 use Rattle.commands.specs.declared.Status.TheVariants.{Done}
 use Rattle.commands.specs.Readings.{IsRead}
 use Rattle.commands.specs.Trusted.{IsChipIn, AreLimitsIn, IsPlanIn, IsMade, IsTrustworthy}
-use Rattle.soctest.specs.Commands.{CommandValue, Print, Widths, MakePlan, Check, Chart, Vectors, Sample, TreeBound, SplitTests, Shift, Locate}
+use Rattle.commands.specs.Commands.{CommandValue, Print, Widths, Plan, Check, Chart, Vectors, Sample, Locate, Tree, Split, Shift, Improve, Picture, Simulate}
 use Rattle.soctest.specs.Texts.{accepted_line}
 use Rattle.soctest.specs.Samples.{sample_limits, sample_text}
 use Rattle.soctest.specs.LocateText.{locate_text}
@@ -43,19 +43,23 @@ TellsProgram files program chip value text = (shifts : ProgramValue) × IsRead P
 abbrev pub IsSummedUp : (n seed : ℕ) → Option (List ℕ) → Option (List ℕ) → Type 0
 IsSummedUp n seed old new = IsTrustworthy (λ chip. chip ≡ made_chip n seed) (λ chip bounds. bounds ≡ sample_limits) IsMade (λ chip value text. text ≡ sample_text n seed chip value) old new
 
--- what the commands over a plan or a bound promise of it, over the files that they name
+-- What the commands over a plan or a bound promise of it, over the files that they name. Those of other top calls never end
+-- with an answer here.
 abbrev pub Trusts : CommandValue → Files → Option (List ℕ) → Option (List ℕ) → Type 0
 Trusts (Print soc) files old new = Unit {0}
 Trusts (Widths soc wires) files old new = Unit {0}
-Trusts (MakePlan soc limits) files old new = IsTrustworthy (IsChipIn files soc) (AreLimitsIn files limits) IsMade (λ chip value text. text ≡ plan_text value) old new
+Trusts (Plan soc limits) files old new = IsTrustworthy (IsChipIn files soc) (AreLimitsIn files limits) IsMade (λ chip value text. text ≡ plan_text value) old new
 Trusts (Check soc limits plan) files old new = IsTrustworthy (IsChipIn files soc) (AreLimitsIn files limits) (IsPlanIn files plan) (λ chip value text. text ≡ accepted_line value) old new
 Trusts (Chart soc limits plan) files old new = IsTrustworthy (IsChipIn files soc) (AreLimitsIn files limits) (IsPlanIn files plan) (λ chip value text. text ≡ chart_text chip value) old new
 Trusts (Vectors soc limits plan seed) files old new = IsTrustworthy (IsChipIn files soc) (AreLimitsIn files limits) (IsPlanIn files plan) (λ chip value text. text ≡ vector_text chip value (made_content chip seed)) old new
 Trusts (Sample n seed) files old new = IsSummedUp n seed old new
 Trusts (Shift soc limits plan program) files old new = IsTrustworthy (IsChipIn files soc) (AreLimitsIn files limits) (IsPlanIn files plan) (TellsProgram files program) old new
 Trusts (Locate soc limits plan log) files old new = IsTrustworthy (IsChipIn files soc) (AreLimitsIn files limits) (IsPlanIn files plan) (TellsFails files log) old new
-Trusts (TreeBound soc limits tree) files old new = IsShownBound files soc limits tree old new
-Trusts (SplitTests soc limits most) files old new = IsTrustworthySplit files soc limits most old new
+Trusts (Tree soc limits tree) files old new = IsShownBound files soc limits tree old new
+Trusts (Split soc limits most) files old new = IsTrustworthySplit files soc limits most old new
+Trusts (Improve soc limits plan tries seed) files old new = ⊥
+Trusts (Picture soc limits plan) files old new = ⊥
+Trusts (Simulate soc limits plan seed) files old new = ⊥
 
 -- The headline, for each command, where the shelf tells what it holds.
 abbrev pub Headline : Option CommandValue → Option Files → Option (List ℕ) → Status → Option (List ℕ) → Type 0

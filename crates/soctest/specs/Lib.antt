@@ -1,8 +1,8 @@
-pub mod Commands
 pub mod Endings
 pub mod Headlines
 pub mod LocateText
 pub mod LogReadings
+pub mod OwnFiles
 pub mod Procedures
 pub mod Samples
 pub mod ShiftPrograms
@@ -10,7 +10,6 @@ pub mod SplitEnds
 pub mod SplitText
 pub mod Texts
 pub mod TreeBounds
-pub mod TreeDecides
 pub mod TreeReadings
 pub mod TreeTexts
 pub mod WidthsText

@@ -1,9 +1,9 @@
 -- What each command does: it takes its files one after another, and then answers.
-use Rattle.std.specs.Prelude.{◌≡◌, ℕ, List, Option, None, Some, Bool, true, false, ◌||◌, nat_eq, nat_lt, if◌then◌else◌}
+use Rattle.std.specs.Prelude.{◌≡◌, ℕ, List, Option, None, Some, Bool, true, false, ◌||◌, nat_eq, nat_lt, option_map, if◌then◌else◌}
 use Rattle.soc_model.specs.Chips.{SocValue}
 use Rattle.plan_model.specs.Plans.{LimitsValue, PlanValue}
 use Rattle.soc_printer.specs.SocText.{soc_text}
-use Rattle.commands.specs.declared.FileKind.TheVariants.{Tree, Program}
+use Rattle.commands.specs.declared.FileKind.TheVariants.{Tree as TreeFile, Program as ProgramFile}
 use Rattle.chart.specs.ChartText.{chart_text}
 use Rattle.planner.specs.Plans.{IsPlanned}
 use Rattle.plan_text.specs.PlanLines.{plan_text}
@@ -11,20 +11,21 @@ use Rattle.width_tree.specs.Trees.{TreeValue}
 use Rattle.bit_machine.specs.Chips.{made_content}
 use Rattle.tester_vectors.specs.declared.TheConstants.{RUN_MOST}
 use Rattle.tester_vectors.specs.VectorText.{wire_cycles, vector_text}
-use Rattle.soctest.specs.Commands.{CommandValue, Print, Widths, MakePlan, Check, Chart, Vectors, Sample, TreeBound, SplitTests, Shift, Locate}
+use Rattle.commands.specs.Texts.{beyond, run_line}
+use Rattle.commands.specs.Commands.{CommandValue, Print, Widths, Plan, Check, Chart, Vectors, Sample, Locate, Tree, Split, Shift, Improve, Picture, Simulate}
 use Rattle.sample_maker.specs.Samples.{made_chip}
 use Rattle.sample_maker.specs.declared.TheConstants.{SAMPLE_MODULES_MOST}
 use Rattle.soctest.specs.Samples.{sample_limits, sample_line, sample_text}
 use Rattle.split_plan.specs.Parts.{split_chip, split_limits, split_of}
 use Rattle.soctest.specs.SplitText.{split_text, split_refusal}
-use Rattle.soctest.specs.Texts.{accepted_line, run_line}
+use Rattle.soctest.specs.Texts.{accepted_line}
 use Rattle.soctest.specs.LocateText.{locate_text}
 use Rattle.soctest.specs.WidthsText.{widths_text}
 use Rattle.soctest.specs.TreeTexts.{bound_line}
 use Rattle.soctest.specs.TreeReadings.{SaysBound, RefusesTree}
 use Rattle.shift_program.specs.Programs.{ProgramValue}
 use Rattle.soctest.specs.ShiftPrograms.{SaysRight, RefusesProgram, accepted_program}
-use Rattle.commands.specs.Procedures.{Procedure, Read, Unless, done_with, done_with_any, with_chip, with_both, with_all}
+use Rattle.commands.specs.Procedures.{Procedure, Read, Unless, NoCommand, done_with, done_with_any, with_chip, with_both, with_all}
 use Rattle.soctest.specs.LogReadings.{with_log}
 
 -- the answer is the text of any plan that the planner may make for a chip under limits
@@ -32,8 +33,8 @@ abbrev pub done_with_plan : SocValue → LimitsValue → Procedure
 done_with_plan chip bounds = done_with_any (λ text. (value : PlanValue) × IsPlanned chip bounds value × (text ≡ plan_text value))
 
 -- the line that refuses the vectors of a plan whose run is too long
-abbrev pub run_refusal : PlanValue → Option (List ℕ)
-run_refusal value = if nat_lt RUN_MOST (wire_cycles value) then Some (run_line (wire_cycles value)) else None
+abbrev pub long_run : PlanValue → Option (List ℕ)
+long_run value = option_map run_line (beyond RUN_MOST (wire_cycles value))
 
 -- the answer is the summary of a made chip and of any plan that the planner may make for it
 abbrev pub done_with_sample : (n seed : ℕ) → Procedure
@@ -51,7 +52,7 @@ done_with_split chip bounds most = done_with_any (λ text. (value : PlanValue) �
 
 -- a width tree that is accepted for a chip under limits
 abbrev pub with_tree : SocValue → LimitsValue → (tree : List ℕ) → (TreeValue → Procedure) → Procedure
-with_tree chip bounds tree next = Read Tree (SaysBound chip bounds) (RefusesTree chip bounds) tree next
+with_tree chip bounds tree next = Read TreeFile (SaysBound chip bounds) (RefusesTree chip bounds) tree next
 
 -- its bound is the answer
 abbrev pub with_bound : (tree : List ℕ) → SocValue → LimitsValue → Procedure
@@ -59,34 +60,40 @@ with_bound tree chip bounds = with_tree chip bounds tree (λ value. done_with (b
 
 -- a program that is right for its test in an accepted plan
 abbrev pub with_program : SocValue → PlanValue → (program : List ℕ) → (ProgramValue → Procedure) → Procedure
-with_program chip value program next = Read Program (SaysRight chip value) (RefusesProgram chip value) program next
+with_program chip value program next = Read ProgramFile (SaysRight chip value) (RefusesProgram chip value) program next
 
--- ---- the commands
+-- ---- the commands; those of other top calls are none here
 
 abbrev pub procedure_of : CommandValue → Procedure
 procedure_of (Print soc) = with_chip soc (λ chip. done_with (soc_text chip))
 procedure_of (Widths soc wires) = with_chip soc (λ chip. done_with (widths_text chip wires))
-procedure_of (MakePlan soc limits) = with_both soc limits done_with_plan
+procedure_of (Plan soc limits) = with_both soc limits done_with_plan
 procedure_of (Check soc limits plan) = with_all soc limits plan (λ chip bounds value. done_with (accepted_line value))
 procedure_of (Chart soc limits plan) = with_all soc limits plan (λ chip bounds value. done_with (chart_text chip value))
-procedure_of (Vectors soc limits plan seed) = with_all soc limits plan (λ chip bounds value. Unless (run_refusal value) (done_with (vector_text chip value (made_content chip seed))))
+procedure_of (Vectors soc limits plan seed) = with_all soc limits plan (λ chip bounds value. Unless (long_run value) (done_with (vector_text chip value (made_content chip seed))))
 procedure_of (Sample n seed) = Unless (sample_refusal n) (done_with_sample n seed)
-procedure_of (TreeBound soc limits tree) = with_both soc limits (with_bound tree)
-procedure_of (SplitTests soc limits most) = with_both soc limits (λ chip bounds. Unless (split_refusal chip bounds most) (done_with_split chip bounds most))
+procedure_of (Tree soc limits tree) = with_both soc limits (with_bound tree)
+procedure_of (Split soc limits most) = with_both soc limits (λ chip bounds. Unless (split_refusal chip bounds most) (done_with_split chip bounds most))
 procedure_of (Shift soc limits plan program) = with_all soc limits plan (λ chip bounds value. with_program chip value program (λ shifts. done_with (accepted_program chip value shifts)))
 procedure_of (Locate soc limits plan log) = with_all soc limits plan (λ chip bounds value. with_log log (λ fails. done_with (locate_text chip value fails)))
+procedure_of (Improve soc limits plan tries seed) = NoCommand
+procedure_of (Picture soc limits plan) = NoCommand
+procedure_of (Simulate soc limits plan seed) = NoCommand
 
 -- the files fix the text of an answer; that of `plan`, `sample` and `split` may be of any plan that the planner may make
 abbrev pub fixes_text : Option CommandValue → Bool
 fixes_text None = true
 fixes_text (Some (Print soc)) = true
 fixes_text (Some (Widths soc wires)) = true
-fixes_text (Some (MakePlan soc limits)) = false
+fixes_text (Some (Plan soc limits)) = false
 fixes_text (Some (Check soc limits plan)) = true
 fixes_text (Some (Chart soc limits plan)) = true
 fixes_text (Some (Vectors soc limits plan seed)) = true
 fixes_text (Some (Sample n seed)) = false
 fixes_text (Some (Locate soc limits plan log)) = true
-fixes_text (Some (TreeBound soc limits tree)) = true
+fixes_text (Some (Tree soc limits tree)) = true
 fixes_text (Some (Shift soc limits plan program)) = true
-fixes_text (Some (SplitTests soc limits most)) = false
+fixes_text (Some (Split soc limits most)) = false
+fixes_text (Some (Improve soc limits plan tries seed)) = true
+fixes_text (Some (Picture soc limits plan)) = true
+fixes_text (Some (Simulate soc limits plan seed)) = true

@@ -121,11 +121,3 @@ abbrev pub Judges : PlanValue → ProgramValue → Option (ModuleValue × Test) 
 Judges plan program found (Answered status text) = JudgesAs plan program found status text.items
 Judges plan program found (CannotRead file) = ⊥
 Judges plan program found NoMemory = Unit {0}
-
--- a verdict accepts what the text of a program says, or refuses it in one line, or wants memory
-abbrev pub AnswersProgram : SocValue → PlanValue → List ℕ → Verdict → Type 0
-AnswersProgram chip plan bytes (Answered status text) =
-    ((status ≡ Done) × ((program : ProgramValue) × SaysRight chip plan bytes program × (text.items ≡ accepted_program chip plan program)))
-    ⊎ ((status ≡ Refused) × RefusesProgram chip plan bytes text.items × IsTrue (is_line text.items))
-AnswersProgram chip plan bytes (CannotRead file) = ⊥
-AnswersProgram chip plan bytes NoMemory = Unit {0}

@@ -7,10 +7,6 @@ use Rattle.commands.specs.Texts.{two_numbers}
 abbrev pub accepted_line : PlanValue → List ℕ
 accepted_line plan = codes "accepted " ++ two_numbers plan.cycles plan.bound.cycles ++ codes "\n"
 
--- a run of so many wire cycles, which is too long
-abbrev pub run_line : ℕ → List ℕ
-run_line cells = codes "refused run " ++ decimal cells ++ codes "\n"
-
 -- a log that is refused at a line of its text
 abbrev pub log_line : ℕ → List ℕ
 log_line line = codes "refused log line " ++ decimal line ++ codes "\n"

@@ -1,6 +1,6 @@
 //! Decides how a command ends before anything is written. Where another file comes after those of a plan or a chip, what was
 //! loaded is let go by a call, as the room of a checker is.
-ghost use Rattle.std.specs.Prelude.{◌≡◌, ◌≤◌, ℕ, List, Option, None, Some, IfOk, map, string_bytes};
+ghost use Rattle.std.specs.Prelude.{◌≡◌, ◌≤◌, ℕ, List, Option, Some, IfOk, IfSome, map, string_bytes};
 ghost use Rattle.outside.specs.Held.{Files};
 ghost use Rattle.soc_model.specs.Chips.{soc_value};
 ghost use Rattle.soc_model.specs.SoundChips.{IsSoundChip};
@@ -11,24 +11,23 @@ ghost use Rattle.plan_text.specs.PlanLines.{plan_text};
 ghost use Rattle.schedule_search.specs.Estimates.{CanAsk, IsAtLeastReady, IsAtMostNow};
 ghost use Rattle.planner.specs.Plans.{IsPlanned};
 ghost use Rattle.plan_model.specs.declared.TheConstants.{WIRES_MOST};
-ghost use Rattle.soctest.specs.Commands.{Print, Widths, MakePlan, Check, Chart, Vectors, Sample, TreeBound, command_of, SplitTests, Shift, Locate};
+ghost use Rattle.commands.specs.Commands.{Print, Widths, Plan as MakePlan, Check, Chart, Vectors, Sample, Locate, Tree, Split, Shift, IsInRange, command_of as asked_command};
 ghost use Rattle.commands.specs.Procedures.{asked};
 ghost use Rattle.soctest.specs.Endings.{Closes, IsRunnable};
 ghost use Rattle.soctest.specs.Procedures.{procedure_of};
 ghost use Rattle.commands.specs.Decides.{Follows};
+ghost use Rattle.commands.specs.Ends.{IsCommand};
 
-use crate::Command;
 use crate::ending::Ending;
 use crate::lines::accepted_line;
-use crate::logs::answer_log;
-use crate::programs::answer_program_file;
+use crate::own_files::{OwnFile, answer_own_file};
 use crate::samples::decide_sample;
 use crate::splitting::decide_split;
-use crate::trees::answer_tree;
 use crate::widths::widths_text;
-use crate::words::command;
 use chart::print_chart;
-use commands::{Status, Verdict, answered_with, bad_words, load_all, load_both, load_chip};
+use commands::{
+    Command, Status, Verdict, answered_with, bad_words, command_of, load_all, load_both, load_chip,
+};
 use outside::{NoMemory, Shelf};
 use plan_model::{Limits, Plan, good_without_limits};
 use plan_text::print_plan;
@@ -173,11 +172,15 @@ fn decide_tree<H: Shelf>(
 ) -> Verdict
     ensures held_stays { H.held shelf.new ≡ H.held shelf.old }
     ensures faults_never_fall { H.faults shelf.old ≤ H.faults shelf.new }
-    ensures follows { Follows (procedure_of (TreeBound soc.now limits.now tree.now)) (H.held shelf.old) (H.faults shelf.old) (H.faults shelf.new) result }
+    ensures follows { Follows (procedure_of (Tree soc.now limits.now tree.now)) (H.held shelf.old) (H.faults shelf.old) (H.faults shelf.new) result }
 {
     match load_both(alloc, soc, limits, shelf) {
         Ok(both) => {
-            let verdict = answer_tree(alloc, &both.soc, &both.limits, tree, shelf);
+            let own = OwnFile::Tree {
+                soc: &both.soc,
+                limits: &both.limits,
+            };
+            let verdict = answer_own_file(alloc, own, tree, shelf);
             drop(both);
             verdict
         }
@@ -201,7 +204,11 @@ fn decide_locate<H: Shelf>(
     match load_all(alloc, soc, limits, plan, shelf) {
         Ok(all) => {
             good_without_limits();
-            let verdict = answer_log(alloc, &all.soc, &all.plan, log, shelf);
+            let own = OwnFile::Log {
+                soc: &all.soc,
+                plan: &all.plan,
+            };
+            let verdict = answer_own_file(alloc, own, log, shelf);
             drop(all);
             verdict
         }
@@ -224,14 +231,12 @@ fn decide_shift<H: Shelf>(
 {
     match load_all(alloc, soc, limits, plan, shelf) {
         Ok(all) => {
-            let verdict = answer_program_file(
-                alloc,
-                &all.soc,
-                &all.limits,
-                &all.plan,
-                program,
-                shelf,
-            );
+            let own = OwnFile::Program {
+                soc: &all.soc,
+                limits: &all.limits,
+                plan: &all.plan,
+            };
+            let verdict = answer_own_file(alloc, own, program, shelf);
             drop(all);
             verdict
         }
@@ -243,13 +248,13 @@ fn decide_shift<H: Shelf>(
 pub fn decide<H: Shelf>(alloc: Global, words: &[String], shelf: &mut H) -> Ending
     ensures held_stays { H.held shelf.new ≡ H.held shelf.old }
     ensures faults_never_fall { H.faults shelf.old ≤ H.faults shelf.new }
-    ensures closes { Closes (asked procedure_of (command_of (map string_bytes words.now))) (H.held shelf.old) (H.faults shelf.old) (H.faults shelf.new) result }
+    ensures closes { Closes (asked procedure_of (asked_command (map string_bytes words.now))) (H.held shelf.old) (H.faults shelf.old) (H.faults shelf.new) result }
     ensures runnable { IsRunnable result }
-    ensures untouched { command_of (map string_bytes words.now) ≡ None → shelf.new ≡ shelf.old }
-    ensures patterns { (soc limits : List ℕ) (most : ℕ) → command_of (map string_bytes words.now) ≡ Some (SplitTests soc limits most) → 1 ≤ most }
-    ensures sampled { (n seed : ℕ) → command_of (map string_bytes words.now) ≡ Some (Sample n seed) → (held : Option Files) → Closes (procedure_of (Sample n seed)) held (H.faults shelf.old) (H.faults shelf.new) result }
+    ensures untouched { (IsCommand (asked procedure_of (asked_command (map string_bytes words.now))) → ⊥) → shelf.new ≡ shelf.old }
+    ensures range { IfSome (asked_command (map string_bytes words.now)) IsInRange }
+    ensures sampled { (n seed : ℕ) → asked_command (map string_bytes words.now) ≡ Some (Sample n seed) → (held : Option Files) → Closes (procedure_of (Sample n seed)) held (H.faults shelf.old) (H.faults shelf.new) result }
 {
-    match command(words) {
+    match command_of(words) {
         Some(Command::Print { soc }) => Ending::Decided(decide_print(alloc, soc, shelf)),
         Some(Command::Widths { soc, wires }) => Ending::Decided(decide_widths(
             alloc, soc, wires, shelf,
@@ -294,6 +299,7 @@ pub fn decide<H: Shelf>(alloc: Global, words: &[String], shelf: &mut H) -> Endin
         Some(Command::Split { soc, limits, most }) => Ending::Decided(decide_split(
             alloc, soc, limits, most, shelf,
         )),
-        None => Ending::Decided(bad_words(alloc)),
+        Some(Command::Improve { .. } | Command::Picture { .. } | Command::Simulate { .. })
+        | None => Ending::Decided(bad_words(alloc)),
     }
 }

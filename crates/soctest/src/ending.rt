@@ -8,10 +8,9 @@ ghost use Rattle.bit_machine.specs.Chips.{wires_of, made_content};
 ghost use Rattle.tester_vectors.specs.VectorText.{vector_text};
 ghost use Rattle.commands.specs.Ends.{WritesUnless};
 ghost use Rattle.soctest.specs.Endings.{IsRunnable, WritesEnding};
-ghost use Rattle.soctest.specs.Procedures.{run_refusal};
+ghost use Rattle.soctest.specs.Procedures.{long_run};
 
-use crate::lines::run_line;
-use commands::{Accepted, Status, Verdict, refused_with, write_verdict};
+use commands::{Accepted, Status, Verdict, refused_with, run_line, write_verdict};
 use outside::Sink;
 use plan_model::{Plan, good_without_limits};
 use soc_model::Soc;
@@ -34,7 +33,7 @@ fn write_run<K: Sink>(alloc: Global, soc: &Soc, plan: &Plan, seed: u64, out: &mu
     requires good { IsGoodAlone (soc_value soc.now) (plan_value plan.now) }
     requires narrow { wires_of (plan_value plan.now) ≤ 256 }
     ensures faults_never_fall { K.faults out.old ≤ K.faults out.new }
-    ensures written { WritesUnless (run_refusal (plan_value plan.now)) (vector_text (soc_value soc.now) (plan_value plan.now) (made_content (soc_value soc.now) seed)) (K.faults out.old) (K.faults out.new) (K.written out.old) result (K.written out.new) }
+    ensures written { WritesUnless (long_run (plan_value plan.now)) (vector_text (soc_value soc.now) (plan_value plan.now) (made_content (soc_value soc.now) seed)) (K.faults out.old) (K.faults out.new) (K.written out.old) result (K.written out.new) }
 {
     match write_vectors(alloc, soc, plan, seed, out) {
         Outcome::Written => Status::Done,

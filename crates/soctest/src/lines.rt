@@ -2,7 +2,7 @@
 ghost use Rattle.std.specs.Prelude.{◌≡◌, IfOk, IsTrue};
 ghost use Rattle.plan_model.specs.Views.{plan_value};
 ghost use Rattle.commands.specs.Texts.{is_line};
-ghost use Rattle.soctest.specs.Texts.{accepted_line as accepted_text, log_line as log_line_text, run_line as run_line_text};
+ghost use Rattle.soctest.specs.Texts.{accepted_line as accepted_text, log_line as log_line_text};
 
 use commands::{numbered, push, push_two};
 use outside::NoMemory;
@@ -22,14 +22,6 @@ pub fn accepted_line(alloc: Global, plan: &Plan) -> Result<Vec<u8>, NoMemory>
     )?;
     push(&mut text, b"\n")?;
     Ok(text)
-}
-
-/// `refused run` and the wire cycles of the run.
-pub fn run_line(alloc: Global, cells: u128) -> Result<Vec<u8>, NoMemory>
-    ensures text { IfOk result (λ text. text.items ≡ run_line_text cells) }
-    ensures line { IfOk result (λ text. IsTrue (is_line text.items)) }
-{
-    numbered(alloc, b"refused run ", cells)
 }
 
 /// `refused log line` and the line.

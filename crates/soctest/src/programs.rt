@@ -12,17 +12,14 @@ ghost use Rattle.plan_model.specs.Rules.{IsGood, IsWrapped};
 ghost use Rattle.plan_model.specs.Views.{chain_value, limits_value, plan_value, wrapper_value};
 ghost use Rattle.shift_program.specs.Programs.{IsLasting, program_value, wrapped_test};
 ghost use Rattle.shift_program.specs.Faults.{place_of};
-ghost use Rattle.commands.specs.Decides.{Follows};
-ghost use Rattle.commands.specs.Procedures.{done_with};
+ghost use Rattle.commands.specs.Decides.{AnswersBytes};
 ghost use Rattle.commands.specs.Texts.{is_line, no_feed};
-ghost use Rattle.soctest.specs.Procedures.{with_program};
-ghost use Rattle.soctest.specs.ShiftPrograms.{named_test, planned_for, fault_word as word_of_fault, accepted_with, accepted_program as text_of_program, program_line as program_line_text, program_test_line as program_test_text, program_fault_line as program_fault_text, Judges, AnswersProgram};
+ghost use Rattle.soctest.specs.ShiftPrograms.{named_test, planned_for, fault_word as word_of_fault, accepted_with, accepted_program as text_of_program, program_line as program_line_text, program_test_line as program_test_text, program_fault_line as program_fault_text, Judges, RefusesProgram, SaysRight};
 
 use commands::{
-    FileKind, Status, Verdict, answered_with, load_file, numbered, push, push_decimal, push_test,
-    push_two, refused_with,
+    Status, Verdict, answered_with, numbered, push, push_decimal, push_test, push_two, refused_with,
 };
-use outside::{NoMemory, Shelf};
+use outside::NoMemory;
 use plan_model::{Limits, Plan, Wrapper, test_cycles, wrapper_of};
 use shift_program::{
     Program, ProgramFault, ProgramRoom, ProgramTextFault, check_program, read_program,
@@ -166,36 +163,15 @@ fn judge_named(alloc: Global, soc: &Soc, limits: &Limits, plan: &Plan, program: 
     }
 }
 
-/// What is answered of a program's text, for a plan that is good.
-fn answer_program(alloc: Global, soc: &Soc, limits: &Limits, plan: &Plan, bytes: &[u8]) -> Verdict
+/// What is answered of a program's bytes, for a plan that is good.
+pub(crate) fn answer_program(alloc: Global, soc: &Soc, limits: &Limits, plan: &Plan, bytes: &[u8]) -> Verdict
     requires chip { IsSoundChip (soc_value soc.now) }
     requires good { IsGood (soc_value soc.now) (limits_value limits.now) (plan_value plan.now) }
-    ensures { AnswersProgram (soc_value soc.now) (plan_value plan.now) bytes.now result }
+    ensures { AnswersBytes (SaysRight (soc_value soc.now) (plan_value plan.now)) (RefusesProgram (soc_value soc.now) (plan_value plan.now)) (text_of_program (soc_value soc.now) (plan_value plan.now)) bytes.now result }
 {
     match read_program(alloc, bytes) {
         Ok(program) => judge_named(alloc, soc, limits, plan, &program),
         Err(ProgramTextFault::Text { line }) => refused_with(program_line(alloc, line)),
         Err(ProgramTextFault::NoMemory) => Verdict::NoMemory,
-    }
-}
-
-/// What is answered of a program's file, for a plan that is good.
-pub(crate) fn answer_program_file<H: Shelf>(
-    alloc: Global,
-    soc: &Soc,
-    limits: &Limits,
-    plan: &Plan,
-    name: &str,
-    shelf: &mut H,
-) -> Verdict
-    requires chip { IsSoundChip (soc_value soc.now) }
-    requires good { IsGood (soc_value soc.now) (limits_value limits.now) (plan_value plan.now) }
-    ensures held_stays { H.held shelf.new ≡ H.held shelf.old }
-    ensures faults_never_fall { H.faults shelf.old ≤ H.faults shelf.new }
-    ensures follows { Follows (with_program (soc_value soc.now) (plan_value plan.now) name.now (λ shifts. done_with (text_of_program (soc_value soc.now) (plan_value plan.now) shifts))) (H.held shelf.old) (H.faults shelf.old) (H.faults shelf.new) result }
-{
-    match load_file(alloc, FileKind::Program, name, shelf) {
-        Ok(bytes) => answer_program(alloc, soc, limits, plan, bytes.as_slice()),
-        Err(verdict) => verdict,
     }
 }

@@ -9,7 +9,7 @@ ghost use Rattle.plan_model.specs.Plans.{PlanValue};
 ghost use Rattle.plan_model.specs.SoundLimits.{IsSoundLimits};
 ghost use Rattle.plan_model.specs.Views.{limits_value, plan_value, why_value};
 ghost use Rattle.planner.specs.Plans.{IsPlanned};
-ghost use Rattle.soctest.specs.Commands.{Sample};
+ghost use Rattle.commands.specs.Commands.{Sample};
 ghost use Rattle.soctest.specs.Procedures.{procedure_of};
 ghost use Rattle.soctest.specs.Samples.{sample_limits, sample_line as sample_line_text, sample_text, kind_text};
 ghost use Rattle.commands.specs.Texts.{is_line, two_numbers};

@@ -7,7 +7,7 @@ ghost use Rattle.plan_model.specs.SoundLimits.{IsSoundLimits};
 ghost use Rattle.plan_model.specs.Views.{limits_value, plan_value};
 ghost use Rattle.planner.specs.Plans.{IsPlanned};
 ghost use Rattle.split_plan.specs.Parts.{split_chip, split_limits, split_of as parts_of, split_value};
-ghost use Rattle.soctest.specs.Commands.{SplitTests};
+ghost use Rattle.commands.specs.Commands.{Split as SplitTests};
 ghost use Rattle.commands.specs.Decides.{Follows, GivesAny};
 ghost use Rattle.soctest.specs.Procedures.{procedure_of};
 ghost use Rattle.soctest.specs.SplitText.{part_line, parts_text, soc_and_limits, split_line as split_line_text, split_refusal, split_text as text_of_parts};

@@ -1,9 +1,9 @@
 //! The top call: it decides first, and then writes.
-ghost use Rattle.std.specs.Prelude.{◌≡◌, ◌≤◌, None, map, string_bytes};
+ghost use Rattle.std.specs.Prelude.{◌≡◌, ◌≤◌, map, string_bytes};
 ghost use Rattle.outside.specs.Held.{Rose};
 ghost use Rattle.commands.specs.Procedures.{asked};
-ghost use Rattle.commands.specs.Ends.{MayAnswer, Ends, OneLine, EndsByWords, Complete, Finishes, SaysBadWords};
-ghost use Rattle.soctest.specs.Commands.{command_of};
+ghost use Rattle.commands.specs.Ends.{IsCommand, MayAnswer, Ends, OneLine, EndsByWords, Complete, Finishes, SaysBadWords};
+ghost use Rattle.commands.specs.Commands.{command_of};
 ghost use Rattle.soctest.specs.Procedures.{procedure_of, fixes_text};
 ghost use Rattle.soctest.specs.Headlines.{Headline, SampleHeadline};
 
@@ -35,7 +35,7 @@ pub fn soctest<H: Shelf, K: Sink>(
     ensures ends { Ends (MayAnswer (asked procedure_of (command_of (map string_bytes words.now))) (H.held shelf.old) (H.faults shelf.old) (H.faults shelf.new)) (K.faults out.old) (K.faults out.new) (K.written out.old) result (K.written out.new) }
     ensures one_line { OneLine (K.written out.old) result (K.written out.new) }
     ensures by_words { EndsByWords (asked procedure_of (command_of (map string_bytes words.now))) (Rose (K.faults out.old) (K.faults out.new)) result }
-    ensures untouched { command_of (map string_bytes words.now) ≡ None → shelf.new ≡ shelf.old }
+    ensures untouched { (IsCommand (asked procedure_of (command_of (map string_bytes words.now))) → ⊥) → shelf.new ≡ shelf.old }
 
     // Where the files give an answer and nothing fails, it comes, but for want of memory.
     ensures complete { Complete (fixes_text (command_of (map string_bytes words.now))) (asked procedure_of (command_of (map string_bytes words.now))) (H.held shelf.old) (Rose (H.faults shelf.old) (H.faults shelf.new)) (Rose (K.faults out.old) (K.faults out.new)) (K.written out.old) result (K.written out.new) }

@@ -16,13 +16,13 @@ fn run(rt: &HostRuntime, words: &[String]) -> Status {
     let mut shelf = RealShelf::new(rt);
     let mut out = RealSink::new(rt.stdout());
     match top_call(words) {
-        TopCall::Improve { words } => {
+        TopCall::Improve => {
             let mut told = RealSink::new(rt.stderr());
             improve(alloc, words, &mut shelf, &mut out, &mut told)
         }
-        TopCall::Picture { words } => draw(alloc, words, &mut shelf, &mut out),
-        TopCall::Simulate { words } => simulate(alloc, words, &mut shelf, &mut out),
-        TopCall::Soctest { words } => soctest(alloc, words, &mut shelf, &mut out),
+        TopCall::Picture => draw(alloc, words, &mut shelf, &mut out),
+        TopCall::Simulate => simulate(alloc, words, &mut shelf, &mut out),
+        TopCall::Soctest => soctest(alloc, words, &mut shelf, &mut out),
     }
 }
 

@@ -2,7 +2,7 @@ use Rattle.std.proofs.Common.{◌≡◌, ◌∙◌, Some, subst}
 use Rattle.commands.specs.Procedures.{asked}
 use Rattle.soctest.specs.Procedures.{procedure_of}
 use Rattle.commands.specs.Decides.{Decides, Follows}
-use Rattle.soctest.specs.Commands.{CommandValue}
+use Rattle.commands.specs.Commands.{CommandValue}
 use Rattle.soctest.proofs.deciding.decide.Goals as goal
 
 pub returns-in-Some-Sample-clause-closes : goal.returns-in-Some-Sample-clause-closes

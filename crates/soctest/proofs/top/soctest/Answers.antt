@@ -3,7 +3,7 @@ use Rattle.std.specs.Prelude.{string_bytes}
 use Rattle.commands.specs.Procedures.{asked}
 use Rattle.soctest.proofs.Endings.{ends, one_line, by_words, says_bad_words}
 use Rattle.commands.proofs.Completeness.{complete, finishes}
-use Rattle.soctest.specs.Commands.{command_of}
+use Rattle.commands.specs.Commands.{command_of}
 use Rattle.soctest.specs.Procedures.{procedure_of, fixes_text}
 use Rattle.soctest.proofs.SettledCommands.{settled_asked}
 use Rattle.soctest.proofs.Headlines.{headline, sample_headline}
@@ -37,9 +37,9 @@ returns-clause-finishes g c =
 
 pub returns-clause-headline : goal.returns-clause-headline
 returns-clause-headline g c =
-    headline (record { right = c.good_plans_run_right.ensures; bound = c.certificates_are_bounds.ensures.accepted }) c.spots_are_reads.ensures (command_of (map string_bytes c.args.words.now)) c.decide-ending.ensures.patterns (g.H.Shelf.held c.args.shelf.now) (g.H.Shelf.faults c.args.shelf.now) (g.H.Shelf.faults c.decide-ending.new.shelf) (g.K.Sink.faults c.args.out.now) (g.K.Sink.faults c.write_ending.new.out) (g.K.Sink.written c.args.out.now) (g.K.Sink.written c.write_ending.new.out) c.write_ending.result
+    headline (record { right = c.good_plans_run_right.ensures; bound = c.certificates_are_bounds.ensures.accepted }) c.spots_are_reads.ensures (command_of (map string_bytes c.args.words.now)) c.decide-ending.ensures.range (g.H.Shelf.held c.args.shelf.now) (g.H.Shelf.faults c.args.shelf.now) (g.H.Shelf.faults c.decide-ending.new.shelf) (g.K.Sink.faults c.args.out.now) (g.K.Sink.faults c.write_ending.new.out) (g.K.Sink.written c.args.out.now) (g.K.Sink.written c.write_ending.new.out) c.write_ending.result
     (ends (asked procedure_of (command_of (map string_bytes c.args.words.now))) (g.H.Shelf.held c.args.shelf.now) (g.H.Shelf.faults c.args.shelf.now) (g.H.Shelf.faults c.decide-ending.new.shelf) (g.K.Sink.faults c.args.out.now) (g.K.Sink.faults c.write_ending.new.out) (g.K.Sink.written c.args.out.now) (g.K.Sink.written c.write_ending.new.out) c.write_ending.result c.decide-ending.result c.decide-ending.ensures.closes c.write_ending.ensures.written)
 
 pub returns-clause-headline_of_sample : goal.returns-clause-headline_of_sample
 returns-clause-headline_of_sample g c =
-    sample_headline (record { right = c.good_plans_run_right.ensures; bound = c.certificates_are_bounds.ensures.accepted }) c.spots_are_reads.ensures (command_of (map string_bytes c.args.words.now)) (g.H.Shelf.faults c.args.shelf.now) (g.H.Shelf.faults c.decide-ending.new.shelf) (g.K.Sink.faults c.args.out.now) (g.K.Sink.faults c.write_ending.new.out) (g.K.Sink.written c.args.out.now) (g.K.Sink.written c.write_ending.new.out) c.write_ending.result c.decide-ending.result c.decide-ending.ensures.sampled c.write_ending.ensures.written
+    sample_headline (record { right = c.good_plans_run_right.ensures; bound = c.certificates_are_bounds.ensures.accepted }) c.spots_are_reads.ensures (command_of (map string_bytes c.args.words.now)) c.decide-ending.ensures.range (g.H.Shelf.faults c.args.shelf.now) (g.H.Shelf.faults c.decide-ending.new.shelf) (g.K.Sink.faults c.args.out.now) (g.K.Sink.faults c.write_ending.new.out) (g.K.Sink.written c.args.out.now) (g.K.Sink.written c.write_ending.new.out) c.write_ending.result c.decide-ending.result c.decide-ending.ensures.sampled c.write_ending.ensures.written

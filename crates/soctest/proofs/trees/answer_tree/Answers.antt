@@ -1,8 +1,19 @@
-use Rattle.soctest.proofs.TreeFiles.{bound_read, bound_unread}
+use Rattle.std.proofs.Common.{Err, inl, inr, refl, subst}
+use Rattle.soc_model.specs.Chips.{soc_value}
+use Rattle.plan_model.specs.Views.{limits_value}
+use Rattle.width_tree.specs.Answers.{TreeRead}
+use Rattle.width_tree.specs.Trees.{tree_value}
+use Rattle.commands.proofs.OwnFiles.{bytes_refused}
+use Rattle.soctest.specs.TreeReadings.{SaysBound, RefusesTree}
+use Rattle.soctest.specs.TreeTexts.{bound_line, tree_line, tree_fault_line}
 use Rattle.soctest.proofs.trees.answer_tree.Goals as goal
 
-pub returns-in-Ok-clause-follows : goal.returns-in-Ok-clause-follows
-returns-in-Ok-clause-follows g c = bound_read _ _ _ _ _ _ c.in-Ok.tree _ _ c.load_accepted_tree.ensures.faults_never_fall c.in-Ok.ensures.loads c.bound_line.ensures.text c.answered_with.ensures
+pub returns-in-Err-Text : goal.returns-in-Err-Text
+returns-in-Err-Text c =
+    let why = subst (λ fault. TreeRead c.args.bytes.now (Err fault)) c.in-Err-Text.field-0-is c.in-Err-Text.ensures in
+    bytes_refused (SaysBound (soc_value c.args.soc.now) (limits_value c.args.limits.now)) (RefusesTree (soc_value c.args.soc.now) (limits_value c.args.limits.now)) bound_line c.args.bytes.now (tree_line c.in-Err-Text.line) _ _ (inl (c.in-Err-Text.line, why, refl)) c.tree_line.ensures.text c.tree_line.ensures.line c.refused_with.ensures
 
-pub returns-in-Err-clause-follows : goal.returns-in-Err-clause-follows
-returns-in-Err-clause-follows g c = bound_unread _ _ _ _ _ _ _ c.in-Err.ensures.loads
+pub returns : goal.returns
+returns c =
+    bytes_refused (SaysBound (soc_value c.args.soc.now) (limits_value c.args.limits.now)) (RefusesTree (soc_value c.args.soc.now) (limits_value c.args.limits.now)) bound_line c.args.bytes.now (tree_fault_line c.in-Err.fault) _ _
+    (inr (tree_value c.in-Ok.tree, c.in-Ok.ensures, (c.in-Err.fault, c.in-Err.ensures.fault, refl))) c.tree_fault_line.ensures.text c.tree_fault_line.ensures.line c.refused_with-in-Err.ensures
