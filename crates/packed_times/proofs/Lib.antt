@@ -1,5 +1,10 @@
 pub mod Rising
 pub mod Crowds
 pub mod WrapperChains
-pub mod PackedTimes
+pub mod LeastTimes
 pub mod PlannedTimes
+pub mod FrontSums
+pub mod Greatest
+pub mod Rows
+pub mod TestTimes
+pub mod ModuleRows

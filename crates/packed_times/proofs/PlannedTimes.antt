@@ -12,7 +12,7 @@ use Rattle.plan_model.specs.Rules.{IsGood, Wrappers, Proper}
 use Rattle.plan_model.proofs.PlannedTests.{Origin, origin, Wrapped, wrapped}
 use Rattle.plan_model.proofs.ShortTests.{live_patterns}
 use Rattle.packed_times.specs.Packed.{packed_time}
-use Rattle.packed_times.proofs.PackedTimes.{packed_over_wires}
+use Rattle.packed_times.proofs.LeastTimes.{packed_over_wires}
 
 of_wrapper : (plan : PlanValue) (m : ModuleValue) (test : Test) (w : ℕ) (v : WrapperValue) → 1 ≤ test.patterns → test.tam ≡ true → v.scan ≡ test.scan → chains_of plan m test ≡ chain_cells m test.scan v.chains → IsProper m v.scan v.chains →
     1 ≤ length v.chains → length v.chains ≤ w → packed_time m test w ≤ length (operations_of m test (chains_of plan m test))

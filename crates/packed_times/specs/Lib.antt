@@ -1,1 +1,4 @@
 pub mod Packed
+pub mod Fronts
+pub mod Times
+pub mod Tables

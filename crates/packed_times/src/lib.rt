@@ -2,5 +2,9 @@
 #![tactic(auto)]
 
 mod laws;
+mod lengths;
+mod table;
+mod times;
 
 pub use laws::{packed_times_are_least, planned_tests_are_packed};
+pub use table::PackedTimes;

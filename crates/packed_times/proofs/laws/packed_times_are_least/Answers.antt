@@ -1,4 +1,4 @@
-use Rattle.packed_times.proofs.PackedTimes.{packed_over_wires, packed_self_test, packed_time-falls, lower-le-packed, packed_time-le}
+use Rattle.packed_times.proofs.LeastTimes.{packed_over_wires, packed_self_test, packed_time-falls, lower-le-packed, packed_time-le}
 use Rattle.packed_times.proofs.laws.packed_times_are_least.Goals as goal
 
 pub returns : goal.returns

@@ -1,0 +1,13 @@
+use Rattle.soc_model.specs.Chips.{soc_value, module_value}
+use Rattle.packed_times.proofs.ModuleRows.{works-le, flops-fit, rows_more}
+use Rattle.packed_times.proofs.table.all_rows.Goals as goal
+
+pub module_times-requires-clause-work : goal.module_times-requires-clause-work
+module_times-requires-clause-work c = works-le (soc_value c.args.soc.now) c.requires.sound c.loop-place.place (module_value c.module_at-module.result.now) c.module_at-module.ensures
+
+pub module_times-requires-clause-flops : goal.module_times-requires-clause-flops
+module_times-requires-clause-flops c = flops-fit (soc_value c.args.soc.now) c.requires.sound c.loop-place.place (module_value c.module_at-module.result.now) c.module_at-module.ensures
+
+pub loop-place-preserved : goal.loop-place-preserved
+loop-place-preserved c =
+    rows_more c.args.wires (soc_value c.args.soc.now).modules c.loop-place.place (module_value c.module_at-module.result.now) c.in_ok-row.row c.loop-place.rows.items c.push.new.to.items c.module_at-module.ensures c.in_ok-row.ensures c.in_ok-push.ensures.ok c.loop-place.invariant
