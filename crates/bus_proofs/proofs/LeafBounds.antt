@@ -67,7 +67,7 @@ wired_module soc p = go (slice_get soc.modules p) refl
 
 -- ---- sums of two
 
-if-le : (b : Bool) (x y : ℕ) → (b ≡ true → x ≤ y) → (if b then x else 0) ≤ (if b then y else 0)
+pub if-le : (b : Bool) (x y : ℕ) → (b ≡ true → x ≤ y) → (if b then x else 0) ≤ (if b then y else 0)
 if-le true x y h = h refl
 if-le false x y h = omega arith
 
