@@ -17,7 +17,7 @@ use Rattle.bus_proofs.specs.Bounds.{AreKept, AreEnough, IsAccepted, IsProofFault
 abbrev pub PlansHaveRankings : Type 0
 PlansHaveRankings = (plan : PlanValue) → (ranking : List ℕ) × IsRanking plan ranking
 
--- where a tree of a case is accepted, no good plan of less than the claimed cycles is in the case, by any ranking
+-- where a tree of a case is accepted, no good plan of fewer than the claimed cycles is in the case, by any ranking
 abbrev pub AcceptedCasesHaveNoPlan : Type 0
 AcceptedCasesHaveNoPlan =
     (soc : SocValue) (limits : LimitsValue) (lists : List ListValue) (claim : ℕ) (c : Case) (tree : CaseTree) →

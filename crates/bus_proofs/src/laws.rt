@@ -9,7 +9,7 @@ pub fn plans_have_rankings()
     ensures { PlansHaveRankings }
 {}
 
-/// No good plan of less than the claimed cycles is in a case, by any ranking of its buses, where a tree of the case is
+/// No good plan of fewer than the claimed cycles is in a case, by any ranking of its buses, where a tree of the case is
 /// accepted.
 pub fn accepted_cases_have_no_plan()
     ensures { AcceptedCasesHaveNoPlan }
