@@ -6,6 +6,7 @@ use Rattle.plan_model.specs.Plans.{LimitsValue, PlanValue}
 use Rattle.plan_model.specs.Rules.{IsGood, IsBound}
 use Rattle.plan_model.specs.SoundLimits.{IsSoundLimits}
 use Rattle.bus_proofs.specs.declared.ProofFault.{ProofFault}
+use Rattle.bus_proofs.specs.declared.ProofFault.TheVariants.{Less}
 use Rattle.packed_times.specs.Packed.{packed_tam_time}
 use Rattle.bus_proofs.specs.Proofs.{ListValue, WeightsValue, CaseTree, nodes_of, ProofValue}
 use Rattle.bus_proofs.specs.Cases.{Case, cases_of}
@@ -54,3 +55,9 @@ abbrev pub AcceptedProofsHaveNoFault : Type 0
 AcceptedProofsHaveNoFault =
     (soc : SocValue) (limits : LimitsValue) (p : ProofValue) (f : ProofFault) →
     IsAccepted soc limits p → IsProofFault soc limits p f → ⊥
+
+-- a leaf that doesn't hold shows fewer cycles than claimed, where any are claimed
+abbrev pub LessShowsLess : Type 0
+LessShowsLess =
+    (soc : SocValue) (limits : LimitsValue) (p : ProofValue) (place claimed shown : ℕ) →
+    IsProofFault soc limits p (Less place claimed shown) → 1 ≤ claimed → shown < claimed

@@ -1,5 +1,5 @@
 //! What an accepted proof tells. Each law is the contract of a function that does nothing: a caller learns it by the call.
-ghost use Rattle.bus_proofs.specs.Laws.{PlansHaveRankings, AcceptedCasesHaveNoPlan, AcceptedProofsAreBounds, WiderSlotsCostNoLess, NodesTellTheTree, ProofsHaveOneFault, AcceptedProofsHaveNoFault};
+ghost use Rattle.bus_proofs.specs.Laws.{PlansHaveRankings, AcceptedCasesHaveNoPlan, AcceptedProofsAreBounds, WiderSlotsCostNoLess, NodesTellTheTree, ProofsHaveOneFault, AcceptedProofsHaveNoFault, LessShowsLess};
 
 use exclusions::{exclusions_are_decided, exclusions_hold, least_powers_are_drawn};
 use packed_times::{packed_times_are_least, planned_tests_are_packed};
@@ -51,4 +51,9 @@ pub fn proofs_have_one_fault()
 /// An accepted proof has no fault.
 pub fn accepted_proofs_have_no_fault()
     ensures { AcceptedProofsHaveNoFault }
+{}
+
+/// A leaf that doesn't hold shows fewer cycles than claimed, where any are claimed.
+pub fn less_shows_less()
+    ensures { LessShowsLess }
 {}
