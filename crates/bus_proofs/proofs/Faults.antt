@@ -1,7 +1,7 @@
 -- A proof has at most one fault, and none where it is accepted.
-use Rattle.std.proofs.Common.{◌≡◌, ℕ, Some, List, sym, ap, ◌∙◌, subst, inl, inr}
+use Rattle.std.proofs.Common.{◌≡◌, ℕ, zero, suc, ◌+◌, ◌-◌, ◌*◌, ◌≤◌, ◌<◌, Some, List, sym, ap, ◌∙◌, subst, arith, inl, inr, mul-suc, mul_comm}
 use Rattle.std.specs.Prelude.{slice_get}
-use Rattle.std.proofs.lemmas.Bool.{cases_order}
+use Rattle.std.proofs.lemmas.Bool.{cases_lt, cases_order, ne_eqb}
 use Rattle.soc_model.specs.Chips.{SocValue}
 use Rattle.plan_model.specs.Plans.{LimitsValue}
 use Rattle.plan_model.specs.Rules.{IsFirstBreach}
@@ -9,9 +9,11 @@ use Rattle.bus_proofs.specs.declared.ProofFault.{ProofFault}
 use Rattle.bus_proofs.specs.declared.ProofFault.TheVariants.{BadList, BadNode, Less}
 use Rattle.bus_proofs.specs.Proofs.{ListValue, WeightsValue, OfSum, CaseTree, ProofValue}
 use Rattle.bus_proofs.specs.Cases.{NodeCase}
-use Rattle.bus_proofs.specs.Leaves.{leaf_shows}
-use Rattle.bus_proofs.specs.Bounds.{KeepsNode, AreEnough, IsFirstLess, HasFault, IsNodeFault, all_cases}
-use Rattle.bus_proofs.specs.Laws.{ProofsHaveOneFault, AcceptedProofsHaveNoFault}
+use Rattle.plan_model.specs.Bounds.{quotient_up}
+use Rattle.plan_model.proofs.LowerTimes.{quotient_up-le}
+use Rattle.bus_proofs.specs.Leaves.{cost_of_all, worth_of_cycle, cycles_shown, leaf_shows}
+use Rattle.bus_proofs.specs.Bounds.{KeepsNode, NodeHolds, AreEnough, IsFirstLess, HasFault, IsNodeFault, all_cases}
+use Rattle.bus_proofs.specs.Laws.{ProofsHaveOneFault, AcceptedProofsHaveNoFault, LessShowsLess}
 use Rattle.bus_proofs.proofs.OneTree.{one_tree}
 
 -- ---- the first breach
@@ -87,3 +89,32 @@ no_fault soc limits p (BadNode x) accepted a =
 no_fault soc limits p (Less x c s) accepted a =
     let same = one_tree accepted.tree a.tree (accepted.nodes ∙ sym a.nodes) in
     none soc limits p.lists p.claimed (all_cases soc limits a.tree) (Less x c s) (subst (λ (x : CaseTree). AreEnough soc limits p.lists p.claimed (all_cases soc limits x)) same accepted.enough) a.has
+
+-- ---- what a leaf shows that doesn't hold
+
+shown-less : (cost worth claim : ℕ) → 1 ≤ claim → cost + worth ≤ worth * claim → cycles_shown cost worth < claim
+shown-less cost worth claim some few = go worth few
+  where
+    go : (worth : ℕ) → cost + worth ≤ worth * claim → cycles_shown cost worth < claim
+    go zero few = omega arith
+    go (suc w) few =
+        let before : claim ≡ suc (claim - 1) = omega arith in
+        let product : suc w * suc (claim - 1) ≡ suc w * (claim - 1) + suc w = mul-suc (suc w) (claim - 1) in
+        let all : suc w * claim ≡ suc w * suc (claim - 1) = ap (λ n. suc w * n) before in
+        let turned : suc w * (claim - 1) ≡ (claim - 1) * suc w = mul_comm (suc w) (claim - 1) in
+        let least : quotient_up cost (suc w) ≤ claim - 1 = quotient_up-le cost (claim - 1) (suc w) (omega arith) (omega (arith, few, product, all, turned)) in
+        rw (ne_eqb (suc w) 0 (λ e. omega arith)) (omega (arith, least, before))
+
+pub less_shows_less : LessShowsLess
+unfolding leaf_shows
+less_shows_less soc limits p place claimed shown fault some =
+    let a = fault.has in
+    let worth : ℕ = worth_of_cycle limits.wires p.lists (a.n).within a.weights in
+    elim (cases_lt (worth_of_cycle limits.wires p.lists (a.n).within a.weights * p.claimed) (cost_of_all soc limits p.lists p.claimed (a.n).within a.weights + worth_of_cycle limits.wires p.lists (a.n).within a.weights)) [
+      | inl more ↦
+          let holds : NodeHolds soc limits p.lists p.claimed (a.n).within (OfSum a.weights) = inr (inr more) in
+          absurd (a.first.breaks (record { rule = a.rule; holds = subst (NodeHolds soc limits p.lists p.claimed (a.n).within) (sym a.leaf) holds }))
+      | inr few ↦
+          let less : leaf_shows soc limits p.lists p.claimed (a.n).within a.weights < p.claimed = shown-less (cost_of_all soc limits p.lists p.claimed (a.n).within a.weights) (worth_of_cycle limits.wires p.lists (a.n).within a.weights) p.claimed (omega (arith, a.claimed_is)) few in
+          omega (arith, less, a.shown_is, a.claimed_is)
+    ]

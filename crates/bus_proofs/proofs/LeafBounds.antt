@@ -1,4 +1,4 @@
--- A leaf that keeps its rule and holds: no good plan of less than the claimed cycles is in its case.
+-- A leaf that keeps its rule and holds: no good plan of fewer than the claimed cycles is in its case.
 use Rattle.std.proofs.Common.{◌≡◌, ℕ, suc, ◌+◌, ◌*◌, ◌≤◌, ◌<◌, Bool, true, false, Option, Some, None, List, [], ◌∷◌, length, refl, ap, ◌∙◌, sym, subst, arith, inl, inr, mul-le-mul_left, mul-le-mul_right, add-mul, mul_comm, mul-suc}
 use Rattle.std.specs.Prelude.{slice_get, nat_eq, nat_lt, ◌&&◌, ◌||◌, not, if◌then◌else◌}
 use Rattle.std.specs.List.{sum, sum_by}
@@ -67,7 +67,7 @@ wired_module soc p = go (slice_get soc.modules p) refl
 
 -- ---- sums of two
 
-if-le : (b : Bool) (x y : ℕ) → (b ≡ true → x ≤ y) → (if b then x else 0) ≤ (if b then y else 0)
+pub if-le : (b : Bool) (x y : ℕ) → (b ≡ true → x ≤ y) → (if b then x else 0) ≤ (if b then y else 0)
 if-le true x y h = h refl
 if-le false x y h = omega arith
 

@@ -14,3 +14,4 @@ pub mod AcceptedProofs
 pub mod Rows
 pub mod OneTree
 pub mod Faults
+pub mod WiderSlots

@@ -12,6 +12,7 @@ pub record Interval : Type 0 where
   pub low : ℕ
   pub high : ℕ
 
+-- from the one to the other
 abbrev pub interval : (low high : ℕ) → Interval
 interval low high = record { low = low; high = high }
 
@@ -26,6 +27,7 @@ pub record Case : Type 0 where
 abbrev pub known_ranks : Case → ℕ
 known_ranks c = length c.intervals
 
+-- the interval of a rank, and its ends
 abbrev pub interval_of : List Interval → ℕ → Interval
 interval_of intervals rank = slice_index_or intervals rank (interval 0 0)
 
@@ -61,6 +63,7 @@ abbrev pub tightened_by : (more : ℕ) → List Interval → List Interval
 tightened_by more [] = []
 tightened_by more (i ∷ is) = tightened_below more i.high (i ∷ is)
 
+-- all intervals of the case, on so many wires
 abbrev pub tightened : (w : ℕ) → Case → Case
 tightened w c = record { intervals = tightened_by (spare w c.intervals) c.intervals; may = c.may; may_rest = c.may_rest }
 
@@ -117,6 +120,7 @@ case_by c f (Some place) = f place
 
 -- ---- the branches of a split
 
+-- what a split hands on to its first branch, and to its second
 abbrev pub first_case : SocValue → (w : ℕ) → Case → SplitValue → Case
 first_case soc w c (OfWide rank width) = narrow (with_rank w c rank) rank width
 first_case soc w c (OfPlace m rank twins) = case_by c (placed_on c rank) (module_place soc m)
@@ -163,6 +167,7 @@ pub record IsPlace (soc : SocValue) (c : Case) (m rank : ℕ) (twins : List ℕ)
   pub differ : AllDiffer (rank ∷ twins)
   pub alike : All (AreTwins soc c rank) twins
 
+-- the rule of a split in its case
 abbrev pub KeepsSplit : SocValue → (w : ℕ) → Case → SplitValue → Type 0
 KeepsSplit soc w c (OfWide rank width) = IsWide w c rank width
 KeepsSplit soc w c (OfPlace m rank twins) = IsPlace soc c m rank twins

@@ -1,21 +1,24 @@
 -- What an accepted proof tells of the plans of a chip.
-use Rattle.std.specs.Prelude.{◌≡◌, ◌<◌, List, ℕ}
+use Rattle.std.specs.Prelude.{◌≡◌, ◌<◌, ◌≤◌, Option, List, ℕ}
 use Rattle.soc_model.specs.Chips.{SocValue}
 use Rattle.soc_model.specs.SoundChips.{IsSoundChip}
 use Rattle.plan_model.specs.Plans.{LimitsValue, PlanValue}
 use Rattle.plan_model.specs.Rules.{IsGood, IsBound}
 use Rattle.plan_model.specs.SoundLimits.{IsSoundLimits}
 use Rattle.bus_proofs.specs.declared.ProofFault.{ProofFault}
-use Rattle.bus_proofs.specs.Proofs.{ListValue, CaseTree, nodes_of, ProofValue}
+use Rattle.bus_proofs.specs.declared.ProofFault.TheVariants.{Less}
+use Rattle.packed_times.specs.Packed.{packed_tam_time}
+use Rattle.bus_proofs.specs.Proofs.{ListValue, WeightsValue, CaseTree, nodes_of, ProofValue}
 use Rattle.bus_proofs.specs.Cases.{Case, cases_of}
 use Rattle.bus_proofs.specs.Rankings.{IsRanking, IsInCase}
+use Rattle.bus_proofs.specs.Leaves.{slot, cost}
 use Rattle.bus_proofs.specs.Bounds.{AreKept, AreEnough, IsAccepted, IsProofFault}
 
 -- the buses of every plan have a ranking
 abbrev pub PlansHaveRankings : Type 0
 PlansHaveRankings = (plan : PlanValue) → (ranking : List ℕ) × IsRanking plan ranking
 
--- where a tree of a case is accepted, no good plan of less than the claimed cycles is in the case, by any ranking
+-- where a tree of a case is accepted, no good plan of fewer than the claimed cycles is in the case, by any ranking
 abbrev pub AcceptedCasesHaveNoPlan : Type 0
 AcceptedCasesHaveNoPlan =
     (soc : SocValue) (limits : LimitsValue) (lists : List ListValue) (claim : ℕ) (c : Case) (tree : CaseTree) →
@@ -29,6 +32,14 @@ abbrev pub AcceptedProofsAreBounds : Type 0
 AcceptedProofsAreBounds =
     (soc : SocValue) (limits : LimitsValue) (p : ProofValue) →
     IsSoundChip soc → IsSoundLimits soc limits → IsAccepted soc limits p → IsBound soc limits p.claimed
+
+-- where a module takes one time on two widths, it costs no less on the wider, at no lesser rate
+abbrev pub WiderSlotsCostNoLess : Type 0
+WiderSlotsCostNoLess =
+    (soc : SocValue) (limits : LimitsValue) (lists : List ListValue) (weights : WeightsValue) (place : ℕ) (rank : Option ℕ) →
+    (narrow wide low_rate high_rate : ℕ) → 1 ≤ narrow → narrow ≤ wide →
+    packed_tam_time soc place narrow ≡ packed_tam_time soc place wide → low_rate ≤ high_rate →
+    cost soc limits lists weights place (slot rank narrow low_rate) ≤ cost soc limits lists weights place (slot rank wide high_rate)
 
 -- a list of nodes is that of at most one tree
 abbrev pub NodesTellTheTree : Type 0
@@ -44,3 +55,9 @@ abbrev pub AcceptedProofsHaveNoFault : Type 0
 AcceptedProofsHaveNoFault =
     (soc : SocValue) (limits : LimitsValue) (p : ProofValue) (f : ProofFault) →
     IsAccepted soc limits p → IsProofFault soc limits p f → ⊥
+
+-- a leaf that doesn't hold shows fewer cycles than claimed, where any are claimed
+abbrev pub LessShowsLess : Type 0
+LessShowsLess =
+    (soc : SocValue) (limits : LimitsValue) (p : ProofValue) (place claimed shown : ℕ) →
+    IsProofFault soc limits p (Less place claimed shown) → 1 ≤ claimed → shown < claimed

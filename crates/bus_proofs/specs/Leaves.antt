@@ -32,6 +32,7 @@ pub record Slot : Type 0 where
   pub width : ℕ
   pub rate : ℕ
 
+-- such a bus
 abbrev pub slot : (rank : Option ℕ) → (width rate : ℕ) → Slot
 slot rank width rate = record { rank = rank; width = width; rate = rate }
 
@@ -69,15 +70,17 @@ all_slots w c weights place =
     flat_map (λ rank. if c.may place rank then slots_at c weights rank else []) (range_with_len 0 (known_ranks c))
     ++ (if c.may_rest place then rest_slots w c weights else [])
 
--- on the bus its tests take less cycles than claimed
+-- on the bus its tests take fewer cycles than claimed
 abbrev pub is_short : SocValue → (claim place : ℕ) → Slot → Bool
 is_short soc claim place s = nat_lt (packed_tam_time soc place s.width + self_test_time soc place) claim
 
+-- the buses that count
 abbrev pub slots_of : SocValue → (w claim : ℕ) → Case → WeightsValue → (place : ℕ) → List Slot
 slots_of soc w claim c weights place = filter (is_short soc claim place) (all_slots w c weights place)
 
 -- ---- what a module costs
 
+-- the bus is the one of that rank; which rank a bus of the rest has isn't known
 abbrev pub is_rank : Option ℕ → ℕ → Bool
 is_rank None rank = false
 is_rank (Some own) rank = nat_eq own rank
@@ -95,6 +98,7 @@ self_use soc limits list = sum_where (λ l. not l.test.tam) (λ l. use_of soc li
 abbrev pub weighed : List ListValue → WeightsValue → (ListValue → ℕ) → ℕ
 weighed lists weights f = sum_by (λ (o : ℕ × ℕ). o.1 * on (slice_get lists o.0) f) weights.lists
 
+-- its time at the rate of the bus, and what it uses of the lists at their weights
 abbrev pub cost : SocValue → LimitsValue → List ListValue → WeightsValue → (place : ℕ) → Slot → ℕ
 cost soc limits lists weights place s = s.rate * packed_tam_time soc place s.width + weighed lists weights (module_use soc limits place s)
 
@@ -126,7 +130,7 @@ CostTooMuch soc limits lists claim c weights =
     let worth = worth_of_cycle limits.wires lists c weights in
     worth * claim < cost_of_all soc limits lists claim c weights + worth
 
--- the case has no plan of less than the claimed cycles
+-- then the case has no plan of fewer than the claimed cycles
 abbrev pub LeafHolds : SocValue → LimitsValue → List ListValue → (claim : ℕ) → Case → WeightsValue → Type 0
 LeafHolds soc limits lists claim c weights =
     IsEmpty limits.wires c ⊎ (HasNoBus soc limits.wires claim c weights ⊎ CostTooMuch soc limits lists claim c weights)

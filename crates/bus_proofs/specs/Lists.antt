@@ -55,6 +55,7 @@ pub record IsCrowd (soc : SocValue) (limits : LimitsValue) (most : ℕ) (tests :
 abbrev pub IsNear : LimitsValue → ℕ → Type 0
 IsNear limits near = MatchOption limits.power ⊥ (λ limit. (1 ≤ limit) × (2 * near ≤ limit))
 
+-- the rule of each kind
 abbrev pub KeepsList : SocValue → LimitsValue → ListValue → Type 0
 KeepsList soc limits (OfTurns tests) = Each (IsTurn soc limits) tests
 KeepsList soc limits (OfTurnsOn rank tests) = Each (IsTurn soc limits) tests
@@ -63,6 +64,7 @@ KeepsList soc limits (OfPower near) = IsNear limits near
 
 -- ---- how much there is at each cycle
 
+-- room for one test at a time, or for so many of a crowd; of the power all
 abbrev pub room_of : ListValue → ℕ
 room_of (OfTurns tests) = 1
 room_of (OfTurnsOn rank tests) = 1
@@ -83,11 +85,13 @@ is_beside soc limits on rank tests l = l.test.tam && (on rank && excludes_all so
 abbrev pub counted : (limit near power : ℕ) → ℕ
 counted limit near power = if nat_lt limit (power + near) then limit else if nat_lt power near then 0 else power
 
+-- the share of all power in a cycle that the test takes in so many cycles, rounded down
 abbrev pub power_use : LimitsValue → (near : ℕ) → LiveTest → (cycles : ℕ) → Option ℕ → ℕ
 power_use limits near l cycles None = 0
 power_use limits near l cycles (Some limit) =
     sum_below (λ r. counted limit near (power_of_id limits (id_of l) l.test.power r)) cycles / limit
 
+-- a test uses the list in all its cycles, or in none; the power by its share
 abbrev pub use_of : SocValue → LimitsValue → (on : ℕ → Bool) → ListValue → (cycles : ℕ) → LiveTest → ℕ
 use_of soc limits on (OfTurns tests) cycles l = if is_among tests l then cycles else 0
 use_of soc limits on (OfTurnsOn rank tests) cycles l = if is_among tests l || is_beside soc limits on rank tests l then cycles else 0

@@ -1,15 +1,15 @@
 //! What an accepted proof tells. Each law is the contract of a function that does nothing: a caller learns it by the call.
-ghost use Rattle.bus_proofs.specs.Laws.{PlansHaveRankings, AcceptedCasesHaveNoPlan, AcceptedProofsAreBounds, NodesTellTheTree, ProofsHaveOneFault, AcceptedProofsHaveNoFault};
+ghost use Rattle.bus_proofs.specs.Laws.{PlansHaveRankings, AcceptedCasesHaveNoPlan, AcceptedProofsAreBounds, WiderSlotsCostNoLess, NodesTellTheTree, ProofsHaveOneFault, AcceptedProofsHaveNoFault, LessShowsLess};
 
 use exclusions::{exclusions_are_decided, exclusions_hold, least_powers_are_drawn};
-use packed_times::planned_tests_are_packed;
+use packed_times::{packed_times_are_least, planned_tests_are_packed};
 
 /// The buses of every plan have a ranking by their widths.
 pub fn plans_have_rankings()
     ensures { PlansHaveRankings }
 {}
 
-/// No good plan of less than the claimed cycles is in a case, by any ranking of its buses, where a tree of the case is
+/// No good plan of fewer than the claimed cycles is in a case, by any ranking of its buses, where a tree of the case is
 /// accepted.
 pub fn accepted_cases_have_no_plan()
     ensures { AcceptedCasesHaveNoPlan }
@@ -30,6 +30,14 @@ pub fn accepted_proofs_are_bounds()
     least_powers_are_drawn();
 }
 
+/// Of a leaf's slots on one bus only the first width, and those on which the module takes less time, need be looked at:
+/// where it takes one time on two widths, it costs no less on the wider.
+pub fn wider_slots_cost_no_less()
+    ensures { WiderSlotsCostNoLess }
+{
+    packed_times_are_least();
+}
+
 /// A list of nodes is that of at most one tree.
 pub fn nodes_tell_the_tree()
     ensures { NodesTellTheTree }
@@ -43,4 +51,9 @@ pub fn proofs_have_one_fault()
 /// An accepted proof has no fault.
 pub fn accepted_proofs_have_no_fault()
     ensures { AcceptedProofsHaveNoFault }
+{}
+
+/// A leaf that doesn't hold shows fewer cycles than claimed, where any are claimed.
+pub fn less_shows_less()
+    ensures { LessShowsLess }
 {}

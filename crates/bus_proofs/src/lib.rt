@@ -9,7 +9,8 @@ mod laws;
 
 pub use laws::{
     accepted_cases_have_no_plan, accepted_proofs_are_bounds, accepted_proofs_have_no_fault,
-    nodes_tell_the_tree, plans_have_rankings, proofs_have_one_fault,
+    less_shows_less, nodes_tell_the_tree, plans_have_rankings, proofs_have_one_fault,
+    wider_slots_cost_no_less,
 };
 use soc_model::TestId;
 

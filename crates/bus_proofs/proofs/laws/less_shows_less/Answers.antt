@@ -1,0 +1,5 @@
+use Rattle.bus_proofs.proofs.Faults.{less_shows_less}
+use Rattle.bus_proofs.proofs.laws.less_shows_less.Goals as goal
+
+pub returns : goal.returns
+returns c = less_shows_less
