@@ -22,9 +22,10 @@ spelling key.Area = codes "Area"
 spelling key.Power = codes "Power"
 spelling key.Forced = codes "Forced"
 
+-- those that long texts have most come first
 abbrev pub keywords : List Keyword
 keywords =
-    key.Plan ∷ key.Cycles ∷ key.Bus ∷ key.Wrapper ∷ key.Scan ∷ key.Terminals ∷ key.Chain ∷ key.Start ∷ key.Bound
+    key.Chain ∷ key.Start ∷ key.Wrapper ∷ key.Scan ∷ key.Terminals ∷ key.Plan ∷ key.Cycles ∷ key.Bus ∷ key.Bound
     ∷ key.Module ∷ key.Pair ∷ key.Area ∷ key.Power ∷ key.Forced ∷ []
 
 -- the keywords, and the range of a plan's numbers

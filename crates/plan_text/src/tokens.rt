@@ -20,19 +20,15 @@ pub enum Keyword {
     Forced,
 }
 
-/// The keywords as they are spelled.
+/// The keywords as they are spelled. Those that long texts have most come first.
 pub static KEYWORDS: [Spelled<Keyword>; 14] = [
     Spelled {
-        key: Keyword::Plan,
-        word: b"Plan",
+        key: Keyword::Chain,
+        word: b"Chain",
     },
     Spelled {
-        key: Keyword::Cycles,
-        word: b"Cycles",
-    },
-    Spelled {
-        key: Keyword::Bus,
-        word: b"Bus",
+        key: Keyword::Start,
+        word: b"Start",
     },
     Spelled {
         key: Keyword::Wrapper,
@@ -47,12 +43,16 @@ pub static KEYWORDS: [Spelled<Keyword>; 14] = [
         word: b"terminals",
     },
     Spelled {
-        key: Keyword::Chain,
-        word: b"Chain",
+        key: Keyword::Plan,
+        word: b"Plan",
     },
     Spelled {
-        key: Keyword::Start,
-        word: b"Start",
+        key: Keyword::Cycles,
+        word: b"Cycles",
+    },
+    Spelled {
+        key: Keyword::Bus,
+        word: b"Bus",
     },
     Spelled {
         key: Keyword::Bound,
