@@ -7,12 +7,12 @@ use Rattle.std.proofs.lemmas.List.Elements.{All-contains}
 use Rattle.plan_model.proofs.Lists.{contains_at, at_contains, any_from, any_at}
 use Rattle.exclusions.specs.Exclusions.{Leads, OnePair, PairFirst, has_pair, leads}
 
-pair_found : (pairs : List (ℕ × ℕ)) (i j : ℕ) → Contains pairs (i, j) → has_pair pairs i j ≡ true
+pub pair_found : (pairs : List (ℕ × ℕ)) (i j : ℕ) → Contains pairs (i, j) → has_pair pairs i j ≡ true
 pair_found pairs i j c =
     let at = contains_at pairs (i, j) c in
     any_from (λ (e : ℕ × ℕ). nat_eq e.0 i && nat_eq e.1 j) pairs at.0 (i, j) at.1 (and_from (eqb i i) (eqb j j) (eq-eqb i i refl) (eq-eqb j j refl))
 
-pair_there : (pairs : List (ℕ × ℕ)) (i j : ℕ) → has_pair pairs i j ≡ true → Contains pairs (i, j)
+pub pair_there : (pairs : List (ℕ × ℕ)) (i j : ℕ) → has_pair pairs i j ≡ true → Contains pairs (i, j)
 pair_there pairs i j h =
     let at = any_at (λ (e : ℕ × ℕ). nat_eq e.0 i && nat_eq e.1 j) pairs h in
     let both = and_parts (eqb (at.1).0 i) (eqb (at.1).1 j) at.3 in
@@ -23,7 +23,7 @@ pair_there pairs i j h =
 
 -- ---- what the test finds is a path
 
-joined : (pairs : List (ℕ × ℕ)) (i k j : ℕ) → Leads pairs i k → Leads pairs k j → Leads pairs i j
+pub joined : (pairs : List (ℕ × ℕ)) (i k j : ℕ) → Leads pairs i k → Leads pairs k j → Leads pairs i j
 joined pairs _ _ j (OnePair i k c) rest = PairFirst i k j c rest
 joined pairs _ _ j (PairFirst i m k c first) rest = PairFirst i m j c (joined pairs m k j first rest)
 

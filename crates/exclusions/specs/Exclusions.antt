@@ -1,6 +1,7 @@
 -- Live tests that exclude each other: no good plan has both under way at one cycle. They go by their places among the live tests.
 use Rattle.std.specs.Prelude.{◌≡◌, ◌≢◌, ℕ, zero, suc, ◌+◌, ◌<◌, ◌&&◌, ◌||◌, Bool, false, Option, Some, None, List, not, map, length, nat_eq, nat_lt, slice_get}
 use Rattle.std.specs.List.{flat_map, list_any, Contains}
+use Rattle.soc_model.specs.declared.TestId.{TestId}
 use Rattle.soc_model.specs.Chips.{SocValue, LiveTest, live_tests, id_of, same_test, IsParent, parent_place}
 use Rattle.plan_model.specs.Plans.{ProfileValue, LimitsValue, of_first, smallest}
 use Rattle.plan_model.specs.Rules.{live_ids}
@@ -16,8 +17,12 @@ pub data Leads (pairs : List (ℕ × ℕ)) : ℕ → ℕ → Type 0 where
   PairFirst : (i k j : ℕ) → Contains pairs (i, k) → Leads pairs k j → Leads pairs i j
 
 -- the least power of a test's profile, or its own power where it has none
+abbrev pub least_power_of : LimitsValue → TestId → (own : ℕ) → ℕ
+least_power_of limits id own = of_first (λ (p : ProfileValue). same_test p.test id) (λ p. smallest (map (λ (s : ℕ × ℕ). s.1) p.steps)) own limits.profiles
+
+-- that of a live test
 abbrev pub least_power : LimitsValue → LiveTest → ℕ
-least_power limits l = of_first (λ (p : ProfileValue). same_test p.test (id_of l)) (λ p. smallest (map (λ (s : ℕ × ℕ). s.1) p.steps)) l.test.power limits.profiles
+least_power limits l = least_power_of limits (id_of l) l.test.power
 
 -- why the live test `a` at place `i` and the live test `b` at place `j` exclude each other
 pub data Reason (soc : SocValue) (limits : LimitsValue) (i j : ℕ) (a b : LiveTest) : Type 0 where

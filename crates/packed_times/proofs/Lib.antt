@@ -8,3 +8,4 @@ pub mod Greatest
 pub mod Rows
 pub mod TestTimes
 pub mod ModuleRows
+pub mod Examples
