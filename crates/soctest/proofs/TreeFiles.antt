@@ -11,8 +11,11 @@ use Rattle.width_tree.specs.declared.TreeFault.{TreeFault}
 use Rattle.width_tree.specs.Trees.{TreeValue}
 use Rattle.width_tree.specs.Answers.{Says}
 use Rattle.width_tree.specs.Bounds.{IsAcceptedTree, IsTreeFault}
-use Rattle.width_tree.proofs.Viable.{one_text}
-use Rattle.width_tree.proofs.Exact.{trees_not_refused, trees_refused_once}
+use Rattle.width_tree.specs.TreeText.{tree_grammar}
+use Rattle.width_tree.specs.Steps.{tree_machine}
+use Rattle.width_tree.proofs.ReadTrees.{reads_trees}
+use Rattle.keyword_text.proofs.Viability.{one_value}
+use Rattle.keyword_text.proofs.Settled.{not_refused, refused_once}
 use Rattle.width_tree.proofs.Faults.{one_fault, no_fault}
 use Rattle.width_tree.proofs.CaseBounds.{accepted_bounds}
 use Rattle.commands.specs.declared.FileKind.TheVariants.{Soc, Limits, Tree}
@@ -31,22 +34,22 @@ use Rattle.commands.proofs.Settled.{done_once}
 -- ---- one answer
 
 tree_one : (chip : SocValue) (bounds : LimitsValue) → SaysOne (SaysBound chip bounds)
-tree_one chip bounds bytes v w a b = one_text (words_of bytes) v w a.0 b.0
+tree_one chip bounds bytes v w a b = one_value tree_grammar tree_machine reads_trees (words_of bytes) v w a.0 b.0
 
 tree_refused_one : (chip : SocValue) (bounds : LimitsValue) → RefusesOne (SaysBound chip bounds) (RefusesTree chip bounds)
 tree_refused_one chip bounds = record { one = lines; none = no_tree } where
   same_fault : (bytes : List ℕ) (v w : TreeValue) (f g : TreeFault) → Says bytes v → Says bytes w → IsTreeFault chip bounds v f → IsTreeFault chip bounds w g → f ≡ g
-  same_fault bytes v w f g a b is_f is_g = one_fault chip bounds w f g (subst (λ x. IsTreeFault chip bounds x f) (one_text (words_of bytes) v w a b) is_f) is_g
+  same_fault bytes v w f g a b is_f is_g = one_fault chip bounds w f g (subst (λ x. IsTreeFault chip bounds x f) (one_value tree_grammar tree_machine reads_trees (words_of bytes) v w a b) is_f) is_g
 
   lines : (bytes t t' : List ℕ) → RefusesTree chip bounds bytes t → RefusesTree chip bounds bytes t' → t ≡ t'
-  lines bytes t t' (inl a) (inl b) = a.2 ∙ ap tree_line (trees_refused_once (words_of bytes) (last_line bytes) a.0 b.0 a.1 b.1) ∙ sym b.2
-  lines bytes t t' (inl a) (inr b) = absurd (trees_not_refused (words_of bytes) (last_line bytes) a.0 (b.0, b.1) a.1)
-  lines bytes t t' (inr a) (inl b) = absurd (trees_not_refused (words_of bytes) (last_line bytes) b.0 (a.0, a.1) b.1)
+  lines bytes t t' (inl a) (inl b) = a.2 ∙ ap tree_line (refused_once tree_grammar (words_of bytes) (last_line bytes) a.0 b.0 a.1 b.1) ∙ sym b.2
+  lines bytes t t' (inl a) (inr b) = absurd (not_refused tree_grammar (words_of bytes) (last_line bytes) a.0 (b.0, b.1) a.1)
+  lines bytes t t' (inr a) (inl b) = absurd (not_refused tree_grammar (words_of bytes) (last_line bytes) b.0 (a.0, a.1) b.1)
   lines bytes t t' (inr a) (inr b) = a.2.2 ∙ ap tree_fault_line (same_fault bytes a.0 b.0 a.2.0 b.2.0 a.1 b.1 a.2.1 b.2.1) ∙ sym b.2.2
 
   no_tree : (bytes t : List ℕ) (v : TreeValue) → RefusesTree chip bounds bytes t → SaysBound chip bounds bytes v → ⊥
-  no_tree bytes t v (inl a) says = trees_not_refused (words_of bytes) (last_line bytes) a.0 (v, says.0) a.1
-  no_tree bytes t v (inr a) says = no_fault chip bounds a.0 a.2.0 (subst (IsAcceptedTree chip bounds) (one_text (words_of bytes) v a.0 says.0 a.1) says.1) a.2.1
+  no_tree bytes t v (inl a) says = not_refused tree_grammar (words_of bytes) (last_line bytes) a.0 (v, says.0) a.1
+  no_tree bytes t v (inr a) says = no_fault chip bounds a.0 a.2.0 (subst (IsAcceptedTree chip bounds) (one_value tree_grammar tree_machine reads_trees (words_of bytes) v a.0 says.0 a.1) says.1) a.2.1
 
 pub bound_settled : (tree : List ℕ) (chip : SocValue) (bounds : LimitsValue) → IsSettled true (with_bound tree chip bounds)
 bound_settled tree chip bounds = (tree_one chip bounds, tree_refused_one chip bounds, λ value. done_once true (bound_line value))

@@ -1,10 +1,8 @@
 pub mod OneTree
 pub mod Sound
 pub mod Complete
-pub mod Viable
-pub mod Progress
-pub mod EachText
-pub mod Exact
+pub mod Endable
+pub mod ReadTrees
 pub mod CaseFacts
 pub mod CaseBounds
 pub mod Faults

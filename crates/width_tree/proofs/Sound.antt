@@ -3,14 +3,15 @@ use Rattle.std.proofs.Common.{◌≡◌, ℕ, zero, suc, ◌+◌, List, [], ◌�
 use Rattle.std.proofs.lemmas.List.{map-append}
 use Rattle.std.proofs.lemmas.List.Concat.{flat_map-append}
 use Rattle.std.proofs.lemmas.Bool.{eqb-true}
-use Rattle.outside.proofs.Runs.{run-none}
+use Rattle.keyword_text.specs.declared.tokens.Token.{Token}
+use Rattle.keyword_text.specs.declared.tokens.Token.TheVariants.{Key, Number}
+use Rattle.keyword_text.specs.Machines.{IsRun, IsSaid}
+use Rattle.keyword_text.proofs.Kept.{IsKept, kept_holds}
 use Rattle.width_tree.specs.declared.tokens.Keyword.{Keyword}
 use Rattle.width_tree.specs.declared.tokens.Keyword.TheVariants as key
-use Rattle.width_tree.specs.declared.tokens.Token.{Token}
-use Rattle.width_tree.specs.declared.tokens.Token.TheVariants.{Key, Number}
-use Rattle.width_tree.specs.Trees.{OfTime, OfArea, OfBus, OfApart, NodeValue, OfSplit, OfLeaf, TreeValue, IsOneTree}
-use Rattle.width_tree.specs.TreeText.{node_tokens, head_tokens, nodes_tokens, tree_tokens}
-use Rattle.width_tree.specs.Steps.{DraftValue, PartValue, wants_tree, wants_form, wants_bound, wants_claim, between, wants_split_module, wants_split_width, wants_time_module, in_bus, wants_first, wants_second, State, at, start, with_node, next_if, step_number, begin_node, begin_wanted, begin_tree, begin_bound, step_key, step, run, whole_at, tree_at}
+use Rattle.width_tree.specs.Trees.{OfTime, OfArea, OfBus, OfApart, NodeValue, OfSplit, OfLeaf, TreeValue}
+use Rattle.width_tree.specs.TreeText.{node_tokens, head_tokens, nodes_tokens, tree_grammar}
+use Rattle.width_tree.specs.Steps.{DraftValue, PartValue, wants_tree, wants_form, wants_bound, wants_claim, between, wants_split_module, wants_split_width, wants_time_module, in_bus, wants_first, wants_second, State, at, with_node, next_if, step_number, begin_node, begin_wanted, begin_tree, begin_bound, step_key, step, whole_at, tree_at, ended, tree_machine}
 use Rattle.width_tree.proofs.OneTree.{Fills, fills_none, fills_leaf, fills_split, fills_whole}
 
 -- before the first node
@@ -31,15 +32,15 @@ begun between = 0
 begun p = 1
 
 -- the words of the head and of the whole nodes
-abbrev body : ℕ → List NodeValue → List Token
+abbrev body : ℕ → List NodeValue → List (Token Keyword)
 body claimed nodes = head_tokens claimed ++ nodes_tokens nodes
 
-abbrev front : Bool → DraftValue → List Token
+abbrev front : Bool → DraftValue → List (Token Keyword)
 front true d = []
 front false d = body d.claimed d.nodes
 
 -- the words of the part that comes next
-abbrev part_tokens : PartValue → List Token
+abbrev part_tokens : PartValue → List (Token Keyword)
 part_tokens wants_tree = []
 part_tokens wants_form = Key key.Tree ∷ []
 part_tokens wants_bound = Key key.Tree ∷ Number 1 ∷ []
@@ -57,18 +58,18 @@ NoNodes true d = d.nodes ≡ []
 NoNodes false d = Unit {0}
 
 -- the words that were read are those of this draft and this part
-record Holds (d : DraftValue) (p : PartValue) (ts : List Token) : Type 0 where
+record Holds (d : DraftValue) (p : PartValue) (ts : List (Token Keyword)) : Type 0 where
   fresh : NoNodes (in_head p) d
   read : ts ≡ front (in_head p) d ++ part_tokens p
   fills : Fills d.nodes (begun p + d.wanted)
 
-abbrev HoldsNext : Option State → List Token → Type 0
+abbrev HoldsNext : Option State → List (Token Keyword) → Type 0
 HoldsNext None ts = Unit {0}
 HoldsNext (Some s) ts = Holds s.draft s.part ts
 
 -- ---- one more word
 
-more : (ts own new lines : List Token) (t : Token) → ts ≡ lines ++ own → new ≡ own ++ t ∷ [] → ts ++ t ∷ [] ≡ lines ++ new
+more : (ts own new lines : List (Token Keyword)) (t : Token Keyword) → ts ≡ lines ++ own → new ≡ own ++ t ∷ [] → ts ++ t ∷ [] ≡ lines ++ new
 more ts own new lines t read is = ap (λ l. l ++ t ∷ []) read ∙ append_assoc lines own (t ∷ []) ∙ ap (λ l. lines ++ l) (sym is)
 
 -- one more node
@@ -78,42 +79,42 @@ node_pushed claimed nodes n =
     ∙ ap (λ l. head_tokens claimed ++ l) (ap (λ l. nodes_tokens nodes ++ l) (sym (append-nil (node_tokens n))) ∙ sym (flat_map-append node_tokens nodes (n ∷ [])))
 
 -- the last word of a node
-ended : (ts own : List Token) (claimed : ℕ) (nodes : List NodeValue) (n : NodeValue) (t : Token) → ts ≡ body claimed nodes ++ own → node_tokens n ≡ own ++ t ∷ [] → ts ++ t ∷ [] ≡ body claimed (nodes ++ n ∷ []) ++ []
-ended ts own claimed nodes n t read is = more ts own (node_tokens n) (body claimed nodes) t read is ∙ node_pushed claimed nodes n ∙ sym (append-nil (body claimed (nodes ++ n ∷ [])))
+node_ended : (ts own : List (Token Keyword)) (claimed : ℕ) (nodes : List NodeValue) (n : NodeValue) (t : Token Keyword) → ts ≡ body claimed nodes ++ own → node_tokens n ≡ own ++ t ∷ [] → ts ++ t ∷ [] ≡ body claimed (nodes ++ n ∷ []) ++ []
+node_ended ts own claimed nodes n t read is = more ts own (node_tokens n) (body claimed nodes) t read is ∙ node_pushed claimed nodes n ∙ sym (append-nil (body claimed (nodes ++ n ∷ [])))
 
-numbers_push : (ns : List ℕ) (n : ℕ) → map Number (ns ++ n ∷ []) ≡ map Number ns ++ Number n ∷ []
+numbers_push : (ns : List ℕ) (n : ℕ) → map {B = Token Keyword} Number (ns ++ n ∷ []) ≡ map Number ns ++ Number n ∷ []
 numbers_push ns n = map-append Number ns (n ∷ [])
 
 fewer : (nodes : List NodeValue) (m n : ℕ) → m ≡ n → Fills nodes m → Fills nodes n
 fewer nodes m n same fills us long = fills us (omega arith)
 
 -- a keyword where a node may begin
-node_begins : (k : Keyword) (d : DraftValue) (ts : List Token) → ts ≡ body d.claimed d.nodes → Fills d.nodes (1 + d.wanted) → HoldsNext (begin_node d k) (ts ++ Key k ∷ [])
+node_begins : (k : Keyword) (d : DraftValue) (ts : List (Token Keyword)) → ts ≡ body d.claimed d.nodes → Fills d.nodes (1 + d.wanted) → HoldsNext (begin_node d k) (ts ++ Key k ∷ [])
 node_begins key.Tree d ts read fills = tt
 node_begins key.Bound d ts read fills = tt
 node_begins key.Split d ts read fills = record { fresh = tt; read = ap (λ l. l ++ Key key.Split ∷ []) read; fills = fills }
 node_begins key.Time d ts read fills = record { fresh = tt; read = ap (λ l. l ++ Key key.Time ∷ []) read; fills = fills }
 node_begins key.Area d ts read fills = record {
   fresh = tt;
-  read = ended ts [] d.claimed d.nodes (OfLeaf OfArea) (Key key.Area) (read ∙ sym (append-nil (body d.claimed d.nodes))) refl;
+  read = node_ended ts [] d.claimed d.nodes (OfLeaf OfArea) (Key key.Area) (read ∙ sym (append-nil (body d.claimed d.nodes))) refl;
   fills = fills_leaf d.nodes OfArea (1 + d.wanted) (0 + d.wanted) (omega arith) fills;
 }
 node_begins key.Bus d ts read fills = record { fresh = tt; read = ap (λ l. l ++ Key key.Bus ∷ []) read; fills = fills }
 node_begins key.Apart d ts read fills = record { fresh = tt; read = ap (λ l. l ++ Key key.Apart ∷ []) read; fills = fills }
 
-begins : (n : ℕ) (k : Keyword) (d : DraftValue) (ts : List Token) → ts ≡ body d.claimed d.nodes → Fills d.nodes n → HoldsNext (begin_wanted n d k) (ts ++ Key k ∷ [])
+begins : (n : ℕ) (k : Keyword) (d : DraftValue) (ts : List (Token Keyword)) → ts ≡ body d.claimed d.nodes → Fills d.nodes n → HoldsNext (begin_wanted n d k) (ts ++ Key k ∷ [])
 begins zero k d ts read fills = tt
 begins (suc n) k d ts read fills = node_begins k (record d { wanted = n }) ts read (fewer d.nodes (suc n) (1 + n) (omega arith) fills)
 
-tree_begins : (k : Keyword) (d : DraftValue) (ts : List Token) → Holds d wants_tree ts → HoldsNext (begin_tree d k) (ts ++ Key k ∷ [])
+tree_begins : (k : Keyword) (d : DraftValue) (ts : List (Token Keyword)) → Holds d wants_tree ts → HoldsNext (begin_tree d k) (ts ++ Key k ∷ [])
 tree_begins key.Tree d ts h = record { fresh = h.fresh; read = more ts _ _ [] (Key key.Tree) h.read refl; fills = h.fills }
 tree_begins k d ts h = tt
 
-bound_begins : (k : Keyword) (d : DraftValue) (ts : List Token) → Holds d wants_bound ts → HoldsNext (begin_bound d k) (ts ++ Key k ∷ [])
+bound_begins : (k : Keyword) (d : DraftValue) (ts : List (Token Keyword)) → Holds d wants_bound ts → HoldsNext (begin_bound d k) (ts ++ Key k ∷ [])
 bound_begins key.Bound d ts h = record { fresh = h.fresh; read = more ts _ _ [] (Key key.Bound) h.read refl; fills = h.fills }
 bound_begins k d ts h = tt
 
-key_holds : (p : PartValue) (d : DraftValue) (k : Keyword) (ts : List Token) → Holds d p ts → HoldsNext (step_key d p k) (ts ++ Key k ∷ [])
+key_holds : (p : PartValue) (d : DraftValue) (k : Keyword) (ts : List (Token Keyword)) → Holds d p ts → HoldsNext (step_key d p k) (ts ++ Key k ∷ [])
 key_holds wants_tree d k ts h = tree_begins k d ts h
 key_holds wants_bound d k ts h = bound_begins k d ts h
 key_holds between d k ts h = begins d.wanted k d ts (h.read ∙ append-nil (body d.claimed d.nodes)) (fewer d.nodes (0 + d.wanted) d.wanted (omega arith) h.fills)
@@ -121,7 +122,7 @@ key_holds (in_bus ms) d k ts h =
     begins d.wanted k (with_node d (OfLeaf (OfBus ms))) ts (h.read ∙ node_pushed d.claimed d.nodes (OfLeaf (OfBus ms))) (fills_leaf d.nodes (OfBus ms) (1 + d.wanted) d.wanted (omega arith) h.fills)
 key_holds p d k ts h = tt
 
-number_holds : (p : PartValue) (d : DraftValue) (n : ℕ) (ts : List Token) → Holds d p ts → HoldsNext (step_number d p n) (ts ++ Number n ∷ [])
+number_holds : (p : PartValue) (d : DraftValue) (n : ℕ) (ts : List (Token Keyword)) → Holds d p ts → HoldsNext (step_number d p n) (ts ++ Number n ∷ [])
 number_holds wants_form d n ts h = by_test (nat_eq n 1) refl
   where
     by_test : (b : Bool) → nat_eq n 1 ≡ b → HoldsNext (next_if b (at d wants_bound)) (ts ++ Number n ∷ [])
@@ -135,58 +136,54 @@ number_holds wants_claim d n ts h = record {
 number_holds wants_split_module d n ts h = record { fresh = tt; read = more ts _ _ (body d.claimed d.nodes) (Number n) h.read refl; fills = h.fills }
 number_holds (wants_split_width m) d n ts h = record {
   fresh = tt;
-  read = ended ts (Key key.Split ∷ Number m ∷ []) d.claimed d.nodes (OfSplit m n) (Number n) h.read refl;
+  read = node_ended ts (Key key.Split ∷ Number m ∷ []) d.claimed d.nodes (OfSplit m n) (Number n) h.read refl;
   fills = fills_split d.nodes m n (1 + d.wanted) (0 + (d.wanted + 2)) (omega arith) (omega arith) h.fills;
 }
 number_holds wants_time_module d n ts h = record {
   fresh = tt;
-  read = ended ts (Key key.Time ∷ []) d.claimed d.nodes (OfLeaf (OfTime n)) (Number n) h.read refl;
+  read = node_ended ts (Key key.Time ∷ []) d.claimed d.nodes (OfLeaf (OfTime n)) (Number n) h.read refl;
   fills = fills_leaf d.nodes (OfTime n) (1 + d.wanted) (0 + d.wanted) (omega arith) h.fills;
 }
 number_holds (in_bus ms) d n ts h = record { fresh = tt; read = more ts _ _ (body d.claimed d.nodes) (Number n) h.read (ap (λ l. Key key.Bus ∷ l) (numbers_push ms n)); fills = h.fills }
 number_holds wants_first d n ts h = record { fresh = tt; read = more ts _ _ (body d.claimed d.nodes) (Number n) h.read refl; fills = h.fills }
 number_holds (wants_second a) d n ts h = record {
   fresh = tt;
-  read = ended ts (Key key.Apart ∷ Number a ∷ []) d.claimed d.nodes (OfLeaf (OfApart a n)) (Number n) h.read refl;
+  read = node_ended ts (Key key.Apart ∷ Number a ∷ []) d.claimed d.nodes (OfLeaf (OfApart a n)) (Number n) h.read refl;
   fills = fills_leaf d.nodes (OfApart a n) (1 + d.wanted) (0 + d.wanted) (omega arith) h.fills;
 }
 number_holds p d n ts h = tt
 
-step_holds : (t : Token) (s : State) (ts : List Token) → Holds s.draft s.part ts → HoldsNext (step s t) (ts ++ t ∷ [])
+step_holds : (t : Token Keyword) (s : State) (ts : List (Token Keyword)) → Holds s.draft s.part ts → HoldsNext (step s t) (ts ++ t ∷ [])
 step_holds (Number n) s ts h = number_holds s.part s.draft n ts h
 step_holds (Key k) s ts h = key_holds s.part s.draft k ts h
 
-run_holds : (o : Option State) (ts before : List Token) → HoldsNext o before → HoldsNext (run o ts) (before ++ ts)
-run_holds None ts before h = rw (run-none step ts) tt
-run_holds (Some s) [] before h = rw (append-nil before) h
-run_holds (Some s) (t ∷ ts) before h =
-    subst (HoldsNext (run (step s t) ts)) (append_assoc before (t ∷ []) ts) (run_holds (step s t) ts (before ++ t ∷ []) (step_holds t s before h))
-
-holds_at : (o : Option State) (s : State) (ts : List Token) → HoldsNext o ts → o ≡ Some s → Holds s.draft s.part ts
+holds_at : (o : Option State) (s : State) (ts : List (Token Keyword)) → HoldsNext o ts → o ≡ Some s → Holds s.draft s.part ts
 holds_at o s ts h e = (rw e at h)
 
+abbrev IsRead : List (Token Keyword) → State → Type 0
+IsRead ts s = Holds s.draft s.part ts
+
+read_kept : IsKept tree_machine IsRead
+read_kept ts s next t h goes = holds_at (step s t) next (ts ++ t ∷ []) (step_holds t s ts h) goes
+
 -- words that were read to a state are its words
-read_holds : (ts : List Token) (s : State) → run (Some start) ts ≡ Some s → Holds s.draft s.part ts
-read_holds ts s e = holds_at (run (Some start) ts) s ts (run_holds (Some start) ts [] (record { fresh = refl; read = refl; fills = fills_none })) e
+read_holds : (ts : List (Token Keyword)) (s : State) → IsRun tree_machine ts s → Holds s.draft s.part ts
+read_holds ts s runs = kept_holds tree_machine IsRead (record { fresh = refl; read = refl; fills = fills_none }) read_kept ts s runs
 
 -- ---- where the words end
 
--- words that end in a state that is whole are the words of its tree
-pub record Says (ts : List Token) (t : TreeValue) : Type 0 where
-  pub words : ts ≡ tree_tokens t
-  pub one : IsOneTree t.nodes
-
-whole_says : (n : ℕ) (d : DraftValue) (ts : List Token) (t : TreeValue) → ts ≡ body d.claimed d.nodes → Fills d.nodes n → whole_at n d ≡ Some t → Says ts t
+whole_says : (n : ℕ) (d : DraftValue) (ts : List (Token Keyword)) (t : TreeValue) → ts ≡ body d.claimed d.nodes → Fills d.nodes n → whole_at n d ≡ Some t → IsSaid tree_grammar ts t
 whole_says zero d ts t read fills e =
     let same : record { claimed = d.claimed; nodes = d.nodes } ≡ t = cc in
-    subst (Says ts) same (record { words = read; one = fills_whole d.nodes fills })
+    subst (IsSaid tree_grammar ts) same (record { words = read; allowed = fills_whole d.nodes fills })
 whole_says (suc n) d ts t read fills e = cc
 
-part_says : (p : PartValue) (d : DraftValue) (ts : List Token) (t : TreeValue) → Holds d p ts → tree_at d p ≡ Some t → Says ts t
+part_says : (p : PartValue) (d : DraftValue) (ts : List (Token Keyword)) (t : TreeValue) → Holds d p ts → tree_at d p ≡ Some t → IsSaid tree_grammar ts t
 part_says between d ts t h e = whole_says d.wanted d ts t (h.read ∙ append-nil (body d.claimed d.nodes)) (fewer d.nodes (0 + d.wanted) d.wanted (omega arith) h.fills) e
 part_says (in_bus ms) d ts t h e =
     whole_says d.wanted (with_node d (OfLeaf (OfBus ms))) ts t (h.read ∙ node_pushed d.claimed d.nodes (OfLeaf (OfBus ms))) (fills_leaf d.nodes (OfBus ms) (1 + d.wanted) d.wanted (omega arith) h.fills) e
 part_says p d ts t h e = cc
 
-pub closed_says : (ts : List Token) (s : State) (t : TreeValue) → run (Some start) ts ≡ Some s → tree_at s.draft s.part ≡ Some t → Says ts t
-closed_says ts s t e is = part_says s.part s.draft ts t (read_holds ts s e) is
+-- words that end in a state that is whole are the words of its tree
+pub tree_said : (ts : List (Token Keyword)) (s : State) (t : TreeValue) → IsRun tree_machine ts s → ended s ≡ Some t → IsSaid tree_grammar ts t
+tree_said ts s t runs ends = part_says s.part s.draft ts t (read_holds ts s runs) ends

@@ -1,13 +1,13 @@
 -- Reading word by word: the nodes that were read, how many more are wanted, and what was read of the next. Only the
 -- reader's own contracts speak of it.
 use Rattle.std.specs.Prelude.{◌≡◌, ℕ, zero, suc, ◌+◌, ◌++◌, List, [], ◌∷◌, Bool, true, false, nat_eq, map, Option, None, Some, Result, Ok, Err}
-use Rattle.outside.specs.Runs.{run_by}
 use Rattle.outside.specs.declared.reading.Stop.{Stop}
 use Rattle.outside.specs.declared.reading.Stop.TheVariants.{Refused, NoMemory}
+use Rattle.keyword_text.specs.declared.tokens.Token.{Token}
+use Rattle.keyword_text.specs.declared.tokens.Token.TheVariants.{Key, Number}
+use Rattle.keyword_text.specs.Machines.{Machine}
 use Rattle.width_tree.specs.declared.tokens.Keyword.{Keyword}
 use Rattle.width_tree.specs.declared.tokens.Keyword.TheVariants as key
-use Rattle.width_tree.specs.declared.tokens.Token.{Token}
-use Rattle.width_tree.specs.declared.tokens.Token.TheVariants.{Key, Number}
 use Rattle.width_tree.specs.declared.parts.Draft.{Draft}
 use Rattle.width_tree.specs.declared.parts.Part.{Part}
 use Rattle.width_tree.specs.declared.parts.Part.TheVariants as read
@@ -110,12 +110,9 @@ step_key d (in_bus ms) k = begin (with_node d (OfLeaf (OfBus ms))) k
 step_key d wants_first k = None
 step_key d (wants_second a) k = None
 
-abbrev pub step : State → Token → Option State
+abbrev pub step : State → Token Keyword → Option State
 step s (Number n) = step_number s.draft s.part n
 step s (Key k) = step_key s.draft s.part k
-
-abbrev pub run : Option State → List Token → Option State
-run s ts = run_by step s ts
 
 -- ---- the end of a text
 
@@ -128,6 +125,12 @@ abbrev pub tree_at : DraftValue → PartValue → Option TreeValue
 tree_at d between = whole_at d.wanted d
 tree_at d (in_bus ms) = whole_at d.wanted (with_node d (OfLeaf (OfBus ms)))
 tree_at d part = None
+
+abbrev pub ended : State → Option TreeValue
+ended s = tree_at s.draft s.part
+
+abbrev pub tree_machine : Machine Keyword State TreeValue
+tree_machine = record { start = start; step = step; end = ended }
 
 -- ---- what the reader's values stand for
 

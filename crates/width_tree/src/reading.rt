@@ -1,45 +1,68 @@
 //! Reads a whole text.
+ghost use Rattle.keyword_text.specs.Reads.{Makes};
 ghost use Rattle.width_tree.specs.Answers.{TreeRead};
+ghost use Rattle.width_tree.specs.Reads.{state_of};
+ghost use Rattle.width_tree.specs.Steps.{step as step_value};
 
 use crate::parts::{Draft, Part};
 use crate::steps::{end_tree, new_draft, step};
-use crate::tokens::token_of;
+use crate::tokens::{KEYWORDS, Keyword};
 use crate::{Tree, TreeTextFault};
-use outside::{Reader, Stop, Unread, Word, read_text};
+use keyword_text::{Format, Spelled, Token, read_by};
+use outside::{Stop, Unread};
+use plan_model::PLAN_NUMBER_MOST;
 use std::alloc::Global;
 
 /// What was read of a tree's text so far.
 #[derive(Drop)]
-struct TreeReading {
+pub struct TreeReading {
     alloc: Global,
     draft: Draft,
     part: Part,
 }
 
-impl<'a> Reader<'a> for TreeReading {
+impl Format for TreeReading {
+    type Keyword = Keyword;
+
     type Value = Tree;
 
-    ghost use Rattle.std.specs.Prelude.{◌^◌};
-    ghost use Rattle.width_tree.specs.TreeText.{InGrammar};
-    ghost use Rattle.width_tree.specs.Reads.{HasRead, SaysTree};
+    type Fault = TreeTextFault;
 
-    ghost whole = { InGrammar };
+    ghost use Rattle.width_tree.specs.Trees.{TreeValue, tree_value};
+    ghost use Rattle.width_tree.specs.TreeText.{tree_grammar};
+    ghost use Rattle.width_tree.specs.Steps.{State, tree_machine};
+    ghost use Rattle.width_tree.specs.Answers.{tree_unread};
 
-    ghost most = { 2 ^ 64 };
+    ghost State = { State };
 
-    ghost has_read = { HasRead };
+    ghost Meaning = { TreeValue };
 
-    ghost says = { SaysTree };
+    ghost grammar = { tree_grammar };
 
-    fn step(self, word: Word<'a>) -> Result<TreeReading, Stop> {
+    ghost machine = { tree_machine };
+
+    ghost state_of = { state_of };
+
+    ghost meaning_of = { tree_value };
+
+    ghost unread_of = { tree_unread };
+
+    fn keywords() -> &'static [Spelled<Keyword>] {
+        &KEYWORDS
+    }
+
+    fn most() -> u64 {
+        PLAN_NUMBER_MOST
+    }
+
+    fn step(self, token: Token<Keyword>) -> Result<TreeReading, Stop>
+        ensures { Makes state_of (step_value (state_of self) token) result }
+    {
         let TreeReading {
             alloc,
             mut draft,
             part,
         } = self;
-        let Some(token) = token_of(word.bytes) else {
-            return Err(Stop::Refused);
-        };
         match step(alloc, &mut draft, part, token) {
             Ok(part) => Ok(TreeReading { alloc, draft, part }),
             Err(stop) => Err(stop),
@@ -49,6 +72,13 @@ impl<'a> Reader<'a> for TreeReading {
     fn end(self) -> Result<Tree, Stop> {
         let TreeReading { draft, part, .. } = self;
         end_tree(draft, part)
+    }
+
+    fn fault(unread: Unread) -> TreeTextFault {
+        match unread {
+            Unread::Refused { line } => TreeTextFault::Text { line },
+            Unread::NoMemory => TreeTextFault::NoMemory,
+        }
     }
 }
 
@@ -65,9 +95,5 @@ pub fn read_tree(alloc: Global, bytes: &[u8]) -> Result<Tree, TreeTextFault>
         draft: new_draft(alloc),
         part: Part::WantsTree,
     };
-    match read_text(start, bytes) {
-        Ok(tree) => Ok(tree),
-        Err(Unread::Refused { line }) => Err(TreeTextFault::Text { line }),
-        Err(Unread::NoMemory) => Err(TreeTextFault::NoMemory),
-    }
+    read_by(start, bytes)
 }

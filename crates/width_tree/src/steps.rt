@@ -1,13 +1,14 @@
 //! Reads the words of a tree one by one.
 ghost use Rattle.std.specs.Prelude.{◌≡◌, ◌++◌, ◌∷◌, [], OnOk, OnErr};
-ghost use Rattle.width_tree.specs.Trees.{node_value};
+ghost use Rattle.keyword_text.specs.Reads.{Makes};
+ghost use Rattle.width_tree.specs.Trees.{node_value, tree_value};
 ghost use Rattle.width_tree.specs.Steps.{draft_value, part_value, Steps, at, start as state_at_first, with_node, with_split, begin as begins, begin_node as begins_node, begin_tree as begins_tree, begin_bound as begins_bound, step_number as steps_number, step_key as steps_key, step as steps, tree_at, wants_form, in_bus};
-ghost use Rattle.width_tree.specs.Reads.{Finishes};
 ghost use Rattle.width_tree.specs.declared.parts.Draft.{Draft as AnyDraft};
 
 use crate::parts::{Draft, Part};
-use crate::tokens::{Keyword, Token};
+use crate::tokens::Keyword;
 use crate::{Node, Tree};
+use keyword_text::Token;
 use outside::Stop;
 use std::alloc::Global;
 
@@ -172,7 +173,12 @@ fn step_number(draft: &mut Draft, part: Part, n: u64) -> Result<Part, Stop>
 }
 
 /// The next word.
-pub fn step(alloc: Global, draft: &mut Draft, part: Part, token: Token) -> Result<Part, Stop>
+pub fn step(
+    alloc: Global,
+    draft: &mut Draft,
+    part: Part,
+    token: Token<Keyword>,
+) -> Result<Part, Stop>
     ensures { Steps (steps (at (draft_value draft.old) (part_value part)) token) result draft.new }
 {
     match token {
@@ -183,7 +189,7 @@ pub fn step(alloc: Global, draft: &mut Draft, part: Part, token: Token) -> Resul
 
 /// The tree of a draft, where no more nodes are wanted.
 fn whole(draft: Draft) -> Result<Tree, Stop>
-    ensures { Finishes (tree_at (draft_value draft) (part_value Part.Between)) result }
+    ensures { Makes tree_value (tree_at (draft_value draft) (part_value Part.Between)) result }
 {
     if draft.wanted > 0 {
         return Err(Stop::Refused);
@@ -196,7 +202,7 @@ fn whole(draft: Draft) -> Result<Tree, Stop>
 
 /// The tree whose words end here.
 pub fn end_tree(mut draft: Draft, part: Part) -> Result<Tree, Stop>
-    ensures { Finishes (tree_at (draft_value draft) (part_value part)) result }
+    ensures { Makes tree_value (tree_at (draft_value draft) (part_value part)) result }
 {
     match part {
         Part::Between => whole(draft),

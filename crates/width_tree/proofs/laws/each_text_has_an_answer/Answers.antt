@@ -1,5 +1,5 @@
-use Rattle.width_tree.proofs.EachText.{each_text}
+use Rattle.width_tree.proofs.ReadTrees.{reads_trees}
 use Rattle.width_tree.proofs.laws.each_text_has_an_answer.Goals as goal
 
-pub returns : goal.returns
-returns c = each_text
+pub texts_are_settled-requires-after_bounds : goal.texts_are_settled-requires-after_bounds
+texts_are_settled-requires-after_bounds c κs = reads_trees

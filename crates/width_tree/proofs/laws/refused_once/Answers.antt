@@ -1,5 +1,5 @@
-use Rattle.width_tree.proofs.Exact.{trees_refused_once}
+use Rattle.width_tree.proofs.ReadTrees.{reads_trees}
 use Rattle.width_tree.proofs.laws.refused_once.Goals as goal
 
-pub returns : goal.returns
-returns c = trees_refused_once
+pub texts_are_settled-requires-after_bounds : goal.texts_are_settled-requires-after_bounds
+texts_are_settled-requires-after_bounds c κs = reads_trees

@@ -1,5 +1,5 @@
-use Rattle.width_tree.proofs.Viable.{one_text}
+use Rattle.width_tree.proofs.ReadTrees.{reads_trees}
 use Rattle.width_tree.proofs.laws.say_one_tree.Goals as goal
 
-pub returns : goal.returns
-returns c = one_text
+pub texts_are_settled-requires-after_bounds : goal.texts_are_settled-requires-after_bounds
+texts_are_settled-requires-after_bounds c κs = reads_trees

@@ -1,5 +1,5 @@
-use Rattle.width_tree.proofs.Exact.{answered}
+use Rattle.width_tree.proofs.ReadTrees.{reads_trees}
 use Rattle.width_tree.proofs.laws.trees_are_answered.Goals as goal
 
-pub returns : goal.returns
-returns c = answered
+pub texts_are_settled-requires-after_bounds : goal.texts_are_settled-requires-after_bounds
+texts_are_settled-requires-after_bounds c κs = reads_trees

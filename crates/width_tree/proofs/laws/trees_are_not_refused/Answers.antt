@@ -1,5 +1,5 @@
-use Rattle.width_tree.proofs.Exact.{trees_not_refused}
+use Rattle.width_tree.proofs.ReadTrees.{reads_trees}
 use Rattle.width_tree.proofs.laws.trees_are_not_refused.Goals as goal
 
-pub returns : goal.returns
-returns c = trees_not_refused
+pub texts_are_settled-requires-after_bounds : goal.texts_are_settled-requires-after_bounds
+texts_are_settled-requires-after_bounds c κs = reads_trees
