@@ -15,7 +15,8 @@ ghost use Rattle.plan_simulator.specs.Requests.{procedure_of, long_run};
 use crate::lines::counts_line;
 use crate::running::{run, too_many_cells};
 use commands::{
-    Command, Status, Verdict, answered_with, bad_words, command_of, load_all, refused_with, run_line,
+    Command, Status, Verdict, answered_with, bad_words, command_of, load_all, refused_with,
+    run_line,
 };
 use outside::{NoMemory, Shelf};
 use plan_model::{Plan, good_without_limits};

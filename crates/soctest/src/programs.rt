@@ -164,7 +164,13 @@ fn judge_named(alloc: Global, soc: &Soc, limits: &Limits, plan: &Plan, program: 
 }
 
 /// What is answered of a program's bytes, for a plan that is good.
-pub(crate) fn answer_program(alloc: Global, soc: &Soc, limits: &Limits, plan: &Plan, bytes: &[u8]) -> Verdict
+pub(crate) fn answer_program(
+    alloc: Global,
+    soc: &Soc,
+    limits: &Limits,
+    plan: &Plan,
+    bytes: &[u8],
+) -> Verdict
     requires chip { IsSoundChip (soc_value soc.now) }
     requires good { IsGood (soc_value soc.now) (limits_value limits.now) (plan_value plan.now) }
     ensures { AnswersBytes (SaysRight (soc_value soc.now) (plan_value plan.now)) (RefusesProgram (soc_value soc.now) (plan_value plan.now)) (text_of_program (soc_value soc.now) (plan_value plan.now)) bytes.now result }
