@@ -1,6 +1,5 @@
 -- The table of the kinds of change.
-use Rattle.std.proofs.Common.{ℕ, ◌≤◌, [], ◌∷◌, arith, refl}
-use Rattle.std.specs.List.{Contains}
+use Rattle.std.proofs.Common.{[], ◌∷◌, arith, refl}
 use Rattle.arch_search.specs.declared.kinds.Kind.{Kind}
 use Rattle.arch_search.specs.declared.kinds.Kind.TheVariants.{Move, Merge, Split, DealModules, DealBuses}
 use Rattle.arch_search.specs.declared.kinds.Weighted.{Weighted}

@@ -1,7 +1,6 @@
 -- What a search begins with is a search.
-use Rattle.std.proofs.Common.{◌≡◌, ◌∙◌, ℕ, zero, suc, ◌≤◌, List, length, map, replicate, arith, sym, ap, subst}
+use Rattle.std.proofs.Common.{◌≡◌, ◌∙◌, ℕ, zero, suc, ◌≤◌, List, length, replicate, arith, sym, ap, subst}
 use Rattle.std.specs.List.{All}
-use Rattle.std.proofs.lemmas.List.{length-replicate}
 use Rattle.std.proofs.lemmas.List.Elements.{All-nil, All-replicate}
 use Rattle.resource_table.specs.Schedules.{TableValue, IsSoundTable}
 use Rattle.arch_search.specs.declared.dealing.Taken.{Taken}

@@ -3,7 +3,6 @@ use Rattle.std.specs.Prelude.{◌≡◌, ℕ, ◌<◌, ◌≤◌, List, length}
 use Rattle.std.specs.List.{All}
 use Rattle.plan_model.specs.declared.TheConstants.{START_MOST}
 use Rattle.resource_table.specs.Schedules.{TableValue, IsSoundTable}
-use Rattle.arch_search.specs.declared.problem.Problem.{Problem}
 use Rattle.arch_search.specs.declared.room.Room.{Room}
 use Rattle.arch_search.specs.declared.search.Found.{Found}
 use Rattle.arch_search.specs.declared.dealing.Taken.{Taken}

@@ -1,5 +1,4 @@
 -- What a search goes by.
-use Rattle.std.specs.Prelude.{◌≡◌}
 use Rattle.resource_table.specs.Jobs.{job_value, IsSoundJob}
 use Rattle.arch_search.specs.declared.setting.Setting.{Setting}
 use Rattle.arch_search.specs.Problems.{IsProblem}

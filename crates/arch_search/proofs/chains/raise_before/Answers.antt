@@ -1,4 +1,4 @@
-use Rattle.std.proofs.Common.{◌<◌, ℕ, length, subst, sym}
+use Rattle.std.proofs.Common.{◌<◌, ℕ, subst, sym}
 use Rattle.std.specs.List.{All}
 use Rattle.arch_search.proofs.Listing.{before_inside}
 use Rattle.arch_search.proofs.chains.raise_before.Goals as goal

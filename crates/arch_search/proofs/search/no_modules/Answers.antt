@@ -1,4 +1,4 @@
-use Rattle.std.proofs.Common.{List, rules, length, sym, subst, arith}
+use Rattle.std.proofs.Common.{List, rules, length, sym, subst}
 use Rattle.std.specs.List.{All}
 use Rattle.arch_search.specs.declared.dealing.Taken.{Taken}
 use Rattle.arch_search.specs.States.{IsTaken}
