@@ -45,7 +45,8 @@ pub fn tests_after(alloc: Global, lists: &[Neighbours], test: usize) -> Result<V
     requires lists { (pairs : List (ℕ × ℕ)) × AreAfter pairs lists.now }
     requires test { test < length lists.now }
     ensures long { IfOk result (λ marks. length marks.items ≡ length lists.now) }
-    ensures marks { IfOk result (λ marks. (pairs : List (ℕ × ℕ)) → AreAfter pairs lists.now → (j : ℕ) → (is_marked marks.items j ≡ true) ↔ Leads pairs test j) }
+    ensures marks { IfOk result (λ marks.
+        (pairs : List (ℕ × ℕ)) → AreAfter pairs lists.now → (j : ℕ) → (is_marked marks.items j ≡ true) ↔ Leads pairs test j) }
 {
     led_to(alloc, lists, test)
 }
@@ -56,7 +57,8 @@ pub fn tests_before(alloc: Global, lists: &[Neighbours], test: usize) -> Result<
     requires lists { (pairs : List (ℕ × ℕ)) × AreBefore pairs lists.now }
     requires test { test < length lists.now }
     ensures long { IfOk result (λ marks. length marks.items ≡ length lists.now) }
-    ensures marks { IfOk result (λ marks. (pairs : List (ℕ × ℕ)) → AreBefore pairs lists.now → (j : ℕ) → (is_marked marks.items j ≡ true) ↔ Leads pairs j test) }
+    ensures marks { IfOk result (λ marks.
+        (pairs : List (ℕ × ℕ)) → AreBefore pairs lists.now → (j : ℕ) → (is_marked marks.items j ≡ true) ↔ Leads pairs j test) }
 {
     led_to(alloc, lists, test)
 }

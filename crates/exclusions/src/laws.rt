@@ -23,5 +23,6 @@ pub fn exclusions_are_decided()
 
 /// A test draws at least its least power at each cycle, where the limits are sound.
 pub fn least_powers_are_drawn()
-    ensures { (soc : SocValue) (limits : LimitsValue) (l : LiveTest) → IsSoundLimits soc limits → (r : ℕ) → least_power limits l ≤ power_of_id limits (id_of l) l.test.power r }
+    ensures { (soc : SocValue) (limits : LimitsValue) (l : LiveTest) → IsSoundLimits soc limits →
+        (r : ℕ) → least_power limits l ≤ power_of_id limits (id_of l) l.test.power r }
 {}

@@ -58,7 +58,8 @@ fn tam_row(
     requires work { works_of (module_value «module».now) «module».now.tests.items ≤ 10 ^ 18 }
     requires flops { flops ≡ sum «module».now.chains.items }
     requires lengths { lengths.now ≡ map (packed «module».now.chains.items) (range_with_len 1 (length lengths.now)) }
-    ensures { IfOk result (λ row. row.items ≡ map (λ w. tam_times_of (module_value «module».now) w «module».now.tests.items) (range_with_len 1 (length lengths.now))) }
+    ensures { IfOk result (λ row.
+        row.items ≡ map (λ w. tam_times_of (module_value «module».now) w «module».now.tests.items) (range_with_len 1 (length lengths.now))) }
 {
     let mut row = Vec::new(alloc);
     for place in 0..lengths.len() {
