@@ -1,5 +1,5 @@
 -- How what is asked for is answered: there is one answer to each file, and the plan that is written is what it should be.
-use Rattle.std.proofs.Common.{◌≡◌, ℕ, List, Option, None, Some, false, subst}
+use Rattle.std.proofs.Common.{◌≡◌, ℕ, List, Option, Some, false, subst}
 use Rattle.std.specs.FinMap.{get}
 use Rattle.outside.specs.Held.{Files, Appended}
 use Rattle.soc_model.specs.Chips.{SocValue}

@@ -1,5 +1,5 @@
 -- How `improve` is answered, and when nothing is told of it.
-use Rattle.std.specs.Prelude.{◌≡◌, ℕ, ◌<◌, List, Option, Some}
+use Rattle.std.specs.Prelude.{◌≡◌, ◌<◌, Option, Some}
 use Rattle.plan_model.specs.Plans.{PlanValue}
 use Rattle.plan_text.specs.PlanLines.{plan_text}
 use Rattle.commands.specs.Commands.{CommandValue, Improve}

@@ -1,5 +1,5 @@
 -- A plan that is drawn is the one of its files, and runs right.
-use Rattle.std.proofs.Common.{ℕ, List, [], Option, None, Some, subst, true}
+use Rattle.std.proofs.Common.{ℕ, List, [], Option, Some, subst, true}
 use Rattle.std.specs.FinMap.{get}
 use Rattle.outside.specs.Held.{Files, Appended}
 use Rattle.plan_model.specs.Plans.{LimitsValue, PlanValue, planned}

@@ -54,8 +54,8 @@ fn decide<H: Shelf>(alloc: Global, words: &[String], shelf: &mut H) -> Verdict
 
 /// Draws the plan of three files, a chip, limits and a plan that is accepted for both, and writes the picture.
 ///
-/// The words are `picture` and the names of the files. These are taken in this order. The first that can't be read, is too long or is refused decides, and nothing later is
-/// loaded. All memory is taken before the first byte is written.
+/// The words are `picture` and the names of the files. These are taken in this order. The first that can't be read, is too long
+/// or is refused decides, and nothing later is loaded. All memory is taken before the first byte is written.
 pub fn draw<H: Shelf, K: Sink>(
     alloc: Global,
     words: &[String],

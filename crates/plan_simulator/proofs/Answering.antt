@@ -1,5 +1,5 @@
 -- How what is asked for is answered: there is one answer to each file, and the numbers that are written are those of the patterns.
-use Rattle.std.proofs.Common.{◌≡◌, ℕ, List, Option, None, Some, true, subst, ap, ◌∙◌}
+use Rattle.std.proofs.Common.{◌≡◌, ℕ, List, Option, Some, true, subst, ap, ◌∙◌}
 use Rattle.std.specs.FinMap.{get}
 use Rattle.outside.specs.Held.{Files, Appended}
 use Rattle.plan_model.specs.Plans.{planned}

@@ -1,5 +1,5 @@
 -- A plan that is printed or accepted runs right, its bound is one, and it is for the chip and the limits in the held files.
-use Rattle.std.proofs.Common.{◌≡◌, ℕ, ◌≤◌, List, Option, Some, IfSome, refl, subst, arith}
+use Rattle.std.proofs.Common.{◌≡◌, ℕ, List, Option, Some, IfSome, refl, subst, arith}
 use Rattle.std.specs.FinMap.{empty, get}
 use Rattle.outside.specs.Held.{Files, Appended}
 use Rattle.soc_model.specs.Chips.{SocValue}
