@@ -11,7 +11,7 @@ use Rattle.live_tests.proofs.Precedences.{pairs_within}
 use Rattle.exclusions.specs.Exclusions.{precedences, least_power, Reason, OneModule, IsParentOf, IsChildOf, ComesBefore, ComesAfter, TooMuchPower, Excludes, leads, is_place, is_passed, has_reason, both_pass, excludes}
 use Rattle.exclusions.proofs.Paths.{AreBelow, path_from, path_found}
 
-below_count : (soc : SocValue) (limits : LimitsValue) → AreBelow (length (live_tests soc)) (precedences soc limits)
+pub below_count : (soc : SocValue) (limits : LimitsValue) → AreBelow (length (live_tests soc)) (precedences soc limits)
 below_count soc limits =
     let long : length (live_ids soc) ≡ length (live_tests soc) = length-map (live_tests soc) id_of in
     rw long at (pairs_within (live_ids soc) limits.before)

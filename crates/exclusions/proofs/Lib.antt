@@ -6,3 +6,5 @@ pub mod Smallest
 pub mod NeverTogether
 pub mod Decided
 pub mod Examples
+pub mod FactLists
+pub mod Rowing

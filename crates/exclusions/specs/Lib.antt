@@ -1,2 +1,3 @@
 pub mod Exclusions
 pub mod Marks
+pub mod Rows
