@@ -49,7 +49,7 @@ refused_in_one law plan program (Some x) t t' a b = a.2 ∙ ap program_fault_lin
 -- and it isn't right
 not_both : RightAreFaultless → (plan : PlanValue) (bytes : List ℕ) (program : ProgramValue) (found : Option (ModuleValue × Test)) (t : List ℕ) → IsReadProgram bytes program → RefusedIn plan program found t → RightIn plan program found → ⊥
 not_both law plan bytes program None t read a right = right
-not_both law plan bytes program (Some x) t read a right = law x.0 x.1 (wrapper_for plan x.0 x.1) program.entries read.said.lasting right.right a.0 a.1.has
+not_both law plan bytes program (Some x) t read a right = law x.0 x.1 (wrapper_for plan x.0 x.1) program.entries read.said.allowed right.right a.0 a.1.has
 
 pub program_refused_one : ProgramLaws → (chip : SocValue) (plan : PlanValue) → RefusesOne (SaysRight chip plan) (RefusesProgram chip plan)
 program_refused_one laws chip plan = record { one = lines; none = no_program } where
