@@ -1,11 +1,11 @@
 -- What exclusions ask of live tests, module by module.
-use Rattle.std.proofs.Common.{◌≡◌, ℕ, zero, suc, ◌+◌, ◌≤◌, Option, Some, List, [], ◌∷◌, ◌++◌, length, map, drop, refl, sym, ap, ◌∙◌, append_assoc, append-nil, arith}
+use Rattle.std.proofs.Common.{◌≡◌, ℕ, ◌+◌, ◌≤◌, Option, Some, List, [], ◌∷◌, ◌++◌, length, map, drop, refl, sym, ap, ◌∙◌, append_assoc, append-nil}
 use Rattle.std.specs.Prelude.{slice_get}
 use Rattle.std.specs.List.{filter}
 use Rattle.std.proofs.lemmas.List.{drop_all, drop_more, map-append}
 use Rattle.std.proofs.lemmas.Option.{get_or_from_slice_get, slice_get_within}
 use Rattle.soc_model.specs.declared.Test.{Test}
-use Rattle.soc_model.specs.Chips.{ModuleValue, SocValue, LiveTest, is_live, live_of, live_from, live_tests, parent_place}
+use Rattle.soc_model.specs.Chips.{ModuleValue, SocValue, is_live, live_of, live_from, parent_place}
 use Rattle.plan_model.specs.Plans.{LimitsValue}
 use Rattle.exclusions.specs.declared.facts.TestFacts.{TestFacts}
 use Rattle.exclusions.specs.Exclusions.{least_power_of}

@@ -6,7 +6,7 @@ use Rattle.plan_model.specs.Plans.{LimitsValue}
 use Rattle.exclusions.specs.declared.facts.TestFacts.{TestFacts}
 use Rattle.exclusions.specs.declared.rows.ExclusionRows.{ExclusionRows}
 use Rattle.exclusions.specs.Exclusions.{precedences, least_power_of, is_place, is_passed}
-use Rattle.exclusions.specs.Marks.{AreAfter, AreBefore, is_marked}
+use Rattle.exclusions.specs.Marks.{AreAfter, AreBefore}
 
 -- what exclusions ask of a test of a module, whose place, parent and number are these
 abbrev pub facts_at : LimitsValue → (place : ℕ) → (parent : Option ℕ) → (number : ℕ) → Test → TestFacts

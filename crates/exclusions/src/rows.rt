@@ -1,5 +1,5 @@
 //! Which live tests a live test excludes, as a row of marks.
-ghost use Rattle.std.specs.Prelude.{◌≡◌, ℕ, ◌<◌, Some, false, length, slice_get, slice_index_or, IfOk};
+ghost use Rattle.std.specs.Prelude.{◌≡◌, ℕ, ◌<◌, Some, length, slice_get, IfOk};
 ghost use Rattle.soc_model.specs.Chips.{SocValue, live_tests, soc_value};
 ghost use Rattle.plan_model.specs.Plans.{LimitsValue};
 ghost use Rattle.plan_model.specs.Views.{limits_value};
@@ -79,7 +79,7 @@ fn mark_row(
     ensures long { length marks.new ≡ length marks.old }
     ensures marks { (j : ℕ) (own other : TestFacts) → j < length facts.now →
         slice_get facts.now test ≡ Some own → slice_get facts.now j ≡ Some other →
-        slice_index_or marks.new j false ≡ the_mark power own other test j (slice_index_or marks.old j false) (slice_index_or ahead.now j false) }
+        is_marked marks.new j ≡ the_mark power own other test j (is_marked marks.old j) (is_marked ahead.now j) }
 {
     let own = facts[test];
     for place in 0..facts.len() {

@@ -1,4 +1,4 @@
-use Rattle.std.proofs.Common.{◌≡◌, ◌<◌, ◌+◌, length, get_or, refl, arith, rules}
+use Rattle.std.proofs.Common.{◌<◌, ◌+◌, length, get_or, refl, arith, rules}
 use Rattle.std.proofs.lemmas.Option.{slice_get-get_or}
 use Rattle.exclusions.proofs.Rowing.{no_facts, mark_more}
 use Rattle.exclusions.proofs.rows.mark_row.Goals as goal

@@ -1,4 +1,4 @@
-use Rattle.std.proofs.Common.{◌≡◌, ◌↔◌, ◌∙◌, ℕ, ◌<◌, Some, true, false, length, ap, arith, rules}
+use Rattle.std.proofs.Common.{◌≡◌, ◌∙◌, ℕ, ◌<◌, Some, length, ap, arith, rules}
 use Rattle.std.specs.Prelude.{slice_get}
 use Rattle.exclusions.specs.declared.facts.TestFacts.{TestFacts}
 use Rattle.exclusions.specs.Exclusions.{precedences}
