@@ -7,11 +7,15 @@ use Rattle.bus_proofs.specs.declared.Proof.{Proof}
 use Rattle.bus_proofs.specs.declared.ProofTextFault.{ProofTextFault}
 use Rattle.bus_proofs.specs.declared.ProofTextFault.TheVariants.{Text, NoMemory}
 use Rattle.bus_proofs.specs.Proofs.{ProofValue, proof_value}
-use Rattle.bus_proofs.specs.Grammar.{proof_grammar, IsInRange}
+use Rattle.bus_proofs.specs.Grammar.{MayBeSaid, proof_grammar, IsInRange}
 
 -- the text says this proof
 abbrev pub SaysProof : List ℕ → ProofValue → Type 0
 SaysProof bytes proof = Says proof_grammar bytes proof
+
+-- the text says it where a text may say it, with its numbers in the grammar's range
+abbrev pub IsReadAgain : List ℕ → ProofValue → Type 0
+IsReadAgain bytes proof = MayBeSaid proof → IsInRange proof → SaysProof bytes proof
 
 -- the grammar refuses the text at this line
 abbrev pub RefusesText : List ℕ → ℕ → Type 0

@@ -7,7 +7,7 @@ use Rattle.bus_proofs.specs.declared.ProofTextFault.{ProofTextFault}
 use Rattle.bus_proofs.specs.Proofs.{ProofValue, proof_value}
 use Rattle.bus_proofs.specs.ProofLines.{proof_text}
 use Rattle.bus_proofs.specs.Grammar.{MayBeSaid, proof_grammar, IsInRange}
-use Rattle.bus_proofs.specs.Answers.{SaysProof, RefusesText, proof_unread, IsReadProof, ProofRead}
+use Rattle.bus_proofs.specs.Answers.{SaysProof, IsReadAgain, RefusesText, proof_unread, IsReadProof, ProofRead}
 
 -- words are the text of at most one proof
 abbrev pub SayOneProof : Type 0
@@ -38,7 +38,7 @@ ProofsAreAnswered =
 
 -- the printed text of a proof that a text may say, with its numbers in the grammar's range, says that proof
 abbrev pub PrintedProofsAreRead : Type 0
-PrintedProofsAreRead = (proof : ProofValue) → MayBeSaid proof → IsInRange proof → SaysProof (proof_text proof) proof
+PrintedProofsAreRead = (proof : ProofValue) → IsReadAgain (proof_text proof) proof
 
 -- and is answered with that proof, unless memory runs out
 abbrev pub PrintedProofsAreAnswered : Type 0

@@ -1,12 +1,11 @@
 //! Prints a proof, line by line.
-ghost use Rattle.std.specs.Prelude.{◌≡◌, ◌++◌, ◌∷◌, map, OnOk, IfOk};
+ghost use Rattle.std.specs.Prelude.{◌≡◌, ◌++◌, map, OnOk, IfOk};
 ghost use Rattle.std.specs.List.{flat_map};
 ghost use Rattle.keyword_text.specs.Lines.{spaced, spaced_numbers, line_text, text_of};
-ghost use Rattle.bus_proofs.specs.Proofs.{list_value, weights_value, node_value, proof_value, OfSum};
+ghost use Rattle.bus_proofs.specs.Proofs.{list_value, weights_value, node_value, proof_value};
 ghost use Rattle.bus_proofs.specs.Tokens.{spelling};
 ghost use Rattle.bus_proofs.specs.ProofLines.{test_numbers, use_tokens, list_line, weight_tokens, node_line, head_lines, proof_text};
-ghost use Rattle.bus_proofs.specs.Grammar.{MayBeSaid, IsInRange};
-ghost use Rattle.bus_proofs.specs.Answers.{SaysProof};
+ghost use Rattle.bus_proofs.specs.Answers.{IsReadAgain};
 
 use crate::{Node, Proof, TestList, Weights};
 use keyword_text::push_numbers;
@@ -133,7 +132,7 @@ fn push_head(to: &mut Vec<u8>, claimed: u64) -> Result<(), NoMemory>
 /// are, nothing recurses over them.
 pub fn print_proof(alloc: Global, proof: &Proof) -> Result<Vec<u8>, NoMemory>
     ensures text { IfOk result (λ text. text.items ≡ proof_text (proof_value proof.now)) }
-    ensures read_again { IfOk result (λ text. MayBeSaid (proof_value proof.now) → IsInRange (proof_value proof.now) → SaysProof text.items (proof_value proof.now)) }
+    ensures read_again { IfOk result (λ text. IsReadAgain text.items (proof_value proof.now)) }
 {
     let mut text = Vec::new(alloc);
     push_head(&mut text, proof.claimed)?;
