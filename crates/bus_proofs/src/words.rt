@@ -3,7 +3,7 @@ ghost use Rattle.std.specs.Prelude.{◌≡◌, ◌++◌, ◌∷◌, [], Ok, OnOk
 ghost use Rattle.keyword_text.specs.Reads.{Makes};
 ghost use Rattle.bus_proofs.specs.Proofs.{list_value, node_value, weights_value, proof_value};
 ghost use Rattle.bus_proofs.specs.PartValues.{draft_value, part_value, Begins, Steps};
-ghost use Rattle.bus_proofs.specs.Words.{at, start as state_at_first, with_list, with_node, with_branches, with_rank, with_use, list_of, begin as begins, begin_list as begins_list, begin_node as begins_node, begin_proof as begins_proof, begin_bound as begins_bound, step_number as steps_number, step_key as steps_key, step_sum as steps_sum, is_use as uses, step as steps, ended_by, wants_form, wants_wire, wants_list_weight, in_lists, in_tests};
+ghost use Rattle.bus_proofs.specs.Words.{at, start as state_at_first, with_list, with_node, with_branches, with_rank, with_use, list_of, begin as begins, begin_list as begins_list, begin_node as begins_node, begin_proof as begins_proof, begin_bound as begins_bound, step_number as steps_number, step_key as steps_key, step_sum as steps_sum, is_use as uses, step as steps, ended_by, wants_form, wants_wire, wants_list_weight as wants_weight, in_lists, in_tests};
 
 use crate::parts::{Draft, ListKind, Part};
 use crate::tokens::Keyword;
@@ -334,7 +334,7 @@ fn step_use(
     list: u64,
     weight: u64,
 ) -> Result<(), Stop>
-    ensures { Steps (steps_number (draft_value draft.now) (wants_list_weight (weights_value weights) list) weight) result part.new draft.now }
+    ensures { Steps (steps_number (draft_value draft.now) (wants_weight (weights_value weights) list) weight) result part.new draft.now }
 {
     if weight > WEIGHT_MOST {
         return Err(Stop::Refused);
