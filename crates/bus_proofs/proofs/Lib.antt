@@ -15,3 +15,9 @@ pub mod Rows
 pub mod OneTree
 pub mod Faults
 pub mod WiderSlots
+pub mod Fills
+pub mod SoundWords
+pub mod CompleteWords
+pub mod EndableWords
+pub mod PrintedProofs
+pub mod ProofTexts

@@ -5,3 +5,11 @@ pub mod Lists
 pub mod Leaves
 pub mod Bounds
 pub mod Laws
+pub mod Tokens
+pub mod ProofLines
+pub mod Grammar
+pub mod Words
+pub mod PartValues
+pub mod Reads
+pub mod Answers
+pub mod TextLaws

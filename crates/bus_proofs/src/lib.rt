@@ -6,13 +6,23 @@
 #![tactic(auto)]
 
 mod laws;
+mod parts;
+mod printing;
+mod reading;
+mod text_laws;
+mod tokens;
+mod words;
 
 pub use laws::{
     accepted_cases_have_no_plan, accepted_proofs_are_bounds, accepted_proofs_have_no_fault,
     less_shows_less, nodes_tell_the_tree, plans_have_rankings, proofs_have_one_fault,
     wider_slots_cost_no_less,
 };
+pub use printing::print_proof;
+pub use reading::read_proof;
 use soc_model::TestId;
+pub use text_laws::{printed_proofs_are_read, proof_texts_are_settled};
+use thiserror::Error;
 
 /// A list of tests that a leaf may weigh: what only so many of them can use at one cycle.
 #[derive(Drop)]
@@ -87,4 +97,21 @@ pub enum ProofFault {
         claimed: u64,
         shown: u128,
     },
+}
+
+/// Lists of a proof's text, at most.
+pub const LISTS_MOST: usize = 256;
+/// The greatest weight of a proof's text.
+pub const WEIGHT_MOST: u64 = 999_999_999;
+
+/// Why no proof was read of a text.
+#[derive(Debug, Drop, Error)]
+pub enum ProofTextFault {
+    /// The grammar refuses the text: on this line stands the first word with which no proof's text begins so, or the text
+    /// ends too early on it.
+    #[error("line {line} of the proof's text: no proof goes on so")]
+    Text { line: u64 },
+    /// There was no memory for the proof.
+    #[error("out of memory while the proof's text was read")]
+    NoMemory,
 }
