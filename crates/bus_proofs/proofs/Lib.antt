@@ -15,3 +15,4 @@ pub mod Rows
 pub mod OneTree
 pub mod Faults
 pub mod WiderSlots
+pub mod Trails

@@ -5,3 +5,4 @@ pub mod Lists
 pub mod Leaves
 pub mod Bounds
 pub mod Laws
+pub mod Trails

@@ -6,6 +6,7 @@
 #![tactic(auto)]
 
 mod laws;
+mod widths;
 
 pub use laws::{
     accepted_cases_have_no_plan, accepted_proofs_are_bounds, accepted_proofs_have_no_fault,
@@ -13,6 +14,7 @@ pub use laws::{
     wider_slots_cost_no_less,
 };
 use soc_model::TestId;
+pub use widths::Interval;
 
 /// A list of tests that a leaf may weigh: what only so many of them can use at one cycle.
 #[derive(Drop)]
