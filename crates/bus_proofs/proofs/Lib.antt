@@ -16,3 +16,4 @@ pub mod OneTree
 pub mod Faults
 pub mod WiderSlots
 pub mod Trails
+pub mod Takings

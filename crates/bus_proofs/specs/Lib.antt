@@ -6,3 +6,4 @@ pub mod Leaves
 pub mod Bounds
 pub mod Laws
 pub mod Trails
+pub mod Takings

@@ -6,6 +6,7 @@
 #![tactic(auto)]
 
 mod laws;
+mod ranks;
 mod widths;
 
 pub use laws::{
