@@ -17,3 +17,4 @@ pub mod Faults
 pub mod WiderSlots
 pub mod Trails
 pub mod Takings
+pub mod Bits

@@ -7,3 +7,4 @@ pub mod Bounds
 pub mod Laws
 pub mod Trails
 pub mod Takings
+pub mod Bits

@@ -6,6 +6,7 @@
 #![tactic(auto)]
 
 mod laws;
+mod places;
 mod ranks;
 mod widths;
 
