@@ -83,6 +83,7 @@ others_more n place rank other a b d less within x changed kept = by (cases_eq o
     below : (q : ℕ) → (q < other + 1) × (q ≢ rank) → (q ≡ other) ⊎ (q ≢ other) → ((q < other) × (q ≢ rank)) ⊎ (q ≡ other)
     below q t (inl same) = inr same
     below q t (inr apart) = inl (omega (arith, t.0, apart), t.1)
+
     by : (other ≡ rank) ⊎ (other ≢ rank) → IsWithout n place (λ q. (q < other + 1) × (q ≢ rank)) a d
     by (inr apart) =
         without_more n place other (λ q. (q < other) × (q ≢ rank)) (λ q. (q < other + 1) × (q ≢ rank)) a b d less within x (changed apart)
@@ -113,11 +114,14 @@ placed_on_bits n known place rank a b d c less within known_is is x has = record
   where
     kept_rest : (p : ℕ) → p < n → bit_at d p ≡ bit_at (set a place false) p
     kept_rest p p_less = x.kept p (λ q t. on_rest n p place q p_less) ∙ ap (λ (l : List Bool). bit_at l p) is
+
     rest : (p : ℕ) → p < n → (p ≡ place) ⊎ (p ≢ place) → bit_at d p ≡ (if nat_eq p place then false else c.may_rest p)
     rest p p_less (inl same) = rw (eq-eqb p place same) (kept_rest p p_less ∙ ap (bit_at (set a place false)) same ∙ get_or-set_same a place false false within)
     rest p p_less (inr other) = rw (ne_eqb p place other) (kept_rest p p_less ∙ get_or-set_other a place p false false other ∙ has.rest p p_less)
+
     before : (p q : ℕ) → bit_at b (bit_place n p q) ≡ bit_at a (bit_place n p q)
     before p q = ap (λ (l : List Bool). bit_at l (bit_place n p q)) is ∙ get_or-set_other a place (bit_place n p q) false false (λ e. on_rest n place p q less (sym e))
+
     may : (p q : ℕ) → p < n → q < known_ranks c → (p ≡ place) ⊎ (p ≢ place) → (q ≡ rank) ⊎ (q ≢ rank) →
         bit_at d (bit_place n p q) ≡ (if nat_eq p place then c.may p q && nat_eq q rank else c.may p q)
     may p q p_less q_less (inl same) (inl here) =

@@ -18,3 +18,4 @@ pub mod WiderSlots
 pub mod Trails
 pub mod Takings
 pub mod Bits
+pub mod CaseRooms

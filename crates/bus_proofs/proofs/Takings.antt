@@ -62,7 +62,7 @@ after_then a b c x y = record {
   front =
       let back : given_back c.may.items (x.taken ++ y.taken) ≡ given_back (given_back c.may.items y.taken) x.taken = given_back-append c.may.items x.taken y.taken in
       let inner : take (length b.may.items) (given_back (given_back c.may.items y.taken) x.taken) ≡ given_back b.may.items x.taken =
-          take_given (given_back c.may.items y.taken) (length b.may.items) x.taken ∙ ap (λ (l : List Bool). given_back l x.taken) y.front in
+      take_given (given_back c.may.items y.taken) (length b.may.items) x.taken ∙ ap (λ (l : List Bool). given_back l x.taken) y.front in
       ap (take (length a.may.items)) back
       ∙ sym (take_take (given_back (given_back c.may.items y.taken) x.taken) (length a.may.items) (length b.may.items) x.longer)
       ∙ ap (take (length a.may.items)) inner ∙ x.front;
@@ -102,7 +102,7 @@ pub space_after : (r s : Ranks) (at : ℕ) → HasSpace r → at < length r.may.
 space_after r s at space within left may trail most room trail_room =
     let one : one_if (bit_at r.may.items at) ≡ 1 = counts (bit_at r.may.items at) left in
     let sums : count_by (λ b. b) (slice_set r.may.items at false) + one_if (bit_at r.may.items at) ≡ count_by (λ b. b) r.may.items + 0 =
-        sum_by-set one_if r.may.items at false false within in
+    sum_by-set one_if r.may.items at false false within in
     let sum : count_by (λ b. b) s.may.items ≡ count_by (λ b. b) (slice_set r.may.items at false) = ap (count_by (λ b. b)) may in
     let long : length s.may.items ≡ length r.may.items = ap length may ∙ length-set r.may.items at false in
     let longer : length s.trail.items ≡ length r.trail.items + 1 = ap length trail ∙ length-append r.trail.items (at ∷ []) in
@@ -140,6 +140,7 @@ split_last (x ∷ xs) ys (z ∷ zs) c e less =
   where
     heads : x ∷ (xs ++ ys) ≡ z ∷ (zs ++ c ∷ []) → x ≡ z
     heads h = cc
+
     tails : x ∷ (xs ++ ys) ≡ z ∷ (zs ++ c ∷ []) → xs ++ ys ≡ zs ++ c ∷ []
     tails h = cc
 
@@ -181,6 +182,15 @@ restored before r s after space long cut trail most room trail_room =
     let noted : length s.trail.items ≡ length r.trail.items = ap length trail in
     record {
       may = same;
+      after_it = record {
+        taken = [];
+        trail = trail ∙ after.trail ∙ ap (λ (xs : List ℕ). before.trail.items ++ xs) none;
+        longer = omega (arith, known);
+        front = ap (take (length before.may.items)) same ∙ take_whole before.may.items;
+        most = most ∙ after.most;
+        room = room ∙ after.room;
+        trail_room = trail_room ∙ after.trail_room;
+      };
       trail = trail ∙ after.trail ∙ ap (λ (xs : List ℕ). before.trail.items ++ xs) none ∙ append-nil before.trail.items;
       space = record {
         known = omega (arith, known, most, after.most, space.known);

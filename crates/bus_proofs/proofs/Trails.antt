@@ -200,6 +200,7 @@ split_last (x ∷ xs) ys (z ∷ zs) c e less =
   where
     heads : x ∷ (xs ++ ys) ≡ z ∷ (zs ++ c ∷ []) → x ≡ z
     heads h = cc
+
     tails : x ∷ (xs ++ ys) ≡ z ∷ (zs ++ c ∷ []) → xs ++ ys ≡ zs ++ c ∷ []
     tails h = cc
 
@@ -236,6 +237,7 @@ back_here before v later roomy long =
     let left : sum_by changes_left v.intervals.items ≡ sum_by changes_left before.intervals.items = ap (sum_by changes_left) same in
     record {
       intervals = same;
+      later = later;
       trail = later.trail ∙ ap (λ (cs : List Change). before.trail.items ++ cs) none ∙ append-nil before.trail.items;
       roomy = record {
         wires = omega (arith, later.wires, roomy.wires);

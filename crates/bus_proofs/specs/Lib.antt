@@ -8,3 +8,4 @@ pub mod Laws
 pub mod Trails
 pub mod Takings
 pub mod Bits
+pub mod CaseRooms

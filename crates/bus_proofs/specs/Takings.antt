@@ -34,6 +34,7 @@ pub record IsRestored (before after : Ranks) : Type 0 where
   pub may : after.may.items ≡ before.may.items
   pub trail : after.trail.items ≡ before.trail.items
   pub space : HasSpace after
+  pub after_it : IsAfter before after
 
 -- all that is noted behind what the one notes is given back in the other
 pub record IsGivenBack (before after : Ranks) : Type 0 where

@@ -57,6 +57,7 @@ pub record IsBack (before after : Widths) : Type 0 where
   pub intervals : after.intervals.items ≡ before.intervals.items
   pub trail : after.trail.items ≡ before.trail.items
   pub roomy : IsRoomy after
+  pub later : IsLater before after
 
 -- the interval of a rank, with no more than so many wires beyond its least width, and no wider than `above`
 abbrev pub tight : (more above : ℕ) → Interval → Interval

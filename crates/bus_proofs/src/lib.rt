@@ -5,6 +5,7 @@
 //! in cycles.
 #![tactic(auto)]
 
+mod case;
 mod laws;
 mod places;
 mod ranks;

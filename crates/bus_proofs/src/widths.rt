@@ -128,9 +128,7 @@ pub(crate) fn spare_wires(widths: &Widths) -> u64
     requires { IsRoomy widths.now }
     ensures { result ≡ spare widths.now.wires widths.now.intervals.items }
 {
-    widths
-        .wires
-        .saturating_sub(least_wires(&widths.intervals))
+    widths.wires.saturating_sub(least_wires(&widths.intervals))
 }
 
 /// The interval with no more than so many wires beyond its least width, and no wider than `above`.

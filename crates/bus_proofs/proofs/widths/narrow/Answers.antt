@@ -21,7 +21,7 @@ loop-rank-preserved c =
     let within : c.loop-rank.rank < length c.loop-rank.widths.intervals.items = omega (arith, c.loop-rank-test.true, c.known_ranks-count.ensures, c.loop-rank.invariant.long) in
     let next : c.loop-rank.rank + 1 ≡ suc c.loop-rank.rank = omega arith in
     let is : c.narrow_rank.new.widths.intervals.items ≡ slice_set c.loop-rank.widths.intervals.items c.loop-rank.rank (at_most c.args.width (interval_of c.loop-rank.widths.intervals.items c.loop-rank.rank)) =
-        c.narrow_rank.ensures.intervals ∙ ap (slice_set c.loop-rank.widths.intervals.items c.loop-rank.rank) (c.at_most-next.ensures ∙ ap (at_most c.args.width) c.interval_at-old.ensures) in
+    c.narrow_rank.ensures.intervals ∙ ap (slice_set c.loop-rank.widths.intervals.items c.loop-rank.rank) (c.at_most-next.ensures ∙ ap (at_most c.args.width) c.interval_at-old.ensures) in
     record {
       roomy = c.narrow_rank.ensures.roomy;
       later = later_then c.args.widths.now c.loop-rank.widths c.narrow_rank.new.widths c.loop-rank.invariant.later c.narrow_rank.ensures.later;

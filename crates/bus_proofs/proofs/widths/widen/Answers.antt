@@ -19,7 +19,7 @@ narrow_rank-requires-clause-within c =
 pub loop-rank-preserved : goal.loop-rank-preserved
 loop-rank-preserved c =
     let is : c.narrow_rank.new.widths.intervals.items ≡ slice_set c.loop-rank.widths.intervals.items c.loop-rank.rank (at_least c.args.width (interval_of c.loop-rank.widths.intervals.items c.loop-rank.rank)) =
-        c.narrow_rank.ensures.intervals ∙ ap (slice_set c.loop-rank.widths.intervals.items c.loop-rank.rank) (c.at_least-next.ensures ∙ ap (at_least c.args.width) c.interval_at-old.ensures) in
+    c.narrow_rank.ensures.intervals ∙ ap (slice_set c.loop-rank.widths.intervals.items c.loop-rank.rank) (c.at_least-next.ensures ∙ ap (at_least c.args.width) c.interval_at-old.ensures) in
     record {
       roomy = c.narrow_rank.ensures.roomy;
       later = later_then c.args.widths.now c.loop-rank.widths c.narrow_rank.new.widths c.loop-rank.invariant.later c.narrow_rank.ensures.later;
