@@ -44,9 +44,6 @@ on_rest n p o r less e =
 
 -- ---- one rank more is taken
 
-pub without_none : (n place : ℕ) (Taken : ℕ → Type 0) (bits : List Bool) → ((q : ℕ) → Taken q → ⊥) → IsWithout n place Taken bits bits
-without_none n place Taken bits none = record { long = refl; taken = λ q t. absurd (none q t); kept = λ i other. refl }
-
 pub without_more : (n place r : ℕ) (Taken More : ℕ → Type 0) (a b d : List Bool) → place < n → bit_place n place r < length b → IsWithout n place Taken a b →
     d ≡ set b (bit_place n place r) false → ((q : ℕ) → More q → Taken q ⊎ (q ≡ r)) → ((q : ℕ) → Taken q → More q) → More r → IsWithout n place More a d
 without_more n place r Taken More a b d less within x is from to this = record {

@@ -16,13 +16,6 @@ bits_same n bits c d known may rest has = record {
   may = λ p q less q_less. has.may p q less (omega (arith, q_less, known)) ∙ ap (λ (f : ℕ → ℕ → Bool). f p q) (sym may);
 }
 
-pub root_bits : (n : ℕ) (bits : List Bool) → bits ≡ replicate n true → HasBits n bits root_case
-root_bits n bits is = record {
-  long = ap length is ∙ length-replicate n true ∙ (omega arith);
-  rest = λ p less. ap (λ (l : List Bool). bit_at l p) is ∙ get_or-replicate n p true false less;
-  may = λ p q less none. absurd (omega arith);
-}
-
 -- the rest is copied for one rank more
 pub extended_bits : (n w : ℕ) (a b : List Bool) (c : Case) → b ≡ a ++ take n a → HasBits n a c → HasBits n b (extended w c)
 extended_bits n w a b c is has = record {

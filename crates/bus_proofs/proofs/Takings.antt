@@ -2,8 +2,8 @@
 use Rattle.std.proofs.Common.{◌≡◌, ℕ, zero, suc, ◌+◌, ◌≤◌, ◌<◌, Bool, true, false, cond, List, [], ◌∷◌, ◌++◌, length, get_or, take, drop, set, refl, sym, ap, ◌∙◌, append_assoc, arith}
 use Rattle.std.specs.Prelude.{slice_set, vec_capacity}
 use Rattle.std.specs.List.{count_by, sum_by}
-use Rattle.std.proofs.lemmas.List.{append-nil, set-set, set-get_or, length-set, length-append, get_or_default, take-append-le}
-use Rattle.std.proofs.lemmas.List.Sums.{sum_by-set, sum_by-append, count_by-le-length, get_or-le-sum_by}
+use Rattle.std.proofs.lemmas.List.{append-nil, set-set, set-get_or, length-set, length-append, get_or_default}
+use Rattle.std.proofs.lemmas.List.Sums.{sum_by-set, get_or-le-sum_by}
 use Rattle.bus_proofs.specs.declared.ranks.Ranks.{Ranks}
 use Rattle.bus_proofs.specs.Takings.{bit_at, given_back, IsAfter, HasSpace, IsRestored}
 
@@ -198,39 +198,4 @@ restored before r s after space long cut trail most room trail_room =
         room = omega (arith, room, most, after.most, after.room, space.room);
         trail_room = omega (arith, trail_room, most, after.most, after.trail_room, space.trail_room);
       };
-    }
-
--- ---- one rank more
-
-count_most : (xs : List Bool) → count_by (λ b. b) xs ≤ length xs
-count_most xs = count_by-le-length (λ b. b) xs
-
-pub space_added : (r s : Ranks) (more : List Bool) → HasSpace r → length r.may.items + length more ≤ r.most →
-    s.may.items ≡ r.may.items ++ more → s.trail.items ≡ r.trail.items → s.most ≡ r.most →
-    vec_capacity s.may ≡ vec_capacity r.may → vec_capacity s.trail ≡ vec_capacity r.trail → HasSpace s
-space_added r s more space fits may trail most room trail_room =
-    let long : length s.may.items ≡ length r.may.items + length more = ap length may ∙ length-append r.may.items more in
-    let sum : count_by (λ b. b) s.may.items ≡ count_by (λ b. b) (r.may.items ++ more) = ap (count_by (λ b. b)) may in
-    let parts : count_by (λ b. b) (r.may.items ++ more) ≡ count_by (λ b. b) r.may.items + count_by (λ b. b) more = sum_by-append one_if r.may.items more in
-    let noted : length s.trail.items ≡ length r.trail.items = ap length trail in
-    record {
-      known = omega (arith, long, most, fits);
-      noted = omega (arith, long, sum, parts, count_most more, noted, space.noted);
-      room = omega (arith, room, most, space.room);
-      trail_room = omega (arith, trail_room, most, space.trail_room);
-    }
-
-pub after_added : (r s : Ranks) (more : List Bool) →
-    s.may.items ≡ r.may.items ++ more → s.trail.items ≡ r.trail.items → s.most ≡ r.most →
-    vec_capacity s.may ≡ vec_capacity r.may → vec_capacity s.trail ≡ vec_capacity r.trail → IsAfter r s
-after_added r s more may trail most room trail_room =
-    let long : length s.may.items ≡ length r.may.items + length more = ap length may ∙ length-append r.may.items more in
-    record {
-      taken = [];
-      trail = trail ∙ sym (append-nil r.trail.items);
-      longer = omega (arith, long);
-      front = ap (take (length r.may.items)) may ∙ take-append-le (length r.may.items) r.may.items more (omega arith) ∙ take_whole r.may.items;
-      most = most;
-      room = room;
-      trail_room = trail_room;
     }

@@ -11,9 +11,9 @@ use Rattle.bus_proofs.specs.declared.widths.Interval.{Interval}
 use Rattle.bus_proofs.specs.declared.widths.Change.{Change}
 use Rattle.bus_proofs.specs.declared.widths.Change.TheVariants.{Added, Was}
 use Rattle.bus_proofs.specs.declared.widths.Widths.{Widths}
-use Rattle.bus_proofs.specs.Cases.{interval, interval_of, at_most, at_least, tightened_below, tightened_by}
+use Rattle.bus_proofs.specs.Cases.{Case, IsEmpty, least_wires, interval, interval_of, at_most, at_least, tightened_below, tightened_by}
 use Rattle.bus_proofs.proofs.Intervals.{front_length}
-use Rattle.bus_proofs.specs.Trails.{undone, undone_once, IsPart, IsLater, IsFew, IsRoomy, IsBack, changes_left, tight}
+use Rattle.bus_proofs.specs.Trails.{undone, undone_once, IsPart, IsLater, IsFew, IsRoomy, IsBack, HasGap, HasNoGap, changes_left, tight}
 
 -- ---- what is undone
 
@@ -249,3 +249,30 @@ back_here before v later roomy long =
         trail_room = omega (arith, later.trail_room, later.most, roomy.trail_room);
       };
     }
+
+-- ---- empty cases
+
+pub no_gap_more : (xs : List Interval) (n : ℕ) (i : Interval) → i ≡ interval_of xs n → i.low ≤ i.high → HasNoGap xs n → HasNoGap xs (n + 1)
+no_gap_more xs n i is fine before k less = by (cases_eq k n)
+  where
+    by : (k ≡ n) ⊎ (k ≢ n) → (interval_of xs k).low ≤ (interval_of xs k).high
+    by (inl same) = subst (λ (j : Interval). j.low ≤ j.high) (is ∙ ap (interval_of xs) (sym same)) fine
+    by (inr other) = before k (omega (arith, less, other))
+
+pub gap_at : (xs : List Interval) (n : ℕ) (i : Interval) → n < length xs → i ≡ interval_of xs n → i.high < i.low → HasGap xs
+gap_at xs n i within is none = (n, within, subst (λ (j : Interval). j.high < j.low) is none)
+
+pub empty_by_gap : (w : ℕ) (xs : List Interval) (c : Case) → c.intervals ≡ xs → HasGap xs → IsEmpty w c
+empty_by_gap w xs c is gap = inr (subst HasGap (sym is) gap)
+
+pub empty_by_sum : (w : ℕ) (xs : List Interval) (c : Case) → c.intervals ≡ xs → w < least_wires xs → IsEmpty w c
+empty_by_sum w xs c is more = inl (subst (λ (js : List Interval). w < least_wires js) (sym is) more)
+
+pub not_empty : (w : ℕ) (xs : List Interval) (c : Case) → c.intervals ≡ xs → least_wires xs ≤ w → HasNoGap xs (length xs) → IsEmpty w c → ⊥
+not_empty w xs c is fits fine (inl more) =
+    let same : least_wires c.intervals ≡ least_wires xs = ap least_wires is in
+    omega (arith, same, fits, more)
+not_empty w xs c is fits fine (inr gap) = no (subst HasGap is gap)
+  where
+    no : HasGap xs → ⊥
+    no g = omega (arith, fine g.0 g.1, g.2)

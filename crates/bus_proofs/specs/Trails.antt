@@ -1,11 +1,11 @@
 -- Changes of the intervals of a case, and how they are undone.
-use Rattle.std.specs.Prelude.{◌≡◌, ℕ, ◌+◌, ◌-◌, ◌*◌, ◌≤◌, min, List, [], ◌∷◌, ◌++◌, length, take, slice_set, vec_capacity}
+use Rattle.std.specs.Prelude.{◌≡◌, ℕ, ◌+◌, ◌-◌, ◌*◌, ◌<◌, ◌≤◌, min, List, [], ◌∷◌, ◌++◌, length, take, slice_set, vec_capacity}
 use Rattle.std.specs.List.{All, sum_by}
 use Rattle.bus_proofs.specs.declared.widths.Interval.{Interval}
 use Rattle.bus_proofs.specs.declared.widths.Change.{Change}
 use Rattle.bus_proofs.specs.declared.widths.Change.TheVariants.{Added, Was}
 use Rattle.bus_proofs.specs.declared.widths.Widths.{Widths}
-use Rattle.bus_proofs.specs.Cases.{interval}
+use Rattle.bus_proofs.specs.Cases.{interval, interval_of}
 
 -- the intervals before a change, from those after it
 abbrev pub undone_once : List Interval → Change → List Interval
@@ -62,3 +62,11 @@ pub record IsBack (before after : Widths) : Type 0 where
 -- the interval of a rank, with no more than so many wires beyond its least width, and no wider than `above`
 abbrev pub tight : (more above : ℕ) → Interval → Interval
 tight more above i = interval i.low (min (min i.high (i.low + more)) above)
+
+-- a rank has no width
+abbrev pub HasGap : List Interval → Type 0
+HasGap is = (rank : ℕ) × (rank < length is) × ((interval_of is rank).high < (interval_of is rank).low)
+
+-- each of the first so many ranks has one
+abbrev pub HasNoGap : List Interval → (n : ℕ) → Type 0
+HasNoGap is n = (rank : ℕ) → rank < n → (interval_of is rank).low ≤ (interval_of is rank).high

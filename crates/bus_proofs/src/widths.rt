@@ -1,10 +1,10 @@
 //! The widths that the buses of the known ranks may have, with a trail of the changes that led to them.
-ghost use Rattle.std.specs.Prelude.{◌≡◌, ◌↔◌, ℕ, ◌+◌, ◌-◌, ◌<◌, ◌≤◌, ◌++◌, ◌∷◌, [], true, length, map, take, drop, slice_set, vec_capacity, IfOk};
+ghost use Rattle.std.specs.Prelude.{◌≡◌, ◌↔◌, ℕ, ◌+◌, ◌-◌, ◌<◌, ◌≤◌, ◌++◌, ◌∷◌, [], true, false, length, map, take, drop, slice_set, vec_capacity, IfOk};
 ghost use Rattle.std.specs.List.{All};
 ghost use Rattle.bus_proofs.specs.declared.widths.Change.TheVariants.{Was};
 ghost use Rattle.bus_proofs.specs.declared.widths.Widths.{Widths};
-ghost use Rattle.bus_proofs.specs.Cases.{at_least, at_most, interval, interval_of, least_wires, spare, tightened_by};
-ghost use Rattle.bus_proofs.specs.Trails.{IsBack, IsFew, IsLater, IsPart, IsRoomy, tight, undone_once};
+ghost use Rattle.bus_proofs.specs.Cases.{Case, IsEmpty, at_least, at_most, interval, interval_of, least_wires, spare, tightened_by};
+ghost use Rattle.bus_proofs.specs.Trails.{HasGap, HasNoGap, IsBack, IsFew, IsLater, IsPart, IsRoomy, tight, undone_once};
 
 use outside::NoMemory;
 use std::alloc::Global;
@@ -123,12 +123,57 @@ pub(crate) fn least_wires(intervals: &[Interval]) -> u64
     least
 }
 
+/// The least widths of the known ranks, together.
+fn least_of(widths: &Widths) -> u64
+    requires { IsRoomy widths.now }
+    ensures { result ≡ least_wires widths.now.intervals.items }
+{
+    least_wires(&widths.intervals)
+}
+
 /// The wires beyond the least widths.
 pub(crate) fn spare_wires(widths: &Widths) -> u64
     requires { IsRoomy widths.now }
     ensures { result ≡ spare widths.now.wires widths.now.intervals.items }
 {
-    widths.wires.saturating_sub(least_wires(&widths.intervals))
+    widths.wires.saturating_sub(least_of(widths))
+}
+
+/// Whether no width is in an interval.
+fn has_no_width(interval: Interval) -> bool
+    ensures yes { result ≡ true → interval.high < interval.low }
+    ensures no { result ≡ false → interval.low ≤ interval.high }
+{
+    interval.high < interval.low
+}
+
+/// Whether a known rank has no width.
+fn any_without_width(widths: &Widths) -> bool
+    ensures yes { result ≡ true → HasGap widths.now.intervals.items }
+    ensures no { result ≡ false → HasNoGap widths.now.intervals.items (length widths.now.intervals.items) }
+{
+    let count = known_ranks(widths);
+    for rank in 0..count {
+        let interval = interval_at(widths, rank);
+        if has_no_width(interval) {
+            return true;
+        }
+    }
+    false
+}
+
+/// Whether no plan is in a case with these intervals: their least widths take more than all wires, or a rank has no width.
+pub(crate) fn is_empty(widths: &Widths) -> bool
+    requires { IsRoomy widths.now }
+    ensures yes { result ≡ true → (c : Case) → c.intervals ≡ widths.now.intervals.items → IsEmpty widths.now.wires c }
+    ensures no { result ≡ false → (c : Case) → c.intervals ≡ widths.now.intervals.items → IsEmpty widths.now.wires c → ⊥ }
+{
+    let least = least_of(widths);
+    let wires = widths.wires;
+    if wires < least {
+        return true;
+    }
+    any_without_width(widths)
 }
 
 /// The interval with no more than so many wires beyond its least width, and no wider than `above`.
