@@ -31,3 +31,15 @@ pub record IsWithout (modules place : ℕ) (Taken : ℕ → Type 0) (before afte
 -- the rank is one of these
 abbrev pub IsNamed : List ℕ → ℕ → Type 0
 IsNamed ranks q = list_any (nat_eq q) ranks ≡ true
+
+-- each module of those that are marked may be on the one rank exactly where it may be on the other, of the modules at the first places
+abbrev pub AreAlike : (modules : ℕ) → (wired bits : List Bool) → (rank twin : ℕ) → (count : ℕ) → Type 0
+AreAlike modules wired bits rank twin count =
+    (p : ℕ) → p < count → bit_at wired p ≡ true → bit_at bits (bit_place modules p twin) ≡ bit_at bits (bit_place modules p rank)
+
+-- a marked module may be on one of them alone
+pub record IsUnlike (modules : ℕ) (wired bits : List Bool) (rank twin : ℕ) : Type 0 where
+  pub place : ℕ
+  pub within : place < modules
+  pub marked : bit_at wired place ≡ true
+  pub differ : bit_at bits (bit_place modules place twin) ≢ bit_at bits (bit_place modules place rank)

@@ -9,6 +9,7 @@ mod case;
 mod laws;
 mod places;
 mod ranks;
+mod twins;
 mod widths;
 
 pub use laws::{

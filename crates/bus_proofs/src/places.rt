@@ -2,10 +2,10 @@
 ghost use Rattle.std.specs.Prelude.{◌≡◌, ◌≢◌, ℕ, ◌+◌, ◌*◌, ◌^◌, ◌<◌, ◌≤◌, ◌∷◌, false, length, slice_set};
 ghost use Rattle.std.specs.List.{All};
 ghost use Rattle.bus_proofs.specs.Cases.{Case, known_ranks, placed_off, placed_on};
-ghost use Rattle.bus_proofs.specs.Takings.{HasSpace, IsAfter};
+ghost use Rattle.bus_proofs.specs.Takings.{HasSpace, IsAfter, bit_at};
 ghost use Rattle.bus_proofs.specs.Bits.{HasBits, HasPlace, IsNamed, IsWithout, bit_place};
 
-use crate::ranks::{Ranks, take_away};
+use crate::ranks::{Ranks, is_left, take_away};
 
 /// A module by its place, among how many modules, and how many ranks are known.
 #[derive(Clone, Copy)]
@@ -13,6 +13,15 @@ pub(crate) struct Placing {
     pub place: usize,
     pub modules: usize,
     pub known: usize,
+}
+
+/// Whether the module may be on a known rank.
+pub(crate) fn may_be_on(ranks: &Ranks, at: Placing, rank: usize) -> bool
+    requires at { HasPlace ranks.now.may.items at }
+    requires rank { rank < at.known }
+    ensures { result ≡ bit_at ranks.now.may.items (bit_place at.modules at.place rank) }
+{
+    is_left(ranks, (rank + 1) * at.modules + at.place)
 }
 
 /// Takes a known rank from the module.
