@@ -21,3 +21,7 @@ pub mod CompleteWords
 pub mod EndableWords
 pub mod PrintedProofs
 pub mod ProofTexts
+pub mod Trails
+pub mod Takings
+pub mod Bits
+pub mod CaseRooms

@@ -13,3 +13,7 @@ pub mod PartValues
 pub mod Reads
 pub mod Answers
 pub mod TextLaws
+pub mod Trails
+pub mod Takings
+pub mod Bits
+pub mod CaseRooms

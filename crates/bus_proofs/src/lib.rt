@@ -5,12 +5,17 @@
 //! in cycles.
 #![tactic(auto)]
 
+mod case;
 mod laws;
 mod parts;
+mod places;
 mod printing;
+mod ranks;
 mod reading;
 mod text_laws;
 mod tokens;
+mod twins;
+mod widths;
 mod words;
 
 pub use laws::{
@@ -23,6 +28,7 @@ pub use reading::read_proof;
 use soc_model::TestId;
 pub use text_laws::{printed_proofs_are_read, proof_texts_are_settled};
 use thiserror::Error;
+pub use widths::Interval;
 
 /// A list of tests that a leaf may weigh: what only so many of them can use at one cycle.
 #[derive(Drop)]

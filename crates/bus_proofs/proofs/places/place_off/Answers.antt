@@ -1,0 +1,28 @@
+use Rattle.std.proofs.Common.{◌≡◌, ◌∙◌, length}
+use Rattle.bus_proofs.specs.Bits.{HasPlace}
+use Rattle.bus_proofs.proofs.Bits.{bit_within, placed_off_bits, without_first}
+use Rattle.bus_proofs.proofs.Takings.{after_then}
+use Rattle.bus_proofs.proofs.places.place_off.Goals as goal
+
+pub take_rank-requires-clause-at : goal.take_rank-requires-clause-at
+take_rank-requires-clause-at c = record {
+  place = c.requires.at.place;
+  modules = c.requires.at.modules;
+  known = c.requires.at.known;
+  long = c.take_ranks.ensures.without.long ∙ c.requires.at.long;
+}
+
+pub returns-clause-placed : goal.returns-clause-placed
+returns-clause-placed c = λ e known has.
+    let there : HasPlace c.take_ranks.new.ranks.may.items c.args.at = record {
+      place = c.requires.at.place;
+      modules = c.requires.at.modules;
+      known = c.requires.at.known;
+      long = c.take_ranks.ensures.without.long ∙ c.requires.at.long;
+    } in
+    placed_off_bits c.args.at.modules c.args.at.known c.args.at.place c.args.rank c.args.twins.now c.args.ranks.now.may.items c.take_rank.new.ranks.may.items e c.requires.at.place known
+    (without_first c.args.at.modules c.args.at.place c.args.rank c.args.at.known c.args.twins.now c.args.ranks.now.may.items c.take_ranks.new.ranks.may.items c.take_rank.new.ranks.may.items
+    c.requires.at.place (bit_within c.take_ranks.new.ranks.may.items c.args.at c.args.rank there c.requires.rank) c.take_ranks.ensures.without c.take_rank.ensures.may) has
+
+pub returns-clause-after : goal.returns-clause-after
+returns-clause-after c = after_then c.args.ranks.now c.take_ranks.new.ranks c.take_rank.new.ranks c.take_ranks.ensures.after c.take_rank.ensures.after

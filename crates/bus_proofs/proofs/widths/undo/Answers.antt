@@ -1,0 +1,24 @@
+use Rattle.std.proofs.Common.{◌≡◌, ◌+◌, length, ap, ◌∙◌, arith}
+use Rattle.std.proofs.lemmas.List.{length-append}
+use Rattle.bus_proofs.proofs.Trails.{back_here}
+use Rattle.bus_proofs.proofs.widths.undo.Goals as goal
+
+pub loop-step-init : goal.loop-step-init
+loop-step-init c = record { later = λ before n l. l; count = λ less. omega arith }
+
+pub loop-step-preserved : goal.loop-step-preserved
+loop-step-preserved c = record {
+  later = λ before n l.
+      let count = c.loop-step.invariant.count (omega (arith, c.loop-step-test.true, c.loop-step.auto.step, c.changes-count.ensures)) in
+      c.undo_last.ensures.later before (c.loop-step.invariant.later before n l) (omega (arith, n, count, c.loop-step-test.true, c.changes-count.ensures));
+  count = λ less.
+      let count = c.loop-step.invariant.count less in
+      omega (arith, count, c.undo_last.ensures.shorter, c.loop-step-test.true, c.loop-step.auto.step, c.changes-count.ensures);
+}
+
+pub returns : goal.returns
+returns c = λ before n roomy l.
+    let more : length c.args.widths.now.trail.items ≡ length before.trail.items + length l.changes = ap length l.trail ∙ length-append before.trail.items l.changes in
+    let count = c.loop-step.invariant.count (omega (arith, n, more)) in
+    let end = c.loop-step.auto.step-end (omega (arith, n, more, c.changes-count.ensures)) in
+    back_here before c.loop-step.widths (c.loop-step.invariant.later before n l) roomy (omega (arith, n, count, end, c.loop-step-test.false, c.changes-count.ensures))
