@@ -1,10 +1,10 @@
 -- What a change of the bits or of the intervals makes of the case of a room.
-use Rattle.std.proofs.Common.{◌≡◌, ◌≢◌, ◌⊎◌, inl, inr, ℕ, ◌+◌, ◌-◌, ◌*◌, ◌≤◌, ◌<◌, Bool, true, false, List, [], ◌∷◌, ◌++◌, length, get_or, take, replicate, refl, sym, ap, ◌∙◌, subst, arith, mul-le-mul_right, mul_comm, add-mul}
+use Rattle.std.proofs.Common.{◌≡◌, ◌≢◌, ◌⊎◌, inl, inr, ℕ, ◌+◌, ◌-◌, ◌*◌, ◌≤◌, ◌<◌, Bool, false, List, [], ◌∷◌, ◌++◌, length, take, refl, sym, ap, ◌∙◌, arith, mul-le-mul_right, mul_comm, add-mul}
 use Rattle.std.specs.Prelude.{nat_eq, if◌then◌else◌}
 use Rattle.std.proofs.lemmas.Bool.{cases_eq, eq-eqb, ne_eqb}
-use Rattle.std.proofs.lemmas.List.{length-append, length-take-le, length-replicate, get_or_append_left, get_or-append_right, get_or-take, get_or-replicate}
+use Rattle.std.proofs.lemmas.List.{length-append, length-take-le, get_or_append_left, get_or-append_right, get_or-take}
 use Rattle.std.proofs.lemmas.Nat.{mul-add-lt}
-use Rattle.bus_proofs.specs.Cases.{Case, Interval, interval, known_ranks, root_case, extended}
+use Rattle.bus_proofs.specs.Cases.{Case, interval, known_ranks, extended}
 use Rattle.bus_proofs.specs.Takings.{bit_at}
 use Rattle.bus_proofs.specs.Bits.{bit_place, HasBits}
 

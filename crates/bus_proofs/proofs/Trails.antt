@@ -1,15 +1,14 @@
 -- Changes of intervals: what came later, and that there is room to note each.
-use Rattle.std.proofs.Common.{◌≡◌, ◌≢◌, ◌⊎◌, inl, inr, ℕ, zero, suc, ◌+◌, ◌-◌, ◌*◌, ◌≤◌, ◌<◌, min, List, [], ◌∷◌, ◌++◌, length, get_or, map, take, drop, refl, sym, ap, ◌∙◌, append_assoc, subst, arith}
+use Rattle.std.proofs.Common.{◌≡◌, ◌≢◌, ◌⊎◌, inl, inr, ℕ, zero, suc, ◌+◌, ◌≤◌, ◌<◌, min, List, [], ◌∷◌, ◌++◌, length, get_or, map, take, drop, refl, sym, ap, ◌∙◌, append_assoc, subst, arith}
 use Rattle.std.specs.Prelude.{slice_set, vec_capacity}
 use Rattle.std.specs.List.{All, sum_by}
 use Rattle.std.proofs.lemmas.Bool.{cases_eq}
-use Rattle.std.proofs.lemmas.List.{append-nil, set-set, set-get_or, length-set, length-append, get_or_default}
-use Rattle.std.proofs.lemmas.List.Elements.{All-set}
-use Rattle.std.proofs.lemmas.List.Sums.{sum_by-set, get_or-le-sum_by}
+use Rattle.std.proofs.lemmas.List.{append-nil, set-set, set-get_or, length-append, get_or_default}
+use Rattle.std.proofs.lemmas.List.Sums.{get_or-le-sum_by}
 use Rattle.std.proofs.lemmas.List.Edits.{map_over_more}
 use Rattle.bus_proofs.specs.declared.widths.Interval.{Interval}
 use Rattle.bus_proofs.specs.declared.widths.Change.{Change}
-use Rattle.bus_proofs.specs.declared.widths.Change.TheVariants.{Added, Was}
+use Rattle.bus_proofs.specs.declared.widths.Change.TheVariants.{Was}
 use Rattle.bus_proofs.specs.declared.widths.Widths.{Widths}
 use Rattle.bus_proofs.specs.Cases.{Case, IsEmpty, least_wires, interval, interval_of, at_most, at_least, tightened_below, tightened_by}
 use Rattle.bus_proofs.proofs.Intervals.{front_length}

@@ -33,7 +33,7 @@ abbrev pub IsNamed : List ℕ → ℕ → Type 0
 IsNamed ranks q = list_any (nat_eq q) ranks ≡ true
 
 -- each module of those that are marked may be on the one rank exactly where it may be on the other, of the modules at the first places
-abbrev pub AreAlike : (modules : ℕ) → (wired bits : List Bool) → (rank twin : ℕ) → (count : ℕ) → Type 0
+abbrev pub AreAlike : (modules : ℕ) → (wired bits : List Bool) → (rank twin count : ℕ) → Type 0
 AreAlike modules wired bits rank twin count =
     (p : ℕ) → p < count → bit_at wired p ≡ true → bit_at bits (bit_place modules p twin) ≡ bit_at bits (bit_place modules p rank)
 

@@ -1,5 +1,5 @@
 //! The case of a node: it is changed in place, and what was changed is undone before a second branch.
-ghost use Rattle.std.specs.Prelude.{◌≡◌, ℕ, ◌+◌, ◌^◌, ◌<◌, ◌≤◌, ◌∷◌, length, IfOk};
+ghost use Rattle.std.specs.Prelude.{◌≡◌, ◌+◌, ◌^◌, ◌<◌, ◌≤◌, ◌∷◌, length, IfOk};
 ghost use Rattle.std.specs.List.{All};
 ghost use Rattle.bus_proofs.specs.declared.case.CaseRoom.{CaseRoom};
 ghost use Rattle.bus_proofs.specs.Cases.{Case, extended, known_ranks, narrow, placed_off, placed_on, root_case, tightened, wide};

@@ -7,6 +7,7 @@
 
 mod case;
 mod laws;
+mod lists;
 mod parts;
 mod places;
 mod printing;

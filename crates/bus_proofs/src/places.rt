@@ -1,5 +1,5 @@
 //! A module is put on one of the known ranks, or kept off some of them.
-ghost use Rattle.std.specs.Prelude.{◌≡◌, ◌≢◌, ℕ, ◌+◌, ◌*◌, ◌^◌, ◌<◌, ◌≤◌, ◌∷◌, false, length, slice_set};
+ghost use Rattle.std.specs.Prelude.{◌≡◌, ◌≢◌, ◌+◌, ◌*◌, ◌<◌, ◌∷◌, false, slice_set};
 ghost use Rattle.std.specs.List.{All};
 ghost use Rattle.bus_proofs.specs.Cases.{Case, known_ranks, placed_off, placed_on};
 ghost use Rattle.bus_proofs.specs.Takings.{HasSpace, IsAfter, bit_at};
@@ -70,7 +70,8 @@ pub(crate) fn place_on(ranks: &mut Ranks, at: Placing, rank: usize)
     requires space { HasSpace ranks.old }
     requires at { HasPlace ranks.old.may.items at }
     ensures space { HasSpace ranks.new }
-    ensures placed { (c : Case) → known_ranks c ≡ at.known → HasBits at.modules ranks.old.may.items c → HasBits at.modules ranks.new.may.items (placed_on c rank at.place) }
+    ensures placed { (c : Case) → known_ranks c ≡ at.known → HasBits at.modules ranks.old.may.items c →
+        HasBits at.modules ranks.new.may.items (placed_on c rank at.place) }
     ensures after { IsAfter ranks.old ranks.new }
 {
     take_away(ranks, at.place);
@@ -98,7 +99,8 @@ pub(crate) fn place_off(ranks: &mut Ranks, at: Placing, rank: usize, twins: &[u6
     requires rank { rank < at.known }
     requires twins { All (λ q. q < at.known) twins.now }
     ensures space { HasSpace ranks.new }
-    ensures placed { (c : Case) → known_ranks c ≡ at.known → HasBits at.modules ranks.old.may.items c → HasBits at.modules ranks.new.may.items (placed_off c (rank ∷ twins.now) at.place) }
+    ensures placed { (c : Case) → known_ranks c ≡ at.known → HasBits at.modules ranks.old.may.items c →
+        HasBits at.modules ranks.new.may.items (placed_off c (rank ∷ twins.now) at.place) }
     ensures after { IsAfter ranks.old ranks.new }
 {
     take_ranks(ranks, at, twins);

@@ -1,5 +1,5 @@
 //! The ranks that each module may be on, with a trail of those that were taken from it.
-ghost use Rattle.std.specs.Prelude.{◌≡◌, ℕ, ◌+◌, ◌-◌, ◌*◌, ◌^◌, ◌<◌, ◌≤◌, ◌++◌, ◌∷◌, [], true, false, length, take, replicate, slice_set, vec_capacity, IfOk};
+ghost use Rattle.std.specs.Prelude.{◌≡◌, ◌+◌, ◌-◌, ◌*◌, ◌^◌, ◌<◌, ◌≤◌, ◌++◌, ◌∷◌, [], true, false, length, take, replicate, slice_set, vec_capacity, IfOk};
 ghost use Rattle.bus_proofs.specs.declared.ranks.Ranks.{Ranks};
 ghost use Rattle.bus_proofs.specs.Takings.{HasSpace, IsAfter, IsGivenBack, IsRestored, bit_at};
 
@@ -114,7 +114,8 @@ fn put_back(ranks: &mut Ranks, at: usize)
 
 /// Gives the last place that was taken away back.
 fn undo_last(ranks: &mut Ranks)
-    ensures after { (before : Ranks) → IsAfter before ranks.old → length before.trail.items < length ranks.old.trail.items → IsAfter before ranks.new }
+    ensures after { (before : Ranks) → IsAfter before ranks.old →
+        length before.trail.items < length ranks.old.trail.items → IsAfter before ranks.new }
     ensures shorter { length ranks.new.trail.items ≡ length ranks.old.trail.items - 1 }
 {
     if let Some(at) = ranks.trail.pop() {
@@ -141,7 +142,8 @@ fn undo_takings(ranks: &mut Ranks, kept: usize)
 
 /// Gives back all that was noted but the first so many, and leaves out the ranks behind the first so many places.
 pub(crate) fn undo(ranks: &mut Ranks, kept: usize, places: usize)
-    ensures { (before : Ranks) → length before.trail.items ≡ kept → length before.may.items ≡ places → HasSpace before → IsAfter before ranks.old → IsRestored before ranks.new }
+    ensures { (before : Ranks) → length before.trail.items ≡ kept → length before.may.items ≡ places →
+        HasSpace before → IsAfter before ranks.old → IsRestored before ranks.new }
 {
     undo_takings(ranks, kept);
     ranks.may.truncate(places);

@@ -1,5 +1,5 @@
 //! Ranks that the same modules may be on.
-ghost use Rattle.std.specs.Prelude.{◌≡◌, ◌≢◌, ◌+◌, ◌*◌, ◌^◌, ◌<◌, ◌≤◌, true, false, length};
+ghost use Rattle.std.specs.Prelude.{◌≡◌, ◌+◌, ◌*◌, ◌^◌, ◌<◌, ◌≤◌, true, false, length};
 ghost use Rattle.bus_proofs.specs.Takings.{bit_at};
 ghost use Rattle.bus_proofs.specs.Bits.{AreAlike, HasPlace, IsUnlike, bit_place};
 
@@ -20,7 +20,8 @@ fn is_alike(ranks: &Ranks, wired: &[bool], at: Placing, rank: usize, twin: usize
     requires wired { length wired.now ≡ at.modules }
     requires rank { rank < at.known }
     requires twin { twin < at.known }
-    ensures yes { result ≡ true → bit_at wired.now at.place ≡ true → bit_at ranks.now.may.items (bit_place at.modules at.place twin) ≡ bit_at ranks.now.may.items (bit_place at.modules at.place rank) }
+    ensures yes { result ≡ true → bit_at wired.now at.place ≡ true →
+        bit_at ranks.now.may.items (bit_place at.modules at.place twin) ≡ bit_at ranks.now.may.items (bit_place at.modules at.place rank) }
     ensures no { result ≡ false → IsUnlike at.modules wired.now ranks.now.may.items rank twin }
 {
     if !is_marked(wired, at.place) {

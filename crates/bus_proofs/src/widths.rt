@@ -1,5 +1,5 @@
 //! The widths that the buses of the known ranks may have, with a trail of the changes that led to them.
-ghost use Rattle.std.specs.Prelude.{◌≡◌, ◌↔◌, ℕ, ◌+◌, ◌-◌, ◌<◌, ◌≤◌, ◌++◌, ◌∷◌, [], true, false, length, map, take, drop, slice_set, vec_capacity, IfOk};
+ghost use Rattle.std.specs.Prelude.{◌≡◌, ◌+◌, ◌-◌, ◌<◌, ◌≤◌, ◌++◌, ◌∷◌, [], true, false, length, map, take, drop, slice_set, vec_capacity, IfOk};
 ghost use Rattle.std.specs.List.{All};
 ghost use Rattle.bus_proofs.specs.declared.widths.Change.TheVariants.{Was};
 ghost use Rattle.bus_proofs.specs.declared.widths.Widths.{Widths};
@@ -213,7 +213,8 @@ fn at_least(interval: Interval, width: u64) -> Interval
 pub(crate) fn tighten(widths: &mut Widths)
     requires roomy { IsRoomy widths.old }
     ensures roomy { IsRoomy widths.new }
-    ensures intervals { widths.new.intervals.items ≡ tightened_by (spare widths.old.wires widths.old.intervals.items) widths.old.intervals.items }
+    ensures intervals { widths.new.intervals.items ≡
+        tightened_by (spare widths.old.wires widths.old.intervals.items) widths.old.intervals.items }
     ensures later { IsLater widths.old widths.new }
 {
     let more = spare_wires(widths);
@@ -231,7 +232,8 @@ pub(crate) fn tighten(widths: &mut Widths)
 pub(crate) fn narrow(widths: &mut Widths, from: usize, width: u64)
     requires roomy { IsRoomy widths.old }
     ensures roomy { IsRoomy widths.new }
-    ensures intervals { widths.new.intervals.items ≡ take from widths.old.intervals.items ++ map (at_most width) (drop from widths.old.intervals.items) }
+    ensures intervals { widths.new.intervals.items ≡
+        take from widths.old.intervals.items ++ map (at_most width) (drop from widths.old.intervals.items) }
     ensures later { IsLater widths.old widths.new }
 {
     let count = known_ranks(widths);
@@ -248,7 +250,8 @@ pub(crate) fn widen(widths: &mut Widths, count: usize, width: u64)
     requires count { count ≤ length widths.old.intervals.items }
     requires width { width ≤ 256 }
     ensures roomy { IsRoomy widths.new }
-    ensures intervals { widths.new.intervals.items ≡ map (at_least width) (take count widths.old.intervals.items) ++ drop count widths.old.intervals.items }
+    ensures intervals { widths.new.intervals.items ≡
+        map (at_least width) (take count widths.old.intervals.items) ++ drop count widths.old.intervals.items }
     ensures later { IsLater widths.old widths.new }
 {
     for rank in 0..count {
@@ -297,7 +300,8 @@ fn undo_once(widths: &mut Widths, change: Change)
 
 /// Takes the last change back.
 fn undo_last(widths: &mut Widths)
-    ensures later { (before : Widths) → IsLater before widths.old → length before.trail.items < length widths.old.trail.items → IsLater before widths.new }
+    ensures later { (before : Widths) → IsLater before widths.old →
+        length before.trail.items < length widths.old.trail.items → IsLater before widths.new }
     ensures shorter { length widths.new.trail.items ≡ length widths.old.trail.items - 1 }
 {
     if let Some(change) = widths.trail.pop() {
@@ -314,7 +318,8 @@ pub(crate) fn changes(widths: &Widths) -> usize
 
 /// Takes back all changes but the first so many.
 pub(crate) fn undo(widths: &mut Widths, kept: usize)
-    ensures { (before : Widths) → length before.trail.items ≡ kept → IsRoomy before → IsLater before widths.old → IsBack before widths.new }
+    ensures { (before : Widths) → length before.trail.items ≡ kept →
+        IsRoomy before → IsLater before widths.old → IsBack before widths.new }
 {
     let count = changes(widths);
     for step in kept..count {

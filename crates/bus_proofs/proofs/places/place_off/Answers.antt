@@ -1,4 +1,4 @@
-use Rattle.std.proofs.Common.{◌≡◌, ◌∙◌, length}
+use Rattle.std.proofs.Common.{◌∙◌}
 use Rattle.bus_proofs.specs.Bits.{HasPlace}
 use Rattle.bus_proofs.proofs.Bits.{bit_within, placed_off_bits, without_first}
 use Rattle.bus_proofs.proofs.Takings.{after_then}

@@ -1,4 +1,4 @@
-use Rattle.std.proofs.Common.{◌≡◌, ap, ◌∙◌, length}
+use Rattle.std.proofs.Common.{ap, ◌∙◌, length}
 use Rattle.std.proofs.lemmas.List.{length-set}
 use Rattle.bus_proofs.proofs.Bits.{rest_within, placed_on_bits}
 use Rattle.bus_proofs.proofs.Takings.{after_then}

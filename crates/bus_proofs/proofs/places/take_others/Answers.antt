@@ -1,4 +1,3 @@
-use Rattle.std.proofs.Common.{◌≡◌, length, arith}
 use Rattle.bus_proofs.specs.Bits.{HasPlace}
 use Rattle.bus_proofs.proofs.Bits.{bit_within, others_more, place_still}
 use Rattle.bus_proofs.proofs.Takings.{after_then}

@@ -1,4 +1,4 @@
-use Rattle.std.proofs.Common.{◌≡◌, ◌≢◌, ◌<◌}
+use Rattle.std.proofs.Common.{◌≢◌, ◌<◌}
 use Rattle.bus_proofs.specs.Takings.{HasSpace, IsAfter}
 use Rattle.bus_proofs.specs.Bits.{IsWithout}
 use Rattle.bus_proofs.proofs.places.take_others.Given as goal

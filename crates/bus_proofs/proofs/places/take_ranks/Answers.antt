@@ -1,4 +1,4 @@
-use Rattle.std.proofs.Common.{◌≡◌, ◌+◌, length, get_or, take, refl, arith}
+use Rattle.std.proofs.Common.{◌+◌, get_or, take, refl}
 use Rattle.std.specs.Prelude.{nat_eq}
 use Rattle.std.proofs.lemmas.List.Folds.{list_any_kept}
 use Rattle.bus_proofs.specs.Bits.{HasPlace, IsNamed}

@@ -1,4 +1,4 @@
-use Rattle.std.proofs.Common.{refl, sym, ap, ◌∙◌, take, List, Bool}
+use Rattle.std.proofs.Common.{refl, sym, ap, ◌∙◌, take}
 use Rattle.bus_proofs.proofs.Takings.{restored}
 use Rattle.bus_proofs.proofs.ranks.undo.Goals as goal
 

@@ -1,4 +1,3 @@
-use Rattle.std.proofs.Common.{arith}
 use Rattle.bus_proofs.proofs.Trails.{item_is}
 use Rattle.bus_proofs.proofs.widths.interval_at.Goals as goal
 

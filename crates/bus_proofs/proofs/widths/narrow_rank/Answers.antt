@@ -1,4 +1,4 @@
-use Rattle.std.proofs.Common.{◌≡◌, [], ◌∷◌, ◌++◌, sym, ap, ◌∙◌}
+use Rattle.std.proofs.Common.{[], ◌∷◌, ◌++◌, sym, ap, ◌∙◌}
 use Rattle.bus_proofs.specs.declared.widths.Interval.{Interval}
 use Rattle.bus_proofs.specs.declared.widths.Change.TheVariants.{Was}
 use Rattle.bus_proofs.specs.Cases.{interval_of}
