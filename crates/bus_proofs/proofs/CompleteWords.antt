@@ -6,6 +6,7 @@ use Rattle.std.proofs.lemmas.Grind.{common_steps}
 use Rattle.std.proofs.lemmas.List.{length-append}
 use Rattle.std.proofs.lemmas.List.Concat.{flat_map-append}
 use Rattle.std.proofs.lemmas.List.Elements.{All-nil, All-cons, All-head, All-tail}
+use Rattle.std.proofs.lemmas.Bool.{le-leb, lt-ltb}
 use Rattle.outside.specs.Runs.{run_by}
 use Rattle.soc_model.specs.declared.TestId.{TestId}
 use Rattle.keyword_text.specs.declared.tokens.Token.{Token}
@@ -13,6 +14,7 @@ use Rattle.keyword_text.specs.declared.tokens.Token.TheVariants.{Key, Number}
 use Rattle.keyword_text.specs.Lines.{line_tokens, tokens_of}
 use Rattle.keyword_text.specs.Machines.{IsReadWhole}
 use Rattle.keyword_text.proofs.Kept.{run_both}
+use Rattle.keyword_text.proofs.Listed.{tokens_append}
 use Rattle.bus_proofs.specs.declared.TheConstants.{LISTS_MOST, WEIGHT_MOST}
 use Rattle.bus_proofs.specs.declared.tokens.Keyword.{Keyword}
 use Rattle.bus_proofs.specs.declared.tokens.Keyword.TheVariants as key
@@ -36,20 +38,12 @@ pub record MayGo (s : State) (d : DraftValue) : Type 0 where
   pub begins : MayBegin s d
   pub ends : ended s ≡ whole_at d.wanted d
 
--- ---- tests from facts
-
-at_most : (a b : ℕ) → a ≤ b → nat_le a b ≡ true
-at_most a b e = grind (arith, common_steps)
-
-below : (a b : ℕ) → a < b → nat_lt a b ≡ true
-below a b e = grind (arith, common_steps)
-
 -- a list that may begin begins
 list_begun : (s : State) (d : DraftValue) (k : Keyword) (p : PartValue) → MayBegin s d → is_use k ≡ false → begin d k ≡ begin_list d p → d.nodes ≡ [] → length d.lists < LISTS_MOST → step s (Key k) ≡ Some (at d p)
 list_begun s d k p may other is none few =
     may k other ∙ is
     ∙ ap (λ (ns : List NodeValue). if_both (nat_eq (length ns) 0) (nat_lt (length d.lists) LISTS_MOST) (at d p)) none
-    ∙ ap (λ (b : Bool). next_if b (at d p)) (below (length d.lists) LISTS_MOST few)
+    ∙ ap (λ (b : Bool). next_if b (at d p)) (lt-ltb (length d.lists) LISTS_MOST few)
 
 -- a node that is wanted begins
 pub node_begun : (s : State) (d : DraftValue) (n : ℕ) (k : Keyword) (p : PartValue) → MayBegin s d → is_use k ≡ false → begin d k ≡ begin_wanted d.wanted d p → d.wanted ≡ suc n → step s (Key k) ≡ Some (at (record d { wanted = n }) p)
@@ -109,7 +103,7 @@ lists_read (l ∷ ls) s d may none few names =
 -- ---- weights
 
 weight_if : (n : ℕ) (s : State) → IsWeight n → next_if (nat_le n WEIGHT_MOST) s ≡ Some s
-weight_if n s is = ap (λ b. next_if b s) (at_most n WEIGHT_MOST is)
+weight_if n s is = ap (λ b. next_if b s) (le-leb n WEIGHT_MOST is)
 
 ranks_read : (ns : List ℕ) (d : DraftValue) (w : WeightsValue) → All IsWeight ns → run (Some (at d (in_ranks w))) (map Number ns) ≡ Some (at d (in_ranks (record w { ranks = w.ranks ++ ns })))
 ranks_read [] d w are = ap (λ l. Some (at d (in_ranks (record w { ranks = l })))) (sym (append-nil w.ranks))
@@ -241,7 +235,7 @@ abbrev first_state : ℕ → State
 first_state claimed = at (empty_draft claimed) between
 
 words_parted : (ls : List ListValue) (ns : List NodeValue) → tokens_of (map list_line ls ++ map node_line ns) ≡ tokens_of (map list_line ls) ++ node_words ns
-words_parted ls ns = flat_map-append line_tokens (map list_line ls) (map node_line ns)
+words_parted ls ns = tokens_append (map list_line ls) (map node_line ns)
 
 pub proof_read : (p : ProofValue) → MayBeSaid p → IsReadWhole proof_machine (proof_tokens p) p
 unfolding proof_tokens

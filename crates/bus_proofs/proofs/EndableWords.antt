@@ -5,38 +5,20 @@ use Rattle.soc_model.specs.declared.TestId.{TestId}
 use Rattle.plan_model.specs.declared.TheConstants.{PLAN_NUMBER_MOST}
 use Rattle.keyword_text.specs.declared.tokens.Token.{Token}
 use Rattle.keyword_text.specs.declared.tokens.Token.TheVariants.{Key, Number}
-use Rattle.keyword_text.specs.Texts.{IsSmall}
 use Rattle.keyword_text.specs.Machines.{MayEnd}
+use Rattle.keyword_text.proofs.Endings.{ends_by_key, ends_by_number, ends_by_zero}
 use Rattle.bus_proofs.specs.declared.tokens.Keyword.{Keyword}
 use Rattle.bus_proofs.specs.declared.tokens.Keyword.TheVariants as key
 use Rattle.bus_proofs.specs.declared.parts.ListKind.{ListKind}
 use Rattle.bus_proofs.specs.declared.parts.ListKind.TheVariants as kind
 use Rattle.bus_proofs.specs.Proofs.{OfPower, WeightsValue, OfWide, OfPlace, NodeValue, OfSplit, OfSum}
 use Rattle.bus_proofs.specs.Words.{DraftValue, PartValue, wants_proof, wants_form, wants_bound, wants_claim, between, wants_list_rank, wants_most, wants_near, in_tests, wants_test, wants_wide_rank, wants_width, wants_module, wants_place_rank, in_place, wants_wire, in_ranks, wants_list, wants_list_weight, in_lists, State, at, with_list, with_node, with_branches, with_use, list_of, wire_of, step, step_sum, whole_at, proof_machine}
-use Rattle.bus_proofs.proofs.Fills.{Fills, some_wanted, fills_as}
-use Rattle.bus_proofs.proofs.SoundWords.{Holds}
+use Rattle.bus_proofs.proofs.SoundWords.{Holds, wanted_some}
 use Rattle.bus_proofs.proofs.CompleteWords.{MayBegin, MayGo, node_begun}
 
 -- words that make a state end in a whole proof
 abbrev Ends : State → Type 0
 Ends s = MayEnd proof_machine PLAN_NUMBER_MOST s
-
-zero_small : IsSmall {K = Keyword} PLAN_NUMBER_MOST (Number 0)
-zero_small = omega arith
-
-one_small : IsSmall {K = Keyword} PLAN_NUMBER_MOST (Number 1)
-one_small = omega arith
-
-finish_by : (s m : State) (t : Token Keyword) → IsSmall PLAN_NUMBER_MOST t → step s t ≡ Some m → Ends m → Ends s
-finish_by s m t small e f =
-    record {
-      more = t ∷ f.more;
-      small = (small, f.small);
-      end = f.end;
-      value = f.value;
-      runs = ap (λ (o : Option State). run_by step o f.more) e ∙ f.runs;
-      ends = f.ends;
-    }
 
 -- ---- a leaf for each node that is wanted
 
@@ -52,8 +34,8 @@ with_leaf d n = with_node (record d { wanted = n }) (OfSum (wire_of 0))
 
 finish_leaf : (s : State) (d : DraftValue) (n : ℕ) → MayBegin s d → d.wanted ≡ suc n → Ends (at (record d { wanted = n }) (in_ranks (wire_of 0))) → Ends s
 finish_leaf s d n may some rest =
-    finish_by s (at (record d { wanted = n }) wants_wire) (Key key.Sum) tt (node_begun s d n key.Sum wants_wire may refl refl some)
-    (finish_by (at (record d { wanted = n }) wants_wire) (at (record d { wanted = n }) (in_ranks (wire_of 0))) (Number 0) zero_small refl rest)
+    ends_by_key s (at (record d { wanted = n }) wants_wire) key.Sum (node_begun s d n key.Sum wants_wire may refl refl some)
+    (ends_by_zero (at (record d { wanted = n }) wants_wire) (at (record d { wanted = n }) (in_ranks (wire_of 0))) refl rest)
 
 finish_wanted : (n : ℕ) (s : State) (d : DraftValue) → MayGo s d → d.wanted ≡ n → Ends s
 finish_wanted zero s d may none =
@@ -73,10 +55,6 @@ finish_more (suc n) s d may is some = finish_some n s d may is
 
 -- ---- the state of each part
 
--- a node is wanted where none has begun
-wanted_some : (d : DraftValue) → d.nodes ≡ [] → Fills d.nodes (0 + d.wanted) → 1 ≤ d.wanted
-wanted_some d none fills = some_wanted d.nodes d.wanted none (fills_as d.nodes (0 + d.wanted) d.wanted (omega arith) fills)
-
 -- a list of some tests
 finish_some_tests : (which : ListKind) (test : TestId) (tests : List TestId) (d : DraftValue) → 1 ≤ d.wanted → Ends (at d (in_tests which (test ∷ tests)))
 finish_some_tests which test tests d some =
@@ -88,11 +66,11 @@ finish_pushed which (t ∷ tests) test d some = finish_some_tests which t (tests
 
 finish_test : (which : ListKind) (tests : List TestId) (m : ℕ) (d : DraftValue) → 1 ≤ d.wanted → Ends (at d (wants_test which tests m))
 finish_test which tests m d some =
-    finish_by _ (at d (in_tests which (tests ++ record { «module» = m; test = 0 } ∷ []))) (Number 0) zero_small refl
+    ends_by_zero _ (at d (in_tests which (tests ++ record { «module» = m; test = 0 } ∷ []))) refl
     (finish_pushed which tests (record { «module» = m; test = 0 }) d some)
 
 finish_tests : (which : ListKind) (tests : List TestId) (d : DraftValue) → 1 ≤ d.wanted → Ends (at d (in_tests which tests))
-finish_tests which [] d some = finish_by _ (at d (wants_test which [] 0)) (Number 0) zero_small refl (finish_test which [] 0 d some)
+finish_tests which [] d some = ends_by_zero _ (at d (wants_test which [] 0)) refl (finish_test which [] 0 d some)
 finish_tests which (t ∷ tests) d some = finish_some_tests which t tests d some
 
 finish_between : (d : DraftValue) → 1 ≤ d.wanted → Ends (at d between)
@@ -105,13 +83,13 @@ finish_split s d n may = finish_more (d.wanted + 2) s (with_branches d n) may re
 finish_width : (d : DraftValue) (rank : ℕ) → Ends (at d (wants_width rank))
 finish_width d rank =
     let n : NodeValue = OfSplit (OfWide rank 0) in
-    finish_by _ (at (with_branches d n) between) (Number 0) zero_small refl (finish_split (at (with_branches d n) between) d n (λ k other. refl))
+    ends_by_zero _ (at (with_branches d n) between) refl (finish_split (at (with_branches d n) between) d n (λ k other. refl))
 
 finish_place : (d : DraftValue) (m rank : ℕ) (twins : List ℕ) → Ends (at d (in_place m rank twins))
 finish_place d m rank twins = finish_split (at d (in_place m rank twins)) d (OfSplit (OfPlace m rank twins)) (λ k other. refl)
 
 finish_place_rank : (d : DraftValue) (m : ℕ) → Ends (at d (wants_place_rank m))
-finish_place_rank d m = finish_by _ (at d (in_place m 0 [])) (Number 0) zero_small refl (finish_place d m 0 [])
+finish_place_rank d m = ends_by_zero _ (at d (in_place m 0 [])) refl (finish_place d m 0 [])
 
 -- a leaf
 finish_ranks : (d : DraftValue) (w : WeightsValue) → Ends (at d (in_ranks w))
@@ -121,37 +99,37 @@ finish_uses : (d : DraftValue) (w : WeightsValue) → Ends (at d (in_lists w))
 finish_uses d w = finish_wanted d.wanted (at d (in_lists w)) (with_node d (OfSum w)) (lists_go d w) refl
 
 finish_list_weight : (d : DraftValue) (w : WeightsValue) (list : ℕ) → Ends (at d (wants_list_weight w list))
-finish_list_weight d w list = finish_by _ (at d (in_lists (with_use w list 0))) (Number 0) zero_small refl (finish_uses d (with_use w list 0))
+finish_list_weight d w list = ends_by_zero _ (at d (in_lists (with_use w list 0))) refl (finish_uses d (with_use w list 0))
 
 -- the head
 finish_claim : (d : DraftValue) → 1 ≤ d.wanted → Ends (at d wants_claim)
-finish_claim d some = finish_by _ (at (record d { claimed = 0 }) between) (Number 0) zero_small refl (finish_between (record d { claimed = 0 }) some)
+finish_claim d some = ends_by_zero _ (at (record d { claimed = 0 }) between) refl (finish_between (record d { claimed = 0 }) some)
 
 finish_bound : (d : DraftValue) → 1 ≤ d.wanted → Ends (at d wants_bound)
-finish_bound d some = finish_by _ (at d wants_claim) (Key key.Bound) tt refl (finish_claim d some)
+finish_bound d some = ends_by_key _ (at d wants_claim) key.Bound refl (finish_claim d some)
 
 finish_form : (d : DraftValue) → 1 ≤ d.wanted → Ends (at d wants_form)
-finish_form d some = finish_by _ (at d wants_bound) (Number 1) one_small refl (finish_bound d some)
+finish_form d some = ends_by_number _ (at d wants_bound) 1 (omega arith) refl (finish_bound d some)
 
 finish : (p : PartValue) (d : DraftValue) (ts : List (Token Keyword)) → Holds d p ts → Ends (at d p)
-finish wants_proof d ts h = finish_by _ (at d wants_form) (Key key.Proof) tt refl (finish_form d (wanted_some d h.ordered.1 h.fills))
+finish wants_proof d ts h = ends_by_key _ (at d wants_form) key.Proof refl (finish_form d (wanted_some d h.ordered.1 h.fills))
 finish wants_form d ts h = finish_form d (wanted_some d h.ordered.1 h.fills)
 finish wants_bound d ts h = finish_bound d (wanted_some d h.ordered.1 h.fills)
 finish wants_claim d ts h = finish_claim d (wanted_some d h.ordered.1 h.fills)
 finish between d ts h = finish_between d h.ordered
-finish wants_list_rank d ts h = finish_by _ (at d (in_tests (kind.TurnsOn 0) [])) (Number 0) zero_small refl (finish_tests (kind.TurnsOn 0) [] d (wanted_some d h.ordered.0 h.fills))
-finish wants_most d ts h = finish_by _ (at d (in_tests (kind.Crowd 0) [])) (Number 0) zero_small refl (finish_tests (kind.Crowd 0) [] d (wanted_some d h.ordered.0 h.fills))
-finish wants_near d ts h = finish_by _ (at (with_list d (OfPower 0)) between) (Number 0) zero_small refl (finish_between (with_list d (OfPower 0)) (wanted_some d h.ordered.0 h.fills))
+finish wants_list_rank d ts h = ends_by_zero _ (at d (in_tests (kind.TurnsOn 0) [])) refl (finish_tests (kind.TurnsOn 0) [] d (wanted_some d h.ordered.0 h.fills))
+finish wants_most d ts h = ends_by_zero _ (at d (in_tests (kind.Crowd 0) [])) refl (finish_tests (kind.Crowd 0) [] d (wanted_some d h.ordered.0 h.fills))
+finish wants_near d ts h = ends_by_zero _ (at (with_list d (OfPower 0)) between) refl (finish_between (with_list d (OfPower 0)) (wanted_some d h.ordered.0 h.fills))
 finish (in_tests which tests) d ts h = finish_tests which tests d (wanted_some d h.ordered.0 h.fills)
 finish (wants_test which tests m) d ts h = finish_test which tests m d (wanted_some d h.ordered.0 h.fills)
-finish wants_wide_rank d ts h = finish_by _ (at d (wants_width 0)) (Number 0) zero_small refl (finish_width d 0)
+finish wants_wide_rank d ts h = ends_by_zero _ (at d (wants_width 0)) refl (finish_width d 0)
 finish (wants_width rank) d ts h = finish_width d rank
-finish wants_module d ts h = finish_by _ (at d (wants_place_rank 0)) (Number 0) zero_small refl (finish_place_rank d 0)
+finish wants_module d ts h = ends_by_zero _ (at d (wants_place_rank 0)) refl (finish_place_rank d 0)
 finish (wants_place_rank m) d ts h = finish_place_rank d m
 finish (in_place m rank twins) d ts h = finish_place d m rank twins
-finish wants_wire d ts h = finish_by _ (at d (in_ranks (wire_of 0))) (Number 0) zero_small refl (finish_ranks d (wire_of 0))
+finish wants_wire d ts h = ends_by_zero _ (at d (in_ranks (wire_of 0))) refl (finish_ranks d (wire_of 0))
 finish (in_ranks w) d ts h = finish_ranks d w
-finish (wants_list w) d ts h = finish_by _ (at d (wants_list_weight w 0)) (Number 0) zero_small refl (finish_list_weight d w 0)
+finish (wants_list w) d ts h = ends_by_zero _ (at d (wants_list_weight w 0)) refl (finish_list_weight d w 0)
 finish (wants_list_weight w list) d ts h = finish_list_weight d w list
 finish (in_lists w) d ts h = finish_uses d w
 

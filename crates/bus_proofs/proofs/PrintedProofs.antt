@@ -8,6 +8,7 @@ use Rattle.keyword_text.specs.declared.tokens.Token.{Token}
 use Rattle.keyword_text.specs.declared.tokens.Token.TheVariants.{Key, Number}
 use Rattle.keyword_text.specs.Tokens.{token_of}
 use Rattle.keyword_text.specs.Lines.{Line, spaced, spaced_numbers, line_text, text_of}
+use Rattle.keyword_text.proofs.Listed.{text_append}
 use Rattle.keyword_text.proofs.Printed.{IsPrinted, printed_lines}
 use Rattle.bus_proofs.specs.declared.tokens.Keyword.{Keyword}
 use Rattle.bus_proofs.specs.declared.tokens.Keyword.TheVariants as key
@@ -64,15 +65,12 @@ printed_is_read proof may range = record { words = printed_lines proof_lexicon s
 
 -- ---- the text by its parts
 
-text_append : (a b : List (Line Keyword)) → text_of spelling (a ++ b) ≡ text_of spelling a ++ text_of spelling b
-text_append a b = flat_map-append (line_text spelling) a b
-
 proof_text_parts : (p : ProofValue) →
     proof_text p ≡ text_of spelling (head_lines p.claimed) ++ (text_of spelling (map list_line p.lists) ++ text_of spelling (map node_line p.nodes))
 unfolding proof_text
 proof_text_parts p =
-    text_append (head_lines p.claimed) (map list_line p.lists ++ map node_line p.nodes)
-    ∙ ap (λ x. text_of spelling (head_lines p.claimed) ++ x) (text_append (map list_line p.lists) (map node_line p.nodes))
+    text_append spelling (head_lines p.claimed) (map list_line p.lists ++ map node_line p.nodes)
+    ∙ ap (λ x. text_of spelling (head_lines p.claimed) ++ x) (text_append spelling (map list_line p.lists) (map node_line p.nodes))
 
 -- what is written piece by piece
 pub proof_written : (p : ProofValue) (x v w : List ℕ) → x ≡ text_of spelling (head_lines p.claimed) → v ≡ x ++ text_of spelling (map list_line p.lists) → w ≡ v ++ text_of spelling (map node_line p.nodes) → w ≡ proof_text p

@@ -3,7 +3,7 @@ use Rattle.std.proofs.Common.{◌≡◌, ◌<◌, ◌≤◌, ℕ, zero, suc, ◌
 use Rattle.std.specs.Prelude.{nat_le, nat_lt}
 use Rattle.std.specs.List.{All, flat_map}
 use Rattle.std.proofs.lemmas.Grind.{common_steps}
-use Rattle.std.proofs.lemmas.Bool.{eqb-true}
+use Rattle.std.proofs.lemmas.Bool.{eqb-true, leb-true, ltb-true}
 use Rattle.std.proofs.lemmas.List.{map-append, length-append}
 use Rattle.std.proofs.lemmas.List.Concat.{flat_map-append}
 use Rattle.std.proofs.lemmas.List.Elements.{All-nil, All-push}
@@ -12,17 +12,20 @@ use Rattle.keyword_text.specs.declared.tokens.Token.{Token}
 use Rattle.keyword_text.specs.declared.tokens.Token.TheVariants.{Key, Number}
 use Rattle.keyword_text.specs.Lines.{Line, line_tokens, tokens_of}
 use Rattle.keyword_text.specs.Machines.{IsRun, IsSaid}
-use Rattle.keyword_text.proofs.Kept.{IsKept, kept_holds}
+use Rattle.keyword_text.proofs.Kept as kept
+use Rattle.keyword_text.proofs.Kept.{kept_by_words, kept_holds}
+use Rattle.keyword_text.proofs.Listed.{tokens_push, numbers_push, word_pushed}
+use Rattle.keyword_text.proofs.Trees.{Fills, fills_none, fills_leaf, fills_split, fills_whole, fills_as}
 use Rattle.bus_proofs.specs.declared.TheConstants.{LISTS_MOST, WEIGHT_MOST}
 use Rattle.bus_proofs.specs.declared.tokens.Keyword.{Keyword}
 use Rattle.bus_proofs.specs.declared.tokens.Keyword.TheVariants as key
 use Rattle.bus_proofs.specs.declared.parts.ListKind.{ListKind}
 use Rattle.bus_proofs.specs.declared.parts.ListKind.TheVariants as kind
-use Rattle.bus_proofs.specs.Proofs.{ListValue, OfPower, WeightsValue, OfWide, OfPlace, NodeValue, OfSplit, OfSum, ProofValue}
+use Rattle.bus_proofs.specs.Proofs.{ListValue, OfPower, WeightsValue, OfWide, OfPlace, NodeValue, OfSplit, OfSum, Leaf, Branches, nodes_of, ProofValue}
 use Rattle.bus_proofs.specs.ProofLines.{list_line, test_numbers, use_tokens, weight_tokens, node_line, head_lines, proof_tokens}
 use Rattle.bus_proofs.specs.Grammar.{NamesTests, IsWeight, IsUse, AreWeights, HasWeights, proof_grammar}
 use Rattle.bus_proofs.specs.Words.{DraftValue, PartValue, wants_proof, wants_form, wants_bound, wants_claim, between, wants_list_rank, wants_most, wants_near, in_tests, wants_test, wants_wide_rank, wants_width, wants_module, wants_place_rank, in_place, wants_wire, in_ranks, wants_list, wants_list_weight, in_lists, State, at, with_list, with_node, with_branches, with_rank, with_use, list_of, wire_of, next_if, if_both, step_number, begin_list, begin_wanted, begin, end_tests, is_use, step_sum, begin_proof, begin_bound, begun, step_key, step, whole_at, ended_by, ended, proof_machine}
-use Rattle.bus_proofs.proofs.Fills.{Fills, fills_none, fills_leaf, fills_split, fills_whole, some_wanted, fills_as}
+use Rattle.bus_proofs.proofs.Fills.{some_wanted}
 
 -- how far a text has come
 pub data Stage : Type 0 where
@@ -120,36 +123,23 @@ pub record AreProper (d : DraftValue) : Type 0 where
 pub record Holds (d : DraftValue) (p : PartValue) (ts : List (Token Keyword)) : Type 0 where
   pub ordered : Ordered (stage p) d
   pub read : ts ≡ tokens_of (front (stage p) d) ++ part_tokens p
-  pub fills : Fills d.nodes (open_nodes p + d.wanted)
+  pub fills : Fills nodes_of d.nodes (open_nodes p + d.wanted)
   pub weighed : Weighed p
   pub proper : AreProper d
 
+abbrev IsRead : List (Token Keyword) → State → Type 0
+IsRead ts s = Holds s.draft s.part ts
+
 abbrev HoldsNext : Option State → List (Token Keyword) → Type 0
-HoldsNext None ts = Unit {0}
-HoldsNext (Some s) ts = Holds s.draft s.part ts
+HoldsNext o ts = kept.HoldsNext IsRead o ts
 
 -- ---- tests into facts
-
-least : (a b : ℕ) → nat_le a b ≡ true → a ≤ b
-least a b e = grind (arith, common_steps)
-
-less : (a b : ℕ) → nat_lt a b ≡ true → a < b
-less a b e = grind (arith, common_steps)
 
 none_of : {X : Type 0} (xs : List X) → nat_eq (length xs) 0 ≡ true → xs ≡ []
 none_of [] e = refl
 none_of (x ∷ xs) e = let no : length (x ∷ xs) ≡ 0 = eqb-true (length (x ∷ xs)) 0 e in absurd (omega (arith, no))
 
 -- ---- lists of lines
-
-tokens_append : (a b : List (Line Keyword)) → tokens_of (a ++ b) ≡ tokens_of a ++ tokens_of b
-tokens_append a b = flat_map-append line_tokens a b
-
-tokens_push : (a : List (Line Keyword)) (l : Line Keyword) → tokens_of (a ++ l ∷ []) ≡ tokens_of a ++ line_tokens l
-tokens_push a l = tokens_append a (l ∷ []) ∙ ap (λ ts. tokens_of a ++ ts) (append-nil (line_tokens l))
-
-numbers_push : (ns : List ℕ) (n : ℕ) → map {B = Token Keyword} Number (ns ++ n ∷ []) ≡ map Number ns ++ Number n ∷ []
-numbers_push ns n = map-append Number ns (n ∷ [])
 
 node_pushed : (d : DraftValue) (n : NodeValue) → tokens_of (body d) ++ line_tokens (node_line n) ≡ tokens_of (body (with_node d n))
 node_pushed d n =
@@ -170,9 +160,6 @@ list_pushed d l none =
     ∙ ap tokens_of (sym (no_nodes (with_list d l) none))
 
 -- ---- one more word
-
-more : (ts own new lines : List (Token Keyword)) (t : Token Keyword) → ts ≡ lines ++ own → new ≡ own ++ t ∷ [] → ts ++ t ∷ [] ≡ lines ++ new
-more ts own new lines t read is = ap (λ l. l ++ t ∷ []) read ∙ append_assoc lines own (t ∷ []) ∙ ap (λ l. lines ++ l) (sym is)
 
 whole : (ts : List (Token Keyword)) (d : DraftValue) → ts ≡ tokens_of (body d) → ts ≡ tokens_of (body d) ++ []
 whole ts d read = read ∙ sym (append-nil (tokens_of (body d)))
@@ -216,7 +203,7 @@ use_pushed w list n =
 -- whole parts only, which may be followed by more
 record IsWhole (d : DraftValue) (ts : List (Token Keyword)) : Type 0 where
   read : ts ≡ tokens_of (body d)
-  fills : Fills d.nodes d.wanted
+  fills : Fills nodes_of d.nodes d.wanted
   proper : AreProper d
 
 -- a list begins
@@ -224,23 +211,23 @@ list_begins : (p : PartValue) (k : Keyword) (d : DraftValue) (ts : List (Token K
 list_begins p k d ts h holds = by (nat_eq (length d.nodes) 0) (nat_lt (length d.lists) LISTS_MOST) refl refl
   where
     by : (a b : Bool) → nat_eq (length d.nodes) 0 ≡ a → nat_lt (length d.lists) LISTS_MOST ≡ b → HoldsNext (if_both a b (at d p)) (ts ++ Key k ∷ [])
-    by true true none few = holds (none_of d.nodes none) (less (length d.lists) LISTS_MOST few)
+    by true true none few = holds (none_of d.nodes none) (ltb-true (length d.lists) LISTS_MOST few)
     by true false none few = tt
     by false b none few = tt
 
 -- a node begins
-node_begins : (n : ℕ) (p : PartValue) (k : Keyword) (d : DraftValue) (ts : List (Token Keyword)) → IsWhole d ts → d.wanted ≡ n → ((m : ℕ) → Fills d.nodes (1 + m) → Holds (record d { wanted = m }) p (ts ++ Key k ∷ [])) → HoldsNext (begin_wanted n d p) (ts ++ Key k ∷ [])
+node_begins : (n : ℕ) (p : PartValue) (k : Keyword) (d : DraftValue) (ts : List (Token Keyword)) → IsWhole d ts → d.wanted ≡ n → ((m : ℕ) → Fills nodes_of d.nodes (1 + m) → Holds (record d { wanted = m }) p (ts ++ Key k ∷ [])) → HoldsNext (begin_wanted n d p) (ts ++ Key k ∷ [])
 node_begins zero p k d ts h is holds = tt
-node_begins (suc n) p k d ts h is holds = holds n (fills_as d.nodes d.wanted (1 + n) (omega (arith, is)) h.fills)
+node_begins (suc n) p k d ts h is holds = holds n (fills_as nodes_of d.nodes d.wanted (1 + n) (omega (arith, is)) h.fills)
 
 proper_as : (d : DraftValue) (m : ℕ) → AreProper d → AreProper (record d { wanted = m })
 proper_as d m p = record { few = p.few; lists = p.lists; nodes = p.nodes }
 
 begins : (k : Keyword) (d : DraftValue) (ts : List (Token Keyword)) → IsWhole d ts → HoldsNext (begin d k) (ts ++ Key k ∷ [])
-begins key.Turns d ts h = list_begins (in_tests kind.Turns []) key.Turns d ts h (λ none few. record { ordered = (none, few); read = ap (λ l. l ++ Key key.Turns ∷ []) h.read; fills = fills_as d.nodes d.wanted (0 + d.wanted) (omega arith) h.fills; weighed = tt; proper = h.proper })
-begins key.TurnsOn d ts h = list_begins wants_list_rank key.TurnsOn d ts h (λ none few. record { ordered = (none, few); read = ap (λ l. l ++ Key key.TurnsOn ∷ []) h.read; fills = fills_as d.nodes d.wanted (0 + d.wanted) (omega arith) h.fills; weighed = tt; proper = h.proper })
-begins key.Crowd d ts h = list_begins wants_most key.Crowd d ts h (λ none few. record { ordered = (none, few); read = ap (λ l. l ++ Key key.Crowd ∷ []) h.read; fills = fills_as d.nodes d.wanted (0 + d.wanted) (omega arith) h.fills; weighed = tt; proper = h.proper })
-begins key.Power d ts h = list_begins wants_near key.Power d ts h (λ none few. record { ordered = (none, few); read = ap (λ l. l ++ Key key.Power ∷ []) h.read; fills = fills_as d.nodes d.wanted (0 + d.wanted) (omega arith) h.fills; weighed = tt; proper = h.proper })
+begins key.Turns d ts h = list_begins (in_tests kind.Turns []) key.Turns d ts h (λ none few. record { ordered = (none, few); read = ap (λ l. l ++ Key key.Turns ∷ []) h.read; fills = fills_as nodes_of d.nodes d.wanted (0 + d.wanted) (omega arith) h.fills; weighed = tt; proper = h.proper })
+begins key.TurnsOn d ts h = list_begins wants_list_rank key.TurnsOn d ts h (λ none few. record { ordered = (none, few); read = ap (λ l. l ++ Key key.TurnsOn ∷ []) h.read; fills = fills_as nodes_of d.nodes d.wanted (0 + d.wanted) (omega arith) h.fills; weighed = tt; proper = h.proper })
+begins key.Crowd d ts h = list_begins wants_most key.Crowd d ts h (λ none few. record { ordered = (none, few); read = ap (λ l. l ++ Key key.Crowd ∷ []) h.read; fills = fills_as nodes_of d.nodes d.wanted (0 + d.wanted) (omega arith) h.fills; weighed = tt; proper = h.proper })
+begins key.Power d ts h = list_begins wants_near key.Power d ts h (λ none few. record { ordered = (none, few); read = ap (λ l. l ++ Key key.Power ∷ []) h.read; fills = fills_as nodes_of d.nodes d.wanted (0 + d.wanted) (omega arith) h.fills; weighed = tt; proper = h.proper })
 begins key.Wide d ts h = node_begins d.wanted wants_wide_rank key.Wide d ts h refl (λ m fills. record { ordered = tt; read = ap (λ l. l ++ Key key.Wide ∷ []) h.read; fills = fills; weighed = tt; proper = proper_as d m h.proper })
 begins key.Place d ts h = node_begins d.wanted wants_module key.Place d ts h refl (λ m fills. record { ordered = tt; read = ap (λ l. l ++ Key key.Place ∷ []) h.read; fills = fills; weighed = tt; proper = proper_as d m h.proper })
 begins key.Sum d ts h = node_begins d.wanted wants_wire key.Sum d ts h refl (λ m fills. record { ordered = tt; read = ap (λ l. l ++ Key key.Sum ∷ []) h.read; fills = fills; weighed = tt; proper = proper_as d m h.proper })
@@ -251,32 +238,32 @@ begins key.Of d ts h = tt
 -- ---- parts that end
 
 -- one more list
-list_whole : (d : DraftValue) (l : ListValue) (ts : List (Token Keyword)) → Ordered at_lists d → Fills d.nodes (0 + d.wanted) → AreProper d → NamesTests l → ts ≡ tokens_of (body d) ++ line_tokens (list_line l) → IsWhole (with_list d l) ts
+list_whole : (d : DraftValue) (l : ListValue) (ts : List (Token Keyword)) → Ordered at_lists d → Fills nodes_of d.nodes (0 + d.wanted) → AreProper d → NamesTests l → ts ≡ tokens_of (body d) ++ line_tokens (list_line l) → IsWhole (with_list d l) ts
 list_whole d l ts ordered fills proper names read =
     let few : length d.lists < LISTS_MOST = ordered.1 in
     record {
       read = read ∙ list_pushed d l ordered.0;
-      fills = fills_as d.nodes (0 + d.wanted) d.wanted (omega arith) fills;
+      fills = fills_as nodes_of d.nodes (0 + d.wanted) d.wanted (omega arith) fills;
       proper = record { few = omega (arith, few, length-append d.lists (l ∷ [])); lists = All-push NamesTests d.lists l proper.lists names; nodes = proper.nodes };
     }
 
 -- one more node with branches
-split_whole : (d : DraftValue) (n : NodeValue) (ts : List (Token Keyword)) → Fills (d.nodes ++ n ∷ []) (d.wanted + 2) → HasWeights n → AreProper d → ts ≡ tokens_of (body d) ++ line_tokens (node_line n) → IsWhole (with_branches d n) ts
+split_whole : (d : DraftValue) (n : NodeValue) (ts : List (Token Keyword)) → Fills nodes_of (d.nodes ++ n ∷ []) (d.wanted + 2) → HasWeights n → AreProper d → ts ≡ tokens_of (body d) ++ line_tokens (node_line n) → IsWhole (with_branches d n) ts
 split_whole d n ts fills has proper read =
     record { read = read ∙ node_pushed d n; fills = fills; proper = record { few = proper.few; lists = proper.lists; nodes = All-push HasWeights d.nodes n proper.nodes has } }
 
 -- one more leaf
-leaf_whole : (d : DraftValue) (w : WeightsValue) (ts : List (Token Keyword)) → Fills d.nodes (1 + d.wanted) → AreWeights w → AreProper d → ts ≡ tokens_of (body d) ++ sum_words w → IsWhole (with_node d (OfSum w)) ts
+leaf_whole : (d : DraftValue) (w : WeightsValue) (ts : List (Token Keyword)) → Fills nodes_of d.nodes (1 + d.wanted) → AreWeights w → AreProper d → ts ≡ tokens_of (body d) ++ sum_words w → IsWhole (with_node d (OfSum w)) ts
 leaf_whole d w ts fills are proper read =
     record {
       read = read ∙ ap (λ l. tokens_of (body d) ++ l) (sym (sum_line w)) ∙ node_pushed d (OfSum w);
-      fills = fills_leaf d.nodes w (1 + d.wanted) d.wanted (omega arith) fills;
+      fills = fills_leaf nodes_of (Leaf w) d.nodes (OfSum w) refl (1 + d.wanted) d.wanted (omega arith) fills;
       proper = record { few = proper.few; lists = proper.lists; nodes = All-push HasWeights d.nodes (OfSum w) proper.nodes are };
     }
 
 -- such a part goes on where more may follow
 whole_holds : (d : DraftValue) (ts : List (Token Keyword)) → IsWhole d ts → 1 ≤ d.wanted → Holds d between ts
-whole_holds d ts h some = record { ordered = some; read = whole ts d h.read; fills = fills_as d.nodes d.wanted (0 + d.wanted) (omega arith) h.fills; weighed = tt; proper = h.proper }
+whole_holds d ts h some = record { ordered = some; read = whole ts d h.read; fills = fills_as nodes_of d.nodes d.wanted (0 + d.wanted) (omega arith) h.fills; weighed = tt; proper = h.proper }
 
 -- ---- keywords
 
@@ -290,27 +277,27 @@ tests_end which [] d k ts h = tt
 tests_end which (test ∷ tests) d k ts h =
     begins k (with_list d (list_of which (test ∷ tests))) ts (list_whole d (list_of which (test ∷ tests)) ts h.ordered h.fills h.proper (names_some which test tests) h.read)
 
-sum_goes : (k : Keyword) (d : DraftValue) (w : WeightsValue) (ts : List (Token Keyword)) → ts ≡ tokens_of (body d) ++ sum_words w → Fills d.nodes (1 + d.wanted) → AreWeights w → AreProper d → HoldsNext (step_sum d w k (is_use k)) (ts ++ Key k ∷ [])
-sum_goes key.Of d w ts read fills are proper = record { ordered = tt; read = more ts _ _ (tokens_of (body d)) (Key key.Of) read refl; fills = fills; weighed = are; proper = proper }
+sum_goes : (k : Keyword) (d : DraftValue) (w : WeightsValue) (ts : List (Token Keyword)) → ts ≡ tokens_of (body d) ++ sum_words w → Fills nodes_of d.nodes (1 + d.wanted) → AreWeights w → AreProper d → HoldsNext (step_sum d w k (is_use k)) (ts ++ Key k ∷ [])
+sum_goes key.Of d w ts read fills are proper = record { ordered = tt; read = word_pushed ts _ _ (tokens_of (body d)) (Key key.Of) read refl; fills = fills; weighed = are; proper = proper }
 sum_goes k d w ts read fills are proper = begins k (with_node d (OfSum w)) ts (leaf_whole d w ts fills are proper read)
 
 proof_begins : (k : Keyword) (d : DraftValue) (ts : List (Token Keyword)) → Holds d wants_proof ts → HoldsNext (begun d (begin_proof k)) (ts ++ Key k ∷ [])
-proof_begins key.Proof d ts h = record { ordered = h.ordered; read = more ts _ _ [] (Key key.Proof) h.read refl; fills = h.fills; weighed = tt; proper = h.proper }
+proof_begins key.Proof d ts h = record { ordered = h.ordered; read = word_pushed ts _ _ [] (Key key.Proof) h.read refl; fills = h.fills; weighed = tt; proper = h.proper }
 proof_begins k d ts h = tt
 
 bound_begins : (k : Keyword) (d : DraftValue) (ts : List (Token Keyword)) → Holds d wants_bound ts → HoldsNext (begun d (begin_bound k)) (ts ++ Key k ∷ [])
-bound_begins key.Bound d ts h = record { ordered = h.ordered; read = more ts _ _ [] (Key key.Bound) h.read refl; fills = h.fills; weighed = tt; proper = h.proper }
+bound_begins key.Bound d ts h = record { ordered = h.ordered; read = word_pushed ts _ _ [] (Key key.Bound) h.read refl; fills = h.fills; weighed = tt; proper = h.proper }
 bound_begins k d ts h = tt
 
 key_holds : (p : PartValue) (d : DraftValue) (k : Keyword) (ts : List (Token Keyword)) → Holds d p ts → HoldsNext (step_key d p k) (ts ++ Key k ∷ [])
 key_holds wants_proof d k ts h = proof_begins k d ts h
 key_holds wants_bound d k ts h = bound_begins k d ts h
 key_holds between d k ts h =
-    begins k d ts (record { read = h.read ∙ append-nil (tokens_of (body d)); fills = fills_as d.nodes (0 + d.wanted) d.wanted (omega arith) h.fills; proper = h.proper })
+    begins k d ts (record { read = h.read ∙ append-nil (tokens_of (body d)); fills = fills_as nodes_of d.nodes (0 + d.wanted) d.wanted (omega arith) h.fills; proper = h.proper })
 key_holds (in_tests which tests) d k ts h = tests_end which tests d k ts h
 key_holds (in_place m rank twins) d k ts h =
     begins k (with_branches d (OfSplit (OfPlace m rank twins))) ts
-    (split_whole d (OfSplit (OfPlace m rank twins)) ts (fills_split d.nodes (OfPlace m rank twins) (1 + d.wanted) (d.wanted + 2) (omega arith) (omega arith) h.fills) tt h.proper h.read)
+    (split_whole d (OfSplit (OfPlace m rank twins)) ts (fills_split nodes_of (Branches (OfPlace m rank twins)) d.nodes (OfSplit (OfPlace m rank twins)) (λ a b. refl) (1 + d.wanted) (d.wanted + 2) (omega arith) (omega arith) h.fills) tt h.proper h.read)
 key_holds (in_ranks w) d k ts h = sum_goes k d w ts h.read h.fills h.weighed.0 h.proper
 key_holds (in_lists w) d k ts h = sum_goes k d w ts h.read h.fills h.weighed h.proper
 key_holds p d k ts h = tt
@@ -318,22 +305,22 @@ key_holds p d k ts h = tt
 -- ---- numbers
 
 -- where no node has begun, one is wanted
-wanted_some : (d : DraftValue) → d.nodes ≡ [] → Fills d.nodes (0 + d.wanted) → 1 ≤ d.wanted
-wanted_some d none fills = some_wanted d.nodes d.wanted none (fills_as d.nodes (0 + d.wanted) d.wanted (omega arith) fills)
+pub wanted_some : (d : DraftValue) → d.nodes ≡ [] → Fills nodes_of d.nodes (0 + d.wanted) → 1 ≤ d.wanted
+wanted_some d none fills = some_wanted d.nodes d.wanted none (fills_as nodes_of d.nodes (0 + d.wanted) d.wanted (omega arith) fills)
 
 -- a weight that isn't too great
 weight_holds : (d : DraftValue) (p : PartValue) (n : ℕ) (ts : List (Token Keyword)) → (IsWeight n → Holds d p ts) → HoldsNext (next_if (nat_le n WEIGHT_MOST) (at d p)) ts
 weight_holds d p n ts holds = by (nat_le n WEIGHT_MOST) refl
   where
     by : (b : Bool) → nat_le n WEIGHT_MOST ≡ b → HoldsNext (next_if b (at d p)) ts
-    by true e = holds (least n WEIGHT_MOST e)
+    by true e = holds (leb-true n WEIGHT_MOST e)
     by false e = tt
 
 number_holds : (p : PartValue) (d : DraftValue) (n : ℕ) (ts : List (Token Keyword)) → Holds d p ts → HoldsNext (step_number d p n) (ts ++ Number n ∷ [])
 number_holds wants_form d n ts h = by (nat_eq n 1) refl
   where
     by : (b : Bool) → nat_eq n 1 ≡ b → HoldsNext (next_if b (at d wants_bound)) (ts ++ Number n ∷ [])
-    by true e = record { ordered = h.ordered; read = more ts _ _ [] (Number n) h.read (ap (λ m. Key key.Proof ∷ Number m ∷ []) (sym (eqb-true n 1 e))); fills = h.fills; weighed = tt; proper = h.proper }
+    by true e = record { ordered = h.ordered; read = word_pushed ts _ _ [] (Number n) h.read (ap (λ m. Key key.Proof ∷ Number m ∷ []) (sym (eqb-true n 1 e))); fills = h.fills; weighed = tt; proper = h.proper }
     by false e = tt
 number_holds wants_claim d n ts h =
     record {
@@ -343,67 +330,55 @@ number_holds wants_claim d n ts h =
       weighed = tt;
       proper = record { few = h.proper.few; lists = h.proper.lists; nodes = h.proper.nodes };
     }
-number_holds wants_list_rank d n ts h = record { ordered = h.ordered; read = more ts _ _ (tokens_of (body d)) (Number n) h.read refl; fills = h.fills; weighed = tt; proper = h.proper }
-number_holds wants_most d n ts h = record { ordered = h.ordered; read = more ts _ _ (tokens_of (body d)) (Number n) h.read refl; fills = h.fills; weighed = tt; proper = h.proper }
+number_holds wants_list_rank d n ts h = record { ordered = h.ordered; read = word_pushed ts _ _ (tokens_of (body d)) (Number n) h.read refl; fills = h.fills; weighed = tt; proper = h.proper }
+number_holds wants_most d n ts h = record { ordered = h.ordered; read = word_pushed ts _ _ (tokens_of (body d)) (Number n) h.read refl; fills = h.fills; weighed = tt; proper = h.proper }
 number_holds wants_near d n ts h =
     whole_holds (with_list d (OfPower n)) (ts ++ Number n ∷ [])
-    (list_whole d (OfPower n) (ts ++ Number n ∷ []) h.ordered h.fills h.proper tt (more ts _ (line_tokens (list_line (OfPower n))) (tokens_of (body d)) (Number n) h.read refl))
+    (list_whole d (OfPower n) (ts ++ Number n ∷ []) h.ordered h.fills h.proper tt (word_pushed ts _ (line_tokens (list_line (OfPower n))) (tokens_of (body d)) (Number n) h.read refl))
     (wanted_some d h.ordered.0 h.fills)
-number_holds (in_tests which tests) d n ts h = record { ordered = h.ordered; read = more ts _ _ (tokens_of (body d)) (Number n) h.read refl; fills = h.fills; weighed = tt; proper = h.proper }
+number_holds (in_tests which tests) d n ts h = record { ordered = h.ordered; read = word_pushed ts _ _ (tokens_of (body d)) (Number n) h.read refl; fills = h.fills; weighed = tt; proper = h.proper }
 number_holds (wants_test which tests m) d n ts h =
-    record { ordered = h.ordered; read = more ts _ _ (tokens_of (body d)) (Number n) h.read (test_pushed which tests m n); fills = h.fills; weighed = tt; proper = h.proper }
-number_holds wants_wide_rank d n ts h = record { ordered = tt; read = more ts _ _ (tokens_of (body d)) (Number n) h.read refl; fills = h.fills; weighed = tt; proper = h.proper }
+    record { ordered = h.ordered; read = word_pushed ts _ _ (tokens_of (body d)) (Number n) h.read (test_pushed which tests m n); fills = h.fills; weighed = tt; proper = h.proper }
+number_holds wants_wide_rank d n ts h = record { ordered = tt; read = word_pushed ts _ _ (tokens_of (body d)) (Number n) h.read refl; fills = h.fills; weighed = tt; proper = h.proper }
 number_holds (wants_width rank) d n ts h =
     whole_holds (with_branches d (OfSplit (OfWide rank n))) (ts ++ Number n ∷ [])
-    (split_whole d (OfSplit (OfWide rank n)) (ts ++ Number n ∷ []) (fills_split d.nodes (OfWide rank n) (1 + d.wanted) (d.wanted + 2) (omega arith) (omega arith) h.fills) tt h.proper
-    (more ts _ (line_tokens (node_line (OfSplit (OfWide rank n)))) (tokens_of (body d)) (Number n) h.read refl))
+    (split_whole d (OfSplit (OfWide rank n)) (ts ++ Number n ∷ []) (fills_split nodes_of (Branches (OfWide rank n)) d.nodes (OfSplit (OfWide rank n)) (λ a b. refl) (1 + d.wanted) (d.wanted + 2) (omega arith) (omega arith) h.fills) tt h.proper
+    (word_pushed ts _ (line_tokens (node_line (OfSplit (OfWide rank n)))) (tokens_of (body d)) (Number n) h.read refl))
     (omega arith)
-number_holds wants_module d n ts h = record { ordered = tt; read = more ts _ _ (tokens_of (body d)) (Number n) h.read refl; fills = h.fills; weighed = tt; proper = h.proper }
-number_holds (wants_place_rank m) d n ts h = record { ordered = tt; read = more ts _ _ (tokens_of (body d)) (Number n) h.read refl; fills = h.fills; weighed = tt; proper = h.proper }
+number_holds wants_module d n ts h = record { ordered = tt; read = word_pushed ts _ _ (tokens_of (body d)) (Number n) h.read refl; fills = h.fills; weighed = tt; proper = h.proper }
+number_holds (wants_place_rank m) d n ts h = record { ordered = tt; read = word_pushed ts _ _ (tokens_of (body d)) (Number n) h.read refl; fills = h.fills; weighed = tt; proper = h.proper }
 number_holds (in_place m rank twins) d n ts h =
-    record { ordered = tt; read = more ts _ _ (tokens_of (body d)) (Number n) h.read (ap (λ l. Key key.Place ∷ Number m ∷ Number rank ∷ l) (numbers_push twins n)); fills = h.fills; weighed = tt; proper = h.proper }
+    record { ordered = tt; read = word_pushed ts _ _ (tokens_of (body d)) (Number n) h.read (ap (λ l. Key key.Place ∷ Number m ∷ Number rank ∷ l) (numbers_push twins n)); fills = h.fills; weighed = tt; proper = h.proper }
 number_holds wants_wire d n ts h =
     weight_holds d (in_ranks (wire_of n)) n (ts ++ Number n ∷ [])
-    (λ is. record { ordered = tt; read = more ts _ _ (tokens_of (body d)) (Number n) h.read refl; fills = h.fills; weighed = (record { wire = is; ranks = All-nil IsWeight; lists = All-nil IsUse }, refl); proper = h.proper })
+    (λ is. record { ordered = tt; read = word_pushed ts _ _ (tokens_of (body d)) (Number n) h.read refl; fills = h.fills; weighed = (record { wire = is; ranks = All-nil IsWeight; lists = All-nil IsUse }, refl); proper = h.proper })
 number_holds (in_ranks w) d n ts h =
     weight_holds d (in_ranks (with_rank w n)) n (ts ++ Number n ∷ [])
     (λ is. record {
       ordered = tt;
-      read = more ts _ _ (tokens_of (body d)) (Number n) h.read (rank_pushed w n h.weighed.1);
+      read = word_pushed ts _ _ (tokens_of (body d)) (Number n) h.read (rank_pushed w n h.weighed.1);
       fills = h.fills;
       weighed = (record { wire = h.weighed.0.wire; ranks = All-push IsWeight w.ranks n h.weighed.0.ranks is; lists = h.weighed.0.lists }, h.weighed.1);
       proper = h.proper;
     })
 number_holds (wants_list w) d n ts h =
-    record { ordered = tt; read = more ts _ _ (tokens_of (body d)) (Number n) h.read (sym (append_assoc (sum_words w) (Key key.Of ∷ []) (Number n ∷ []))); fills = h.fills; weighed = h.weighed; proper = h.proper }
+    record { ordered = tt; read = word_pushed ts _ _ (tokens_of (body d)) (Number n) h.read (sym (append_assoc (sum_words w) (Key key.Of ∷ []) (Number n ∷ []))); fills = h.fills; weighed = h.weighed; proper = h.proper }
 number_holds (wants_list_weight w list) d n ts h =
     weight_holds d (in_lists (with_use w list n)) n (ts ++ Number n ∷ [])
     (λ is. record {
       ordered = tt;
-      read = more ts _ _ (tokens_of (body d)) (Number n) h.read (use_pushed w list n);
+      read = word_pushed ts _ _ (tokens_of (body d)) (Number n) h.read (use_pushed w list n);
       fills = h.fills;
       weighed = record { wire = h.weighed.wire; ranks = h.weighed.ranks; lists = All-push IsUse w.lists (list, n) h.weighed.lists is };
       proper = h.proper;
     })
 number_holds p d n ts h = tt
 
-step_holds : (t : Token Keyword) (s : State) (ts : List (Token Keyword)) → Holds s.draft s.part ts → HoldsNext (step s t) (ts ++ t ∷ [])
-step_holds (Number n) s ts h = number_holds s.part s.draft n ts h
-step_holds (Key k) s ts h = key_holds s.part s.draft k ts h
-
-holds_at : (o : Option State) (s : State) (ts : List (Token Keyword)) → HoldsNext o ts → o ≡ Some s → Holds s.draft s.part ts
-holds_at o s ts h e = (rw e at h)
-
-abbrev IsRead : List (Token Keyword) → State → Type 0
-IsRead ts s = Holds s.draft s.part ts
-
-read_kept : IsKept proof_machine IsRead
-read_kept ts s next t h goes = holds_at (step s t) next (ts ++ t ∷ []) (step_holds t s ts h) goes
-
 -- words that were read to a state are its words
 pub read_holds : (ts : List (Token Keyword)) (s : State) → IsRun proof_machine ts s → Holds s.draft s.part ts
 read_holds ts s runs =
-    kept_holds proof_machine IsRead (record { ordered = (refl, refl); read = refl; fills = fills_none; weighed = tt; proper = record { few = omega arith; lists = All-nil NamesTests; nodes = All-nil HasWeights } }) read_kept ts s runs
+    kept_holds proof_machine IsRead (record { ordered = (refl, refl); read = refl; fills = fills_none nodes_of; weighed = tt; proper = record { few = omega arith; lists = All-nil NamesTests; nodes = All-nil HasWeights } })
+    (kept_by_words proof_machine IsRead (λ ts s n h. number_holds s.part s.draft n ts h) (λ ts s k h. key_holds s.part s.draft k ts h)) ts s runs
 
 -- ---- where the words end
 
@@ -417,7 +392,7 @@ whole_said zero d ts p h none e =
     subst (IsSaid proof_grammar ts) same
     (record {
       words = h.read ∙ all_words d;
-      allowed = record { few = h.proper.few; lists = h.proper.lists; one = fills_whole d.nodes (fills_as d.nodes d.wanted 0 none h.fills); weights = h.proper.nodes };
+      allowed = record { few = h.proper.few; lists = h.proper.lists; one = fills_whole nodes_of d.nodes (fills_as nodes_of d.nodes d.wanted 0 none h.fills); weights = h.proper.nodes };
     })
 whole_said (suc n) d ts p h some e = absurd cc
 

@@ -1,14 +1,27 @@
 -- What each step keeps holds of all that is read.
-use Rattle.std.proofs.Common.{◌≡◌, List, [], ◌∷◌, ◌++◌, Option, None, Some, refl, sym, ◌∙◌, ap, subst, append_assoc, append-nil}
+use Rattle.std.proofs.Common.{◌≡◌, ℕ, List, [], ◌∷◌, ◌++◌, Option, None, Some, refl, sym, ◌∙◌, ap, subst, append_assoc, append-nil}
 use Rattle.outside.specs.Runs.{run_by}
 use Rattle.outside.proofs.Runs.{run-none, run-append}
 use Rattle.keyword_text.specs.declared.tokens.Token.{Token}
+use Rattle.keyword_text.specs.declared.tokens.Token.TheVariants.{Key, Number}
 use Rattle.keyword_text.specs.Machines.{Machine, IsRun}
 use Rattle.keyword_text.proofs.Spelling.{none_some}
 
 -- a relation of the words that were read and the state after them, which each step keeps
 abbrev pub IsKept : {K S V : Type 0} → Machine K S V → (List (Token K) → S → Type 0) → Type 0
 IsKept {K} {S} m Holds = (ts : List (Token K)) (s next : S) (t : Token K) → Holds ts s → m.step s t ≡ Some next → Holds (ts ++ t ∷ []) next
+
+-- the same of the state that a step comes to, where it comes to one
+abbrev pub HoldsNext : {K S : Type 0} → (List (Token K) → S → Type 0) → Option S → List (Token K) → Type 0
+HoldsNext Holds None ts = Unit {0}
+HoldsNext Holds (Some s) ts = Holds ts s
+
+-- a relation that each number and each keyword keeps
+pub kept_by_words : {K S V : Type 0} (m : Machine K S V) (Holds : List (Token K) → S → Type 0) →
+    ((ts : List (Token K)) (s : S) (n : ℕ) → Holds ts s → HoldsNext Holds (m.step s (Number n)) (ts ++ Number n ∷ [])) →
+    ((ts : List (Token K)) (s : S) (k : K) → Holds ts s → HoldsNext Holds (m.step s (Key k)) (ts ++ Key k ∷ [])) → IsKept m Holds
+kept_by_words m Holds numbers keys ts s next (Number n) holds goes = subst (λ o. HoldsNext Holds o (ts ++ Number n ∷ [])) goes (numbers ts s n holds)
+kept_by_words m Holds numbers keys ts s next (Key k) holds goes = subst (λ o. HoldsNext Holds o (ts ++ Key k ∷ [])) goes (keys ts s k holds)
 
 from_here : {K S V : Type 0} (m : Machine K S V) (Holds : List (Token K) → S → Type 0) → IsKept m Holds → (before ts : List (Token K)) (s e : S) → Holds before s → run_by m.step (Some s) ts ≡ Some e → Holds (before ++ ts) e
 from_here {K} {S} m Holds kept before [] s e holds runs =

@@ -6,3 +6,6 @@ pub mod Settled
 pub mod Steps
 pub mod Kept
 pub mod Printed
+pub mod Endings
+pub mod Listed
+pub mod Trees

@@ -3,6 +3,7 @@ use Rattle.std.proofs.Common.{◌≡◌, ◌<◌, ◌≤◌, ◌^◌, ◌+◌, �
 use Rattle.std.specs.List.{list_all}
 use Rattle.std.proofs.lemmas.List.{map-append}
 use Rattle.std.proofs.lemmas.Fmt.{decimal_nonempty}
+use Rattle.std.proofs.lemmas.Bool.{not-true}
 use Rattle.outside.specs.Words.{words_left, words_of, AllInWord, IsEnd, ends_word}
 use Rattle.outside.proofs.WordLemmas.{first_word}
 use Rattle.outside.proofs.DecimalLemmas.{decimal_in_word}
@@ -26,15 +27,11 @@ both_true : (p q : Bool) → (p && q) ≡ true → (p ≡ true) × (q ≡ true)
 both_true true q e = (refl, e)
 both_true false q e = cc
 
-not_true : (p : Bool) → not p ≡ true → p ≡ false
-not_true true e = cc
-not_true false e = refl
-
 in_word_by : (w : List ℕ) → list_all (λ b. not (ends_word b)) w ≡ true → AllInWord w
 in_word_by [] e = tt
 in_word_by (b ∷ w) e =
     let parts = both_true (not (ends_word b)) (list_all (λ b. not (ends_word b)) w) e in
-    (not_true (ends_word b) parts.0, in_word_by w parts.1)
+    (not-true (ends_word b) parts.0, in_word_by w parts.1)
 
 number_first : {K : Type 0} (l : Lexicon K) → l.most < 2 ^ 64 → (m n : ℕ) (rest : List ℕ) → m ≤ l.most → IsEnd rest → meanings l (words_left n (decimal m ++ rest)) ≡ Some (Number m) ∷ meanings l (words_left n rest)
 number_first l fits m n rest small end =

@@ -2,7 +2,7 @@
 use Rattle.std.proofs.Common.{◌≡◌, ◌≤◌, ◌<◌, ◌^◌, ℕ, List, [], ◌∷◌, ◌++◌, length, map, Bool, true, false, ◌&&◌, not, nat_eq, decimal, Option, None, Some, refl, ◌∙◌, ap, subst, arith}
 use Rattle.std.specs.Prelude.{nat_le}
 use Rattle.std.specs.Str.{all_ascii_digits}
-use Rattle.std.proofs.lemmas.Grind.{common_steps}
+use Rattle.std.proofs.lemmas.Bool.{leb-true}
 use Rattle.outside.specs.Decimal.{value_after, number_of}
 use Rattle.outside.proofs.DecimalLemmas.{number_of-decimal}
 use Rattle.outside.specs.Words.{Word}
@@ -29,16 +29,13 @@ number_small w most n e = by_test (all_ascii_digits w && not (nat_eq (length w) 
     last_true true q h = h
     last_true false q h = cc
 
-    least : (a b : ℕ) → nat_le a b ≡ true → a ≤ b
-    least a b h = grind (arith, common_steps)
-
     same : (a b : ℕ) → Some a ≡ Some b → a ≡ b
     same a b h = cc
 
     by_test : (b : Bool) → (all_ascii_digits w && not (nat_eq (length w) 0) && nat_le (value_after 0 w) most) ≡ b → n ≤ most
     by_test true is =
         let value : value_after 0 w ≡ n = same (value_after 0 w) n (rw is at e) in
-        let small : value_after 0 w ≤ most = least (value_after 0 w) most (last_true (all_ascii_digits w && not (nat_eq (length w) 0)) (nat_le (value_after 0 w) most) is) in
+        let small : value_after 0 w ≤ most = leb-true (value_after 0 w) most (last_true (all_ascii_digits w && not (nat_eq (length w) 0)) (nat_le (value_after 0 w) most) is) in
         omega arith
     by_test false is = let no = rw is at e in cc
 

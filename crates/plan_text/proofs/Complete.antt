@@ -5,6 +5,7 @@ use Rattle.std.specs.List.{flat_map}
 use Rattle.std.proofs.lemmas.Grind.{common_steps}
 use Rattle.std.proofs.lemmas.List.Concat.{flat_map-append}
 use Rattle.std.proofs.lemmas.List.Elements.{All-head, All-tail}
+use Rattle.std.proofs.lemmas.Bool.{le-leb}
 use Rattle.outside.specs.Runs.{run_by}
 use Rattle.soc_model.specs.declared.TestId.{TestId}
 use Rattle.plan_model.specs.declared.TheConstants.{START_MOST}
@@ -15,6 +16,7 @@ use Rattle.keyword_text.specs.declared.tokens.Token.TheVariants.{Key, Number}
 use Rattle.keyword_text.specs.Lines.{Line, line_tokens, tokens_of}
 use Rattle.keyword_text.specs.Machines.{IsReadWhole}
 use Rattle.keyword_text.proofs.Kept.{run_both}
+use Rattle.keyword_text.proofs.Listed.{tokens_append}
 use Rattle.plan_text.specs.declared.tokens.Keyword.{Keyword}
 use Rattle.plan_text.specs.declared.tokens.Keyword.TheVariants as key
 use Rattle.plan_text.specs.PlanLines.{bus_line, chain_line, mode_key, wrapper_lines, start_line, test_numbers, bound_line, bound_line_by, plan_tokens}
@@ -124,7 +126,7 @@ wrappers_read (w ∷ ws) s d may =
     let one = wrapper_read s d w may in
     let rest = wrappers_read ws one.0 (with_wrapper d w) (wrap_after one.0 d w one.2) in (
       rest.0,
-      ap (run (Some s)) (flat_map-append line_tokens (wrapper_lines w) (flat_map wrapper_lines ws))
+      ap (run (Some s)) (tokens_append (wrapper_lines w) (flat_map wrapper_lines ws))
           ∙ run_both plan_machine s one.0 rest.0 (tokens_of (wrapper_lines w)) (tokens_of (flat_map wrapper_lines ws)) one.1 rest.1,
       subst (λ x. MayWrap rest.0 (record d { wrappers = x })) (append_assoc d.wrappers (w ∷ []) ws) rest.2,
     )
@@ -134,10 +136,7 @@ wrappers_read (w ∷ ws) s d may =
 start_read : (s : State) (d : DraftValue) (x : TestId × ℕ) → MayStart s d → x.1 ≤ START_MOST → run (Some s) (line_tokens (start_line x)) ≡ Some (at (with_start d x.0 x.1) after_start)
 start_read s d x may small =
     ap (λ o. run o (Number x.0.«module» ∷ Number x.0.test ∷ Number x.1 ∷ [])) may.start
-    ∙ ap (λ b. next_if b (at (with_start d x.0 x.1) after_start)) (least x.1 START_MOST small)
-  where
-    least : (a b : ℕ) → a ≤ b → nat_le a b ≡ true
-    least a b e = grind (arith, common_steps)
+    ∙ ap (λ b. next_if b (at (with_start d x.0 x.1) after_start)) (le-leb x.1 START_MOST small)
 
 abbrev with_starts : DraftValue → List (TestId × ℕ) → DraftValue
 with_starts d xs = record d { starts = d.starts ++ xs }
@@ -193,9 +192,9 @@ sections_read first b w s e bs ws ss l buses wrappers starts bound =
   where
     lines : tokens_of (bs ++ (ws ++ (ss ++ l ∷ []))) ≡ tokens_of bs ++ (tokens_of ws ++ (tokens_of ss ++ line_tokens l))
     lines =
-        flat_map-append line_tokens bs (ws ++ (ss ++ l ∷ []))
-        ∙ ap (λ x. tokens_of bs ++ x) (flat_map-append line_tokens ws (ss ++ l ∷ [])
-        ∙ ap (λ x. tokens_of ws ++ x) (flat_map-append line_tokens ss (l ∷ []) ∙ ap (λ x. tokens_of ss ++ x) (append-nil (line_tokens l))))
+        tokens_append bs (ws ++ (ss ++ l ∷ []))
+        ∙ ap (λ x. tokens_of bs ++ x) (tokens_append ws (ss ++ l ∷ [])
+        ∙ ap (λ x. tokens_of ws ++ x) (tokens_append ss (l ∷ []) ∙ ap (λ x. tokens_of ss ++ x) (append-nil (line_tokens l))))
 
 -- whole parts and a bound are a plan
 pub ended_at : (d : DraftValue) (part : PartValue) (b : BoundValue) → bound_at part ≡ Some b → ended (at d part) ≡ Some (plan_with d b)

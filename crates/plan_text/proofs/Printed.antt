@@ -7,6 +7,7 @@ use Rattle.plan_model.specs.Plans.{PlanValue}
 use Rattle.keyword_text.specs.declared.tokens.Token.TheVariants.{Key}
 use Rattle.keyword_text.specs.Tokens.{token_of}
 use Rattle.keyword_text.specs.Lines.{Line, line_text, text_of}
+use Rattle.keyword_text.proofs.Listed.{text_append}
 use Rattle.keyword_text.proofs.Printed.{IsPrinted, printed_lines}
 use Rattle.plan_text.specs.declared.tokens.Keyword.{Keyword}
 use Rattle.plan_text.specs.declared.tokens.Keyword.TheVariants as key
@@ -76,9 +77,6 @@ printed_is_read plan range =
 
 -- ---- the text by its parts
 
-text_append : (a b : List (Line Keyword)) → text_of spelling (a ++ b) ≡ text_of spelling a ++ text_of spelling b
-text_append a b = flat_map-append (line_text spelling) a b
-
 pub plan_text_parts : (p : PlanValue) →
     plan_text p ≡ text_of spelling (head_lines p.cycles) ++ (text_of spelling (map bus_line p.buses) ++ (text_of spelling (flat_map wrapper_lines p.wrappers) ++ (text_of spelling (map start_line p.starts) ++ line_text spelling (bound_line p.bound))))
 unfolding plan_text
@@ -86,10 +84,10 @@ plan_text_parts p =
     let bs = map bus_line p.buses in
     let ws = flat_map wrapper_lines p.wrappers in
     let ss = map start_line p.starts in
-    text_append (head_lines p.cycles) (bs ++ (ws ++ (ss ++ bound_line p.bound ∷ [])))
-    ∙ ap (λ x. text_of spelling (head_lines p.cycles) ++ x) (text_append bs (ws ++ (ss ++ bound_line p.bound ∷ []))
-    ∙ ap (λ x. text_of spelling bs ++ x) (text_append ws (ss ++ bound_line p.bound ∷ [])
-    ∙ ap (λ x. text_of spelling ws ++ x) (text_append ss (bound_line p.bound ∷ [])
+    text_append spelling (head_lines p.cycles) (bs ++ (ws ++ (ss ++ bound_line p.bound ∷ [])))
+    ∙ ap (λ x. text_of spelling (head_lines p.cycles) ++ x) (text_append spelling bs (ws ++ (ss ++ bound_line p.bound ∷ []))
+    ∙ ap (λ x. text_of spelling bs ++ x) (text_append spelling ws (ss ++ bound_line p.bound ∷ [])
+    ∙ ap (λ x. text_of spelling ws ++ x) (text_append spelling ss (bound_line p.bound ∷ [])
     ∙ ap (λ x. text_of spelling ss ++ x) (append-nil (line_text spelling (bound_line p.bound))))))
 
 -- five pieces, one behind the other

@@ -10,11 +10,11 @@ use Rattle.keyword_text.specs.declared.tokens.Token.{Token}
 use Rattle.keyword_text.specs.declared.tokens.Token.TheVariants.{Number}
 use Rattle.keyword_text.specs.Lines.{Line, line_tokens, tokens_of}
 use Rattle.keyword_text.specs.Texts.{AllSmall}
+use Rattle.keyword_text.proofs.Listed.{tokens_append}
 use Rattle.keyword_text.proofs.Ranges.{small_append, small_split}
 use Rattle.plan_text.specs.declared.tokens.Keyword.{Keyword}
 use Rattle.plan_text.specs.PlanLines.{bus_line, chain_line, wrapper_lines, start_line, test_numbers, reason_numbers, bound_line, bound_line_by, plan_tokens}
 use Rattle.plan_text.specs.Grammar.{AreSmallStarts, IsNumber, AreNumbers, IsBusInRange, IsChainInRange, IsWrapperInRange, IsTestInRange, IsStartInRange, IsReasonInRange, IsInRange}
-use Rattle.plan_text.proofs.Sound.{tokens_append}
 
 abbrev Small : List (Token Keyword) → Type 0
 Small ts = AllSmall PLAN_NUMBER_MOST ts

@@ -6,7 +6,7 @@ use Rattle.std.proofs.lemmas.Grind.{common_steps}
 use Rattle.std.proofs.lemmas.List.{map-append}
 use Rattle.std.proofs.lemmas.List.Concat.{flat_map-append}
 use Rattle.std.proofs.lemmas.List.Elements.{All-push}
-use Rattle.std.proofs.lemmas.Bool.{eqb-true}
+use Rattle.std.proofs.lemmas.Bool.{eqb-true, leb-true}
 use Rattle.soc_model.specs.declared.TestId.{TestId}
 use Rattle.plan_model.specs.declared.TheConstants.{START_MOST}
 use Rattle.plan_model.specs.Cells.{ChainValue}
@@ -15,7 +15,9 @@ use Rattle.keyword_text.specs.declared.tokens.Token.{Token}
 use Rattle.keyword_text.specs.declared.tokens.Token.TheVariants.{Key, Number}
 use Rattle.keyword_text.specs.Lines.{Line, line, line_tokens, tokens_of}
 use Rattle.keyword_text.specs.Machines.{IsRun, IsSaid}
-use Rattle.keyword_text.proofs.Kept.{IsKept, kept_holds}
+use Rattle.keyword_text.proofs.Kept as kept
+use Rattle.keyword_text.proofs.Kept.{kept_by_words, kept_holds}
+use Rattle.keyword_text.proofs.Listed.{tokens_append, tokens_push, numbers_push, word_pushed}
 use Rattle.plan_text.specs.declared.tokens.Keyword.{Keyword}
 use Rattle.plan_text.specs.declared.tokens.Keyword.TheVariants as key
 use Rattle.plan_text.specs.declared.parts.Section.{Section}
@@ -98,23 +100,13 @@ record Holds (d : DraftValue) (p : PartValue) (ts : List (Token Keyword)) : Type
   read : ts ≡ tokens_of (front (stage p) d) ++ part_tokens p
   small : AreSmallStarts d.starts
 
+abbrev IsRead : List (Token Keyword) → State → Type 0
+IsRead ts s = Holds s.draft s.part ts
+
 abbrev HoldsNext : Option State → List (Token Keyword) → Type 0
-HoldsNext None ts = Unit {0}
-HoldsNext (Some s) ts = Holds s.draft s.part ts
+HoldsNext o ts = kept.HoldsNext IsRead o ts
 
 -- ---- lists of lines
-
-pub tokens_append : (a b : List (Line Keyword)) → tokens_of (a ++ b) ≡ tokens_of a ++ tokens_of b
-tokens_append a b = flat_map-append line_tokens a b
-
-tokens_push : (a : List (Line Keyword)) (l : Line Keyword) → tokens_of (a ++ l ∷ []) ≡ tokens_of a ++ line_tokens l
-tokens_push a l = tokens_append a (l ∷ []) ∙ ap (λ ts. tokens_of a ++ ts) (append-nil (line_tokens l))
-
-abbrev numbers : List ℕ → List (Token Keyword)
-numbers ns = map Number ns
-
-numbers_push : (ns : List ℕ) (n : ℕ) → numbers (ns ++ n ∷ []) ≡ numbers ns ++ Number n ∷ []
-numbers_push ns n = map-append Number ns (n ∷ [])
 
 bus_pushed : (d : DraftValue) (b : BusValue) → tokens_of (front at_buses d) ++ line_tokens (bus_line b) ≡ tokens_of (front at_buses (with_bus d b))
 bus_pushed d b =
@@ -149,10 +141,6 @@ to_starts d h =
     (sym (append-nil (flat_map wrapper_lines d.wrappers)) ∙ ap (λ ss. flat_map wrapper_lines d.wrappers ++ map start_line ss) (sym h))
 
 -- ---- one more word
-
-more : (ts own new : List (Token Keyword)) (lines : List (Line Keyword)) (t : Token Keyword) → ts ≡ tokens_of lines ++ own → new ≡ own ++ t ∷ [] → ts ++ t ∷ [] ≡ tokens_of lines ++ new
-more ts own new lines t read is =
-    ap (λ l. l ++ t ∷ []) read ∙ append_assoc (tokens_of lines) own (t ∷ []) ∙ ap (λ l. tokens_of lines ++ l) (sym is)
 
 -- the words are those of whole parts
 record Closed (s : Stage) (d : DraftValue) (ts : List (Token Keyword)) : Type 0 where
@@ -206,32 +194,32 @@ wrapper_holds d w k ts h = by_kind (is_chain k) refl
     by_kind true e =
         record {
           ordered = h.ordered;
-          read = more ts (tokens_of (wrapper_lines w)) _ (front at_wrappers d) (Key k) h.read (ap (λ j. tokens_of (wrapper_lines w) ++ Key j ∷ []) (sym (chain_key k e)));
+          read = word_pushed ts (tokens_of (wrapper_lines w)) _ (tokens_of (front at_wrappers d)) (Key k) h.read (ap (λ j. tokens_of (wrapper_lines w) ++ Key j ∷ []) (sym (chain_key k e)));
           small = h.small;
         }
     by_kind false e =
         begin_holds k Wrappers (with_wrapper d w) ts (record { ordered = h.ordered; read = h.read ∙ wrapper_pushed d w; small = h.small })
 
 mode_holds : (k : Keyword) (d : DraftValue) (m : ℕ) (ts : List (Token Keyword)) → Holds d (wants_mode m) ts → HoldsNext (begun d (begin_mode k m)) (ts ++ Key k ∷ [])
-mode_holds key.Scan d m ts h = record { ordered = h.ordered; read = more ts _ _ (front at_wrappers d) (Key key.Scan) h.read refl; small = h.small }
-mode_holds key.Terminals d m ts h = record { ordered = h.ordered; read = more ts _ _ (front at_wrappers d) (Key key.Terminals) h.read refl; small = h.small }
+mode_holds key.Scan d m ts h = record { ordered = h.ordered; read = word_pushed ts _ _ (tokens_of (front at_wrappers d)) (Key key.Scan) h.read refl; small = h.small }
+mode_holds key.Terminals d m ts h = record { ordered = h.ordered; read = word_pushed ts _ _ (tokens_of (front at_wrappers d)) (Key key.Terminals) h.read refl; small = h.small }
 mode_holds k d m ts h = tt
 
 reason_holds : (k : Keyword) (d : DraftValue) (b : ℕ) (ts : List (Token Keyword)) → Holds d (wants_reason b) ts → HoldsNext (begun d (begin_reason k b)) (ts ++ Key k ∷ [])
-reason_holds key.Module d b ts h = record { ordered = tt; read = more ts _ _ (front at_starts d) (Key key.Module) h.read refl; small = h.small }
-reason_holds key.Pair d b ts h = record { ordered = tt; read = more ts _ _ (front at_starts d) (Key key.Pair) h.read refl; small = h.small }
-reason_holds key.Chain d b ts h = record { ordered = tt; read = more ts _ _ (front at_starts d) (Key key.Chain) h.read refl; small = h.small }
-reason_holds key.Area d b ts h = record { ordered = tt; read = more ts _ _ (front at_starts d) (Key key.Area) h.read refl; small = h.small }
-reason_holds key.Power d b ts h = record { ordered = tt; read = more ts _ _ (front at_starts d) (Key key.Power) h.read refl; small = h.small }
-reason_holds key.Forced d b ts h = record { ordered = tt; read = more ts _ _ (front at_starts d) (Key key.Forced) h.read refl; small = h.small }
+reason_holds key.Module d b ts h = record { ordered = tt; read = word_pushed ts _ _ (tokens_of (front at_starts d)) (Key key.Module) h.read refl; small = h.small }
+reason_holds key.Pair d b ts h = record { ordered = tt; read = word_pushed ts _ _ (tokens_of (front at_starts d)) (Key key.Pair) h.read refl; small = h.small }
+reason_holds key.Chain d b ts h = record { ordered = tt; read = word_pushed ts _ _ (tokens_of (front at_starts d)) (Key key.Chain) h.read refl; small = h.small }
+reason_holds key.Area d b ts h = record { ordered = tt; read = word_pushed ts _ _ (tokens_of (front at_starts d)) (Key key.Area) h.read refl; small = h.small }
+reason_holds key.Power d b ts h = record { ordered = tt; read = word_pushed ts _ _ (tokens_of (front at_starts d)) (Key key.Power) h.read refl; small = h.small }
+reason_holds key.Forced d b ts h = record { ordered = tt; read = word_pushed ts _ _ (tokens_of (front at_starts d)) (Key key.Forced) h.read refl; small = h.small }
 reason_holds k d b ts h = tt
 
 plan_holds : (k : Keyword) (d : DraftValue) (ts : List (Token Keyword)) → Holds d wants_plan ts → HoldsNext (begun d (begin_plan k)) (ts ++ Key k ∷ [])
-plan_holds key.Plan d ts h = record { ordered = h.ordered; read = more ts _ _ (front at_head d) (Key key.Plan) h.read refl; small = h.small }
+plan_holds key.Plan d ts h = record { ordered = h.ordered; read = word_pushed ts _ _ (tokens_of (front at_head d)) (Key key.Plan) h.read refl; small = h.small }
 plan_holds k d ts h = tt
 
 cycles_holds : (k : Keyword) (d : DraftValue) (ts : List (Token Keyword)) → Holds d wants_cycles_word ts → HoldsNext (begun d (begin_cycles k)) (ts ++ Key k ∷ [])
-cycles_holds key.Cycles d ts h = record { ordered = h.ordered; read = more ts _ _ (front at_head d) (Key key.Cycles) h.read refl; small = h.small }
+cycles_holds key.Cycles d ts h = record { ordered = h.ordered; read = word_pushed ts _ _ (tokens_of (front at_head d)) (Key key.Cycles) h.read refl; small = h.small }
 cycles_holds k d ts h = tt
 
 key_holds : (p : PartValue) (d : DraftValue) (k : Keyword) (ts : List (Token Keyword)) → Holds d p ts → HoldsNext (step_key d p k) (ts ++ Key k ∷ [])
@@ -251,71 +239,56 @@ number_holds : (p : PartValue) (d : DraftValue) (n : ℕ) (ts : List (Token Keyw
 number_holds wants_form d n ts h = by_test (nat_eq n 1) refl
   where
     by_test : (b : Bool) → nat_eq n 1 ≡ b → HoldsNext (next_if b (at d wants_cycles_word)) (ts ++ Number n ∷ [])
-    by_test true e = record { ordered = h.ordered; read = more ts _ _ (front at_head d) (Number n) h.read (ap (λ m. Key key.Plan ∷ Number m ∷ []) (sym (eqb-true n 1 e))); small = h.small }
+    by_test true e = record { ordered = h.ordered; read = word_pushed ts _ _ (tokens_of (front at_head d)) (Number n) h.read (ap (λ m. Key key.Plan ∷ Number m ∷ []) (sym (eqb-true n 1 e))); small = h.small }
     by_test false e = tt
 number_holds wants_cycles d n ts h =
     record { ordered = (h.ordered.1, h.ordered.2); read = ap (λ l. l ++ Number n ∷ []) h.read ∙ ap (λ bs. tokens_of (headed (record d { cycles = n }) (map bus_line bs)) ++ []) (sym h.ordered.0); small = h.small }
-number_holds wants_width d n ts h = record { ordered = h.ordered; read = more ts _ _ (front at_buses d) (Number n) h.read refl; small = h.small }
-number_holds (in_bus b) d n ts h = record { ordered = h.ordered; read = more ts _ _ (front at_buses d) (Number n) h.read (ap (λ l. Key key.Bus ∷ Number b.width ∷ l) (numbers_push b.modules n)); small = h.small }
-number_holds wants_module d n ts h = record { ordered = h.ordered; read = more ts _ _ (front at_wrappers d) (Number n) h.read refl; small = h.small }
-number_holds (wants_ins w) d n ts h = record { ordered = h.ordered; read = more ts _ _ (front at_wrappers d) (Number n) h.read (sym (append_assoc (tokens_of (wrapper_lines w)) (Key key.Chain ∷ []) (Number n ∷ []))); small = h.small }
-number_holds (wants_outs w i) d n ts h = record { ordered = h.ordered; read = more ts _ _ (front at_wrappers d) (Number n) h.read (sym (append_assoc (tokens_of (wrapper_lines w)) (Key key.Chain ∷ Number i ∷ []) (Number n ∷ []))); small = h.small }
+number_holds wants_width d n ts h = record { ordered = h.ordered; read = word_pushed ts _ _ (tokens_of (front at_buses d)) (Number n) h.read refl; small = h.small }
+number_holds (in_bus b) d n ts h = record { ordered = h.ordered; read = word_pushed ts _ _ (tokens_of (front at_buses d)) (Number n) h.read (ap (λ l. Key key.Bus ∷ Number b.width ∷ l) (numbers_push b.modules n)); small = h.small }
+number_holds wants_module d n ts h = record { ordered = h.ordered; read = word_pushed ts _ _ (tokens_of (front at_wrappers d)) (Number n) h.read refl; small = h.small }
+number_holds (wants_ins w) d n ts h = record { ordered = h.ordered; read = word_pushed ts _ _ (tokens_of (front at_wrappers d)) (Number n) h.read (sym (append_assoc (tokens_of (wrapper_lines w)) (Key key.Chain ∷ []) (Number n ∷ []))); small = h.small }
+number_holds (wants_outs w i) d n ts h = record { ordered = h.ordered; read = word_pushed ts _ _ (tokens_of (front at_wrappers d)) (Number n) h.read (sym (append_assoc (tokens_of (wrapper_lines w)) (Key key.Chain ∷ Number i ∷ []) (Number n ∷ []))); small = h.small }
 number_holds (in_chain w c) d n ts h =
     record {
       ordered = h.ordered;
-      read = more ts _ _ (front at_wrappers d) (Number n) h.read
+      read = word_pushed ts _ _ (tokens_of (front at_wrappers d)) (Number n) h.read
           (ap (λ l. tokens_of (wrapper_lines w) ++ (Key key.Chain ∷ Number c.ins ∷ Number c.outs ∷ l)) (numbers_push c.scans n)
           ∙ sym (append_assoc (tokens_of (wrapper_lines w)) (line_tokens (chain_line c)) (Number n ∷ [])));
       small = h.small;
     }
-number_holds wants_test_module d n ts h = record { ordered = tt; read = more ts _ _ (front at_starts d) (Number n) h.read refl; small = h.small }
-number_holds (wants_test m) d n ts h = record { ordered = tt; read = more ts _ _ (front at_starts d) (Number n) h.read refl; small = h.small }
+number_holds wants_test_module d n ts h = record { ordered = tt; read = word_pushed ts _ _ (tokens_of (front at_starts d)) (Number n) h.read refl; small = h.small }
+number_holds (wants_test m) d n ts h = record { ordered = tt; read = word_pushed ts _ _ (tokens_of (front at_starts d)) (Number n) h.read refl; small = h.small }
 number_holds (wants_start t) d n ts h = by_test (nat_le n START_MOST) refl
   where
-    least : (a b : ℕ) → nat_le a b ≡ true → a ≤ b
-    least a b e = grind (arith, common_steps)
-
     by_test : (b : Bool) → nat_le n START_MOST ≡ b → HoldsNext (next_if b (at (with_start d t n) after_start)) (ts ++ Number n ∷ [])
     by_test true e =
         record {
           ordered = tt;
-          read = more ts _ (line_tokens (start_line (t, n))) (front at_starts d) (Number n) h.read refl ∙ start_pushed d t n ∙ sym (append-nil (tokens_of (front at_starts (with_start d t n))));
-          small = All-push (λ (s : TestId × ℕ). s.1 ≤ START_MOST) d.starts (t, n) h.small (least n START_MOST e);
+          read = word_pushed ts _ (line_tokens (start_line (t, n))) (tokens_of (front at_starts d)) (Number n) h.read refl ∙ start_pushed d t n ∙ sym (append-nil (tokens_of (front at_starts (with_start d t n))));
+          small = All-push (λ (s : TestId × ℕ). s.1 ≤ START_MOST) d.starts (t, n) h.small (leb-true n START_MOST e);
         }
     by_test false e = tt
-number_holds wants_bound d n ts h = record { ordered = tt; read = more ts _ _ (front at_starts d) (Number n) h.read refl; small = h.small }
-number_holds (wants_bound_module b) d n ts h = record { ordered = tt; read = more ts _ _ (front at_starts d) (Number n) h.read refl; small = h.small }
-number_holds (wants_pair_module b) d n ts h = record { ordered = tt; read = more ts _ _ (front at_starts d) (Number n) h.read refl; small = h.small }
-number_holds (in_tests b tests) d n ts h = record { ordered = tt; read = more ts _ _ (front at_starts d) (Number n) h.read refl; small = h.small }
+number_holds wants_bound d n ts h = record { ordered = tt; read = word_pushed ts _ _ (tokens_of (front at_starts d)) (Number n) h.read refl; small = h.small }
+number_holds (wants_bound_module b) d n ts h = record { ordered = tt; read = word_pushed ts _ _ (tokens_of (front at_starts d)) (Number n) h.read refl; small = h.small }
+number_holds (wants_pair_module b) d n ts h = record { ordered = tt; read = word_pushed ts _ _ (tokens_of (front at_starts d)) (Number n) h.read refl; small = h.small }
+number_holds (in_tests b tests) d n ts h = record { ordered = tt; read = word_pushed ts _ _ (tokens_of (front at_starts d)) (Number n) h.read refl; small = h.small }
 number_holds (wants_test_of b tests m) d n ts h =
     record {
       ordered = tt;
-      read = more ts _ _ (front at_starts d) (Number n) h.read
+      read = word_pushed ts _ _ (tokens_of (front at_starts d)) (Number n) h.read
           (ap (λ l. Key key.Bound ∷ Number b ∷ Key key.Chain ∷ map Number l) (flat_map-append test_numbers tests (record { «module» = m; test = n } ∷ []))
           ∙ ap (λ l. Key key.Bound ∷ Number b ∷ Key key.Chain ∷ l) (map-append Number (flat_map test_numbers tests) (m ∷ n ∷ []))
           ∙ sym (append_assoc (line_tokens (bound_line_by b (OfChain tests))) (Number m ∷ []) (Number n ∷ [])));
       small = h.small;
     }
-number_holds (in_forced b ms) d n ts h = record { ordered = tt; read = more ts _ _ (front at_starts d) (Number n) h.read (ap (λ l. Key key.Bound ∷ Number b ∷ Key key.Forced ∷ l) (numbers_push ms n)); small = h.small }
+number_holds (in_forced b ms) d n ts h = record { ordered = tt; read = word_pushed ts _ _ (tokens_of (front at_starts d)) (Number n) h.read (ap (λ l. Key key.Bound ∷ Number b ∷ Key key.Forced ∷ l) (numbers_push ms n)); small = h.small }
 number_holds p d n ts h = tt
-
-step_holds : (t : Token Keyword) (s : State) (ts : List (Token Keyword)) → Holds s.draft s.part ts → HoldsNext (step s t) (ts ++ t ∷ [])
-step_holds (Number n) s ts h = number_holds s.part s.draft n ts h
-step_holds (Key k) s ts h = key_holds s.part s.draft k ts h
-
-holds_at : (o : Option State) (s : State) (ts : List (Token Keyword)) → HoldsNext o ts → o ≡ Some s → Holds s.draft s.part ts
-holds_at o s ts h e = (rw e at h)
-
-abbrev IsRead : List (Token Keyword) → State → Type 0
-IsRead ts s = Holds s.draft s.part ts
-
-read_kept : IsKept plan_machine IsRead
-read_kept ts s next t h goes = holds_at (step s t) next (ts ++ t ∷ []) (step_holds t s ts h) goes
 
 -- words that were read to a state are its words
 read_holds : (ts : List (Token Keyword)) (s : State) → IsRun plan_machine ts s → Holds s.draft s.part ts
 read_holds ts s runs =
-    kept_holds plan_machine IsRead (record { ordered = (refl, refl, refl); read = refl; small = λ k d h. absurd (omega arith) }) read_kept ts s runs
+    kept_holds plan_machine IsRead (record { ordered = (refl, refl, refl); read = refl; small = λ k d h. absurd (omega arith) })
+    (kept_by_words plan_machine IsRead (λ ts s n h. number_holds s.part s.draft n ts h) (λ ts s k h. key_holds s.part s.draft k ts h)) ts s runs
 
 -- ---- where the words end
 

@@ -2,13 +2,14 @@
 use Rattle.std.proofs.Common.{◌≡◌, ◌⊎◌, inl, inr, ℕ, zero, suc, ◌+◌, ◌≤◌, ◌<◌, Bool, true, false, ◌||◌, not, Option, None, Some, List, [], ◌∷◌, ◌++◌, length, replicate, take, get_or, nat_eq, refl, ap, ◌∙◌, sym, subst, arith, append-nil}
 use Rattle.std.specs.Prelude.{slice_get, nat_lt, if◌then◌else◌}
 use Rattle.std.specs.List.{All, list_any}
-use Rattle.std.proofs.lemmas.Bool.{cases_lt, ltb-true, ltb-false, lt-ltb, and_parts, and_from, or_cases, or_parts, eqb-true, eq-eqb}
+use Rattle.std.proofs.lemmas.Bool.{cases_lt, ltb-true, ltb-false, lt-ltb, and_parts, and_from, or_cases, or_parts, eqb-true, eq-eqb, not-true}
 use Rattle.std.proofs.lemmas.List.{length-append, length-replicate}
 use Rattle.std.proofs.lemmas.List.Concat.{flat_map-append}
 use Rattle.std.proofs.lemmas.List.Elements.{All-nil, All-push, All-head, All-tail}
 use Rattle.std.proofs.lemmas.Option.{slice_get_within}
 use Rattle.plan_model.specs.Operations.{Operation, Setup, Shift, Capture, SelfTest}
 use Rattle.plan_model.proofs.Lists.{any_at, any_from}
+use Rattle.keyword_text.proofs.Spelling.{none_some}
 use Rattle.shift_program.specs.declared.Entry.{Entry}
 use Rattle.shift_program.specs.declared.Entry.TheVariants as entry
 use Rattle.shift_program.specs.declared.ProgramFault.{ProgramFault}
@@ -132,15 +133,11 @@ from_capture es i c =
 
 -- ---- what each test says
 
-not_true : (b : Bool) → not b ≡ true → b ≡ false
-not_true true e = cc
-not_true false e = refl
-
 is_early : (need : Need) (p : Passed) (es : List Entry) (i : ℕ) (e : Entry) → AreCounted (take i es) p → slice_get es i ≡ Some e → is_rest e ≡ false → starts_early need p ≡ true → StartsEarly (needed_by need) es i
 is_early need p es i e is at acts yes' =
     let both = and_parts (not p.acted) (nat_lt p.operations need.setup) yes' in
     let few : p.operations < need.setup = ltb-true p.operations need.setup both.1 in
-    record { entry = e; there = at; acts = acts; first = is.resting (not_true p.acted both.0); few = omega (arith, is.counted, few) }
+    record { entry = e; there = at; acts = acts; first = is.resting (not-true p.acted both.0); few = omega (arith, is.counted, few) }
 
 not_early : (need : Need) (p : Passed) (es : List Entry) (i : ℕ) → AreCounted (take i es) p → starts_early need p ≡ false → StartsEarly (needed_by need) es i → ⊥
 not_early need p es i is no' s = by p.acted refl
@@ -282,9 +279,6 @@ Shown needed es i None = IsClear needed es (suc i)
 Shown needed es i (Some f) = IsFault needed es f
 
 -- ---- at an entry
-
-none_of : {X : Type 0} (o : Option X) (x : X) → o ≡ None → o ≡ Some x → ⊥
-none_of o x e f = cc
 
 -- at an entry nothing is missing
 not_missing : (needed : Needed) (es : List Entry) (i : ℕ) (e : Entry) → slice_get es i ≡ Some e → MissesPatterns needed es i → ⊥

@@ -4,8 +4,8 @@ use Rattle.outside.specs.Runs.{run_by}
 use Rattle.plan_model.specs.declared.TheConstants.{PLAN_NUMBER_MOST}
 use Rattle.keyword_text.specs.declared.tokens.Token.{Token}
 use Rattle.keyword_text.specs.declared.tokens.Token.TheVariants.{Key, Number}
-use Rattle.keyword_text.specs.Texts.{IsSmall}
 use Rattle.keyword_text.specs.Machines.{MayEnd}
+use Rattle.keyword_text.proofs.Endings.{ends_by_key, ends_by_number, ends_by_zero}
 use Rattle.shift_program.specs.declared.Entry.TheVariants as entry
 use Rattle.shift_program.specs.declared.tokens.Keyword.{Keyword}
 use Rattle.shift_program.specs.declared.tokens.Keyword.TheVariants as key
@@ -18,44 +18,27 @@ use Rattle.shift_program.specs.Steps.{State, at, with_entry, with_test, lasting_
 abbrev Ends : State → Type 0
 Ends s = MayEnd program_machine PLAN_NUMBER_MOST s
 
-one_small : IsSmall {K = Keyword} PLAN_NUMBER_MOST (Number 1)
-one_small = omega arith
-
-zero_small : IsSmall {K = Keyword} PLAN_NUMBER_MOST (Number 0)
-zero_small = omega arith
-
-finish_by : (s m : State) (t : Token Keyword) → IsSmall PLAN_NUMBER_MOST t → step s t ≡ Some m → Ends m → Ends s
-finish_by s m t small e f =
-    record {
-      more = t ∷ f.more;
-      small = (small, f.small);
-      end = f.end;
-      value = f.value;
-      runs = ap (λ (o : Option State). run_by step o f.more) e ∙ f.runs;
-      ends = f.ends;
-    }
-
 finish_whole : (d : ProgramValue) → Ends (at d part.AfterEntry)
 finish_whole d = record { more = []; small = tt; end = at d part.AfterEntry; value = d; runs = refl; ends = refl }
 
 finish_test : (d : ProgramValue) (m : ℕ) → Ends (at d (part.WantsTest m))
-finish_test d m = finish_by _ (at (with_test d m 0) part.AfterEntry) (Number 0) zero_small refl (finish_whole (with_test d m 0))
+finish_test d m = ends_by_zero _ (at (with_test d m 0) part.AfterEntry) refl (finish_whole (with_test d m 0))
 
 finish_module : (d : ProgramValue) → Ends (at d part.WantsModule)
-finish_module d = finish_by _ (at d (part.WantsTest 0)) (Number 0) zero_small refl (finish_test d 0)
+finish_module d = ends_by_zero _ (at d (part.WantsTest 0)) refl (finish_test d 0)
 
 finish_word : (d : ProgramValue) → Ends (at d part.WantsTestWord)
-finish_word d = finish_by _ (at d part.WantsModule) (Key key.Test) tt refl (finish_module d)
+finish_word d = ends_by_key _ (at d part.WantsModule) key.Test refl (finish_module d)
 
 finish_form : (d : ProgramValue) → Ends (at d part.WantsForm)
-finish_form d = finish_by _ (at d part.WantsTestWord) (Number 1) one_small refl (finish_word d)
+finish_form d = ends_by_number _ (at d part.WantsTestWord) 1 (omega arith) refl (finish_word d)
 
 pub finish : (p : Part) (d : ProgramValue) → Ends (at d p)
-finish part.WantsProgram d = finish_by _ (at d part.WantsForm) (Key key.Program) tt refl (finish_form d)
+finish part.WantsProgram d = ends_by_key _ (at d part.WantsForm) key.Program refl (finish_form d)
 finish part.WantsForm d = finish_form d
 finish part.WantsTestWord d = finish_word d
 finish part.WantsModule d = finish_module d
 finish (part.WantsTest m) d = finish_test d m
 finish part.AfterEntry d = finish_whole d
-finish (part.WantsCycles shifts) d = finish_by _ (at (with_entry d (lasting_entry shifts 1)) part.AfterEntry) (Number 1) one_small refl (finish_whole (with_entry d (lasting_entry shifts 1)))
-finish part.WantsPattern d = finish_by _ (at (with_entry d (entry.Capture 0)) part.AfterEntry) (Number 0) zero_small refl (finish_whole (with_entry d (entry.Capture 0)))
+finish (part.WantsCycles shifts) d = ends_by_number _ (at (with_entry d (lasting_entry shifts 1)) part.AfterEntry) 1 (omega arith) refl (finish_whole (with_entry d (lasting_entry shifts 1)))
+finish part.WantsPattern d = ends_by_zero _ (at (with_entry d (entry.Capture 0)) part.AfterEntry) refl (finish_whole (with_entry d (entry.Capture 0)))

@@ -3,7 +3,7 @@ use Rattle.std.proofs.Common.{◌≡◌, ◌≤◌, ℕ, List, [], ◌∷◌, �
 use Rattle.std.specs.Prelude.{nat_le}
 use Rattle.std.specs.List.{All, flat_map}
 use Rattle.std.proofs.lemmas.Grind.{common_steps}
-use Rattle.std.proofs.lemmas.Bool.{eqb-true}
+use Rattle.std.proofs.lemmas.Bool.{eqb-true, leb-true, le-leb}
 use Rattle.std.proofs.lemmas.List.Concat.{flat_map-append}
 use Rattle.std.proofs.lemmas.List.Elements.{All-nil, All-cons, All-push, All-head, All-tail}
 use Rattle.outside.specs.Runs.{run_by}
@@ -14,7 +14,8 @@ use Rattle.keyword_text.specs.declared.tokens.Token.TheVariants.{Key, Number}
 use Rattle.keyword_text.specs.Tokens.{token_of}
 use Rattle.keyword_text.specs.Texts.{AllSmall}
 use Rattle.keyword_text.specs.Machines.{IsRun, IsSaid, IsReadWhole}
-use Rattle.keyword_text.proofs.Kept.{IsKept, kept_holds}
+use Rattle.keyword_text.proofs.Kept as kept
+use Rattle.keyword_text.proofs.Kept.{kept_by_words, kept_holds}
 use Rattle.shift_program.specs.declared.Entry.{Entry}
 use Rattle.shift_program.specs.declared.Entry.TheVariants as entry
 use Rattle.shift_program.specs.declared.tokens.Keyword.{Keyword}
@@ -60,9 +61,11 @@ record Holds (d : ProgramValue) (p : Part) (ts : List (Token Keyword)) : Type 0 
   read : ts ≡ state_tokens d p
   lasting : All IsLasting d.entries
 
+abbrev IsRead : List (Token Keyword) → State → Type 0
+IsRead ts s = Holds s.draft s.part ts
+
 abbrev HoldsNext : Option State → List (Token Keyword) → Type 0
-HoldsNext None ts = Unit {0}
-HoldsNext (Some s) ts = Holds s.draft s.part ts
+HoldsNext o ts = kept.HoldsNext IsRead o ts
 
 entry_pushed : (d : ProgramValue) (e : Entry) → program_tokens d ++ entry_tokens e ≡ program_tokens (with_entry d e)
 entry_pushed d e =
@@ -71,9 +74,6 @@ entry_pushed d e =
 
 one_more : (ts : List (Token Keyword)) (d : ProgramValue) (k : Keyword) (n : ℕ) → ts ≡ program_tokens d ++ Key k ∷ [] → ts ++ Number n ∷ [] ≡ program_tokens d ++ (Key k ∷ Number n ∷ [])
 one_more ts d k n read = ap (λ l. l ++ Number n ∷ []) read ∙ append_assoc (program_tokens d) (Key k ∷ []) (Number n ∷ [])
-
-least : (a b : ℕ) → nat_le a b ≡ true → a ≤ b
-least a b e = grind (arith, common_steps)
 
 number_holds : (p : Part) (d : ProgramValue) (n : ℕ) (ts : List (Token Keyword)) → Holds d p ts → HoldsNext (step_number d p n) (ts ++ Number n ∷ [])
 number_holds part.WantsProgram d n ts h = tt
@@ -94,8 +94,8 @@ number_holds part.AfterEntry d n ts h = tt
 number_holds (part.WantsCycles shifts) d n ts h = by shifts (nat_le 1 n) refl h.read
   where
     by : (shifts b : Bool) → nat_le 1 n ≡ b → ts ≡ program_tokens d ++ Key (lasting_key shifts) ∷ [] → HoldsNext (next_if b (at (with_entry d (lasting_entry shifts n)) part.AfterEntry)) (ts ++ Number n ∷ [])
-    by true true e read = record { fresh = tt; read = one_more ts d key.Shift n read ∙ entry_pushed d (entry.Shift n); lasting = All-push IsLasting d.entries (entry.Shift n) h.lasting (least 1 n e) }
-    by false true e read = record { fresh = tt; read = one_more ts d key.Rest n read ∙ entry_pushed d (entry.Rest n); lasting = All-push IsLasting d.entries (entry.Rest n) h.lasting (least 1 n e) }
+    by true true e read = record { fresh = tt; read = one_more ts d key.Shift n read ∙ entry_pushed d (entry.Shift n); lasting = All-push IsLasting d.entries (entry.Shift n) h.lasting (leb-true 1 n e) }
+    by false true e read = record { fresh = tt; read = one_more ts d key.Rest n read ∙ entry_pushed d (entry.Rest n); lasting = All-push IsLasting d.entries (entry.Rest n) h.lasting (leb-true 1 n e) }
     by shifts false e read = tt
 number_holds part.WantsPattern d n ts h =
     record { fresh = tt; read = one_more ts d key.Capture n h.read ∙ entry_pushed d (entry.Capture n); lasting = All-push IsLasting d.entries (entry.Capture n) h.lasting tt }
@@ -131,22 +131,10 @@ key_holds part.AfterEntry d k ts h = entry_holds k d ts h
 key_holds (part.WantsCycles shifts) d k ts h = tt
 key_holds part.WantsPattern d k ts h = tt
 
-step_holds : (t : Token Keyword) (s : State) (ts : List (Token Keyword)) → Holds s.draft s.part ts → HoldsNext (step s t) (ts ++ t ∷ [])
-step_holds (Number n) s ts h = number_holds s.part s.draft n ts h
-step_holds (Key k) s ts h = key_holds s.part s.draft k ts h
-
-holds_at : (o : Option State) (s : State) (ts : List (Token Keyword)) → HoldsNext o ts → o ≡ Some s → Holds s.draft s.part ts
-holds_at o s ts h e = (rw e at h)
-
-abbrev IsRead : List (Token Keyword) → State → Type 0
-IsRead ts s = Holds s.draft s.part ts
-
-read_kept : IsKept program_machine IsRead
-read_kept ts s next t h goes = holds_at (step s t) next (ts ++ t ∷ []) (step_holds t s ts h) goes
-
 -- words that were read to a state are its words
 read_holds : (ts : List (Token Keyword)) (s : State) → IsRun program_machine ts s → Holds s.draft s.part ts
-read_holds ts s runs = kept_holds program_machine IsRead (record { fresh = refl; read = refl; lasting = All-nil IsLasting }) read_kept ts s runs
+read_holds ts s runs = kept_holds program_machine IsRead (record { fresh = refl; read = refl; lasting = All-nil IsLasting })
+    (kept_by_words program_machine IsRead (λ ts s n h. number_holds s.part s.draft n ts h) (λ ts s k h. key_holds s.part s.draft k ts h)) ts s runs
 
 part_said : (part : Part) (d : ProgramValue) (ts : List (Token Keyword)) (p : ProgramValue) → Holds d part ts → ended_by d part ≡ Some p → IsSaid program_grammar ts p
 part_said part.AfterEntry d ts p h e =
@@ -164,15 +152,12 @@ program_said ts s p runs ends = part_said s.part s.draft ts p (read_holds ts s r
 abbrev run : Option State → List (Token Keyword) → Option State
 run s ts = run_by step s ts
 
-below : (a b : ℕ) → a ≤ b → nat_le a b ≡ true
-below a b e = grind (arith, common_steps)
-
 abbrev with_entries : ProgramValue → List Entry → ProgramValue
 with_entries d es = record d { entries = d.entries ++ es }
 
 entry_read : (d : ProgramValue) (e : Entry) → IsLasting e → run (Some (at d part.AfterEntry)) (entry_tokens e) ≡ Some (at (with_entry d e) part.AfterEntry)
-entry_read d (entry.Rest n) lasting = ap (λ b. next_if b (at (with_entry d (entry.Rest n)) part.AfterEntry)) (below 1 n lasting)
-entry_read d (entry.Shift n) lasting = ap (λ b. next_if b (at (with_entry d (entry.Shift n)) part.AfterEntry)) (below 1 n lasting)
+entry_read d (entry.Rest n) lasting = ap (λ b. next_if b (at (with_entry d (entry.Rest n)) part.AfterEntry)) (le-leb 1 n lasting)
+entry_read d (entry.Shift n) lasting = ap (λ b. next_if b (at (with_entry d (entry.Shift n)) part.AfterEntry)) (le-leb 1 n lasting)
 entry_read d (entry.Capture n) lasting = refl
 
 entries_read : (es : List Entry) (d : ProgramValue) → All IsLasting es → run (Some (at d part.AfterEntry)) (flat_map entry_tokens es) ≡ Some (at (with_entries d es) part.AfterEntry)

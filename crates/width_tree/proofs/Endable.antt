@@ -4,8 +4,8 @@ use Rattle.outside.specs.Runs.{run_by}
 use Rattle.plan_model.specs.declared.TheConstants.{PLAN_NUMBER_MOST}
 use Rattle.keyword_text.specs.declared.tokens.Token.{Token}
 use Rattle.keyword_text.specs.declared.tokens.Token.TheVariants.{Key, Number}
-use Rattle.keyword_text.specs.Texts.{IsSmall}
 use Rattle.keyword_text.specs.Machines.{MayEnd}
+use Rattle.keyword_text.proofs.Endings.{ends_by_key, ends_by_number, ends_by_zero}
 use Rattle.width_tree.specs.declared.tokens.Keyword.{Keyword}
 use Rattle.width_tree.specs.declared.tokens.Keyword.TheVariants as key
 use Rattle.width_tree.specs.Trees.{OfTime, OfArea, OfBus, OfApart, OfLeaf}
@@ -16,58 +16,41 @@ use Rattle.width_tree.proofs.Complete.{MayGo, between_goes, bus_goes, began}
 abbrev Ends : State → Type 0
 Ends s = MayEnd tree_machine PLAN_NUMBER_MOST s
 
-finish_by : (s m : State) (t : Token Keyword) → IsSmall PLAN_NUMBER_MOST t → step s t ≡ Some m → Ends m → Ends s
-finish_by s m t small e f =
-    record {
-      more = t ∷ f.more;
-      small = (small, f.small);
-      end = f.end;
-      value = f.value;
-      runs = ap (λ (o : Option State). run_by step o f.more) e ∙ f.runs;
-      ends = f.ends;
-    }
-
-zero_small : IsSmall {K = Keyword} PLAN_NUMBER_MOST (Number 0)
-zero_small = omega arith
-
-one_small : IsSmall {K = Keyword} PLAN_NUMBER_MOST (Number 1)
-one_small = omega arith
-
 -- a leaf for each node that is wanted
 finish_wanted : (n : ℕ) (s : State) (d : DraftValue) → MayGo s d → d.wanted ≡ n → Ends s
 finish_wanted zero s d may none =
     record { more = []; small = tt; end = s; value = record { claimed = d.claimed; nodes = d.nodes }; runs = refl; ends = may.ends ∙ ap (λ m. whole_at m d) none }
 finish_wanted (suc n) s d may some =
-    finish_by s (at (with_node (record d { wanted = n }) (OfLeaf OfArea)) between) (Key key.Area) tt (began s d n key.Area may some)
+    ends_by_key s (at (with_node (record d { wanted = n }) (OfLeaf OfArea)) between) key.Area (began s d n key.Area may some)
     (finish_wanted n (at (with_node (record d { wanted = n }) (OfLeaf OfArea)) between) (with_node (record d { wanted = n }) (OfLeaf OfArea)) (between_goes (with_node (record d { wanted = n }) (OfLeaf OfArea))) refl)
 
 finish_between : (d : DraftValue) → Ends (at d between)
 finish_between d = finish_wanted d.wanted (at d between) d (between_goes d) refl
 
 finish_claim : (d : DraftValue) → Ends (at d wants_claim)
-finish_claim d = finish_by _ (at (record d { claimed = 0 }) between) (Number 0) zero_small refl (finish_between (record d { claimed = 0 }))
+finish_claim d = ends_by_zero _ (at (record d { claimed = 0 }) between) refl (finish_between (record d { claimed = 0 }))
 
 finish_bound : (d : DraftValue) → Ends (at d wants_bound)
-finish_bound d = finish_by _ (at d wants_claim) (Key key.Bound) tt refl (finish_claim d)
+finish_bound d = ends_by_key _ (at d wants_claim) key.Bound refl (finish_claim d)
 
 finish_form : (d : DraftValue) → Ends (at d wants_form)
-finish_form d = finish_by _ (at d wants_bound) (Number 1) one_small refl (finish_bound d)
+finish_form d = ends_by_number _ (at d wants_bound) 1 (omega arith) refl (finish_bound d)
 
 finish_width : (d : DraftValue) (m : ℕ) → Ends (at d (wants_split_width m))
-finish_width d m = finish_by _ (at (with_split d m 0) between) (Number 0) zero_small refl (finish_between (with_split d m 0))
+finish_width d m = ends_by_zero _ (at (with_split d m 0) between) refl (finish_between (with_split d m 0))
 
 finish_second : (d : DraftValue) (a : ℕ) → Ends (at d (wants_second a))
-finish_second d a = finish_by _ (at (with_node d (OfLeaf (OfApart a 0))) between) (Number 0) zero_small refl (finish_between (with_node d (OfLeaf (OfApart a 0))))
+finish_second d a = ends_by_zero _ (at (with_node d (OfLeaf (OfApart a 0))) between) refl (finish_between (with_node d (OfLeaf (OfApart a 0))))
 
 pub finish : (p : PartValue) (d : DraftValue) → Ends (at d p)
-finish wants_tree d = finish_by _ (at d wants_form) (Key key.Tree) tt refl (finish_form d)
+finish wants_tree d = ends_by_key _ (at d wants_form) key.Tree refl (finish_form d)
 finish wants_form d = finish_form d
 finish wants_bound d = finish_bound d
 finish wants_claim d = finish_claim d
 finish between d = finish_between d
-finish wants_split_module d = finish_by _ (at d (wants_split_width 0)) (Number 0) zero_small refl (finish_width d 0)
+finish wants_split_module d = ends_by_zero _ (at d (wants_split_width 0)) refl (finish_width d 0)
 finish (wants_split_width m) d = finish_width d m
-finish wants_time_module d = finish_by _ (at (with_node d (OfLeaf (OfTime 0))) between) (Number 0) zero_small refl (finish_between (with_node d (OfLeaf (OfTime 0))))
+finish wants_time_module d = ends_by_zero _ (at (with_node d (OfLeaf (OfTime 0))) between) refl (finish_between (with_node d (OfLeaf (OfTime 0))))
 finish (in_bus ms) d = finish_wanted d.wanted (at d (in_bus ms)) (with_node d (OfLeaf (OfBus ms))) (bus_goes d ms) refl
-finish wants_first d = finish_by _ (at d (wants_second 0)) (Number 0) zero_small refl (finish_second d 0)
+finish wants_first d = ends_by_zero _ (at d (wants_second 0)) refl (finish_second d 0)
 finish (wants_second a) d = finish_second d a

@@ -6,13 +6,15 @@ use Rattle.std.proofs.lemmas.Bool.{eqb-true}
 use Rattle.keyword_text.specs.declared.tokens.Token.{Token}
 use Rattle.keyword_text.specs.declared.tokens.Token.TheVariants.{Key, Number}
 use Rattle.keyword_text.specs.Machines.{IsRun, IsSaid}
-use Rattle.keyword_text.proofs.Kept.{IsKept, kept_holds}
+use Rattle.keyword_text.proofs.Kept as kept
+use Rattle.keyword_text.proofs.Kept.{kept_by_words, kept_holds}
+use Rattle.keyword_text.proofs.Listed.{numbers_push, word_pushed}
+use Rattle.keyword_text.proofs.Trees.{Fills, fills_none, fills_leaf, fills_split, fills_whole, fills_as}
 use Rattle.width_tree.specs.declared.tokens.Keyword.{Keyword}
 use Rattle.width_tree.specs.declared.tokens.Keyword.TheVariants as key
-use Rattle.width_tree.specs.Trees.{OfTime, OfArea, OfBus, OfApart, NodeValue, OfSplit, OfLeaf, TreeValue}
+use Rattle.width_tree.specs.Trees.{OfTime, OfArea, OfBus, OfApart, NodeValue, OfSplit, OfLeaf, Leaf, Branches, nodes_of, TreeValue}
 use Rattle.width_tree.specs.TreeText.{node_tokens, head_tokens, nodes_tokens, tree_grammar}
 use Rattle.width_tree.specs.Steps.{DraftValue, PartValue, wants_tree, wants_form, wants_bound, wants_claim, between, wants_split_module, wants_split_width, wants_time_module, in_bus, wants_first, wants_second, State, at, with_node, next_if, step_number, begin_node, begin_wanted, begin_tree, begin_bound, step_key, step, whole_at, tree_at, ended, tree_machine}
-use Rattle.width_tree.proofs.OneTree.{Fills, fills_none, fills_leaf, fills_split, fills_whole}
 
 -- before the first node
 abbrev in_head : PartValue → Bool
@@ -61,16 +63,15 @@ NoNodes false d = Unit {0}
 record Holds (d : DraftValue) (p : PartValue) (ts : List (Token Keyword)) : Type 0 where
   fresh : NoNodes (in_head p) d
   read : ts ≡ front (in_head p) d ++ part_tokens p
-  fills : Fills d.nodes (begun p + d.wanted)
+  fills : Fills nodes_of d.nodes (begun p + d.wanted)
+
+abbrev IsRead : List (Token Keyword) → State → Type 0
+IsRead ts s = Holds s.draft s.part ts
 
 abbrev HoldsNext : Option State → List (Token Keyword) → Type 0
-HoldsNext None ts = Unit {0}
-HoldsNext (Some s) ts = Holds s.draft s.part ts
+HoldsNext o ts = kept.HoldsNext IsRead o ts
 
 -- ---- one more word
-
-more : (ts own new lines : List (Token Keyword)) (t : Token Keyword) → ts ≡ lines ++ own → new ≡ own ++ t ∷ [] → ts ++ t ∷ [] ≡ lines ++ new
-more ts own new lines t read is = ap (λ l. l ++ t ∷ []) read ∙ append_assoc lines own (t ∷ []) ∙ ap (λ l. lines ++ l) (sym is)
 
 -- one more node
 node_pushed : (claimed : ℕ) (nodes : List NodeValue) (n : NodeValue) → body claimed nodes ++ node_tokens n ≡ body claimed (nodes ++ n ∷ [])
@@ -80,16 +81,10 @@ node_pushed claimed nodes n =
 
 -- the last word of a node
 node_ended : (ts own : List (Token Keyword)) (claimed : ℕ) (nodes : List NodeValue) (n : NodeValue) (t : Token Keyword) → ts ≡ body claimed nodes ++ own → node_tokens n ≡ own ++ t ∷ [] → ts ++ t ∷ [] ≡ body claimed (nodes ++ n ∷ []) ++ []
-node_ended ts own claimed nodes n t read is = more ts own (node_tokens n) (body claimed nodes) t read is ∙ node_pushed claimed nodes n ∙ sym (append-nil (body claimed (nodes ++ n ∷ [])))
-
-numbers_push : (ns : List ℕ) (n : ℕ) → map {B = Token Keyword} Number (ns ++ n ∷ []) ≡ map Number ns ++ Number n ∷ []
-numbers_push ns n = map-append Number ns (n ∷ [])
-
-fewer : (nodes : List NodeValue) (m n : ℕ) → m ≡ n → Fills nodes m → Fills nodes n
-fewer nodes m n same fills us long = fills us (omega arith)
+node_ended ts own claimed nodes n t read is = word_pushed ts own (node_tokens n) (body claimed nodes) t read is ∙ node_pushed claimed nodes n ∙ sym (append-nil (body claimed (nodes ++ n ∷ [])))
 
 -- a keyword where a node may begin
-node_begins : (k : Keyword) (d : DraftValue) (ts : List (Token Keyword)) → ts ≡ body d.claimed d.nodes → Fills d.nodes (1 + d.wanted) → HoldsNext (begin_node d k) (ts ++ Key k ∷ [])
+node_begins : (k : Keyword) (d : DraftValue) (ts : List (Token Keyword)) → ts ≡ body d.claimed d.nodes → Fills nodes_of d.nodes (1 + d.wanted) → HoldsNext (begin_node d k) (ts ++ Key k ∷ [])
 node_begins key.Tree d ts read fills = tt
 node_begins key.Bound d ts read fills = tt
 node_begins key.Split d ts read fills = record { fresh = tt; read = ap (λ l. l ++ Key key.Split ∷ []) read; fills = fills }
@@ -97,91 +92,79 @@ node_begins key.Time d ts read fills = record { fresh = tt; read = ap (λ l. l +
 node_begins key.Area d ts read fills = record {
   fresh = tt;
   read = node_ended ts [] d.claimed d.nodes (OfLeaf OfArea) (Key key.Area) (read ∙ sym (append-nil (body d.claimed d.nodes))) refl;
-  fills = fills_leaf d.nodes OfArea (1 + d.wanted) (0 + d.wanted) (omega arith) fills;
+  fills = fills_leaf nodes_of (Leaf OfArea) d.nodes (OfLeaf OfArea) refl (1 + d.wanted) (0 + d.wanted) (omega arith) fills;
 }
 node_begins key.Bus d ts read fills = record { fresh = tt; read = ap (λ l. l ++ Key key.Bus ∷ []) read; fills = fills }
 node_begins key.Apart d ts read fills = record { fresh = tt; read = ap (λ l. l ++ Key key.Apart ∷ []) read; fills = fills }
 
-begins : (n : ℕ) (k : Keyword) (d : DraftValue) (ts : List (Token Keyword)) → ts ≡ body d.claimed d.nodes → Fills d.nodes n → HoldsNext (begin_wanted n d k) (ts ++ Key k ∷ [])
+begins : (n : ℕ) (k : Keyword) (d : DraftValue) (ts : List (Token Keyword)) → ts ≡ body d.claimed d.nodes → Fills nodes_of d.nodes n → HoldsNext (begin_wanted n d k) (ts ++ Key k ∷ [])
 begins zero k d ts read fills = tt
-begins (suc n) k d ts read fills = node_begins k (record d { wanted = n }) ts read (fewer d.nodes (suc n) (1 + n) (omega arith) fills)
+begins (suc n) k d ts read fills = node_begins k (record d { wanted = n }) ts read (fills_as nodes_of d.nodes (suc n) (1 + n) (omega arith) fills)
 
 tree_begins : (k : Keyword) (d : DraftValue) (ts : List (Token Keyword)) → Holds d wants_tree ts → HoldsNext (begin_tree d k) (ts ++ Key k ∷ [])
-tree_begins key.Tree d ts h = record { fresh = h.fresh; read = more ts _ _ [] (Key key.Tree) h.read refl; fills = h.fills }
+tree_begins key.Tree d ts h = record { fresh = h.fresh; read = word_pushed ts _ _ [] (Key key.Tree) h.read refl; fills = h.fills }
 tree_begins k d ts h = tt
 
 bound_begins : (k : Keyword) (d : DraftValue) (ts : List (Token Keyword)) → Holds d wants_bound ts → HoldsNext (begin_bound d k) (ts ++ Key k ∷ [])
-bound_begins key.Bound d ts h = record { fresh = h.fresh; read = more ts _ _ [] (Key key.Bound) h.read refl; fills = h.fills }
+bound_begins key.Bound d ts h = record { fresh = h.fresh; read = word_pushed ts _ _ [] (Key key.Bound) h.read refl; fills = h.fills }
 bound_begins k d ts h = tt
 
 key_holds : (p : PartValue) (d : DraftValue) (k : Keyword) (ts : List (Token Keyword)) → Holds d p ts → HoldsNext (step_key d p k) (ts ++ Key k ∷ [])
 key_holds wants_tree d k ts h = tree_begins k d ts h
 key_holds wants_bound d k ts h = bound_begins k d ts h
-key_holds between d k ts h = begins d.wanted k d ts (h.read ∙ append-nil (body d.claimed d.nodes)) (fewer d.nodes (0 + d.wanted) d.wanted (omega arith) h.fills)
+key_holds between d k ts h = begins d.wanted k d ts (h.read ∙ append-nil (body d.claimed d.nodes)) (fills_as nodes_of d.nodes (0 + d.wanted) d.wanted (omega arith) h.fills)
 key_holds (in_bus ms) d k ts h =
-    begins d.wanted k (with_node d (OfLeaf (OfBus ms))) ts (h.read ∙ node_pushed d.claimed d.nodes (OfLeaf (OfBus ms))) (fills_leaf d.nodes (OfBus ms) (1 + d.wanted) d.wanted (omega arith) h.fills)
+    begins d.wanted k (with_node d (OfLeaf (OfBus ms))) ts (h.read ∙ node_pushed d.claimed d.nodes (OfLeaf (OfBus ms))) (fills_leaf nodes_of (Leaf (OfBus ms)) d.nodes (OfLeaf (OfBus ms)) refl (1 + d.wanted) d.wanted (omega arith) h.fills)
 key_holds p d k ts h = tt
 
 number_holds : (p : PartValue) (d : DraftValue) (n : ℕ) (ts : List (Token Keyword)) → Holds d p ts → HoldsNext (step_number d p n) (ts ++ Number n ∷ [])
 number_holds wants_form d n ts h = by_test (nat_eq n 1) refl
   where
     by_test : (b : Bool) → nat_eq n 1 ≡ b → HoldsNext (next_if b (at d wants_bound)) (ts ++ Number n ∷ [])
-    by_test true e = record { fresh = h.fresh; read = more ts _ _ [] (Number n) h.read (ap (λ m. Key key.Tree ∷ Number m ∷ []) (sym (eqb-true n 1 e))); fills = h.fills }
+    by_test true e = record { fresh = h.fresh; read = word_pushed ts _ _ [] (Number n) h.read (ap (λ m. Key key.Tree ∷ Number m ∷ []) (sym (eqb-true n 1 e))); fills = h.fills }
     by_test false e = tt
 number_holds wants_claim d n ts h = record {
   fresh = tt;
   read = ap (λ l. l ++ Number n ∷ []) h.read ∙ ap (λ ns. body n ns ++ []) (sym h.fresh);
   fills = h.fills;
 }
-number_holds wants_split_module d n ts h = record { fresh = tt; read = more ts _ _ (body d.claimed d.nodes) (Number n) h.read refl; fills = h.fills }
+number_holds wants_split_module d n ts h = record { fresh = tt; read = word_pushed ts _ _ (body d.claimed d.nodes) (Number n) h.read refl; fills = h.fills }
 number_holds (wants_split_width m) d n ts h = record {
   fresh = tt;
   read = node_ended ts (Key key.Split ∷ Number m ∷ []) d.claimed d.nodes (OfSplit m n) (Number n) h.read refl;
-  fills = fills_split d.nodes m n (1 + d.wanted) (0 + (d.wanted + 2)) (omega arith) (omega arith) h.fills;
+  fills = fills_split nodes_of (Branches m n) d.nodes (OfSplit m n) (λ a b. refl) (1 + d.wanted) (0 + (d.wanted + 2)) (omega arith) (omega arith) h.fills;
 }
 number_holds wants_time_module d n ts h = record {
   fresh = tt;
   read = node_ended ts (Key key.Time ∷ []) d.claimed d.nodes (OfLeaf (OfTime n)) (Number n) h.read refl;
-  fills = fills_leaf d.nodes (OfTime n) (1 + d.wanted) (0 + d.wanted) (omega arith) h.fills;
+  fills = fills_leaf nodes_of (Leaf (OfTime n)) d.nodes (OfLeaf (OfTime n)) refl (1 + d.wanted) (0 + d.wanted) (omega arith) h.fills;
 }
-number_holds (in_bus ms) d n ts h = record { fresh = tt; read = more ts _ _ (body d.claimed d.nodes) (Number n) h.read (ap (λ l. Key key.Bus ∷ l) (numbers_push ms n)); fills = h.fills }
-number_holds wants_first d n ts h = record { fresh = tt; read = more ts _ _ (body d.claimed d.nodes) (Number n) h.read refl; fills = h.fills }
+number_holds (in_bus ms) d n ts h = record { fresh = tt; read = word_pushed ts _ _ (body d.claimed d.nodes) (Number n) h.read (ap (λ l. Key key.Bus ∷ l) (numbers_push ms n)); fills = h.fills }
+number_holds wants_first d n ts h = record { fresh = tt; read = word_pushed ts _ _ (body d.claimed d.nodes) (Number n) h.read refl; fills = h.fills }
 number_holds (wants_second a) d n ts h = record {
   fresh = tt;
   read = node_ended ts (Key key.Apart ∷ Number a ∷ []) d.claimed d.nodes (OfLeaf (OfApart a n)) (Number n) h.read refl;
-  fills = fills_leaf d.nodes (OfApart a n) (1 + d.wanted) (0 + d.wanted) (omega arith) h.fills;
+  fills = fills_leaf nodes_of (Leaf (OfApart a n)) d.nodes (OfLeaf (OfApart a n)) refl (1 + d.wanted) (0 + d.wanted) (omega arith) h.fills;
 }
 number_holds p d n ts h = tt
 
-step_holds : (t : Token Keyword) (s : State) (ts : List (Token Keyword)) → Holds s.draft s.part ts → HoldsNext (step s t) (ts ++ t ∷ [])
-step_holds (Number n) s ts h = number_holds s.part s.draft n ts h
-step_holds (Key k) s ts h = key_holds s.part s.draft k ts h
-
-holds_at : (o : Option State) (s : State) (ts : List (Token Keyword)) → HoldsNext o ts → o ≡ Some s → Holds s.draft s.part ts
-holds_at o s ts h e = (rw e at h)
-
-abbrev IsRead : List (Token Keyword) → State → Type 0
-IsRead ts s = Holds s.draft s.part ts
-
-read_kept : IsKept tree_machine IsRead
-read_kept ts s next t h goes = holds_at (step s t) next (ts ++ t ∷ []) (step_holds t s ts h) goes
-
 -- words that were read to a state are its words
 read_holds : (ts : List (Token Keyword)) (s : State) → IsRun tree_machine ts s → Holds s.draft s.part ts
-read_holds ts s runs = kept_holds tree_machine IsRead (record { fresh = refl; read = refl; fills = fills_none }) read_kept ts s runs
+read_holds ts s runs = kept_holds tree_machine IsRead (record { fresh = refl; read = refl; fills = fills_none nodes_of })
+    (kept_by_words tree_machine IsRead (λ ts s n h. number_holds s.part s.draft n ts h) (λ ts s k h. key_holds s.part s.draft k ts h)) ts s runs
 
 -- ---- where the words end
 
-whole_says : (n : ℕ) (d : DraftValue) (ts : List (Token Keyword)) (t : TreeValue) → ts ≡ body d.claimed d.nodes → Fills d.nodes n → whole_at n d ≡ Some t → IsSaid tree_grammar ts t
+whole_says : (n : ℕ) (d : DraftValue) (ts : List (Token Keyword)) (t : TreeValue) → ts ≡ body d.claimed d.nodes → Fills nodes_of d.nodes n → whole_at n d ≡ Some t → IsSaid tree_grammar ts t
 whole_says zero d ts t read fills e =
     let same : record { claimed = d.claimed; nodes = d.nodes } ≡ t = cc in
-    subst (IsSaid tree_grammar ts) same (record { words = read; allowed = fills_whole d.nodes fills })
+    subst (IsSaid tree_grammar ts) same (record { words = read; allowed = fills_whole nodes_of d.nodes fills })
 whole_says (suc n) d ts t read fills e = cc
 
 part_says : (p : PartValue) (d : DraftValue) (ts : List (Token Keyword)) (t : TreeValue) → Holds d p ts → tree_at d p ≡ Some t → IsSaid tree_grammar ts t
-part_says between d ts t h e = whole_says d.wanted d ts t (h.read ∙ append-nil (body d.claimed d.nodes)) (fewer d.nodes (0 + d.wanted) d.wanted (omega arith) h.fills) e
+part_says between d ts t h e = whole_says d.wanted d ts t (h.read ∙ append-nil (body d.claimed d.nodes)) (fills_as nodes_of d.nodes (0 + d.wanted) d.wanted (omega arith) h.fills) e
 part_says (in_bus ms) d ts t h e =
-    whole_says d.wanted (with_node d (OfLeaf (OfBus ms))) ts t (h.read ∙ node_pushed d.claimed d.nodes (OfLeaf (OfBus ms))) (fills_leaf d.nodes (OfBus ms) (1 + d.wanted) d.wanted (omega arith) h.fills) e
+    whole_says d.wanted (with_node d (OfLeaf (OfBus ms))) ts t (h.read ∙ node_pushed d.claimed d.nodes (OfLeaf (OfBus ms))) (fills_leaf nodes_of (Leaf (OfBus ms)) d.nodes (OfLeaf (OfBus ms)) refl (1 + d.wanted) d.wanted (omega arith) h.fills) e
 part_says p d ts t h e = cc
 
 -- words that end in a state that is whole are the words of its tree

@@ -284,14 +284,6 @@ awaits_behind soc w times turns depth c n left no' b =
 
 -- ---- all nodes
 
-pub not_true : (b : Bool) → not b ≡ true → b ≡ false
-not_true true e = cc
-not_true false e = refl
-
-pub not_false : (b : Bool) → not b ≡ false → b ≡ true
-not_false true e = refl
-not_false false e = cc
-
 pub judged_any : (X Y : Type 0) (soc : SocValue) (w claim place : ℕ) (n : NodeCase) (fault : TreeFault) → IsJudged {X = X} soc w claim place n (Err fault) → IsJudged {X = Y} soc w claim place n (Err fault)
 judged_any X Y soc w claim place n (BadNode p) h = h
 judged_any X Y soc w claim place n (Less p c s) h = h

@@ -1,9 +1,10 @@
 use Rattle.std.proofs.Common.{◌-◌, length, refl, sym, subst, inl, inr, arith}
+use Rattle.std.proofs.lemmas.Bool.{not-true, not-false}
 use Rattle.width_tree.specs.Cases.{Case}
 use Rattle.width_tree.specs.Tables.{chip_of}
 use Rattle.width_tree.specs.Walks.{turn_at, IsTurn, Awaits}
 use Rattle.width_tree.proofs.WidthFacts.{put_fits, put_widths}
-use Rattle.width_tree.proofs.Turns.{not_true, not_false, awaits_turn, awaits_second, awaits_none, second_begins}
+use Rattle.width_tree.proofs.Turns.{awaits_turn, awaits_second, awaits_none, second_begins}
 use Rattle.width_tree.proofs.walk.next_branch.Goals as goal
 
 pub loop-depth-init : goal.loop-depth-init
@@ -17,7 +18,7 @@ begin_second-requires-clause-turn c =
 pub returns-then-not-turn-clause-goes_on : goal.returns-then-not-turn-clause-goes_on
 returns-then-not-turn-clause-goes_on c = λ rest h.
     inr (second_begins (chip_of c.args.table.now) c.args.table.now.wires c.args.table.now.times.now c.loop-depth.turns c.begin_second.new.turns c.loop-depth.depth (c.loop-depth.depth - 1) c.loop-depth.widths.intervals.items c.begin_second.new.widths.intervals.items
-    (turn_at c.loop-depth.turns (c.loop-depth.depth - 1)) _ rest (omega (arith, c.loop-depth-test.true)) (omega (arith, c.loop-depth-test.true, c.loop-depth.auto.turns, c.loop-depth.invariant.few, c.requires.room)) refl (not_true (turn_at c.loop-depth.turns (c.loop-depth.depth - 1)).second c.if-not-turn.true) refl c.begin_second.ensures.turns c.begin_second.ensures.wide
+    (turn_at c.loop-depth.turns (c.loop-depth.depth - 1)) _ rest (omega (arith, c.loop-depth-test.true)) (omega (arith, c.loop-depth-test.true, c.loop-depth.auto.turns, c.loop-depth.invariant.few, c.requires.room)) refl (not-true (turn_at c.loop-depth.turns (c.loop-depth.depth - 1)).second c.if-not-turn.true) refl c.begin_second.ensures.turns c.begin_second.ensures.wide
     (c.loop-depth.invariant.awaits rest h))
 
 pub put-requires-clause-place : goal.put-requires-clause-place
@@ -45,7 +46,7 @@ loop-depth-preserved c =
           c.loop-depth.invariant.widths (omega (arith, t.within, c.loop-depth.invariant.widths.intervals.long)) t.old t.area c.put.ensures.intervals c.put.ensures.areas c.put.ensures.total;
       few = omega (arith, c.loop-depth.invariant.few);
       awaits = λ rest h. subst (λ (d : Case). Awaits (chip_of c.args.table.now) c.args.table.now.wires c.args.table.now.times.now c.loop-depth.turns (c.loop-depth.depth - 1) d rest) (sym c.put.ensures.intervals)
-          (awaits_second (chip_of c.args.table.now) c.args.table.now.wires c.args.table.now.times.now c.loop-depth.turns c.loop-depth.depth (c.loop-depth.depth - 1) c.loop-depth.widths.intervals.items rest (omega (arith, c.loop-depth-test.true)) (not_false (turn_at c.loop-depth.turns (c.loop-depth.depth - 1)).second c.if-not-turn.false) (c.loop-depth.invariant.awaits rest h));
+          (awaits_second (chip_of c.args.table.now) c.args.table.now.wires c.args.table.now.times.now c.loop-depth.turns c.loop-depth.depth (c.loop-depth.depth - 1) c.loop-depth.widths.intervals.items rest (omega (arith, c.loop-depth-test.true)) (not-false (turn_at c.loop-depth.turns (c.loop-depth.depth - 1)).second c.if-not-turn.false) (c.loop-depth.invariant.awaits rest h));
     }
 
 pub returns-clause-goes_on : goal.returns-clause-goes_on
