@@ -1,10 +1,8 @@
 -- Each state that words come to may still be ended.
-use Rattle.std.proofs.Common.{◌≡◌, ◌≤◌, ℕ, zero, suc, ◌+◌, List, [], ◌∷◌, ◌++◌, Option, Some, refl, ◌∙◌, ap, arith}
-use Rattle.outside.specs.Runs.{run_by}
+use Rattle.std.proofs.Common.{◌≡◌, ◌≤◌, ℕ, zero, suc, ◌+◌, List, [], ◌∷◌, ◌++◌, refl, ◌∙◌, ap, arith}
 use Rattle.soc_model.specs.declared.TestId.{TestId}
 use Rattle.plan_model.specs.declared.TheConstants.{PLAN_NUMBER_MOST}
 use Rattle.keyword_text.specs.declared.tokens.Token.{Token}
-use Rattle.keyword_text.specs.declared.tokens.Token.TheVariants.{Key, Number}
 use Rattle.keyword_text.specs.Machines.{MayEnd}
 use Rattle.keyword_text.proofs.Endings.{ends_by_key, ends_by_number, ends_by_zero}
 use Rattle.bus_proofs.specs.declared.tokens.Keyword.{Keyword}
@@ -12,7 +10,7 @@ use Rattle.bus_proofs.specs.declared.tokens.Keyword.TheVariants as key
 use Rattle.bus_proofs.specs.declared.parts.ListKind.{ListKind}
 use Rattle.bus_proofs.specs.declared.parts.ListKind.TheVariants as kind
 use Rattle.bus_proofs.specs.Proofs.{OfPower, WeightsValue, OfWide, OfPlace, NodeValue, OfSplit, OfSum}
-use Rattle.bus_proofs.specs.Words.{DraftValue, PartValue, wants_proof, wants_form, wants_bound, wants_claim, between, wants_list_rank, wants_most, wants_near, in_tests, wants_test, wants_wide_rank, wants_width, wants_module, wants_place_rank, in_place, wants_wire, in_ranks, wants_list, wants_list_weight, in_lists, State, at, with_list, with_node, with_branches, with_use, list_of, wire_of, step, step_sum, whole_at, proof_machine}
+use Rattle.bus_proofs.specs.Words.{DraftValue, PartValue, wants_proof, wants_form, wants_bound, wants_claim, between, wants_list_rank, wants_most, wants_near, in_tests, wants_test, wants_wide_rank, wants_width, wants_module, wants_place_rank, in_place, wants_wire, in_ranks, wants_list, wants_list_weight, in_lists, State, at, with_list, with_node, with_branches, with_use, list_of, wire_of, step_sum, whole_at, proof_machine}
 use Rattle.bus_proofs.proofs.SoundWords.{Holds, wanted_some}
 use Rattle.bus_proofs.proofs.CompleteWords.{MayBegin, MayGo, node_begun}
 

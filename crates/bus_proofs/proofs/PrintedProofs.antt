@@ -2,12 +2,11 @@
 use Rattle.std.proofs.Common.{◌≡◌, ◌<◌, ℕ, List, [], ◌∷◌, ◌++◌, length, map, decimal, true, not, Some, refl, sym, ◌∙◌, ap, arith, append_assoc}
 use Rattle.std.specs.Prelude.{Result, Ok, Err, OnOk}
 use Rattle.std.specs.List.{flat_map, list_all}
-use Rattle.std.proofs.lemmas.List.Concat.{flat_map-append}
 use Rattle.outside.specs.Words.{ends_word}
 use Rattle.keyword_text.specs.declared.tokens.Token.{Token}
 use Rattle.keyword_text.specs.declared.tokens.Token.TheVariants.{Key, Number}
 use Rattle.keyword_text.specs.Tokens.{token_of}
-use Rattle.keyword_text.specs.Lines.{Line, spaced, spaced_numbers, line_text, text_of}
+use Rattle.keyword_text.specs.Lines.{spaced, spaced_numbers, text_of}
 use Rattle.keyword_text.proofs.Listed.{text_append}
 use Rattle.keyword_text.proofs.Printed.{IsPrinted, printed_lines}
 use Rattle.bus_proofs.specs.declared.tokens.Keyword.{Keyword}

@@ -1,8 +1,7 @@
 -- What was read so far is the words of the state: of the lists and the nodes that are whole, and of the part that comes next.
-use Rattle.std.proofs.Common.{◌≡◌, ◌<◌, ◌≤◌, ℕ, zero, suc, ◌+◌, List, [], ◌∷◌, ◌++◌, length, map, Bool, true, false, nat_eq, Option, None, Some, refl, sym, ◌∙◌, ap, subst, arith, append_assoc, append-nil}
+use Rattle.std.proofs.Common.{◌≡◌, ◌<◌, ◌≤◌, ℕ, zero, suc, ◌+◌, List, [], ◌∷◌, ◌++◌, length, map, Bool, true, false, nat_eq, Option, Some, refl, sym, ◌∙◌, ap, subst, arith, append_assoc, append-nil}
 use Rattle.std.specs.Prelude.{nat_le, nat_lt}
 use Rattle.std.specs.List.{All, flat_map}
-use Rattle.std.proofs.lemmas.Grind.{common_steps}
 use Rattle.std.proofs.lemmas.Bool.{eqb-true, leb-true, ltb-true}
 use Rattle.std.proofs.lemmas.List.{map-append, length-append}
 use Rattle.std.proofs.lemmas.List.Concat.{flat_map-append}
@@ -24,7 +23,7 @@ use Rattle.bus_proofs.specs.declared.parts.ListKind.TheVariants as kind
 use Rattle.bus_proofs.specs.Proofs.{ListValue, OfPower, WeightsValue, OfWide, OfPlace, NodeValue, OfSplit, OfSum, Leaf, Branches, nodes_of, ProofValue}
 use Rattle.bus_proofs.specs.ProofLines.{list_line, test_numbers, use_tokens, weight_tokens, node_line, head_lines, proof_tokens}
 use Rattle.bus_proofs.specs.Grammar.{NamesTests, IsWeight, IsUse, AreWeights, HasWeights, proof_grammar}
-use Rattle.bus_proofs.specs.Words.{DraftValue, PartValue, wants_proof, wants_form, wants_bound, wants_claim, between, wants_list_rank, wants_most, wants_near, in_tests, wants_test, wants_wide_rank, wants_width, wants_module, wants_place_rank, in_place, wants_wire, in_ranks, wants_list, wants_list_weight, in_lists, State, at, with_list, with_node, with_branches, with_rank, with_use, list_of, wire_of, next_if, if_both, step_number, begin_list, begin_wanted, begin, end_tests, is_use, step_sum, begin_proof, begin_bound, begun, step_key, step, whole_at, ended_by, ended, proof_machine}
+use Rattle.bus_proofs.specs.Words.{DraftValue, PartValue, wants_proof, wants_form, wants_bound, wants_claim, between, wants_list_rank, wants_most, wants_near, in_tests, wants_test, wants_wide_rank, wants_width, wants_module, wants_place_rank, in_place, wants_wire, in_ranks, wants_list, wants_list_weight, in_lists, State, at, with_list, with_node, with_branches, with_rank, with_use, list_of, wire_of, next_if, if_both, step_number, begin_list, begin_wanted, begin, end_tests, is_use, step_sum, begin_proof, begin_bound, begun, step_key, whole_at, ended_by, ended, proof_machine}
 use Rattle.bus_proofs.proofs.Fills.{some_wanted}
 
 -- how far a text has come

@@ -1,9 +1,7 @@
 -- The words of a plan are read whole.
-use Rattle.std.proofs.Common.{◌≡◌, ◌≤◌, ℕ, List, [], ◌∷◌, ◌++◌, map, Bool, true, false, Option, Some, refl, sym, ◌∙◌, ap, subst, arith, append_assoc, append-nil}
-use Rattle.std.specs.Prelude.{nat_le, option_map}
+use Rattle.std.proofs.Common.{◌≡◌, ◌≤◌, ℕ, List, [], ◌∷◌, ◌++◌, map, Bool, true, false, Option, Some, refl, sym, ◌∙◌, ap, subst, append_assoc, append-nil}
+use Rattle.std.specs.Prelude.{option_map}
 use Rattle.std.specs.List.{flat_map}
-use Rattle.std.proofs.lemmas.Grind.{common_steps}
-use Rattle.std.proofs.lemmas.List.Concat.{flat_map-append}
 use Rattle.std.proofs.lemmas.List.Elements.{All-head, All-tail}
 use Rattle.std.proofs.lemmas.Bool.{le-leb}
 use Rattle.outside.specs.Runs.{run_by}

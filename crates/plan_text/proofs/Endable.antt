@@ -1,16 +1,14 @@
 -- Each state that words come to may still be ended.
-use Rattle.std.proofs.Common.{◌≡◌, ℕ, true, [], ◌∷◌, ◌++◌, Some, refl, ◌∙◌, ap, arith}
+use Rattle.std.proofs.Common.{◌≡◌, ℕ, true, [], ◌∷◌, ◌++◌, Some, refl, arith}
 use Rattle.soc_model.specs.declared.TestId.{TestId}
 use Rattle.plan_model.specs.declared.TheConstants.{PLAN_NUMBER_MOST}
 use Rattle.plan_model.specs.Plans.{WrapperValue, OfModule, OfPair, OfChain, OfArea, OfForced, BoundValue}
-use Rattle.keyword_text.specs.declared.tokens.Token.{Token}
-use Rattle.keyword_text.specs.declared.tokens.Token.TheVariants.{Key, Number}
+use Rattle.keyword_text.specs.declared.tokens.Token.TheVariants.{Key}
 use Rattle.keyword_text.specs.Machines.{MayEnd}
 use Rattle.keyword_text.proofs.Endings.{ends_by_key, ends_by_number, ends_by_zero}
-use Rattle.plan_text.specs.declared.tokens.Keyword.{Keyword}
 use Rattle.plan_text.specs.declared.tokens.Keyword.TheVariants as key
 use Rattle.plan_text.specs.Steps.{DraftValue, PartValue, wants_plan, wants_form, wants_cycles_word, wants_cycles, after_cycles, wants_width, in_bus, wants_module, wants_mode, in_wrapper, wants_ins, wants_outs, in_chain, wants_test_module, wants_test, wants_start, after_start, wants_bound, wants_reason, wants_bound_module, wants_pair_module, in_tests, wants_test_of, in_forced, whole, State, at, with_bus, with_wrapper, with_start, with_chain, step, plan_with, bound_at, plan_machine}
-use Rattle.plan_text.proofs.Complete.{run, ended_at}
+use Rattle.plan_text.proofs.Complete.{ended_at}
 
 -- words that make a state end in a whole plan
 abbrev Ends : State → Type 0

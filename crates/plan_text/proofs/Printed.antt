@@ -1,12 +1,11 @@
 -- The printed text of a plan says the plan.
 use Rattle.std.proofs.Common.{◌≡◌, ◌<◌, ℕ, List, [], ◌∷◌, ◌++◌, length, map, true, not, Some, refl, ◌∙◌, ap, arith, append_assoc, append-nil}
 use Rattle.std.specs.List.{flat_map, list_all}
-use Rattle.std.proofs.lemmas.List.Concat.{flat_map-append}
 use Rattle.outside.specs.Words.{ends_word}
 use Rattle.plan_model.specs.Plans.{PlanValue}
 use Rattle.keyword_text.specs.declared.tokens.Token.TheVariants.{Key}
 use Rattle.keyword_text.specs.Tokens.{token_of}
-use Rattle.keyword_text.specs.Lines.{Line, line_text, text_of}
+use Rattle.keyword_text.specs.Lines.{line_text, text_of}
 use Rattle.keyword_text.proofs.Listed.{text_append}
 use Rattle.keyword_text.proofs.Printed.{IsPrinted, printed_lines}
 use Rattle.plan_text.specs.declared.tokens.Keyword.{Keyword}

@@ -1,8 +1,7 @@
 -- What was read so far is the words of the state: of its whole parts, and of the part that comes next.
-use Rattle.std.proofs.Common.{◌≡◌, ◌≤◌, ℕ, List, [], ◌∷◌, ◌++◌, map, Bool, true, false, nat_eq, Option, None, Some, refl, sym, ◌∙◌, ap, subst, arith, append_assoc, append-nil}
+use Rattle.std.proofs.Common.{◌≡◌, ◌≤◌, ℕ, List, [], ◌∷◌, ◌++◌, map, Bool, true, false, nat_eq, Option, Some, refl, sym, ◌∙◌, ap, subst, arith, append_assoc, append-nil}
 use Rattle.std.specs.Prelude.{nat_le}
 use Rattle.std.specs.List.{flat_map}
-use Rattle.std.proofs.lemmas.Grind.{common_steps}
 use Rattle.std.proofs.lemmas.List.{map-append}
 use Rattle.std.proofs.lemmas.List.Concat.{flat_map-append}
 use Rattle.std.proofs.lemmas.List.Elements.{All-push}
@@ -24,7 +23,7 @@ use Rattle.plan_text.specs.declared.parts.Section.{Section}
 use Rattle.plan_text.specs.declared.parts.Section.TheVariants.{Buses, Wrappers, Starts}
 use Rattle.plan_text.specs.PlanLines.{bus_line, chain_line, wrapper_lines, start_line, test_numbers, bound_line, bound_line_by, plan_tokens}
 use Rattle.plan_text.specs.Grammar.{AreSmallStarts, plan_grammar}
-use Rattle.plan_text.specs.Steps.{DraftValue, PartValue, wants_plan, wants_form, wants_cycles_word, wants_cycles, after_cycles, wants_width, in_bus, wants_module, wants_mode, in_wrapper, wants_ins, wants_outs, in_chain, wants_test_module, wants_test, wants_start, after_start, wants_bound, wants_reason, wants_bound_module, wants_pair_module, in_tests, wants_test_of, in_forced, whole, State, at, with_bus, with_wrapper, with_start, with_chain, next_if, step_number, begin, begun, begin_mode, begin_reason, is_chain, step_wrapper, begin_plan, begin_cycles, step_key, step, plan_with, ended, plan_machine}
+use Rattle.plan_text.specs.Steps.{DraftValue, PartValue, wants_plan, wants_form, wants_cycles_word, wants_cycles, after_cycles, wants_width, in_bus, wants_module, wants_mode, in_wrapper, wants_ins, wants_outs, in_chain, wants_test_module, wants_test, wants_start, after_start, wants_bound, wants_reason, wants_bound_module, wants_pair_module, in_tests, wants_test_of, in_forced, whole, State, at, with_bus, with_wrapper, with_start, with_chain, next_if, step_number, begin, begun, begin_mode, begin_reason, is_chain, step_wrapper, begin_plan, begin_cycles, step_key, plan_with, ended, plan_machine}
 
 -- how far a text has come
 data Stage : Type 0 where

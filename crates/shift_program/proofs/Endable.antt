@@ -1,18 +1,14 @@
 -- Each state that words come to may still be ended.
-use Rattle.std.proofs.Common.{◌≡◌, ℕ, [], ◌∷◌, Option, Some, refl, ◌∙◌, ap, arith}
-use Rattle.outside.specs.Runs.{run_by}
+use Rattle.std.proofs.Common.{ℕ, [], refl, arith}
 use Rattle.plan_model.specs.declared.TheConstants.{PLAN_NUMBER_MOST}
-use Rattle.keyword_text.specs.declared.tokens.Token.{Token}
-use Rattle.keyword_text.specs.declared.tokens.Token.TheVariants.{Key, Number}
 use Rattle.keyword_text.specs.Machines.{MayEnd}
 use Rattle.keyword_text.proofs.Endings.{ends_by_key, ends_by_number, ends_by_zero}
 use Rattle.shift_program.specs.declared.Entry.TheVariants as entry
-use Rattle.shift_program.specs.declared.tokens.Keyword.{Keyword}
 use Rattle.shift_program.specs.declared.tokens.Keyword.TheVariants as key
 use Rattle.shift_program.specs.declared.steps.Part.{Part}
 use Rattle.shift_program.specs.declared.steps.Part.TheVariants as part
 use Rattle.shift_program.specs.Programs.{ProgramValue}
-use Rattle.shift_program.specs.Steps.{State, at, with_entry, with_test, lasting_entry, step, program_machine}
+use Rattle.shift_program.specs.Steps.{State, at, with_entry, with_test, lasting_entry, program_machine}
 
 -- words that make a state end in a whole program
 abbrev Ends : State → Type 0

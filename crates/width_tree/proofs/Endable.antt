@@ -1,15 +1,11 @@
 -- Each state that words come to may still be ended.
-use Rattle.std.proofs.Common.{◌≡◌, ℕ, zero, suc, [], ◌∷◌, Option, Some, refl, ◌∙◌, ap, arith}
-use Rattle.outside.specs.Runs.{run_by}
+use Rattle.std.proofs.Common.{◌≡◌, ℕ, zero, suc, [], refl, ◌∙◌, ap, arith}
 use Rattle.plan_model.specs.declared.TheConstants.{PLAN_NUMBER_MOST}
-use Rattle.keyword_text.specs.declared.tokens.Token.{Token}
-use Rattle.keyword_text.specs.declared.tokens.Token.TheVariants.{Key, Number}
 use Rattle.keyword_text.specs.Machines.{MayEnd}
 use Rattle.keyword_text.proofs.Endings.{ends_by_key, ends_by_number, ends_by_zero}
-use Rattle.width_tree.specs.declared.tokens.Keyword.{Keyword}
 use Rattle.width_tree.specs.declared.tokens.Keyword.TheVariants as key
 use Rattle.width_tree.specs.Trees.{OfTime, OfArea, OfBus, OfApart, OfLeaf}
-use Rattle.width_tree.specs.Steps.{DraftValue, PartValue, wants_tree, wants_form, wants_bound, wants_claim, between, wants_split_module, wants_split_width, wants_time_module, in_bus, wants_first, wants_second, State, at, with_node, with_split, step, whole_at, tree_machine}
+use Rattle.width_tree.specs.Steps.{DraftValue, PartValue, wants_tree, wants_form, wants_bound, wants_claim, between, wants_split_module, wants_split_width, wants_time_module, in_bus, wants_first, wants_second, State, at, with_node, with_split, whole_at, tree_machine}
 use Rattle.width_tree.proofs.Complete.{MayGo, between_goes, bus_goes, began}
 
 -- words that make a state end in a whole tree

@@ -1,6 +1,6 @@
 -- A list of nodes tells its tree.
-use Rattle.std.proofs.Common.{◌≡◌, ℕ, ◌+◌, ◌≤◌, List, [], ◌∷◌, ◌++◌, length, refl, sym, ap, ◌∙◌, arith, append_assoc, append-nil}
-use Rattle.width_tree.specs.Trees.{LeafValue, NodeValue, OfSplit, OfLeaf, WidthTree, Leaf, Branches, nodes_of, IsOneTree}
+use Rattle.std.proofs.Common.{◌≡◌, List, [], ◌++◌, sym, ap, ◌∙◌, append_assoc, append-nil}
+use Rattle.width_tree.specs.Trees.{NodeValue, WidthTree, Leaf, Branches, nodes_of}
 
 -- the tree at the front of a list of nodes, and what is behind it
 record Front (a b : WidthTree) (r s : List NodeValue) : Type 0 where

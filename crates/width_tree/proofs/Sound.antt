@@ -1,6 +1,5 @@
 -- What was read so far is the words of the state: of the nodes that are whole, and of the part that comes next.
-use Rattle.std.proofs.Common.{◌≡◌, ℕ, zero, suc, ◌+◌, List, [], ◌∷◌, ◌++◌, map, Bool, true, false, nat_eq, Option, None, Some, refl, sym, ◌∙◌, ap, subst, arith, append_assoc, append-nil}
-use Rattle.std.proofs.lemmas.List.{map-append}
+use Rattle.std.proofs.Common.{◌≡◌, ℕ, zero, suc, ◌+◌, List, [], ◌∷◌, ◌++◌, map, Bool, true, false, nat_eq, Option, Some, refl, sym, ◌∙◌, ap, subst, arith, append_assoc, append-nil}
 use Rattle.std.proofs.lemmas.List.Concat.{flat_map-append}
 use Rattle.std.proofs.lemmas.Bool.{eqb-true}
 use Rattle.keyword_text.specs.declared.tokens.Token.{Token}
@@ -14,7 +13,7 @@ use Rattle.width_tree.specs.declared.tokens.Keyword.{Keyword}
 use Rattle.width_tree.specs.declared.tokens.Keyword.TheVariants as key
 use Rattle.width_tree.specs.Trees.{OfTime, OfArea, OfBus, OfApart, NodeValue, OfSplit, OfLeaf, Leaf, Branches, nodes_of, TreeValue}
 use Rattle.width_tree.specs.TreeText.{node_tokens, head_tokens, nodes_tokens, tree_grammar}
-use Rattle.width_tree.specs.Steps.{DraftValue, PartValue, wants_tree, wants_form, wants_bound, wants_claim, between, wants_split_module, wants_split_width, wants_time_module, in_bus, wants_first, wants_second, State, at, with_node, next_if, step_number, begin_node, begin_wanted, begin_tree, begin_bound, step_key, step, whole_at, tree_at, ended, tree_machine}
+use Rattle.width_tree.specs.Steps.{DraftValue, PartValue, wants_tree, wants_form, wants_bound, wants_claim, between, wants_split_module, wants_split_width, wants_time_module, in_bus, wants_first, wants_second, State, at, with_node, next_if, step_number, begin_node, begin_wanted, begin_tree, begin_bound, step_key, whole_at, tree_at, ended, tree_machine}
 
 -- before the first node
 abbrev in_head : PartValue → Bool
