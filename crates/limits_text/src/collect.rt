@@ -44,7 +44,7 @@ fn gives_amount(amount: Amount, item: &Item) -> bool
 {
     match item {
         Item::Number { amount: other, .. } => same_amount(amount, *other),
-        _ => false,
+        Item::Precedence { .. } | Item::Steps { .. } => false,
     }
 }
 
@@ -95,7 +95,7 @@ fn mark_item(tests: &mut IndexSet<TestId>, item: &Item) -> Result<(), Stop>
 {
     match item {
         Item::Steps { test, .. } => mark(tests, *test),
-        _ => Ok(()),
+        Item::Number { .. } | Item::Precedence { .. } => Ok(()),
     }
 }
 

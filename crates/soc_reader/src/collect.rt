@@ -46,7 +46,20 @@ fn after_key(key: Key) -> After
     match key {
         Key::Options | Key::PowerFlag | Key::XyFlag => After::AfterOptions,
         Key::Module => After::AfterNumber,
-        _ => After::Elsewhere,
+        Key::SocName
+        | Key::TotalModules
+        | Key::Level
+        | Key::Inputs
+        | Key::Outputs
+        | Key::Bidirs
+        | Key::Setup
+        | Key::ScanChains
+        | Key::TotalTests
+        | Key::Test
+        | Key::ScanUse
+        | Key::TamUse
+        | Key::Patterns
+        | Key::Power => After::Elsewhere,
     }
 }
 

@@ -79,9 +79,16 @@ fn owner(key: Key, opened: Subject) -> Option<Subject>
         | Key::Module => Some(Subject::Chip),
         Key::ScanUse | Key::TamUse | Key::Patterns | Key::Power => match opened {
             Subject::OfTest(number, test) => Some(Subject::OfTest(number, test)),
-            _ => None,
+            Subject::Chip | Subject::OfModule(_) => None,
         },
-        _ => match opened {
+        Key::Level
+        | Key::Inputs
+        | Key::Outputs
+        | Key::Bidirs
+        | Key::Setup
+        | Key::ScanChains
+        | Key::TotalTests
+        | Key::Test => match opened {
             Subject::Chip => None,
             Subject::OfModule(number) | Subject::OfTest(number, _) => Some(Subject::OfModule(
                 number,
@@ -99,7 +106,17 @@ fn shape_of(key: Key) -> Shape
         Key::Options => Shape::NoWord,
         Key::PowerFlag | Key::XyFlag | Key::ScanUse | Key::TamUse => Shape::OneFlag,
         Key::ScanChains => Shape::ManyNumbers,
-        _ => Shape::OneNumber,
+        Key::TotalModules
+        | Key::Module
+        | Key::Level
+        | Key::Inputs
+        | Key::Outputs
+        | Key::Bidirs
+        | Key::Setup
+        | Key::TotalTests
+        | Key::Test
+        | Key::Patterns
+        | Key::Power => Shape::OneNumber,
     }
 }
 
