@@ -5,6 +5,7 @@ pub mod Steps
 pub mod Spans
 pub mod Rewinding
 pub mod Placed
+pub mod Emptying
 pub mod Fitting
 pub mod KeptTables
 pub mod Latest

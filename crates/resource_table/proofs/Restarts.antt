@@ -1,12 +1,11 @@
 -- A table that is emptied for the same tests over other buses.
 use Rattle.std.proofs.Common.{◌≡◌, ℕ, zero, suc, ◌+◌, ◌<◌, ◌≤◌, Option, None, Some, List, [], ◌∷◌, length, get_or, set, take, map, replicate, arith, refl, sym, ap, ◌∙◌, subst}
 use Rattle.std.specs.Prelude.{if◌then◌else◌, IfSome, vec_capacity}
-use Rattle.std.specs.List.{All, sum_by, flat_map}
+use Rattle.std.specs.List.{All, sum_by}
 use Rattle.std.specs.Global.{Vec}
 use Rattle.std.proofs.lemmas.List.{length-map, get_or-map, map-set, take_all}
 use Rattle.std.proofs.lemmas.List.Sums.{sum_by-cons}
 use Rattle.plan_model.specs.declared.TheConstants.{WIRES_MOST}
-use Rattle.plan_model.specs.Rules.{Each}
 use Rattle.smallvec.specs.SmallVec.{SmallVec}
 use Rattle.resource_table.specs.declared.JobTest.{JobTest}
 use Rattle.resource_table.specs.declared.Placement.{Placement}
@@ -18,15 +17,16 @@ use Rattle.resource_table.specs.declared.timelines.Kind.TheVariants.{Bus, Own, C
 use Rattle.resource_table.specs.declared.timelines.Timeline.{Timeline}
 use Rattle.resource_table.specs.declared.timelines.Timelines.{Timelines}
 use Rattle.resource_table.specs.Jobs.{TestValue, JobValue, test_value, test_at, no_test, test_over, tests_over, job_over, IsSoundJob}
-use Rattle.resource_table.specs.Schedules.{MayPlace}
-use Rattle.resource_table.specs.Resources.{draws_of, end_in}
 use Rattle.resource_table.specs.Befores.{AreListed}
 use Rattle.resource_table.specs.Histories.{no_note, IsHistory}
 use Rattle.resource_table.specs.Kept.{IsKept, IsProfiled, IsBounded}
 use Rattle.resource_table.proofs.Bounds.{bounded_new}
-use Rattle.resource_table.proofs.KeptTables.{profiled_new}
+use Rattle.resource_table.proofs.BusyTimes.{times_new}
+use Rattle.resource_table.proofs.KeptTables.{kept_new, profiled_new}
 use Rattle.resource_table.proofs.Latest.{latest_over}
-use Rattle.resource_table.specs.BusyTimes.{takes, room_of, IsTimeline, AreTimelines, AreTimes}
+use Rattle.resource_table.specs.BusyTimes.{takes, room_of, IsTimeline, AreTimelines, AreTimes, AreEmptyTimes}
+use Rattle.resource_table.specs.EmptyRows.{AreEmptyRows}
+use Rattle.resource_table.specs.declared.table.Rows.{Rows}
 
 -- ---- tests over other buses
 
@@ -147,51 +147,46 @@ module _ (job : JobValue) (buses : List (Option ℕ)) (lengths : List ℕ) (buse
 
 -- ---- what else a table keeps
 
-module _ (job : JobValue) (buses : List (Option ℕ)) (lengths : List ℕ) (trail : SmallVec Placement) (none : trail.items ≡ []) where
+-- rows whose items are all taken out, with the room that they had
+pub rows_emptied : (job : JobValue) (trail : SmallVec Placement) (ends : Vec (Option ℕ)) (lasts : Vec ℕ) (draws : Vec Draw) (points : Vec Point) (bounds : History) → IsKept job trail ends lasts draws → IsProfiled job trail draws points → IsBounded job trail.items bounds → (rows : Rows) →
+    rows.trail.items ≡ [] → rows.trail.capacity ≡ trail.capacity → rows.ends.items ≡ replicate (length ends.items) None → rows.lasts.items ≡ [] → vec_capacity rows.lasts ≡ vec_capacity lasts → rows.draws.items ≡ [] → vec_capacity rows.draws ≡ vec_capacity draws →
+    rows.points.items ≡ [] → vec_capacity rows.points ≡ vec_capacity points → rows.bounds.values.items ≡ replicate (length bounds.values.items) no_note → rows.bounds.marks.items ≡ [] → IsHistory rows.bounds → vec_capacity rows.bounds.marks ≡ vec_capacity bounds.marks →
+    AreEmptyRows (length job.tests) (sum_by (λ (t : TestValue). length t.steps) job.tests) rows
+rows_emptied job trail ends lasts draws points bounds kept profiled bounded rows trail_is trail_room ends_is lasts_is lasts_room draws_is draws_room points_is points_room values marks history marks_room = record {
+  trail = trail_is;
+  trail_room = (let room = kept.trail_room in omega (arith, room, trail_room));
+  ends = ends_is ∙ ap (λ (n : ℕ). replicate n None) kept.ends_long;
+  lasts = lasts_is;
+  lasts_room = (let room = kept.lasts_room in omega (arith, room, lasts_room));
+  draws = draws_is;
+  draws_room = (let room = kept.draws_room in omega (arith, room, draws_room));
+  points = points_is;
+  points_room = (let room = profiled.room in omega (arith, room, points_room));
+  notes = values ∙ ap (λ (n : ℕ). replicate n no_note) bounded.long;
+  marks = marks;
+  history = history;
+  marks_room = (let room = bounded.room in omega (arith, room, marks_room));
+}
+
+module _ (job : JobValue) (buses : List (Option ℕ)) (lengths : List ℕ) where
   abbrev new_job : JobValue
   new_job = job_over buses lengths job
-
-  kept_over : IsSoundJob new_job → (ends : Vec (Option ℕ)) (lasts : Vec ℕ) (draws : Vec Draw) → IsKept job trail ends lasts draws → IsKept new_job trail ends lasts draws
-  kept_over sound ends lasts draws is =
-      let same = length-tests_over buses lengths job.tests in
-      let steps = sum_over (λ (t : TestValue). length t.steps) (λ bus cycles t. refl) buses lengths job.tests in
-      record {
-        sound = record { job = sound; placed = subst (Each (λ earlier p. MayPlace new_job earlier p.test p.start)) (sym none) (λ n p at. absurd cc) };
-        ends_long = is.ends_long ∙ sym same;
-        ends_are = (λ test lt. is.ends_are test (omega (arith, lt, same)) ∙ ap (λ (v : List Placement). end_in job v test) none ∙ ap (λ (v : List Placement). end_in new_job v test) (sym none));
-        lasts_long = is.lasts_long;
-        lasts_are = (λ i lt. absurd (omega (arith, lt, ap length none)));
-        draws_are = is.draws_are ∙ ap (flat_map (draws_of job)) none ∙ ap (flat_map (draws_of new_job)) (sym none);
-        trail_room = (let room = is.trail_room in omega (arith, room, same));
-        lasts_room = (let room = is.lasts_room in omega (arith, room, same));
-        draws_room = (let room = is.draws_room in omega (arith, room, steps));
-      }
 
   listed_over : (lists : List (List ℕ)) → AreListed job lists → AreListed new_job lists
   listed_over lists are =
       let same = length-tests_over buses lengths job.tests in
       record { long = are.long ∙ sym same; are = (λ test lt. are.are test (omega (arith, lt, same))) }
 
-  profiled_over : (draws : Vec Draw) (old points : Vec Point) → draws.items ≡ [] → IsProfiled job trail draws old → points.items ≡ [] → vec_capacity points ≡ vec_capacity old → IsProfiled new_job trail draws points
-  profiled_over draws old points draws_is is points_is capacity =
-      profiled_new new_job trail draws points (length job.tests) (sum_by (λ (t : TestValue). length t.steps) job.tests) (sym (length-tests_over buses lengths job.tests))
-      (sym (sum_over (λ (t : TestValue). length t.steps) (λ bus cycles t. refl) buses lengths job.tests)) none draws_is points_is (let room = is.room in omega (arith, room, capacity))
-
-  bounded_over : (old bounds : History) → IsBounded job trail.items old → bounds.values.items ≡ replicate (length old.values.items) no_note → bounds.marks.items ≡ [] → IsHistory bounds → vec_capacity bounds.marks ≡ vec_capacity old.marks → IsBounded new_job trail.items bounds
-  bounded_over old bounds is values marks history room =
-      bounded_new new_job trail.items bounds (length old.values.items) none (is.long ∙ sym (length-tests_over buses lengths job.tests)) values marks history (let long = is.long in let most = is.room in omega (arith, long, most, room))
-
-  -- nothing is placed, and all that is kept is as it would be built for the job with the other buses
+  -- where nothing is placed, all that is kept is as it would be built for the job with the other buses
   pub kept_anew : IsSoundJob new_job → length buses ≡ length job.tests → length lengths ≡ length job.tests → All (λ bus. IfSome bus (λ k. k < WIRES_MOST)) buses →
-      (ends : Vec (Option ℕ)) (lasts : Vec ℕ) (draws : Vec Draw) (lists : List (List ℕ)) (old points : Vec Point) (times : Timelines) (was bounds : History) →
-      IsKept job trail ends lasts draws × AreListed job lists × IsProfiled job trail draws old × AreTimes job trail.items times × IsBounded job trail.items was →
-      points.items ≡ [] → vec_capacity points ≡ vec_capacity old →
-      bounds.values.items ≡ replicate (length was.values.items) no_note → bounds.marks.items ≡ [] → IsHistory bounds → vec_capacity bounds.marks ≡ vec_capacity was.marks →
-      IsKept new_job trail ends lasts draws × AreListed new_job lists × IsProfiled new_job trail draws points × AreTimes new_job trail.items times × IsBounded new_job trail.items bounds
-  kept_anew sound buses_long lengths_long few ends lasts draws lists old points times was bounds is points_is capacity values marks history room = (
-    kept_over sound ends lasts draws is.0,
-    listed_over lists is.1,
-    profiled_over draws old points (is.0.draws_are ∙ ap (flat_map (draws_of job)) none) is.2 points_is capacity,
-    subst (λ (v : List Placement). AreTimes new_job v times) (sym none) (times_over job buses lengths buses_long lengths_long few times (subst (λ (v : List Placement). AreTimes job v times) none is.3)),
-    bounded_over was bounds is.4 values marks history room,
-  )
+      (rows : Rows) → AreEmptyRows (length job.tests) (sum_by (λ (t : TestValue). length t.steps) job.tests) rows → (lists : List (List ℕ)) → AreListed job lists → (times : Timelines) → AreEmptyTimes job.tests times →
+      IsKept new_job rows.trail rows.ends rows.lasts rows.draws × AreListed new_job lists × IsProfiled new_job rows.trail rows.draws rows.points × AreTimes new_job rows.trail.items times × IsBounded new_job rows.trail.items rows.bounds
+  kept_anew sound buses_long lengths_long few rows empty lists listed times none =
+      let tests : length job.tests ≡ length new_job.tests = sym (length-tests_over buses lengths job.tests) in
+      let steps : sum_by (λ (t : TestValue). length t.steps) job.tests ≡ sum_by (λ (t : TestValue). length t.steps) new_job.tests = sym (sum_over (λ (t : TestValue). length t.steps) (λ bus cycles t. refl) buses lengths job.tests) in (
+        kept_new new_job rows.trail rows.ends rows.lasts rows.draws (length job.tests) (sum_by (λ (t : TestValue). length t.steps) job.tests) sound tests steps empty.trail empty.trail_room empty.ends empty.lasts empty.lasts_room empty.draws empty.draws_room,
+        listed_over lists listed,
+        profiled_new new_job rows.trail rows.draws rows.points (length job.tests) (sum_by (λ (t : TestValue). length t.steps) job.tests) tests steps empty.trail empty.draws empty.points empty.points_room,
+        subst (λ (v : List Placement). AreTimes new_job v times) (sym empty.trail) (times_over job buses lengths buses_long lengths_long few times (times_new job times none)),
+        bounded_new new_job rows.trail.items rows.bounds (length job.tests) empty.trail tests empty.notes empty.marks empty.history empty.marks_room,
+      )

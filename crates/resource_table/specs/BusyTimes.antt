@@ -162,6 +162,12 @@ pub record IsRemoved (t : TestValue) (span : Span) (old new : Timelines) : Type 
   pub parent : AreTaken t.parent span old.children.items new.children.items
   pub latest : IsBack t.parent old.latest new.latest
 
+-- the same timelines without times, with the room that they had
+pub record AreCleared (old new : List Timeline) : Type 0 where
+  pub long : length new ≡ length old
+  pub empty : (k : ℕ) (line : Timeline) → slice_get new k ≡ Some line → line.spans.items ≡ []
+  pub room : (k : ℕ) (line : Timeline) → slice_get new k ≡ Some line → (was : Timeline) × (slice_get old k ≡ Some was) × (vec_capacity line.spans ≡ vec_capacity was.spans)
+
 -- timelines of a kind without times, with room for those of all tests
 pub record AreEmpty (kind : Kind) (tests : List TestValue) (lines : List Timeline) : Type 0 where
   pub many : least_of kind ≤ length lines

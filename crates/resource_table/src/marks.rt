@@ -177,9 +177,10 @@ fn add_standing(points: &mut Vec<Point>, draws: &[Draw], from: usize, start: u64
 }
 
 /// Adds so many first marks of a test with the draws from a place on, where the others are in the profile, in room that these leave.
-/// The place of its start is answered.
+/// The last of them is sought from a near place. The place of its start is answered.
 fn add_first(
     points: &mut Vec<Point>,
+    last: usize,
     draws: &[Draw],
     from: usize,
     start: u64,
@@ -194,7 +195,7 @@ fn add_first(
 {
     make_room(points, first);
     let mut spare = open_gap(points, draws, from, start, first);
-    let mut near = points.len();
+    let mut near = last;
     let mut left = first;
     while left > 0 {
         left -= 1;
@@ -217,7 +218,7 @@ pub fn add_marks(points: &mut Vec<Point>, draws: &[Draw], from: usize, start: u6
     if left == 0 {
         return near;
     }
-    add_first(points, draws, from, start, left)
+    add_first(points, near, draws, from, start, left)
 }
 
 /// Takes away the marks of a test with the draws from a place on. The first one is sought from a near place.

@@ -19,7 +19,7 @@ use crate::history::{History, Note, back, forget, mark, new_history, renew};
 use crate::points::Point;
 use crate::power::{Draw, after_power, are_low, push_draws};
 use crate::profile::{add_drawn, take_drawn};
-use crate::timelines::{Span, Timelines, add_time, after_busy, remove_time};
+use crate::timelines::{Span, Timelines, add_time, after_busy, clear_times, remove_time};
 use crate::{Job, JobTest, Placement};
 use live_tests::Neighbours;
 use outside::NoMemory;
@@ -210,6 +210,21 @@ fn job_parts(alloc: Global, job: &Job) -> Result<JobParts, NoMemory>
     let times = empty_times(alloc, &job.tests)?;
     let own = copy_job(alloc, job)?;
     Ok(JobParts { own, times, before })
+}
+
+/// Takes all ends away.
+fn clear_ends(ends: &mut Vec<Option<u64>>)
+    ensures { ends.new.items ≡ replicate (length ends.old.items) None }
+{
+    ends.fill(None);
+}
+
+/// Takes all placements off a trail, which keeps its room.
+fn clear_trail(trail: &mut SmallVec<Placement, 16>)
+    ensures items { trail.new.items ≡ [] }
+    ensures room { trail.new.capacity ≡ trail.old.capacity }
+{
+    trail.clear();
 }
 
 /// Lets a test go over a bus and take so many cycles.
@@ -553,8 +568,8 @@ impl<J> TableOf<J> {
     }
 
     /// Takes all placements back, and lets each test go over the bus and take the cycles that stand at its place. Powers,
-    /// modules and precedences stay. It is then as a new table of that job, and takes no memory: the tests that were
-    /// placed and the tests of the job are gone through once. There is room for as many buses as a chip may have.
+    /// modules and precedences stay. It is then as a new table of that job, and takes no memory: the tests of the job and the
+    /// timelines are gone through once. There is room for as many buses as a chip may have.
     pub fn restart(&mut self, buses: &[Option<usize>], lengths: &[u64])
         requires buses { length buses.now ≡ length self.old.job.tests }
         requires lengths { length lengths.now ≡ length self.old.job.tests }
@@ -563,8 +578,12 @@ impl<J> TableOf<J> {
         ensures empty { self.new ≡ record { job = job_over buses.now lengths.now self.old.job; placed = [] } }
         ensures sound { IsSoundTable self.new }
     {
-        self.pop_to(0);
+        clear_times(&mut self.times);
+        clear_ends(&mut self.ends);
+        self.lasts.clear();
+        self.draws.clear();
         self.points.clear();
+        clear_trail(&mut self.trail);
         forget(&mut self.bounds);
         send_over(&mut self.own.tests, buses, lengths);
     }

@@ -1,11 +1,12 @@
 //! Busy times, kept apart by what they take: a bus, a module, or the children of a module.
-ghost use Rattle.std.specs.Prelude.{◌≡◌, ℕ, ◌+◌, ◌-◌, ◌^◌, ◌<◌, ◌≤◌, Option, Some, true, length as length_of, nat_lt, nat_le, slice_get, vec_len, vec_capacity};
+ghost use Rattle.std.specs.Prelude.{◌≡◌, ℕ, ◌+◌, ◌-◌, ◌^◌, ◌<◌, ◌≤◌, List, Option, Some, true, [], length as length_of, nat_lt, nat_le, slice_get, vec_len, vec_capacity};
 ghost use Rattle.std.specs.List.{All, AllWithin};
 ghost use Rattle.std.specs.List.Sorted.{IsNonDecreasingBy, IsPartitionPoint};
 ghost use Rattle.resource_table.specs.declared.timelines.Span.{Span};
 ghost use Rattle.resource_table.specs.declared.timelines.Timeline.{Timeline};
-ghost use Rattle.resource_table.specs.Jobs.{test_value};
-ghost use Rattle.resource_table.specs.BusyTimes.{IsClear, IsPut, IsTaken, AreFree, MayFill, ArePut, MayClear, AreTaken, IsFree, AreOrdered, MayAdd, IsAdded, MayRemove, IsRemoved};
+ghost use Rattle.resource_table.specs.declared.Placement.{Placement};
+ghost use Rattle.resource_table.specs.Jobs.{JobValue, test_value};
+ghost use Rattle.resource_table.specs.BusyTimes.{AreCleared, AreTimes, AreEmptyTimes, IsClear, IsPut, IsTaken, AreFree, MayFill, ArePut, MayClear, AreTaken, IsFree, AreOrdered, MayAdd, IsAdded, MayRemove, IsRemoved};
 
 use crate::JobTest;
 use crate::latest_ends::{LatestEnds, forget_end, have_ended, note_end};
@@ -311,6 +312,43 @@ pub fn remove_time(times: &mut Timelines, test: &JobTest, span: Span)
     clear(&mut times.modules, Some(test.place), span);
     clear(&mut times.children, test.parent, span);
     forget_end(&mut times.latest, test.parent);
+}
+
+/// Takes all times out of a timeline, which keeps its room.
+fn clear_line(line: &mut Timeline)
+    ensures empty { line.new.spans.items ≡ [] }
+    ensures room { vec_capacity line.new.spans ≡ vec_capacity line.old.spans }
+{
+    line.spans.clear();
+}
+
+/// Takes all times out of timelines, which keep their room.
+fn clear_lines(lines: &mut Vec<Timeline>)
+    ensures { AreCleared lines.old.items lines.new.items }
+{
+    for at in 0..lines.len() {
+        clear_line(&mut lines[at]);
+    }
+}
+
+/// Takes all ends away, also what is kept to take them back.
+fn clear_latest(latest: &mut LatestEnds)
+    ensures long { length_of latest.new.ends.items ≡ length_of latest.old.ends.items }
+    ensures before { latest.new.before.items ≡ [] }
+    ensures room { vec_capacity latest.new.before ≡ vec_capacity latest.old.before }
+{
+    latest.ends.fill(0);
+    latest.before.clear();
+}
+
+/// Takes the times of all tests out.
+pub fn clear_times(times: &mut Timelines)
+    ensures { (job : JobValue) (placed : List Placement) → AreTimes job placed times.old → AreEmptyTimes job.tests times.new }
+{
+    clear_lines(&mut times.buses);
+    clear_lines(&mut times.modules);
+    clear_lines(&mut times.children);
+    clear_latest(&mut times.latest);
 }
 
 /// A start from `start` on before which a test meets a placed test of its module, of that one's direct parent or of a direct

@@ -1,4 +1,4 @@
-use Rattle.std.proofs.Common.{◌≡◌, ◌∙◌, ℕ, Option, List, [], length, map, sym, subst, ap, arith}
+use Rattle.std.proofs.Common.{◌≡◌, ◌∙◌, ℕ, Option, List, length, map, sym, subst, ap, arith}
 use Rattle.std.specs.Vec.{with_items}
 use Rattle.std.proofs.lemmas.List.{with_items_is, length-map}
 use Rattle.resource_table.specs.declared.Job.{Job}
@@ -9,7 +9,8 @@ use Rattle.resource_table.specs.BusyTimes.{AreTimes}
 use Rattle.resource_table.specs.Kept.{IsKept, IsProfiled, IsBounded}
 use Rattle.resource_table.specs.Jobs.{TestValue, JobValue, test_value, job_value, tests_over, job_over, IsSoundJob}
 use Rattle.resource_table.specs.Schedules.{TableValue}
-use Rattle.resource_table.proofs.Restarts.{kept_anew, length-tests_over}
+use Rattle.resource_table.specs.declared.table.Rows.{Rows}
+use Rattle.resource_table.proofs.Restarts.{rows_emptied, kept_anew, length-tests_over}
 use Rattle.resource_table.proofs.table.TableOf.restart.Goals as goal
 
 -- the job that is written back is the one over the other buses
@@ -24,43 +25,44 @@ same_job own new read buses lengths read_is new_is =
 
 pub invariant_of-self : goal.invariant_of-self
 invariant_of-self g c =
-    let own = c.self.inside.own in
+    let was = c.self.inside in
+    let own = was.own in
+    let old = job_value own in
     let buses = c.args.buses.now in
     let lengths = c.args.lengths.now in
-    let view : (let t : TableValue = record { job = job_value own; placed = c.self.inside.trail.items } in t) ≡ record { job = c.args.self.now.job; placed = [] } = c.self.view_is ∙ c.pop_to.ensures.table in
-    let job : job_value own ≡ c.args.self.now.job = ap (λ (t : TableValue). t.job) view in
-    let none : c.self.inside.trail.items ≡ [] = ap (λ (t : TableValue). t.placed) view in
-    let long : length (job_value own).tests ≡ length c.args.self.now.job.tests = ap (λ (j : JobValue). length j.tests) job in
-    let sound : IsSoundJob (job_over buses lengths (job_value own)) = subst (λ (j : JobValue). IsSoundJob (job_over buses lengths j)) (sym job) c.requires.sound in
+    let job : old ≡ c.args.self.now.job = ap (λ (t : TableValue). t.job) c.self.view_is in
+    let long : length old.tests ≡ length c.args.self.now.job.tests = ap (λ (j : JobValue). length j.tests) job in
+    let sound : IsSoundJob (job_over buses lengths old) = subst (λ (j : JobValue). IsSoundJob (job_over buses lengths j)) (sym job) c.requires.sound in
     let same = same_job own c.send_over.new.tests c.deref_mut.result.now buses lengths c.deref_mut.ensures.value c.send_over.ensures in
-    subst (λ (j : JobValue). IsKept j c.self.inside.trail c.self.inside.ends c.self.inside.lasts c.self.inside.draws × AreListed j (map listed c.self.inside.before.items) × IsProfiled j c.self.inside.trail c.self.inside.draws c.clear.new.self × AreTimes j c.self.inside.trail.items c.self.inside.times × IsBounded j c.self.inside.trail.items c.forget.new.history) (sym same)
-    (kept_anew (job_value own) buses lengths c.self.inside.trail none sound (c.requires.buses ∙ sym long) (c.requires.lengths ∙ sym long) c.requires.room c.self.inside.ends c.self.inside.lasts c.self.inside.draws (map listed c.self.inside.before.items)
-    c.self.inside.points c.clear.new.self c.self.inside.times c.self.inside.bounds c.forget.new.history c.self.invariant c.clear.ensures.items c.clear.ensures.capacity
+    let rows : Rows = record { ends = c.clear_ends.new.ends; lasts = c.clear.new.self; draws = c.clear-2.new.self; points = c.clear-3.new.self; trail = c.clear_trail.new.trail; bounds = c.forget.new.history } in
+    subst (λ (j : JobValue). IsKept j rows.trail rows.ends rows.lasts rows.draws × AreListed j (map listed was.before.items) × IsProfiled j rows.trail rows.draws rows.points × AreTimes j rows.trail.items c.clear_times.new.times × IsBounded j rows.trail.items rows.bounds) (sym same)
+    (kept_anew old buses lengths sound (c.requires.buses ∙ sym long) (c.requires.lengths ∙ sym long) c.requires.room rows
+    (rows_emptied old was.trail was.ends was.lasts was.draws was.points was.bounds c.self.invariant.0 c.self.invariant.2 c.self.invariant.4 rows
+    c.clear_trail.ensures.items c.clear_trail.ensures.room c.clear_ends.ensures c.clear.ensures.items c.clear.ensures.capacity c.clear-2.ensures.items c.clear-2.ensures.capacity c.clear-3.ensures.items c.clear-3.ensures.capacity
     c.forget.ensures.values c.forget.ensures.marks c.forget.ensures.history c.forget.ensures.room)
+    (map listed was.before.items) c.self.invariant.1 c.clear_times.new.times (c.clear_times.ensures old was.trail.items c.self.invariant.3))
 
 pub returns-clause-empty : goal.returns-clause-empty
 returns-clause-empty g c =
     let own = c.self.inside.own in
     let buses = c.args.buses.now in
     let lengths = c.args.lengths.now in
-    let view : (let t : TableValue = record { job = job_value own; placed = c.self.inside.trail.items } in t) ≡ record { job = c.args.self.now.job; placed = [] } = c.self.view_is ∙ c.pop_to.ensures.table in
-    let job : job_value own ≡ c.args.self.now.job = ap (λ (t : TableValue). t.job) view in
-    let none : c.self.inside.trail.items ≡ [] = ap (λ (t : TableValue). t.placed) view in
+    let job : job_value own ≡ c.args.self.now.job = ap (λ (t : TableValue). t.job) c.self.view_is in
     let same = same_job own c.send_over.new.tests c.deref_mut.result.now buses lengths c.deref_mut.ensures.value c.send_over.ensures in
-    ap (λ (j : JobValue). (let t : TableValue = record { job = j; placed = c.self.inside.trail.items } in t)) (same ∙ ap (job_over buses lengths) job)
-    ∙ ap (λ (v : List Placement). (let t : TableValue = record { job = job_over buses lengths c.args.self.now.job; placed = v } in t)) none
+    ap (λ (j : JobValue). (let t : TableValue = record { job = j; placed = c.clear_trail.new.trail.items } in t)) (same ∙ ap (job_over buses lengths) job)
+    ∙ ap (λ (v : List Placement). (let t : TableValue = record { job = job_over buses lengths c.args.self.now.job; placed = v } in t)) c.clear_trail.ensures.items
 
 pub returns-clause-sound : goal.returns-clause-sound
 returns-clause-sound g c = (invariant_of-self g c).0.sound
 
 -- the tests that are changed are as many as those of the job
-as_many : (own : Job) (read : List JobTest) (placed : List Placement) (t : TableValue) (count : ℕ) → (let now : TableValue = record { job = job_value own; placed = placed } in now) ≡ record { job = t.job; placed = [] } → read ≡ own.tests.items → count ≡ length t.job.tests → count ≡ length read
+as_many : (own : Job) (read : List JobTest) (placed : List Placement) (t : TableValue) (count : ℕ) → (let now : TableValue = record { job = job_value own; placed = placed } in now) ≡ t → read ≡ own.tests.items → count ≡ length t.job.tests → count ≡ length read
 as_many own read placed t count view is many = many ∙ sym (ap (λ (v : TableValue). length v.job.tests) view) ∙ length-map own.tests.items test_value ∙ sym (ap length is)
 
 pub send_over-requires-clause-lengths : goal.send_over-requires-clause-lengths
 send_over-requires-clause-lengths g c =
-    as_many c.self.inside.own c.deref_mut.result.now c.self.inside.trail.items c.args.self.now (length c.args.lengths.now) (c.self.view_is ∙ c.pop_to.ensures.table) c.deref_mut.ensures.value c.requires.lengths
+    as_many c.self.inside.own c.deref_mut.result.now c.self.inside.trail.items c.args.self.now (length c.args.lengths.now) c.self.view_is c.deref_mut.ensures.value c.requires.lengths
 
 pub send_over-requires-clause-buses : goal.send_over-requires-clause-buses
 send_over-requires-clause-buses g c =
-    as_many c.self.inside.own c.deref_mut.result.now c.self.inside.trail.items c.args.self.now (length c.args.buses.now) (c.self.view_is ∙ c.pop_to.ensures.table) c.deref_mut.ensures.value c.requires.buses
+    as_many c.self.inside.own c.deref_mut.result.now c.self.inside.trail.items c.args.self.now (length c.args.buses.now) c.self.view_is c.deref_mut.ensures.value c.requires.buses
