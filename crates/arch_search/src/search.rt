@@ -110,11 +110,11 @@ fn no_modules(alloc: Global, problem: &Problem) -> Result<Vec<Taken>, NoMemory>
 }
 
 impl<'a> Search<'a> {
-    /// A search that begins at a plan of the job's tests. All memory that it ever takes is taken here; `NoMemory` where
+    /// A search that begins at a plan of the job's tests, which are found by the names of the live tests. All memory that it ever takes is taken here; `NoMemory` where
     /// there is none.
     pub fn new(
         alloc: Global,
-        soc: &Soc,
+        names: &LiveTests,
         problem: &'a Problem,
         job: &'a Job,
         plan: &Plan,
@@ -122,9 +122,9 @@ impl<'a> Search<'a> {
     ) -> Result<Search<'a>, NoMemory>
         requires sound { IsSoundJob (job_value job.now) }
         requires problem { IsProblem (job_value job.now) problem.now }
-        requires names { length (live_ids (soc_value soc.now)) ≡ length (job_value job.now).tests }
+        requires names { length names.now ≡ length (job_value job.now).tests }
     {
-        let current = first_state(alloc, soc, problem, job, plan)?;
+        let current = first_state(alloc, names, problem, job, plan)?;
         let best = current.copy(alloc)?;
         let next = current.copy(alloc)?;
         Search::with_states(alloc, problem, job, best, current, next, seed)

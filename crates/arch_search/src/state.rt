@@ -239,22 +239,21 @@ fn first_buses(alloc: Global, problem: &Problem, job: &Job, plan: &Plan) -> Resu
     Ok(buses)
 }
 
-/// The first state: the buses of a plan and the order of its tests. `NoMemory` where there is none.
+/// The first state: the buses of a plan and the order of its tests, which are found by their names. `NoMemory` where there is none.
 pub(crate) fn first_state(
     alloc: Global,
-    soc: &Soc,
+    names: &LiveTests,
     problem: &Problem,
     job: &Job,
     plan: &Plan,
 ) -> Result<State, NoMemory>
     requires sound { IsSoundJob (job_value job.now) }
     requires problem { IsProblem (job_value job.now) problem.now }
-    requires names { length (live_ids (soc_value soc.now)) ≡ length (job_value job.now).tests }
+    requires names { length names.now ≡ length (job_value job.now).tests }
     ensures { IfOk result (IsStateOf problem.now) }
 {
-    let names = LiveTests::new(alloc, soc)?;
     let buses = first_buses(alloc, problem, job, plan)?;
-    let order = first_order(alloc, &names, job, plan)?;
+    let order = first_order(alloc, names, job, plan)?;
     Ok(State {
         buses,
         order,
