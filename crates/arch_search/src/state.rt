@@ -1,8 +1,6 @@
 //! A state of the search: buses, an order of the tests, and the cycles that their schedule takes.
 ghost use Rattle.std.specs.Prelude.{◌≡◌, ℕ, ◌+◌, ◌<◌, length, replicate, IfOk, IfSome};
 ghost use Rattle.std.specs.List.{All, sum_by};
-ghost use Rattle.soc_model.specs.Chips.{soc_value};
-ghost use Rattle.plan_model.specs.Rules.{live_ids};
 ghost use Rattle.resource_table.specs.Jobs.{job_value, IsSoundJob};
 ghost use Rattle.arch_search.specs.States.{AreBuses, AreAlike};
 ghost use Rattle.arch_search.specs.Problems.{IsProblem, IsStateOf, AreFirstBuses};
@@ -15,7 +13,6 @@ use live_tests::LiveTests;
 use outside::{NoMemory, copied};
 use plan_model::Plan;
 use resource_table::Job;
-use soc_model::Soc;
 use std::alloc::Global;
 
 /// Buses and an order of the tests, and what is known of the schedule of the tests in that order.
@@ -239,7 +236,7 @@ fn first_buses(alloc: Global, problem: &Problem, job: &Job, plan: &Plan) -> Resu
     Ok(buses)
 }
 
-/// The first state: the buses of a plan and the order of its tests, which are found by their names. `NoMemory` where there is none.
+/// The first state: the buses of a plan and the order of its tests, each found by its name. `NoMemory` where there is none.
 pub(crate) fn first_state(
     alloc: Global,
     names: &LiveTests,
