@@ -1,8 +1,6 @@
 //! The search.
 ghost use Rattle.std.specs.Prelude.{◌≡◌, ◌≤◌, length, replicate, IfOk};
 ghost use Rattle.std.specs.List.{All};
-ghost use Rattle.soc_model.specs.Chips.{soc_value};
-ghost use Rattle.plan_model.specs.Rules.{live_ids};
 ghost use Rattle.resource_table.specs.Jobs.{JobValue, job_value, IsSoundJob};
 ghost use Rattle.arch_search.specs.Problems.{IsProblem, IsStateOf};
 ghost use Rattle.arch_search.specs.Searches.{IsLent};
@@ -19,12 +17,12 @@ use crate::scheduling::zeros;
 use crate::setting::Setting;
 use crate::state::{State, first_state};
 use crate::weighing::{finish, weigh};
+use live_tests::LiveTests;
 use outside::NoMemory;
 use plan_model::Plan;
 use rand_core::SeedableRng;
 use rand_xoshiro::Xoshiro256PlusPlus;
 use resource_table::{Job, Table};
-use soc_model::Soc;
 use std::alloc::Global;
 use std::marker::Model;
 use std::mem;
@@ -110,11 +108,11 @@ fn no_modules(alloc: Global, problem: &Problem) -> Result<Vec<Taken>, NoMemory>
 }
 
 impl<'a> Search<'a> {
-    /// A search that begins at a plan of the job's tests. All memory that it ever takes is taken here; `NoMemory` where
-    /// there is none.
+    /// A search that begins at a plan of the job's tests, each found by its name among these. All memory that it ever takes is
+    /// taken here; `NoMemory` where there is none.
     pub fn new(
         alloc: Global,
-        soc: &Soc,
+        names: &LiveTests,
         problem: &'a Problem,
         job: &'a Job,
         plan: &Plan,
@@ -122,9 +120,9 @@ impl<'a> Search<'a> {
     ) -> Result<Search<'a>, NoMemory>
         requires sound { IsSoundJob (job_value job.now) }
         requires problem { IsProblem (job_value job.now) problem.now }
-        requires names { length (live_ids (soc_value soc.now)) ≡ length (job_value job.now).tests }
+        requires names { length names.now ≡ length (job_value job.now).tests }
     {
-        let current = first_state(alloc, soc, problem, job, plan)?;
+        let current = first_state(alloc, names, problem, job, plan)?;
         let best = current.copy(alloc)?;
         let next = current.copy(alloc)?;
         Search::with_states(alloc, problem, job, best, current, next, seed)

@@ -1,8 +1,6 @@
 //! A state of the search: buses, an order of the tests, and the cycles that their schedule takes.
 ghost use Rattle.std.specs.Prelude.{◌≡◌, ℕ, ◌+◌, ◌<◌, length, replicate, IfOk, IfSome};
 ghost use Rattle.std.specs.List.{All, sum_by};
-ghost use Rattle.soc_model.specs.Chips.{soc_value};
-ghost use Rattle.plan_model.specs.Rules.{live_ids};
 ghost use Rattle.resource_table.specs.Jobs.{job_value, IsSoundJob};
 ghost use Rattle.arch_search.specs.States.{AreBuses, AreAlike};
 ghost use Rattle.arch_search.specs.Problems.{IsProblem, IsStateOf, AreFirstBuses};
@@ -15,7 +13,6 @@ use live_tests::LiveTests;
 use outside::{NoMemory, copied};
 use plan_model::Plan;
 use resource_table::Job;
-use soc_model::Soc;
 use std::alloc::Global;
 
 /// Buses and an order of the tests, and what is known of the schedule of the tests in that order.
@@ -239,22 +236,21 @@ fn first_buses(alloc: Global, problem: &Problem, job: &Job, plan: &Plan) -> Resu
     Ok(buses)
 }
 
-/// The first state: the buses of a plan and the order of its tests. `NoMemory` where there is none.
+/// The first state: the buses of a plan and the order of its tests, each found by its name. `NoMemory` where there is none.
 pub(crate) fn first_state(
     alloc: Global,
-    soc: &Soc,
+    names: &LiveTests,
     problem: &Problem,
     job: &Job,
     plan: &Plan,
 ) -> Result<State, NoMemory>
     requires sound { IsSoundJob (job_value job.now) }
     requires problem { IsProblem (job_value job.now) problem.now }
-    requires names { length (live_ids (soc_value soc.now)) ≡ length (job_value job.now).tests }
+    requires names { length names.now ≡ length (job_value job.now).tests }
     ensures { IfOk result (IsStateOf problem.now) }
 {
-    let names = LiveTests::new(alloc, soc)?;
     let buses = first_buses(alloc, problem, job, plan)?;
-    let order = first_order(alloc, &names, job, plan)?;
+    let order = first_order(alloc, names, job, plan)?;
     Ok(State {
         buses,
         order,

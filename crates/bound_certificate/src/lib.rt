@@ -25,7 +25,7 @@ mod power_value;
 mod precedence_lists;
 mod sums;
 
-pub use best::{best_bound, best_bound_with};
+pub use best::best_bound;
 use bound_rules::{area_bound, module_bound, pair_bound};
 use forced_lists::check_forced;
 use indexmap::IndexMap;

@@ -95,7 +95,7 @@ not_all soc limits plan next held before after verdict d =
     (λ chip. covers_read Limits (SaysLimits chip) (RefusesLimits chip) limits (λ bounds. with_accepted chip bounds plan (λ value. nothing)) (λ bounds. with_accepted chip bounds plan (next chip bounds))
     (λ bounds. covers_read Plan (SaysAccepted chip bounds) (RefusesPlan chip bounds) plan (λ value. nothing) (next chip bounds) (λ value. covers_nothing (next chip bounds value))))) d
 
-both_of : (held : Option Files) (soc limits plan : List ℕ) (all : Accepted) → IfSome held (λ files. AreRead files soc limits plan all) → IfSome held (λ files. BothRead files soc limits (record { soc = all.soc; limits = all.limits }))
+both_of : (held : Option Files) (soc limits plan : List ℕ) (all : Accepted) → IfSome held (λ files. AreRead files soc limits plan all) → IfSome held (λ files. BothRead files soc limits (record { soc = all.soc; limits = all.limits; live = all.live }))
 both_of None soc limits plan all read = tt
 both_of (Some files) soc limits plan all read = record { chip = read.chip; bounds = read.bounds }
 
@@ -108,5 +108,5 @@ value_of (Some files) soc limits plan all read = read.value
 pub after_all : (soc limits plan : List ℕ) (next : SocValue → LimitsValue → PlanValue → Procedure) (held : Option Files) (before mid after : ℕ) (all : Accepted) (verdict : Verdict) → before ≤ mid →
     IfSome held (λ files. AreRead files soc limits plan all) → Follows (next (soc_value all.soc) (limits_value all.limits) (plan_value all.plan)) held mid after verdict → Follows (with_all soc limits plan next) held before after verdict
 after_all soc limits plan next held before mid after all verdict order read d =
-    after_both soc limits (λ chip bounds. with_accepted chip bounds plan (next chip bounds)) held before mid after (record { soc = all.soc; limits = all.limits }) verdict order (both_of held soc limits plan all read)
+    after_both soc limits (λ chip bounds. with_accepted chip bounds plan (next chip bounds)) held before mid after (record { soc = all.soc; limits = all.limits; live = all.live }) verdict order (both_of held soc limits plan all read)
     (after_file Plan (SaysAccepted (soc_value all.soc) (limits_value all.limits)) (RefusesPlan (soc_value all.soc) (limits_value all.limits)) plan (next (soc_value all.soc) (limits_value all.limits)) held mid mid after (plan_value all.plan) verdict (omega arith) (value_of held soc limits plan all read) d)

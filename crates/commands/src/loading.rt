@@ -1,8 +1,9 @@
 //! Loads and reads the files of a command, each only where the ones before it are taken.
-ghost use Rattle.std.specs.Prelude.{◌≡◌, ◌≤◌, IfOk};
+ghost use Rattle.std.specs.Prelude.{◌≡◌, ◌≤◌, IfOk, IfSome};
 ghost use Rattle.soc_model.specs.Chips.{soc_value};
 ghost use Rattle.soc_model.specs.SoundChips.{IsSoundChip};
 ghost use Rattle.plan_model.specs.Faults.{IsFaultless};
+ghost use Rattle.plan_model.specs.Rules.{live_ids};
 ghost use Rattle.plan_model.specs.Views.{limits_value, plan_value};
 ghost use Rattle.plan_model.specs.SoundLimits.{IsSoundLimits};
 ghost use Rattle.plan_text.specs.Grammar.{AreSmallStarts};
@@ -16,7 +17,8 @@ use crate::lines::{
     too_long_line, unknown_test_line,
 };
 use crate::{FILE_MOST, FileKind, PLAN_FILE_MOST, Status, Verdict};
-use limits_text::{LimFault, read_limits};
+use limits_text::{LimFault, read_limits_with};
+use live_tests::LiveTests;
 use outside::{Loaded, NoMemory, Shelf};
 use plan_checker::first_fault;
 use plan_model::{Limits, Plan};
@@ -30,6 +32,8 @@ use std::alloc::Global;
 pub struct Both {
     pub soc: Soc,
     pub limits: Limits,
+    /// The live tests of the chip by name, where reading the limits noted them ([`limits_text::noted_tests`]).
+    pub live: Option<LiveTests>,
 }
 
 /// A chip, limits for it, and a plan that is accepted for both.
@@ -38,6 +42,8 @@ pub struct Accepted {
     pub soc: Soc,
     pub limits: Limits,
     pub plan: Plan,
+    /// The live tests of the chip by name, as in [`Both`].
+    pub live: Option<LiveTests>,
 }
 
 /// The answer of a line, where there is memory for it.
@@ -146,20 +152,24 @@ fn refused_limits(alloc: Global, fault: LimFault) -> Verdict
     }
 }
 
-/// Loads and reads limits for a chip, else how the command ends.
+/// Loads and reads limits for a chip, else how the command ends. The live tests of the chip are noted where the limits name a
+/// test and they aren't at hand.
 pub fn load_limits<H: Shelf>(
     alloc: Global,
     soc: &Soc,
+    live: &mut Option<LiveTests>,
     name: &str,
     shelf: &mut H,
 ) -> Result<Limits, Verdict>
+    requires { IfSome live.old (λ tests. tests ≡ live_ids (soc_value soc.now)) }
     ensures held_stays { H.held shelf.new ≡ H.held shelf.old }
     ensures faults_never_fall { H.faults shelf.old ≤ H.faults shelf.new }
     ensures sound { IfOk result (λ limits. IsSoundLimits (soc_value soc.now) (limits_value limits)) }
+    ensures noted { IfSome live.new (λ tests. tests ≡ live_ids (soc_value soc.now)) }
     ensures loads { LoadsLimits (soc_value soc.now) name.now (H.held shelf.old) (H.faults shelf.old) (H.faults shelf.new) result }
 {
     let bytes = load_file(alloc, FileKind::Limits, name, shelf)?;
-    match read_limits(alloc, bytes.as_slice(), soc) {
+    match read_limits_with(alloc, bytes.as_slice(), soc, live) {
         Ok(limits) => Ok(limits),
         Err(fault) => Err(refused_limits(alloc, fault)),
     }
@@ -222,11 +232,13 @@ pub fn load_both<H: Shelf>(
     ensures faults_never_fall { H.faults shelf.old ≤ H.faults shelf.new }
     ensures chip { IfOk result (λ both. IsSoundChip (soc_value both.soc)) }
     ensures limits { IfOk result (λ both. IsSoundLimits (soc_value both.soc) (limits_value both.limits)) }
+    ensures live { IfOk result (λ both. IfSome both.live (λ tests. tests ≡ live_ids (soc_value both.soc))) }
     ensures loads { LoadsBoth soc.now limits.now (H.held shelf.old) (H.faults shelf.old) (H.faults shelf.new) result }
 {
     let soc = load_chip(alloc, soc, shelf)?;
-    let limits = load_limits(alloc, &soc, limits, shelf)?;
-    Ok(Both { soc, limits })
+    let mut live = None;
+    let limits = load_limits(alloc, &soc, &mut live, limits, shelf)?;
+    Ok(Both { soc, limits, live })
 }
 
 /// Loads a chip, limits for it and a plan that is accepted, else how the command ends.
@@ -241,6 +253,7 @@ pub fn load_all<H: Shelf>(
     ensures faults_never_fall { H.faults shelf.old ≤ H.faults shelf.new }
     ensures sound { IfOk result (λ all. IsSoundChip (soc_value all.soc)) }
     ensures limits { IfOk result (λ all. IsSoundLimits (soc_value all.soc) (limits_value all.limits)) }
+    ensures live { IfOk result (λ all. IfSome all.live (λ tests. tests ≡ live_ids (soc_value all.soc))) }
     ensures accepted { IfOk result (λ all. IsFaultless (soc_value all.soc) (limits_value all.limits) (plan_value all.plan)) }
     ensures loads { LoadsAll soc.now limits.now plan.now (H.held shelf.old) (H.faults shelf.old) (H.faults shelf.new) result }
 {
@@ -250,5 +263,6 @@ pub fn load_all<H: Shelf>(
         soc: both.soc,
         limits: both.limits,
         plan,
+        live: both.live,
     })
 }

@@ -49,27 +49,42 @@ fn cycle_of(
     }
 }
 
+/// The live tests of a chip by name: those that were noted, where they were. `NoMemory` where there is none.
+pub fn noted_tests(
+    alloc: Global,
+    soc: &Soc,
+    noted: Option<LiveTests>,
+) -> Result<LiveTests, NoMemory>
+    requires { IfSome noted (λ tests. tests ≡ live_ids (soc_value soc.now)) }
+    ensures { IfOk result (λ tests. tests ≡ live_ids (soc_value soc.now)) }
+{
+    match noted {
+        Some(tests) => Ok(tests),
+        None => LiveTests::new(alloc, soc),
+    }
+}
+
 /// The first cycle of the precedences that items say for a chip. None comes exactly where they have none. `UnknownTest`
 /// with the line of the first item that names a test which isn't in the chip. The live tests of the chip are noted where
-/// they aren't at hand.
+/// an item names a test and they aren't at hand.
 pub fn first_cycle_of(
     alloc: Global,
     soc: &Soc,
-    live: Option<&LiveTests>,
+    live: &mut Option<LiveTests>,
     list: &[Item],
 ) -> Result<Option<Vec<TestId>>, LimFault>
-    requires { IfSome live (λ tests. tests.now ≡ live_ids (soc_value soc.now)) }
-    ensures { HasFirstCycle (soc_value soc.now) (map item_of list.now) result }
+    requires { IfSome live.old (λ tests. tests ≡ live_ids (soc_value soc.now)) }
+    ensures cycle { HasFirstCycle (soc_value soc.now) (map item_of list.now) result }
+    ensures noted { IfSome live.new (λ tests. tests ≡ live_ids (soc_value soc.now)) }
 {
     // most limits name no test, and then no test of the chip is noted
     if !some_names_test(list) {
         return Ok(None);
     }
-    if let Some(tests) = live {
-        return cycle_named(alloc, soc, tests, list);
-    }
-    let tests = LiveTests::new(alloc, soc)?;
-    cycle_named(alloc, soc, &tests, list)
+    let tests = noted_tests(alloc, soc, live.take())?;
+    let found = cycle_named(alloc, soc, &tests, list);
+    *live = Some(tests);
+    found
 }
 
 /// The same, where these are the live tests of the chip.

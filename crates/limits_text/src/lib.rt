@@ -15,6 +15,7 @@ mod reader;
 mod refusals;
 mod whole;
 
+pub use cycles::noted_tests;
 pub use laws::{
     cycles_are_where_no_rank_is, cycles_go_round, each_text_has_an_answer,
     printed_limits_are_answered, printed_limits_are_read, texts_are_answered,

@@ -30,18 +30,21 @@ fn list_of(items: Items) -> Vec<Item>
 pub fn read_limits(alloc: Global, bytes: &[u8], soc: &Soc) -> Result<Limits, LimFault>
     ensures { LimitsRead bytes.now (soc_value soc.now) result }
 {
-    read_limits_with(alloc, bytes, soc, None)
+    let mut live = None;
+    read_limits_with(alloc, bytes, soc, &mut live)
 }
 
-/// The same, with the live tests of the chip by name, where they are at hand.
+/// The same, with the live tests of the chip by name where they are at hand. Where they aren't and the text names a test,
+/// they are noted for those that come after.
 pub fn read_limits_with(
     alloc: Global,
     bytes: &[u8],
     soc: &Soc,
-    live: Option<&LiveTests>,
+    live: &mut Option<LiveTests>,
 ) -> Result<Limits, LimFault>
-    requires { IfSome live (λ tests. tests.now ≡ live_ids (soc_value soc.now)) }
-    ensures { LimitsRead bytes.now (soc_value soc.now) result }
+    requires { IfSome live.old (λ tests. tests ≡ live_ids (soc_value soc.now)) }
+    ensures read { LimitsRead bytes.now (soc_value soc.now) result }
+    ensures noted { IfSome live.new (λ tests. tests ≡ live_ids (soc_value soc.now)) }
 {
     let items = read_items(alloc, bytes)?;
     let list = list_of(items);

@@ -1,10 +1,11 @@
 //! Decides how a call ends before anything is written.
-ghost use Rattle.std.specs.Prelude.{◌≡◌, ◌<◌, ◌≤◌, map, string_bytes, IfOk};
+ghost use Rattle.std.specs.Prelude.{◌≡◌, ◌<◌, ◌≤◌, map, string_bytes, IfOk, IfSome};
 ghost use Rattle.soc_model.specs.Chips.{soc_value};
 ghost use Rattle.soc_model.specs.SoundChips.{IsSoundChip};
 ghost use Rattle.plan_model.specs.Plans.{PlanValue};
 ghost use Rattle.plan_model.specs.SoundLimits.{IsSoundLimits};
 ghost use Rattle.plan_model.specs.Faults.{IsFaultless};
+ghost use Rattle.plan_model.specs.Rules.{live_ids};
 ghost use Rattle.plan_model.specs.Views.{limits_value, plan_value};
 ghost use Rattle.plan_text.specs.PlanLines.{plan_text};
 ghost use Rattle.commands.specs.Commands.{Improve, command_of as asked_command};
@@ -16,35 +17,47 @@ ghost use Rattle.plan_improver.specs.Improved.{IsImproved};
 ghost use Rattle.plan_improver.specs.Requests.{procedure_of, IsQuiet};
 ghost use Rattle.plan_improver.specs.Told.{MayTell, MayTellOf};
 
-use crate::improving::improved;
+use crate::improving::{Known, improved};
 use commands::{
     Accepted, Command, Status, Verdict, answered_with, bad_words, command_of, load_all,
 };
+use limits_text::noted_tests;
+use live_tests::Resolved;
 use outside::{NoMemory, Shelf, Sink};
-use plan_model::{Limits, Plan};
 use plan_text::print_plan;
-use soc_model::Soc;
 use std::alloc::Global;
 
 /// The text of an improved plan.
 fn text_of<T: Sink>(
     alloc: Global,
-    soc: &Soc,
-    limits: &Limits,
-    plan: Plan,
+    all: Accepted,
     tries: u64,
     seed: u64,
     told: &mut T,
 ) -> Result<Vec<u8>, NoMemory>
-    requires sound { IsSoundChip (soc_value soc.now) }
-    requires limits { IsSoundLimits (soc_value soc.now) (limits_value limits.now) }
-    requires given { IsFaultless (soc_value soc.now) (limits_value limits.now) (plan_value plan) }
-    ensures text { IfOk result (λ text. (value : PlanValue) × IsImproved (soc_value soc.now) (limits_value limits.now) tries (plan_value plan) value × (text.items ≡ plan_text value)) }
+    requires sound { IsSoundChip (soc_value all.soc) }
+    requires limits { IsSoundLimits (soc_value all.soc) (limits_value all.limits) }
+    requires live { IfSome all.live (λ tests. tests ≡ live_ids (soc_value all.soc)) }
+    requires given { IsFaultless (soc_value all.soc) (limits_value all.limits) (plan_value all.plan) }
+    ensures text { IfOk result (λ text. (value : PlanValue) × IsImproved (soc_value all.soc) (limits_value all.limits) tries (plan_value all.plan) value × (text.items ≡ plan_text value)) }
     ensures faults_never_fall { T.faults told.old ≤ T.faults told.new }
     ensures quiet { tries < TOLD_FROM → told.new ≡ told.old }
     ensures told { MayTell tries (T.written told.old) (T.written told.new) }
 {
-    let better = improved(alloc, soc, limits, plan, tries, seed, told)?;
+    let Accepted {
+        soc,
+        limits,
+        plan,
+        live,
+    } = all;
+    let tests = noted_tests(alloc, &soc, live)?;
+    let resolved = Resolved::with_tests(alloc, &soc, &limits, tests)?;
+    let known = Known {
+        soc: &soc,
+        limits: &limits,
+        resolved: &resolved,
+    };
+    let better = improved(alloc, &known, plan, tries, seed, told)?;
     print_plan(alloc, &better)
 }
 
@@ -67,13 +80,7 @@ fn decide_improve<H: Shelf, T: Sink>(
     ensures told { MayTell tries (T.written told.old) (T.written told.new) }
 {
     match load_all(alloc, soc, limits, plan, shelf) {
-        Ok(all) => {
-            let Accepted { soc, limits, plan } = all;
-            answered_with(
-                Status::Done,
-                text_of(alloc, &soc, &limits, plan, tries, seed, told),
-            )
-        }
+        Ok(all) => answered_with(Status::Done, text_of(alloc, all, tries, seed, told)),
         Err(verdict) => verdict,
     }
 }

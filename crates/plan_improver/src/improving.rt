@@ -10,6 +10,7 @@ ghost use Rattle.plan_model.specs.Faults.{IsFaultless};
 ghost use Rattle.plan_model.specs.Runs.{Content};
 ghost use Rattle.plan_model.specs.Right.{IsRight};
 ghost use Rattle.plan_model.specs.Views.{limits_value, plan_value, bound_value};
+ghost use Rattle.live_tests.specs.Resolved.{IsResolved};
 ghost use Rattle.plan_text.specs.Grammar.{AreSmallStarts};
 ghost use Rattle.plan_improver.specs.declared.progress.TheConstants.{TOLD_FROM};
 ghost use Rattle.plan_improver.specs.Grounds.{AreGrounds};
@@ -21,32 +22,41 @@ use crate::laws::faultless_plans_are_in_range;
 use crate::progress::{line_room, run_told};
 use arch_search::{Problem, Search};
 use bound_certificate::best_bound;
+use live_tests::Resolved;
 use outside::{NoMemory, Sink};
 use plan_model::{Bound, Limits, Plan, good_plans_run_right};
-use planner::{JobParts, job_of};
+use planner::{JobParts, job_with};
 use resource_table::Job;
 use soc_model::Soc;
 use std::alloc::Global;
 use std::mem;
 use width_table::WidthTable;
 
+/// A chip and limits for it, with what both say by places.
+#[derive(Clone, Copy, Drop)]
+pub struct Known<'a> {
+    pub soc: &'a Soc,
+    pub limits: &'a Limits,
+    pub resolved: &'a Resolved,
+}
+
 /// The greater of a given bound and of the best one at the cycles of a good plan; of equal ones the given one.
 fn greater_bound(
     alloc: Global,
-    soc: &Soc,
-    limits: &Limits,
+    known: &Known<'_>,
     cycles: u64,
     given: Bound,
 ) -> Result<Bound, NoMemory>
-    requires sound { IsSoundChip (soc_value soc.now) }
-    requires limits { IsSoundLimits (soc_value soc.now) (limits_value limits.now) }
-    requires good { (n : ℕ) → IsBound (soc_value soc.now) (limits_value limits.now) n → n ≤ cycles }
-    requires accepted { IsAccepted (soc_value soc.now) (limits_value limits.now) (bound_value given) }
-    ensures greater { IfOk result (λ bound. IsGreaterBound (soc_value soc.now) (limits_value limits.now) cycles (bound_value given) (bound_value bound)) }
-    ensures accepted { IfOk result (λ bound. IsAccepted (soc_value soc.now) (limits_value limits.now) (bound_value bound)) }
+    requires sound { IsSoundChip (soc_value known.now.soc.now) }
+    requires limits { IsSoundLimits (soc_value known.now.soc.now) (limits_value known.now.limits.now) }
+    requires resolved { IsResolved (soc_value known.now.soc.now) known.now.limits.now known.now.resolved.now }
+    requires good { (n : ℕ) → IsBound (soc_value known.now.soc.now) (limits_value known.now.limits.now) n → n ≤ cycles }
+    requires accepted { IsAccepted (soc_value known.now.soc.now) (limits_value known.now.limits.now) (bound_value given) }
+    ensures greater { IfOk result (λ bound. IsGreaterBound (soc_value known.now.soc.now) (limits_value known.now.limits.now) cycles (bound_value given) (bound_value bound)) }
+    ensures accepted { IfOk result (λ bound. IsAccepted (soc_value known.now.soc.now) (limits_value known.now.limits.now) (bound_value bound)) }
     ensures at_least { IfOk result (λ bound. given.cycles ≤ bound.cycles) }
 {
-    let best = best_bound(alloc, soc, limits, cycles)?;
+    let best = best_bound(alloc, known.soc, known.limits, known.resolved, cycles)?;
     if given.cycles < best.cycles {
         return Ok(best);
     }
@@ -56,16 +66,16 @@ fn greater_bound(
 /// A good plan, with the greater of a given bound and of the best one at its cycles.
 fn with_greater_bound(
     alloc: Global,
-    soc: &Soc,
-    limits: &Limits,
+    known: &Known<'_>,
     plan: Plan,
     given: Bound,
 ) -> Result<Plan, NoMemory>
-    requires sound { IsSoundChip (soc_value soc.now) }
-    requires limits { IsSoundLimits (soc_value soc.now) (limits_value limits.now) }
-    requires good { IsGood (soc_value soc.now) (limits_value limits.now) (plan_value plan) }
-    requires accepted { IsAccepted (soc_value soc.now) (limits_value limits.now) (bound_value given) }
-    ensures { IfOk result (λ new. IsRaised (soc_value soc.now) (limits_value limits.now) (plan_value plan) (bound_value given) (plan_value new)) }
+    requires sound { IsSoundChip (soc_value known.now.soc.now) }
+    requires limits { IsSoundLimits (soc_value known.now.soc.now) (limits_value known.now.limits.now) }
+    requires resolved { IsResolved (soc_value known.now.soc.now) known.now.limits.now known.now.resolved.now }
+    requires good { IsGood (soc_value known.now.soc.now) (limits_value known.now.limits.now) (plan_value plan) }
+    requires accepted { IsAccepted (soc_value known.now.soc.now) (limits_value known.now.limits.now) (bound_value given) }
+    ensures { IfOk result (λ new. IsRaised (soc_value known.now.soc.now) (limits_value known.now.limits.now) (plan_value plan) (bound_value given) (plan_value new)) }
 {
     let Plan {
         buses,
@@ -74,7 +84,7 @@ fn with_greater_bound(
         cycles,
         bound: _,
     } = plan;
-    let bound = greater_bound(alloc, soc, limits, cycles, given)?;
+    let bound = greater_bound(alloc, known, cycles, given)?;
     Ok(Plan {
         buses,
         wrappers,
@@ -85,20 +95,21 @@ fn with_greater_bound(
 }
 
 /// The job of a plan's tests.
-fn job_of_plan(alloc: Global, soc: &Soc, limits: &Limits, given: &Plan) -> Result<Job, NoMemory>
-    requires sound { IsSoundChip (soc_value soc.now) }
-    requires limits { IsSoundLimits (soc_value soc.now) (limits_value limits.now) }
-    requires given { IsGood (soc_value soc.now) (limits_value limits.now) (plan_value given.now) }
+fn job_of_plan(alloc: Global, known: &Known<'_>, given: &Plan) -> Result<Job, NoMemory>
+    requires sound { IsSoundChip (soc_value known.now.soc.now) }
+    requires limits { IsSoundLimits (soc_value known.now.soc.now) (limits_value known.now.limits.now) }
+    requires resolved { IsResolved (soc_value known.now.soc.now) known.now.limits.now known.now.resolved.now }
+    requires given { IsGood (soc_value known.now.soc.now) (limits_value known.now.limits.now) (plan_value given.now) }
     ensures sound { IfOk result (λ job. IsSoundJob (job_value job)) }
-    ensures tests { IfOk result (λ job. length (job_value job).tests ≡ length (live_tests (soc_value soc.now))) }
+    ensures tests { IfOk result (λ job. length (job_value job).tests ≡ length (live_tests (soc_value known.now.soc.now))) }
 {
     let parts = JobParts {
-        soc,
-        limits,
+        soc: known.soc,
+        limits: known.limits,
         buses: &given.buses,
         wrappers: &given.wrappers,
     };
-    let job = job_of(alloc, &parts)?;
+    let job = job_with(alloc, &parts, known.resolved)?;
     Ok(job)
 }
 
@@ -114,20 +125,16 @@ struct Grounds<'a> {
 }
 
 /// What a search that begins at a plan goes by.
-fn grounds_of<'a>(
-    alloc: Global,
-    soc: &'a Soc,
-    limits: &Limits,
-    given: &Plan,
-) -> Result<Grounds<'a>, NoMemory>
-    requires sound { IsSoundChip (soc_value soc.now) }
-    requires limits { IsSoundLimits (soc_value soc.now) (limits_value limits.now) }
-    requires given { IsGood (soc_value soc.now) (limits_value limits.now) (plan_value given.now) }
-    ensures { IfOk result (AreGrounds (soc_value soc.now)) }
+fn grounds_of<'a>(alloc: Global, known: &Known<'a>, given: &Plan) -> Result<Grounds<'a>, NoMemory>
+    requires sound { IsSoundChip (soc_value known.now.soc.now) }
+    requires limits { IsSoundLimits (soc_value known.now.soc.now) (limits_value known.now.limits.now) }
+    requires resolved { IsResolved (soc_value known.now.soc.now) known.now.limits.now known.now.resolved.now }
+    requires given { IsGood (soc_value known.now.soc.now) (limits_value known.now.limits.now) (plan_value given.now) }
+    ensures { IfOk result (AreGrounds (soc_value known.now.soc.now)) }
 {
-    let table = WidthTable::new(alloc, soc, limits.wires)?;
-    let job = job_of_plan(alloc, soc, limits, given)?;
-    let problem = Problem::new(alloc, soc, &table, &job)?;
+    let table = WidthTable::new(alloc, known.soc, known.limits.wires)?;
+    let job = job_of_plan(alloc, known, given)?;
+    let problem = Problem::new(alloc, known.soc, &table, &job)?;
     Ok(Grounds {
         table,
         job,
@@ -138,18 +145,18 @@ fn grounds_of<'a>(
 /// A good plan of fewer cycles than the given one, where so many tries of a search on its grounds find one.
 fn searched_on<T: Sink>(
     alloc: Global,
-    soc: &Soc,
-    limits: &Limits,
+    known: &Known<'_>,
     grounds: &Grounds<'_>,
     given: &Plan,
     tries: u64,
     seed: u64,
     told: &mut T,
 ) -> Result<Option<Plan>, NoMemory>
-    requires sound { IsSoundChip (soc_value soc.now) }
-    requires limits { IsSoundLimits (soc_value soc.now) (limits_value limits.now) }
-    requires grounds { AreGrounds (soc_value soc.now) grounds.now }
-    ensures good { IfOk result (λ plan. IfSome plan (λ p. IsGood (soc_value soc.now) (limits_value limits.now) (plan_value p))) }
+    requires sound { IsSoundChip (soc_value known.now.soc.now) }
+    requires limits { IsSoundLimits (soc_value known.now.soc.now) (limits_value known.now.limits.now) }
+    requires resolved { IsResolved (soc_value known.now.soc.now) known.now.limits.now known.now.resolved.now }
+    requires grounds { AreGrounds (soc_value known.now.soc.now) grounds.now }
+    ensures good { IfOk result (λ plan. IfSome plan (λ p. IsGood (soc_value known.now.soc.now) (limits_value known.now.limits.now) (plan_value p))) }
     ensures small_starts { IfOk result (λ plan. IfSome plan (λ p. AreSmallStarts (plan_value p).starts)) }
     ensures fewer { IfOk result (λ plan. IfSome plan (λ p. p.cycles < given.now.cycles)) }
     ensures faults_never_fall { T.faults told.old ≤ T.faults told.new }
@@ -157,13 +164,14 @@ fn searched_on<T: Sink>(
     ensures told { MayTell tries (T.written told.old) (T.written told.new) }
 {
     let mut line = line_room(alloc)?;
-    let mut search = Search::new(alloc, soc, &grounds.problem, &grounds.job, given, seed)?;
+    let names = &known.resolved.tests;
+    let mut search = Search::new(alloc, names, &grounds.problem, &grounds.job, given, seed)?;
     run_told(&mut search, tries, &mut line, told);
     search.finish();
     let plan = better_plan(
         alloc,
-        soc,
-        limits,
+        known.soc,
+        known.limits,
         &grounds.table,
         &search.found(),
         given.cycles,
@@ -176,17 +184,17 @@ fn searched_on<T: Sink>(
 /// A good plan of fewer cycles than the given one, where so many tries find one.
 fn searched<T: Sink>(
     alloc: Global,
-    soc: &Soc,
-    limits: &Limits,
+    known: &Known<'_>,
     given: &Plan,
     tries: u64,
     seed: u64,
     told: &mut T,
 ) -> Result<Option<Plan>, NoMemory>
-    requires sound { IsSoundChip (soc_value soc.now) }
-    requires limits { IsSoundLimits (soc_value soc.now) (limits_value limits.now) }
-    requires given { IsFaultless (soc_value soc.now) (limits_value limits.now) (plan_value given.now) }
-    ensures good { IfOk result (λ plan. IfSome plan (λ p. IsGood (soc_value soc.now) (limits_value limits.now) (plan_value p))) }
+    requires sound { IsSoundChip (soc_value known.now.soc.now) }
+    requires limits { IsSoundLimits (soc_value known.now.soc.now) (limits_value known.now.limits.now) }
+    requires resolved { IsResolved (soc_value known.now.soc.now) known.now.limits.now known.now.resolved.now }
+    requires given { IsFaultless (soc_value known.now.soc.now) (limits_value known.now.limits.now) (plan_value given.now) }
+    ensures good { IfOk result (λ plan. IfSome plan (λ p. IsGood (soc_value known.now.soc.now) (limits_value known.now.limits.now) (plan_value p))) }
     ensures small_starts { IfOk result (λ plan. IfSome plan (λ p. AreSmallStarts (plan_value p).starts)) }
     ensures fewer { IfOk result (λ plan. IfSome plan (λ p. p.cycles < given.now.cycles)) }
     ensures faults_never_fall { T.faults told.old ≤ T.faults told.new }
@@ -197,8 +205,8 @@ fn searched<T: Sink>(
     if tries == 0 {
         return Ok(None);
     }
-    let grounds = grounds_of(alloc, soc, limits, given)?;
-    let plan = searched_on(alloc, soc, limits, &grounds, given, tries, seed, told);
+    let grounds = grounds_of(alloc, known, given)?;
+    let plan = searched_on(alloc, known, &grounds, given, tries, seed, told);
     // let go by a call, as the search is
     drop(grounds);
     plan
@@ -211,33 +219,33 @@ fn searched<T: Sink>(
 /// that fails changes nothing else. `NoMemory` where there is none.
 pub fn improved<T: Sink>(
     alloc: Global,
-    soc: &Soc,
-    limits: &Limits,
+    known: &Known<'_>,
     mut given: Plan,
     tries: u64,
     seed: u64,
     told: &mut T,
 ) -> Result<Plan, NoMemory>
-    requires sound { IsSoundChip (soc_value soc.now) }
-    requires limits { IsSoundLimits (soc_value soc.now) (limits_value limits.now) }
-    requires given { IsFaultless (soc_value soc.now) (limits_value limits.now) (plan_value given) }
-    ensures improved { IfOk result (λ plan. IsImproved (soc_value soc.now) (limits_value limits.now) tries (plan_value given) (plan_value plan)) }
-    ensures right { IfOk result (λ plan. (content : Content) → IsRight (soc_value soc.now) (limits_value limits.now) (plan_value plan) content) }
+    requires sound { IsSoundChip (soc_value known.now.soc.now) }
+    requires limits { IsSoundLimits (soc_value known.now.soc.now) (limits_value known.now.limits.now) }
+    requires resolved { IsResolved (soc_value known.now.soc.now) known.now.limits.now known.now.resolved.now }
+    requires given { IsFaultless (soc_value known.now.soc.now) (limits_value known.now.limits.now) (plan_value given) }
+    ensures improved { IfOk result (λ plan. IsImproved (soc_value known.now.soc.now) (limits_value known.now.limits.now) tries (plan_value given) (plan_value plan)) }
+    ensures right { IfOk result (λ plan. (content : Content) → IsRight (soc_value known.now.soc.now) (limits_value known.now.limits.now) (plan_value plan) content) }
     ensures faults_never_fall { T.faults told.old ≤ T.faults told.new }
     ensures quiet { tries < TOLD_FROM → told.new ≡ told.old }
     ensures told { MayTell tries (T.written told.old) (T.written told.new) }
 {
     good_plans_run_right();
     faultless_plans_are_in_range();
-    let found = searched(alloc, soc, limits, &given, tries, seed, told)?;
+    let found = searched(alloc, known, &given, tries, seed, told)?;
     let bound = mem::replace(&mut given.bound, no_bound());
     match found {
         Some(plan) => {
-            let better = with_greater_bound(alloc, soc, limits, plan, bound)?;
+            let better = with_greater_bound(alloc, known, plan, bound)?;
             Ok(better)
         }
         None => {
-            let kept = with_greater_bound(alloc, soc, limits, given, bound)?;
+            let kept = with_greater_bound(alloc, known, given, bound)?;
             Ok(kept)
         }
     }

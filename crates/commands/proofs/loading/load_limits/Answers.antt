@@ -11,5 +11,5 @@ returns-in_err-bytes-clause-loads g c =
 
 pub returns-clause-loads : goal.returns-clause-loads
 returns-clause-loads g c =
-    let why = subst (λ bytes. LimitsRead bytes (soc_value c.args.soc.now) (Err c.in-Err.fault)) c.as_slice.ensures.value c.in-Err.ensures in
+    let why = subst (λ bytes. LimitsRead bytes (soc_value c.args.soc.now) (Err c.in-Err.fault)) c.as_slice.ensures.value c.in-Err.ensures.read in
     limits_refused _ _ c.in_ok-bytes.bytes.items _ _ _ c.in-Err.fault _ c.in_ok-bytes.ensures.loads.0 c.in_ok-bytes.ensures.loads.1 why c.refused_limits.ensures

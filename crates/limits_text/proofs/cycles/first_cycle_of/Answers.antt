@@ -4,8 +4,8 @@ use Rattle.limits_text.specs.Views.{item_of}
 use Rattle.limits_text.proofs.Noting.{none_named, no_cycle}
 use Rattle.limits_text.proofs.cycles.first_cycle_of.Goals as goal
 
-pub returns-then-not-some_names_test : goal.returns-then-not-some_names_test
-returns-then-not-some_names_test c =
+pub returns-then-not-some_names_test-clause-cycle : goal.returns-then-not-some_names_test-clause-cycle
+returns-then-not-some_names_test-clause-cycle c =
     let soc = soc_value c.args.soc.now in
     let none = none_named soc (map item_of c.args.list.now) (sym c.some_names_test.ensures ∙ c.if-not-some_names_test.true) in
     (none.0, λ limits is. no_cycle soc (map item_of c.args.list.now) limits is none.1)

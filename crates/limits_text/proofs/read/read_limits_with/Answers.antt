@@ -9,25 +9,25 @@ use Rattle.limits_text.proofs.Reading.{said, sound_said}
 use Rattle.limits_text.proofs.Noting.{noted_said}
 use Rattle.limits_text.proofs.read.read_limits_with.Goals as goal
 
-pub returns-in-Err : goal.returns-in-Err
-returns-in-Err c =
+pub returns-in-Err-clause-read : goal.returns-in-Err-clause-read
+returns-in-Err-clause-read c =
     let soc = soc_value c.args.soc.now in
     noted_said c.args.bytes.now soc c.in_ok-items.items.second (map item_of c.in_ok-items.items.list.items) c.in-Err.fault c.in_ok-items.ensures
-    (subst (λ (l : List Item). StopsAt soc (map item_of l) c.in-Err.fault) (c.deref.ensures.value ∙ c.list_of-list.ensures) c.in-Err.ensures)
+    (subst (λ (l : List Item). StopsAt soc (map item_of l) c.in-Err.fault) (c.deref.ensures.value ∙ c.list_of-list.ensures) c.in-Err.ensures.cycle)
 
-pub returns-in-Some : goal.returns-in-Some
-returns-in-Some c =
+pub returns-in-Some-clause-read : goal.returns-in-Some-clause-read
+returns-in-Some-clause-read c =
     let soc = soc_value c.args.soc.now in
-    let first : HasFirstCycle soc (map item_of c.in_ok-items.items.list.items) (Ok c.in-Ok.found) = subst (λ (l : List Item). HasFirstCycle soc (map item_of l) (Ok c.in-Ok.found)) (c.deref.ensures.value ∙ c.list_of-list.ensures) c.in-Ok.ensures in
+    let first : HasFirstCycle soc (map item_of c.in_ok-items.items.list.items) (Ok c.in-Ok.found) = subst (λ (l : List Item). HasFirstCycle soc (map item_of l) (Ok c.in-Ok.found)) (c.deref.ensures.value ∙ c.list_of-list.ensures) c.in-Ok.ensures.cycle in
     let whole = rw c.list_of-list.ensures at c.in_ok-limits.ensures in
     let k = said c.args.bytes.now soc c.in_ok-items.items.second (map item_of c.in_ok-items.items.list.items) (limits_value c.in_ok-limits.limits) c.in_ok-items.ensures whole first.0 in
     let cycle = first.1 (limits_value c.in_ok-limits.limits) whole in
     record { limits = limits_value c.in_ok-limits.limits; said = k; cycle = rw c.in-Some.is at cycle }
 
-pub returns-in-Some-2 : goal.returns-in-Some-2
-returns-in-Some-2 c =
+pub returns-in-Some-2-clause-read : goal.returns-in-Some-2-clause-read
+returns-in-Some-2-clause-read c =
     let soc = soc_value c.args.soc.now in
-    let first : HasFirstCycle soc (map item_of c.in_ok-items.items.list.items) (Ok c.in-Ok.found) = subst (λ (l : List Item). HasFirstCycle soc (map item_of l) (Ok c.in-Ok.found)) (c.deref.ensures.value ∙ c.list_of-list.ensures) c.in-Ok.ensures in
+    let first : HasFirstCycle soc (map item_of c.in_ok-items.items.list.items) (Ok c.in-Ok.found) = subst (λ (l : List Item). HasFirstCycle soc (map item_of l) (Ok c.in-Ok.found)) (c.deref.ensures.value ∙ c.list_of-list.ensures) c.in-Ok.ensures.cycle in
     let whole = rw c.list_of-list.ensures at c.in_ok-limits.ensures in
     let k = said c.args.bytes.now soc c.in_ok-items.items.second (map item_of c.in_ok-items.items.list.items) (limits_value c.in_ok-limits.limits) c.in_ok-items.ensures whole first.0 in
     let cycle = first.1 (limits_value c.in_ok-limits.limits) whole in
@@ -38,10 +38,10 @@ returns-in-Some-2 c =
       passes = rw c.in-Some-2.is at c.in_ok-test.ensures;
     }
 
-pub returns : goal.returns
-returns c =
+pub returns-clause-read : goal.returns-clause-read
+returns-clause-read c =
     let soc = soc_value c.args.soc.now in
-    let first : HasFirstCycle soc (map item_of c.in_ok-items.items.list.items) (Ok c.in-Ok.found) = subst (λ (l : List Item). HasFirstCycle soc (map item_of l) (Ok c.in-Ok.found)) (c.deref.ensures.value ∙ c.list_of-list.ensures) c.in-Ok.ensures in
+    let first : HasFirstCycle soc (map item_of c.in_ok-items.items.list.items) (Ok c.in-Ok.found) = subst (λ (l : List Item). HasFirstCycle soc (map item_of l) (Ok c.in-Ok.found)) (c.deref.ensures.value ∙ c.list_of-list.ensures) c.in-Ok.ensures.cycle in
     let whole = rw c.list_of-list.ensures at c.in_ok-limits.ensures in
     let k = said c.args.bytes.now soc c.in_ok-items.items.second (map item_of c.in_ok-items.items.list.items) (limits_value c.in_ok-limits.limits) c.in_ok-items.ensures whole first.0 in
     let cycle = first.1 (limits_value c.in_ok-limits.limits) whole in

@@ -7,15 +7,15 @@ use Rattle.planner.specs.Jobs.{settled_parts, test_of}
 use Rattle.planner.proofs.GoodParts.{parts_wrapped, parts_proper}
 use Rattle.plan_improver.proofs.improving.job_of_plan.Goals as goal
 
-pub job_of-requires-clause-wrapped : goal.job_of-requires-clause-wrapped
-job_of-requires-clause-wrapped c =
-    parts_wrapped (soc_value c.args.soc.now) (limits_value c.args.limits.now) (plan_value c.args.given.now) (map bus_value c.deref.result.now) (map wrapper_value c.deref-2.result.now) c.requires.given (ap (map bus_value) c.deref.ensures.value) (ap (map wrapper_value) c.deref-2.ensures.value)
+pub job_with-requires-clause-wrapped : goal.job_with-requires-clause-wrapped
+job_with-requires-clause-wrapped c =
+    parts_wrapped (soc_value c.args.known.now.soc.now) (limits_value c.args.known.now.limits.now) (plan_value c.args.given.now) (map bus_value c.deref.result.now) (map wrapper_value c.deref-2.result.now) c.requires.given (ap (map bus_value) c.deref.ensures.value) (ap (map wrapper_value) c.deref-2.ensures.value)
 
-pub job_of-requires-clause-proper : goal.job_of-requires-clause-proper
-job_of-requires-clause-proper c =
-    parts_proper (soc_value c.args.soc.now) (limits_value c.args.limits.now) (plan_value c.args.given.now) (map bus_value c.deref.result.now) (map wrapper_value c.deref-2.result.now) c.requires.given (ap (map wrapper_value) c.deref-2.ensures.value)
+pub job_with-requires-clause-proper : goal.job_with-requires-clause-proper
+job_with-requires-clause-proper c =
+    parts_proper (soc_value c.args.known.now.soc.now) (limits_value c.args.known.now.limits.now) (plan_value c.args.given.now) (map bus_value c.deref.result.now) (map wrapper_value c.deref-2.result.now) c.requires.given (ap (map wrapper_value) c.deref-2.ensures.value)
 
 pub returns-clause-tests : goal.returns-clause-tests
 returns-clause-tests c =
     ap (λ (j : JobValue). length j.tests) c.in_ok-job.ensures.job
-    ∙ length-map (live_tests (soc_value c.args.soc.now)) (test_of (soc_value c.args.soc.now) (limits_value c.args.limits.now) (settled_parts (map bus_value c.deref.result.now) (map wrapper_value c.deref-2.result.now)))
+    ∙ length-map (live_tests (soc_value c.args.known.now.soc.now)) (test_of (soc_value c.args.known.now.soc.now) (limits_value c.args.known.now.limits.now) (settled_parts (map bus_value c.deref.result.now) (map wrapper_value c.deref-2.result.now)))

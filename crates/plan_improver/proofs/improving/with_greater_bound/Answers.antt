@@ -9,7 +9,7 @@ greater_bound-requires-clause-good c = λ n bound. bound (plan_value c.args.plan
 
 pub returns : goal.returns
 returns c = record {
-  good = good_bounded (soc_value c.args.soc.now) (limits_value c.args.limits.now) (plan_value c.args.plan) (bound_value c.in_ok-bound.bound) c.requires.good;
+  good = good_bounded (soc_value c.args.known.now.soc.now) (limits_value c.args.known.now.limits.now) (plan_value c.args.plan) (bound_value c.in_ok-bound.bound) c.requires.good;
   plan_is = refl;
   greater = c.in_ok-bound.ensures.greater;
   accepted = c.in_ok-bound.ensures.accepted;
