@@ -19,7 +19,7 @@ use crate::building::paths_of;
 use crate::lane::Lane;
 use crate::layout::Layout;
 use crate::made::base_of;
-use live_tests::{PlacedTest, PlacedTests};
+use live_tests::{PlacedTest, tests_placed};
 use outside::{NoMemory, push};
 use plan_model::{Moment, Phases, Plan, Wrapper, lengths, wrapper_of};
 use soc_model::{Module, Soc, find_test, module_at};
@@ -177,7 +177,7 @@ impl<'a> Setting<'a> {
         requires firsts { AreFirstWires (widths (plan_value self.now.plan.now)) self.now.firsts.now }
         ensures { IfOk result (λ lanes. AreNewLanes (made_content (soc_value self.now.soc.now) self.now.seed) (planned (soc_value self.now.soc.now) (plan_value self.now.plan.now)) lanes.items) }
     {
-        let placed = PlacedTests::new(alloc, self.soc, self.plan)?;
-        self.lanes_of(alloc, placed.tests())
+        let tests = tests_placed(alloc, self.soc, self.plan)?;
+        self.lanes_of(alloc, &tests)
     }
 }

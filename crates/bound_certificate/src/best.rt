@@ -69,7 +69,24 @@ fn best_with(
 /// among the certificates of every kind but Forced, or, where that is less than the cycles, the forced list that reaches
 /// them, if the one that is tried does. It is accepted, and so a lower bound; it is at least every elementary value and at
 /// most the cycles, and it names modules and live tests of the chip.
-pub fn best_bound(
+pub fn best_bound(alloc: Global, soc: &Soc, limits: &Limits, cycles: u64) -> Result<Bound, NoMemory>
+    requires sound { IsSoundChip (soc_value soc.now) }
+    requires limits { IsSoundLimits (soc_value soc.now) (limits_value limits.now) }
+    requires good { (n : ℕ) → IsBound (soc_value soc.now) (limits_value limits.now) n → n ≤ cycles }
+    ensures best { IfOk result (λ bound. IsBestBound (soc_value soc.now) (limits_value limits.now) cycles (bound_value bound)) }
+    ensures accepted { IfOk result (λ bound. IsAccepted (soc_value soc.now) (limits_value limits.now) (bound_value bound)) }
+    ensures bound { IfOk result (λ bound. IsBound (soc_value soc.now) (limits_value limits.now) bound.cycles) }
+    ensures elementary { IfOk result (λ bound. (n : ℕ) → IsElementary (soc_value soc.now) (limits_value limits.now) n → n ≤ bound.cycles) }
+    ensures few { IfOk result (λ bound. bound.cycles ≤ cycles) }
+    ensures names { IfOk result (λ bound. NamesInChip (soc_value soc.now) (why_value bound.why)) }
+    ensures numbers { IfOk result (λ bound. HasPlanNumbers (why_value bound.why)) }
+{
+    let resolved = Resolved::new(alloc, soc, limits)?;
+    best_bound_with(alloc, soc, limits, &resolved, cycles)
+}
+
+/// The same bound, where the chip and its limits are resolved already.
+pub fn best_bound_with(
     alloc: Global,
     soc: &Soc,
     limits: &Limits,

@@ -25,7 +25,7 @@ mod power_value;
 mod precedence_lists;
 mod sums;
 
-pub use best::best_bound;
+pub use best::{best_bound, best_bound_with};
 use bound_rules::{area_bound, module_bound, pair_bound};
 use forced_lists::check_forced;
 use indexmap::IndexMap;

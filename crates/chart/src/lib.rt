@@ -5,11 +5,11 @@ ghost use Rattle.std.specs.Prelude.{◌≡◌, ◌++◌, ◌∷◌, [], ◌<◌,
 ghost use Rattle.std.specs.List.{flat_map};
 ghost use Rattle.soc_model.specs.Chips.{soc_value};
 ghost use Rattle.soc_model.specs.SoundChips.{IsSoundChip};
-ghost use Rattle.plan_model.specs.Rules.{IsGoodAlone};
+ghost use Rattle.plan_model.specs.Rules.{IsGoodAlone, live_ids};
 ghost use Rattle.plan_model.specs.Views.{plan_value};
 ghost use Rattle.chart.specs.ChartText.{is_marked, mark, bar, bus_text, times_text, bar_text, row_text, row_if, start_row, chart_text};
 
-use live_tests::{PlacedTest, PlacedTests};
+use live_tests::{LiveTests, PlacedTest, PlacedTests};
 use outside::{NoMemory, extend, push_dotted, push_number};
 use plan_model::Plan;
 use soc_model::Soc;
@@ -125,7 +125,23 @@ pub fn print_chart(alloc: Global, soc: &Soc, plan: &Plan) -> Result<Vec<u8>, NoM
     requires good { IsGoodAlone (soc_value soc.now) (plan_value plan.now) }
     ensures { IfOk result (λ text. text.items ≡ chart_text (soc_value soc.now) (plan_value plan.now)) }
 {
-    let tests = PlacedTests::new(alloc, soc, plan)?;
+    let names = LiveTests::new(alloc, soc)?;
+    print_chart_with(alloc, soc, plan, names)
+}
+
+/// The same chart, where the live tests of the chip are at hand by name.
+pub fn print_chart_with(
+    alloc: Global,
+    soc: &Soc,
+    plan: &Plan,
+    names: LiveTests,
+) -> Result<Vec<u8>, NoMemory>
+    requires sound { IsSoundChip (soc_value soc.now) }
+    requires good { IsGoodAlone (soc_value soc.now) (plan_value plan.now) }
+    requires names { names ≡ live_ids (soc_value soc.now) }
+    ensures { IfOk result (λ text. text.items ≡ chart_text (soc_value soc.now) (plan_value plan.now)) }
+{
+    let tests = PlacedTests::with_names(alloc, soc, plan, names)?;
     let mut text = Vec::new(alloc);
     push_entry(&mut text, b"cycles ", plan.cycles)?;
     extend(&mut text, b"\n")?;

@@ -26,7 +26,7 @@ use indexmap::IndexMap;
 pub use neighbours::{Neighbours, all_after, all_before, count_before};
 use outside::{NoMemory, push};
 pub use parent_places::{fill_parents, parents};
-pub use placed::{PlacedTest, PlacedTests, PlannedChip, bus_over, placed_test};
+pub use placed::{PlacedTest, PlacedTests, PlannedChip, bus_over, placed_test, tests_placed};
 pub use profiles::{profile_place, profile_places};
 pub use resolved::Resolved;
 use soc_model::{Module, Soc, TestId, live};

@@ -52,17 +52,7 @@ impl Model for PlacedTests {
 }
 
 impl PlacedTests {
-    /// The live tests of a chip as a good plan places them. `NoMemory` where there is none.
-    pub fn new(alloc: Global, soc: &Soc, plan: &Plan) -> Result<PlacedTests, NoMemory>
-        requires sound { IsSoundChip (soc_value soc.now) }
-        requires good { IsGoodAlone (soc_value soc.now) (plan_value plan.now) }
-        ensures { IfOk result (λ tests. tests ≡ placed_tests (soc_value soc.now) (plan_value plan.now)) }
-    {
-        let names = LiveTests::new(alloc, soc)?;
-        PlacedTests::with_names(alloc, soc, plan, names)
-    }
-
-    /// The same, where the live tests of the chip are at hand by name. `NoMemory` where there is none.
+    /// The live tests of a chip as a good plan places them, where they are at hand by name. `NoMemory` where there is none.
     pub fn with_names(
         alloc: Global,
         soc: &Soc,
@@ -74,7 +64,7 @@ impl PlacedTests {
         requires names { names ≡ live_ids (soc_value soc.now) }
         ensures { IfOk result (λ tests. tests ≡ placed_tests (soc_value soc.now) (plan_value plan.now)) }
     {
-        let tests = placed(alloc, soc, plan)?;
+        let tests = tests_placed(alloc, soc, plan)?;
         Ok(PlacedTests { names, tests })
     }
 
@@ -94,8 +84,9 @@ impl PlacedTests {
     }
 }
 
-/// The live tests of a chip as a good plan places them. The plan's index goes when all are placed.
-fn placed(alloc: Global, soc: &Soc, plan: &Plan) -> Result<Vec<PlacedTest>, NoMemory>
+/// The live tests of a chip as a good plan places them, without their names. The plan's index goes when all are placed. `NoMemory`
+/// where there is none.
+pub fn tests_placed(alloc: Global, soc: &Soc, plan: &Plan) -> Result<Vec<PlacedTest>, NoMemory>
     requires sound { IsSoundChip (soc_value soc.now) }
     requires good { IsGoodAlone (soc_value soc.now) (plan_value plan.now) }
     ensures { IfOk result (λ tests. tests.items ≡ placed_tests (soc_value soc.now) (plan_value plan.now)) }

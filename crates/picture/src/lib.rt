@@ -23,7 +23,7 @@ mod scale;
 mod sections;
 
 pub use laws::good_plans_draw_right;
-use live_tests::{PlacedTest, PlacedTests, first_wires};
+use live_tests::{PlacedTest, first_wires, tests_placed};
 use marks::{push_buses, push_tests};
 use outside::{NoMemory, extend};
 use panels::{Drawn, Panel, below, lanes_panel, wires_panel};
@@ -126,9 +126,8 @@ fn parts_of(alloc: Global, soc: &Soc, limits: &Limits, plan: &Plan) -> Result<Pa
     ensures { IfOk result (AreParts (soc_value soc.now) (limits_value limits.now) (plan_value plan.now)) }
 {
     good_without_limits();
-    let tests = PlacedTests::new(alloc, soc, plan)?;
-    let placed = tests.tests();
-    parts_with(alloc, limits, plan, placed)
+    let tests = tests_placed(alloc, soc, plan)?;
+    parts_with(alloc, limits, plan, &tests)
 }
 
 /// Appends the buses and the tests over their wires.

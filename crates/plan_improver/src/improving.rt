@@ -21,7 +21,7 @@ use crate::candidate::{better_plan, no_bound};
 use crate::laws::faultless_plans_are_in_range;
 use crate::progress::{line_room, run_told};
 use arch_search::{Problem, Search};
-use bound_certificate::best_bound;
+use bound_certificate::best_bound_with;
 use live_tests::Resolved;
 use outside::{NoMemory, Sink};
 use plan_model::{Bound, Limits, Plan, good_plans_run_right};
@@ -56,7 +56,7 @@ fn greater_bound(
     ensures accepted { IfOk result (λ bound. IsAccepted (soc_value known.now.soc.now) (limits_value known.now.limits.now) (bound_value bound)) }
     ensures at_least { IfOk result (λ bound. given.cycles ≤ bound.cycles) }
 {
-    let best = best_bound(alloc, known.soc, known.limits, known.resolved, cycles)?;
+    let best = best_bound_with(alloc, known.soc, known.limits, known.resolved, cycles)?;
     if given.cycles < best.cycles {
         return Ok(best);
     }

@@ -19,7 +19,7 @@ ghost use Rattle.schedule_search.specs.Walks.{HasMoreOpen};
 use crate::buses::settled_buses;
 use crate::schedule::schedule_of;
 use crate::wrappers::table_wrappers;
-use bound_certificate::best_bound;
+use bound_certificate::best_bound_with;
 use live_tests::Resolved;
 use outside::NoMemory;
 use plan_model::{Limits, Plan, good_plans_run_right};
@@ -85,7 +85,7 @@ where
     let buses = settled_buses(alloc, soc, &table)?;
     let wrappers = table_wrappers(alloc, soc, &table, &buses)?;
     let schedule = schedule_of(alloc, soc, limits, resolved, &buses, &wrappers, ahead)?;
-    let bound = best_bound(alloc, soc, limits, resolved, schedule.cycles)?;
+    let bound = best_bound_with(alloc, soc, limits, resolved, schedule.cycles)?;
     Ok(Plan {
         buses,
         wrappers,

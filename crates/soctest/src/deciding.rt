@@ -5,9 +5,11 @@ ghost use Rattle.outside.specs.Held.{Files};
 ghost use Rattle.soc_model.specs.Chips.{soc_value};
 ghost use Rattle.soc_model.specs.SoundChips.{IsSoundChip};
 ghost use Rattle.plan_model.specs.Plans.{PlanValue};
+ghost use Rattle.plan_model.specs.Rules.{IsGoodAlone, live_ids};
 ghost use Rattle.plan_model.specs.SoundLimits.{IsSoundLimits};
 ghost use Rattle.plan_model.specs.Views.{limits_value, plan_value};
 ghost use Rattle.plan_text.specs.PlanLines.{plan_text};
+ghost use Rattle.chart.specs.ChartText.{chart_text};
 ghost use Rattle.schedule_search.specs.Estimates.{CanAsk, IsAtLeastReady, IsAtMostNow};
 ghost use Rattle.planner.specs.Plans.{IsPlanned};
 ghost use Rattle.plan_model.specs.declared.TheConstants.{WIRES_MOST};
@@ -24,14 +26,17 @@ use crate::own_files::{OwnFile, answer_own_file};
 use crate::samples::decide_sample;
 use crate::splitting::decide_split;
 use crate::widths::widths_text;
-use chart::print_chart;
+use chart::print_chart_with;
 use commands::{
-    Command, Status, Verdict, answered_with, bad_words, command_of, load_all, load_both, load_chip,
+    Accepted, Both, Command, Status, Verdict, answered_with, bad_words, command_of, load_all,
+    load_both, load_chip,
 };
+use limits_text::noted_tests;
+use live_tests::{LiveTests, Resolved};
 use outside::{NoMemory, Shelf};
 use plan_model::{Limits, Plan, good_without_limits};
 use plan_text::print_plan;
-use planner::plan;
+use planner::plan_with;
 use resource_table::Table;
 use schedule_search::Ahead;
 use soc_model::Soc;
@@ -64,13 +69,21 @@ fn decide_widths<H: Shelf>(alloc: Global, soc: &str, wires: u64, shelf: &mut H) 
     }
 }
 
-/// The planner's plan, whose search estimates where a test would end if it were placed now. `NoMemory` where memory runs out,
-/// and for no other reason.
-pub(crate) fn planned(alloc: Global, soc: &Soc, limits: &Limits) -> Result<Plan, NoMemory>
+/// The planner's plan, whose search estimates where a test would end if it were placed now. The live tests of the chip are made
+/// where they weren't noted. `NoMemory` where memory runs out, and for no other reason.
+pub(crate) fn planned(
+    alloc: Global,
+    soc: &Soc,
+    limits: &Limits,
+    live: Option<LiveTests>,
+) -> Result<Plan, NoMemory>
     requires chip { IsSoundChip (soc_value soc.now) }
     requires limits { IsSoundLimits (soc_value soc.now) (limits_value limits.now) }
+    requires live { IfSome live (λ tests. tests ≡ live_ids (soc_value soc.now)) }
     ensures { IfOk result (λ plan. IsPlanned (soc_value soc.now) (limits_value limits.now) (plan_value plan)) }
 {
+    let tests = noted_tests(alloc, soc, live)?;
+    let resolved = Resolved::with_tests(alloc, soc, limits, tests)?;
     let ahead = Ahead::new(
         |table: &Table<'_>, test: usize| -> u64
             requires { CanAsk table.now test }
@@ -78,16 +91,22 @@ pub(crate) fn planned(alloc: Global, soc: &Soc, limits: &Limits) -> Result<Plan,
             ensures most { IsAtMostNow table.now test result }
         { table.end_now(test) },
     );
-    plan(alloc, soc, limits, ahead)
+    plan_with(alloc, soc, limits, &resolved, ahead)
 }
 
 /// The text of the planner's plan.
-fn text_of_plan(alloc: Global, soc: &Soc, limits: &Limits) -> Result<Vec<u8>, NoMemory>
+fn text_of_plan(
+    alloc: Global,
+    soc: &Soc,
+    limits: &Limits,
+    live: Option<LiveTests>,
+) -> Result<Vec<u8>, NoMemory>
     requires chip { IsSoundChip (soc_value soc.now) }
     requires limits { IsSoundLimits (soc_value soc.now) (limits_value limits.now) }
+    requires live { IfSome live (λ tests. tests ≡ live_ids (soc_value soc.now)) }
     ensures { IfOk result (λ text. (value : PlanValue) × IsPlanned (soc_value soc.now) (limits_value limits.now) value × (text.items ≡ plan_text value)) }
 {
-    let plan = planned(alloc, soc, limits)?;
+    let plan = planned(alloc, soc, limits, live)?;
     print_plan(alloc, &plan)
 }
 
@@ -98,7 +117,10 @@ fn decide_plan<H: Shelf>(alloc: Global, soc: &str, limits: &str, shelf: &mut H) 
     ensures follows { Follows (procedure_of (MakePlan soc.now limits.now)) (H.held shelf.old) (H.faults shelf.old) (H.faults shelf.new) result }
 {
     match load_both(alloc, soc, limits, shelf) {
-        Ok(both) => answered_with(Status::Done, text_of_plan(alloc, &both.soc, &both.limits)),
+        Ok(both) => {
+            let Both { soc, limits, live } = both;
+            answered_with(Status::Done, text_of_plan(alloc, &soc, &limits, live))
+        }
         Err(verdict) => verdict,
     }
 }
@@ -121,6 +143,22 @@ fn decide_check<H: Shelf>(
     }
 }
 
+/// The chart of a good plan. The live tests of the chip are made where they weren't noted.
+fn chart_of(
+    alloc: Global,
+    soc: &Soc,
+    plan: &Plan,
+    live: Option<LiveTests>,
+) -> Result<Vec<u8>, NoMemory>
+    requires chip { IsSoundChip (soc_value soc.now) }
+    requires good { IsGoodAlone (soc_value soc.now) (plan_value plan.now) }
+    requires live { IfSome live (λ tests. tests ≡ live_ids (soc_value soc.now)) }
+    ensures { IfOk result (λ text. text.items ≡ chart_text (soc_value soc.now) (plan_value plan.now)) }
+{
+    let names = noted_tests(alloc, soc, live)?;
+    print_chart_with(alloc, soc, plan, names)
+}
+
 /// `chart SOC LIMITS PLAN`: the schedule of a plan that is accepted.
 fn decide_chart<H: Shelf>(
     alloc: Global,
@@ -136,7 +174,13 @@ fn decide_chart<H: Shelf>(
     match load_all(alloc, soc, limits, plan, shelf) {
         Ok(all) => {
             good_without_limits();
-            answered_with(Status::Done, print_chart(alloc, &all.soc, &all.plan))
+            let Accepted {
+                soc,
+                limits: _limits,
+                plan,
+                live,
+            } = all;
+            answered_with(Status::Done, chart_of(alloc, &soc, &plan, live))
         }
         Err(verdict) => verdict,
     }

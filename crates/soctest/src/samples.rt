@@ -121,7 +121,7 @@ pub(crate) fn checked_plan(alloc: Global, soc: &Soc, limits: &Limits) -> Result<
     requires limits { IsSoundLimits (soc_value soc.now) (limits_value limits.now) }
     ensures { IfOk result (λ plan. IsPlanned (soc_value soc.now) (limits_value limits.now) (plan_value plan)) }
 {
-    let plan = planned(alloc, soc, limits)?;
+    let plan = planned(alloc, soc, limits, None)?;
     match first_fault(alloc, soc, limits, &plan)? {
         None => Ok(plan),
         Some(_) => unreachable!(),

@@ -20,8 +20,8 @@ pub schedule_of-requires-clause-proper : goal.schedule_of-requires-clause-proper
 schedule_of-requires-clause-proper g c = (rules_read (soc_value c.args.soc.now) (limits_value c.args.limits.now) c.in_ok-buses.buses.items c.deref-2.result.now c.in_ok-wrappers.wrappers.items c.deref-3.result.now
     (made_parts (soc_value c.args.soc.now) (limits_value c.args.limits.now) c.in_ok-table.table c.in_ok-buses.buses.items c.deref.result.now c.in_ok-wrappers.wrappers.items c.requires.sound c.requires.limits c.in_ok-table.ensures.value c.deref.ensures.value c.in_ok-buses.ensures.settled c.in_ok-wrappers.ensures) c.deref-2.ensures.value c.deref-3.ensures.value).proper
 
-pub best_bound-requires-clause-good : goal.best_bound-requires-clause-good
-best_bound-requires-clause-good g c = cycles_bound (soc_value c.args.soc.now) (limits_value c.args.limits.now) c.in_ok-buses.buses.items c.in_ok-wrappers.wrappers.items c.in_ok-schedule.schedule.starts.items c.in_ok-schedule.schedule.cycles
+pub best_bound_with-requires-clause-good : goal.best_bound_with-requires-clause-good
+best_bound_with-requires-clause-good g c = cycles_bound (soc_value c.args.soc.now) (limits_value c.args.limits.now) c.in_ok-buses.buses.items c.in_ok-wrappers.wrappers.items c.in_ok-schedule.schedule.starts.items c.in_ok-schedule.schedule.cycles
     (made_parts (soc_value c.args.soc.now) (limits_value c.args.limits.now) c.in_ok-table.table c.in_ok-buses.buses.items c.deref.result.now c.in_ok-wrappers.wrappers.items c.requires.sound c.requires.limits c.in_ok-table.ensures.value c.deref.ensures.value c.in_ok-buses.ensures.settled c.in_ok-wrappers.ensures)
     (scheduled (soc_value c.args.soc.now) (limits_value c.args.limits.now) c.in_ok-buses.buses.items c.deref-2.result.now c.in_ok-wrappers.wrappers.items c.deref-3.result.now c.in_ok-schedule.schedule.starts.items c.in_ok-schedule.schedule.cycles c.deref-2.ensures.value c.deref-3.ensures.value c.in_ok-schedule.ensures.found c.in_ok-schedule.ensures.keeps c.in_ok-schedule.ensures.early c.in_ok-schedule.ensures.short)
 

@@ -9,10 +9,10 @@ use Rattle.soctest.proofs.deciding.decide_chart.Goals as goal
 pub returns-in-Ok-clause-follows : goal.returns-in-Ok-clause-follows
 returns-in-Ok-clause-follows g c =
     after_all _ _ _ (λ chip bounds value. done_with (chart_text chip value)) _ _ (g.H.Shelf.faults c.load_all.new.shelf) _ c.in-Ok.all _ c.load_all.ensures.faults_never_fall c.in-Ok.ensures.loads
-    (done_of (chart_text (soc_value c.in-Ok.all.soc) (plan_value c.in-Ok.all.plan)) _ _ (g.H.Shelf.faults c.load_all.new.shelf) (g.H.Shelf.faults c.load_all.new.shelf) _ c.print_chart.ensures c.answered_with.ensures)
+    (done_of (chart_text (soc_value c.in-Ok.all.soc) (plan_value c.in-Ok.all.plan)) _ _ (g.H.Shelf.faults c.load_all.new.shelf) (g.H.Shelf.faults c.load_all.new.shelf) _ c.chart_of.ensures c.answered_with.ensures)
 
 pub returns-in-Err-clause-follows : goal.returns-in-Err-clause-follows
 returns-in-Err-clause-follows g c = not_all _ _ _ (λ chip bounds value. done_with (chart_text chip value)) _ _ _ _ c.in-Err.ensures.loads
 
-pub print_chart-requires-clause-good : goal.print_chart-requires-clause-good
-print_chart-requires-clause-good g c = c.good_without_limits.ensures.alone (soc_value c.in-Ok.all.soc) (limits_value c.in-Ok.all.limits) (plan_value c.in-Ok.all.plan) c.in-Ok.ensures.accepted.0
+pub chart_of-requires-clause-good : goal.chart_of-requires-clause-good
+chart_of-requires-clause-good g c = c.good_without_limits.ensures.alone (soc_value c.in-Ok.all.soc) (limits_value c.in-Ok.all.limits) (plan_value c.in-Ok.all.plan) c.in-Ok.ensures.accepted.0

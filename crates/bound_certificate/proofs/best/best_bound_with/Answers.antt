@@ -10,7 +10,7 @@ use Rattle.bound_certificate.specs.Best.{IsBestWith, NamesInChip, HasPlanNumbers
 use Rattle.bound_certificate.specs.Winners.{names_of}
 use Rattle.bound_certificate.proofs.ElementaryValues.{elementary-le}
 use Rattle.bound_certificate.proofs.NamesInRange.{names_in_chip, numbers_in_range}
-use Rattle.bound_certificate.proofs.best.best_bound.Goals as goal
+use Rattle.bound_certificate.proofs.best.best_bound_with.Goals as goal
 
 weaker : {A E : Type 0} (P Q : A → Type 0) → ((a : A) → P a → Q a) → (r : Result A E) → IfOk r P → IfOk r Q
 weaker P Q to (Ok a) fact = to a fact

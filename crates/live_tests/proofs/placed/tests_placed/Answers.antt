@@ -3,7 +3,7 @@ use Rattle.soc_model.specs.Chips.{soc_value}
 use Rattle.plan_model.specs.Plans.{PlanValue}
 use Rattle.plan_model.specs.Rules.{IsGoodAlone}
 use Rattle.live_tests.specs.Placed.{placed_tests}
-use Rattle.live_tests.proofs.placed.placed.Goals as goal
+use Rattle.live_tests.proofs.placed.tests_placed.Goals as goal
 
 pub tests-tests-requires-clause-good : goal.tests-tests-requires-clause-good
 tests-tests-requires-clause-good c = subst (λ (plan : PlanValue). IsGoodAlone (soc_value c.args.soc.now) plan) (sym c.in_ok-index.ensures) c.requires.good
