@@ -17,3 +17,9 @@ pub mod Trails
 pub mod Takings
 pub mod Bits
 pub mod CaseRooms
+pub mod ListTables
+pub mod TestTables
+pub mod Bases
+pub mod LeafCosts
+pub mod LeafAnswers
+pub mod ProofRooms

@@ -5,20 +5,27 @@
 //! in cycles.
 #![tactic(auto)]
 
+mod basis;
 mod case;
+mod check;
 mod laws;
+mod leaf;
+mod leaf_costs;
+mod list_table;
 mod lists;
 mod parts;
 mod places;
 mod printing;
 mod ranks;
 mod reading;
+mod test_table;
 mod text_laws;
 mod tokens;
 mod twins;
 mod widths;
 mod words;
 
+pub use check::{ProofRoom, check_proof};
 pub use laws::{
     accepted_cases_have_no_plan, accepted_proofs_are_bounds, accepted_proofs_have_no_fault,
     less_shows_less, nodes_tell_the_tree, plans_have_rankings, proofs_have_one_fault,

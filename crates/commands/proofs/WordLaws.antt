@@ -8,7 +8,7 @@ use Rattle.soc_model.specs.declared.TheConstants.{NUMBER_WORD_MOST}
 use Rattle.plan_model.specs.declared.TheConstants.{WIRES_MOST}
 use Rattle.commands.specs.declared.TheConstants.{TRIES_MOST}
 use Rattle.commands.specs.declared.Command.{Command}
-use Rattle.commands.specs.Commands.{CommandValue, command_value, Print, Widths, Plan, Check, Chart, Vectors, Sample, Locate, Tree, Split, Shift, Improve, Picture, Simulate, IsInRange, EachHasWords, command_of, widths_of, vectors_of, sample_of, split_of, improve_of, simulate_of, with_one, with_two, with_three, with_four, with_five}
+use Rattle.commands.specs.Commands.{CommandValue, command_value, Print, Widths, Plan, Check, Chart, Vectors, Sample, Locate, Tree, Split, Shift, Improve, Picture, Simulate, Bound, IsInRange, EachHasWords, command_of, widths_of, vectors_of, sample_of, split_of, improve_of, simulate_of, with_one, with_two, with_three, with_four, with_five}
 
 word : (n : ℕ) → n ≤ NUMBER_WORD_MOST → number_of (decimal n) NUMBER_WORD_MOST ≡ Some n
 word n small = number_of-decimal n NUMBER_WORD_MOST (omega arith) small
@@ -36,6 +36,7 @@ each_has_words (Improve soc limits plan tries seed) range =
     ap (λ o. improve_of soc limits plan o (number_of (decimal seed) NUMBER_WORD_MOST)) (number_of-decimal tries TRIES_MOST (omega arith) range.0) ∙ ap (improve_of soc limits plan (Some tries)) (word seed range.1)
 each_has_words (Picture soc limits plan) range = refl
 each_has_words (Simulate soc limits plan seed) range = ap (simulate_of soc limits plan) (word seed range)
+each_has_words (Bound soc limits proof) range = refl
 
 -- the numbers of a command that was parsed are in their ranges
 pub in_range : (result : Option Command) (asked : Option CommandValue) → option_map command_value result ≡ asked → IfSome result (λ c. IsInRange (command_value c)) → IfSome asked IsInRange

@@ -24,6 +24,7 @@ pub data CommandValue : Type 0 where
   Improve : (soc limits plan : List ℕ) → (tries seed : ℕ) → CommandValue
   Picture : (soc limits plan : List ℕ) → CommandValue
   Simulate : (soc limits plan : List ℕ) → (seed : ℕ) → CommandValue
+  Bound : (soc limits proof : List ℕ) → CommandValue
 
 abbrev pub command_value : Command → CommandValue
 command_value (command.Print soc) = Print soc.now
@@ -40,6 +41,7 @@ command_value (command.Shift soc limits plan program) = Shift soc.now limits.now
 command_value (command.Improve soc limits plan tries seed) = Improve soc.now limits.now plan.now tries seed
 command_value (command.Picture soc limits plan) = Picture soc.now limits.now plan.now
 command_value (command.Simulate soc limits plan seed) = Simulate soc.now limits.now plan.now seed
+command_value (command.Bound soc limits proof) = Bound soc.now limits.now proof.now
 
 -- the numbers of a command are in their ranges
 abbrev pub IsInRange : CommandValue → Type 0
@@ -57,6 +59,7 @@ IsInRange (Shift soc limits plan program) = Unit {0}
 IsInRange (Improve soc limits plan tries seed) = (tries ≤ TRIES_MOST) × (seed ≤ NUMBER_WORD_MOST)
 IsInRange (Picture soc limits plan) = Unit {0}
 IsInRange (Simulate soc limits plan seed) = seed ≤ NUMBER_WORD_MOST
+IsInRange (Bound soc limits proof) = Unit {0}
 
 -- ---- from words to a command
 
@@ -111,6 +114,7 @@ with_three word soc limits last =
     else if pointwise nat_eq word (codes "chart") then Some (Chart soc limits last)
     else if pointwise nat_eq word (codes "picture") then Some (Picture soc limits last)
     else if pointwise nat_eq word (codes "tree") then Some (Tree soc limits last)
+    else if pointwise nat_eq word (codes "bound") then Some (Bound soc limits last)
     else if pointwise nat_eq word (codes "split") then split_of soc limits (number_of last NUMBER_WORD_MOST)
     else None
 
@@ -130,8 +134,8 @@ with_five word soc limits plan tries seed =
 
 -- `print SOC`, `widths SOC WIRES`, `plan SOC LIMITS`, `check SOC LIMITS PLAN`, `chart SOC LIMITS PLAN`,
 -- `vectors SOC LIMITS PLAN SEED`, `sample N SEED`, `locate SOC LIMITS PLAN LOG`, `tree SOC LIMITS TREE`, `split SOC LIMITS MOST`,
--- `shift SOC LIMITS PLAN PROGRAM`, `improve SOC LIMITS PLAN TRIES SEED`, `picture SOC LIMITS PLAN` and
--- `simulate SOC LIMITS PLAN SEED`; no other words are a command
+-- `shift SOC LIMITS PLAN PROGRAM`, `improve SOC LIMITS PLAN TRIES SEED`, `picture SOC LIMITS PLAN`,
+-- `simulate SOC LIMITS PLAN SEED` and `bound SOC LIMITS PROOF`; no other words are a command
 unfoldable pub command_of : List (List ℕ) → Option CommandValue
 command_of (word ∷ soc ∷ []) = with_one word soc
 command_of (word ∷ first ∷ last ∷ []) = with_two word first last
@@ -158,6 +162,7 @@ words_of (Shift soc limits plan program) = codes "shift" ∷ soc ∷ limits ∷ 
 words_of (Improve soc limits plan tries seed) = codes "improve" ∷ soc ∷ limits ∷ plan ∷ decimal tries ∷ decimal seed ∷ []
 words_of (Picture soc limits plan) = codes "picture" ∷ soc ∷ limits ∷ plan ∷ []
 words_of (Simulate soc limits plan seed) = codes "simulate" ∷ soc ∷ limits ∷ plan ∷ decimal seed ∷ []
+words_of (Bound soc limits proof) = codes "bound" ∷ soc ∷ limits ∷ proof ∷ []
 
 -- Each command has words that ask for it.
 abbrev pub EachHasWords : Type 0

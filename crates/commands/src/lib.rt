@@ -21,7 +21,7 @@ pub use top_calls::{TopCall, top_call};
 pub use words::{command_of, each_command_has_words, words_after_name};
 pub use writing::write_verdict;
 
-/// The greatest length of a .soc file, a limits file, a log, a tree or a program, in bytes.
+/// The greatest length of a .soc file, a limits file, a log, a tree, a program or a proof, in bytes.
 pub const FILE_MOST: u64 = 1_048_576;
 /// The greatest length of a plan file, in bytes.
 pub const PLAN_FILE_MOST: u64 = 33_554_432;
@@ -117,6 +117,12 @@ pub enum Command<'a> {
         plan: &'a str,
         seed: u64,
     },
+    /// The bound of a proof by cases on buses that is accepted, in cycles.
+    Bound {
+        soc: &'a str,
+        limits: &'a str,
+        proof: &'a str,
+    },
 }
 
 /// How a call ended. Its number is the status of the program.
@@ -147,6 +153,7 @@ pub enum FileKind {
     Tree,
     Program,
     Log,
+    Proof,
 }
 
 /// How a call ends, decided before anything is written.

@@ -23,6 +23,7 @@ pub(crate) fn unread_line(file: FileKind) -> &'static [u8]
         FileKind::Tree => b"cannot read TREE\n",
         FileKind::Program => b"cannot read PROGRAM\n",
         FileKind::Log => b"cannot read LOG\n",
+        FileKind::Proof => b"cannot read PROOF\n",
     }
 }
 
@@ -38,6 +39,7 @@ pub(crate) fn too_long_line(file: FileKind) -> &'static [u8]
         FileKind::Tree => b"too long TREE\n",
         FileKind::Program => b"too long PROGRAM\n",
         FileKind::Log => b"too long LOG\n",
+        FileKind::Proof => b"too long PROOF\n",
     }
 }
 

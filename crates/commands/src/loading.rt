@@ -99,8 +99,12 @@ fn most_of(file: FileKind) -> u64
     ensures { result ≡ most_bytes file }
 {
     match file {
-        FileKind::Soc | FileKind::Limits | FileKind::Log | FileKind::Tree | FileKind::Program =>
-            FILE_MOST,
+        FileKind::Soc
+        | FileKind::Limits
+        | FileKind::Log
+        | FileKind::Tree
+        | FileKind::Program
+        | FileKind::Proof => FILE_MOST,
         FileKind::Plan => PLAN_FILE_MOST,
     }
 }

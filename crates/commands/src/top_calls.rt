@@ -17,6 +17,8 @@ pub enum TopCall {
     Picture,
     /// That of `simulate`.
     Simulate,
+    /// That of `bound`.
+    Bound,
 }
 
 /// The top call that takes these words, by the command that they are.
@@ -27,6 +29,7 @@ pub fn top_call(words: &[String]) -> TopCall
         Some(Command::Improve { .. }) => TopCall::Improve,
         Some(Command::Picture { .. }) => TopCall::Picture,
         Some(Command::Simulate { .. }) => TopCall::Simulate,
+        Some(Command::Bound { .. }) => TopCall::Bound,
         Some(
             Command::Print { .. }
             | Command::Widths { .. }

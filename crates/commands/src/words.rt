@@ -158,6 +158,13 @@ fn three<'a>(word: &str, soc: &'a str, limits: &'a str, last: &'a str) -> Option
             tree: last,
         });
     }
+    if word == "bound" {
+        return Some(Command::Bound {
+            soc,
+            limits,
+            proof: last,
+        });
+    }
     if word == "split" {
         return split(soc, limits, last);
     }

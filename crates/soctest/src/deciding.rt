@@ -343,7 +343,12 @@ pub fn decide<H: Shelf>(alloc: Global, words: &[String], shelf: &mut H) -> Endin
         Some(Command::Split { soc, limits, most }) => Ending::Decided(decide_split(
             alloc, soc, limits, most, shelf,
         )),
-        Some(Command::Improve { .. } | Command::Picture { .. } | Command::Simulate { .. }) | None =>
-            Ending::Decided(bad_words(alloc)),
+        Some(
+            Command::Improve { .. }
+            | Command::Picture { .. }
+            | Command::Simulate { .. }
+            | Command::Bound { .. },
+        )
+        | None => Ending::Decided(bad_words(alloc)),
     }
 }

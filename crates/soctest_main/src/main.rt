@@ -2,6 +2,7 @@
 //! and standard error.
 #![tactic(auto)]
 
+use bound_checker::check_bound;
 use commands::{Status, TopCall, top_call, words_after_name};
 use outside::{RealShelf, RealSink};
 use plan_improver::improve;
@@ -22,6 +23,7 @@ fn run(rt: &HostRuntime, words: &[String]) -> Status {
         }
         TopCall::Picture => draw(alloc, words, &mut shelf, &mut out),
         TopCall::Simulate => simulate(alloc, words, &mut shelf, &mut out),
+        TopCall::Bound => check_bound(alloc, words, &mut shelf, &mut out),
         TopCall::Soctest => soctest(alloc, words, &mut shelf, &mut out),
     }
 }

@@ -1,0 +1,4 @@
+pub mod Headlines
+pub mod Readings
+pub mod Requests
+pub mod Texts

@@ -1,0 +1,19 @@
+-- What the bytes of a file with a proof say, and the lines that refuse them.
+use Rattle.std.specs.Prelude.{◌≡◌, ℕ, ◌⊎◌, List}
+use Rattle.soc_model.specs.Chips.{SocValue}
+use Rattle.plan_model.specs.Plans.{LimitsValue}
+use Rattle.bus_proofs.specs.declared.ProofFault.{ProofFault}
+use Rattle.bus_proofs.specs.Proofs.{ProofValue}
+use Rattle.bus_proofs.specs.Answers.{SaysProof, RefusesText}
+use Rattle.bus_proofs.specs.Bounds.{IsAccepted, IsProofFault}
+use Rattle.bound_checker.specs.Texts.{proof_line, proof_fault_line}
+
+-- the text says the proof, which is accepted for the chip under the limits
+abbrev pub SaysBound : SocValue → LimitsValue → List ℕ → ProofValue → Type 0
+SaysBound chip bounds bytes value = SaysProof bytes value × IsAccepted chip bounds value
+
+-- the proof's text is refused at a line, or says a proof with a fault
+abbrev pub RefusesProof : SocValue → LimitsValue → List ℕ → List ℕ → Type 0
+RefusesProof chip bounds bytes text =
+    ((line : ℕ) × RefusesText bytes line × (text ≡ proof_line line))
+    ⊎ ((value : ProofValue) × SaysProof bytes value × ((fault : ProofFault) × IsProofFault chip bounds value fault × (text ≡ proof_fault_line fault)))
