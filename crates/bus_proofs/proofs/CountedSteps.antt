@@ -1,15 +1,18 @@
 -- Powers as they count, added up over cycles by the steps of profiles.
 use Rattle.std.proofs.Common.{◌≡◌, ℕ, zero, suc, ◌+◌, ◌-◌, ◌*◌, ◌/◌, ◌≤◌, ◌<◌, true, Option, Some, None, MatchOption, List, [], ◌∷◌, length, get_or, drop, map, refl, sym, ap, ◌∙◌, arith, drop-cons, inl, inr, ◌⊎◌, add-one, mul_comm, mul-le-mul_left, div-mul-le_self, position}
 use Rattle.std.specs.Prelude.{if◌then◌else◌, min, slice_get}
-use Rattle.std.proofs.lemmas.Bool.{cases_lt, lt-ltb, le-ltb}
+use Rattle.std.proofs.lemmas.Bool.{cases_lt, lt-ltb, le-ltb, le-leb}
 use Rattle.std.proofs.lemmas.List.{drop_all}
 use Rattle.soc_model.specs.Chips.{LiveTest, id_of, same_test}
+use Rattle.plan_model.specs.declared.Limits.{Limits}
 use Rattle.plan_model.specs.declared.Profile.{Profile}
+use Rattle.plan_model.specs.Views.{limits_value}
 use Rattle.plan_model.specs.Plans.{LimitsValue, step_power, power_of_id}
 use Rattle.plan_model.specs.SoundLimits.{Grow}
 use Rattle.plan_model.specs.Bounds.{sum_below}
-use Rattle.plan_model.proofs.SumsOverCycles.{sum_below-le, sum_below-const}
-use Rattle.bound_rules.proofs.Energies.{stretch, before_steps, grow-less, begins, sum_below-none}
+use Rattle.plan_model.proofs.SumsOverCycles.{sum_below-le, sum_below-const, sum_below-same}
+use Rattle.bound_rules.proofs.Energies.{stretch, before_steps, grow-less, sum_below-none}
+use Rattle.bound_rules.proofs.ProfilePlaces.{said_at, said_by_none}
 use Rattle.bus_proofs.specs.Lists.{counted, power_use}
 
 -- a power counts for all of the limit at most
@@ -42,6 +45,9 @@ few-more limit near power d begun sum so_far =
     let split : limit * (begun + d) ≡ limit * begun + limit * d = omega arith in
     let few : d * counted limit near power ≤ d * limit = mul-le-mul_left d (counted-le limit near power) in
     omega (arith, mul_comm d (counted limit near power), mul_comm d limit)
+
+begins : (r : ℕ) (now : ℕ) (s : ℕ × ℕ) (steps : List (ℕ × ℕ)) → s.0 ≤ r → step_power r now (s ∷ steps) ≡ step_power r s.1 steps
+begins r now s steps h = rw (le-leb s.0 r h) refl
 
 pub next_counted : (limit near : ℕ) (steps : List (ℕ × ℕ)) (n i begun power sum : ℕ) (d : ℕ × ℕ) → i < length steps → Counted limit near steps n i begun power sum →
     Counted limit near steps n (i + 1) (min n (get_or steps i d).0) (get_or steps i d).1 (sum + counted limit near power * (min n (get_or steps i d).0 - begun))
@@ -81,20 +87,6 @@ all_counted limit near steps n i begun power sum all so_far =
 pub counted_sum-le : (limit near : ℕ) (f : ℕ → ℕ) (n : ℕ) → sum_below (λ r. counted limit near (f r)) n ≤ limit * n
 counted_sum-le limit near f n = omega (arith, sum_below-le (λ r. counted limit near (f r)) limit n (λ r less. counted-le limit near (f r)), mul_comm n limit)
 
-pub all_fits : (limit near : ℕ) (steps : List (ℕ × ℕ)) (n i begun power sum : ℕ) → Counted limit near steps n i begun power sum → sum + counted limit near power * (n - begun) ≤ limit * n
-all_fits limit near steps n i begun power sum so_far =
-    let up : begun + (n - begun) ≡ n = let w = so_far.within in omega arith in
-    let more : sum + counted limit near power * (n - begun) ≤ limit * (begun + (n - begun)) = few-more limit near power (n - begun) begun sum so_far.few in
-    rw up at more
-
-pub next_fits : (limit near : ℕ) (steps : List (ℕ × ℕ)) (n i begun power sum end : ℕ) → begun ≤ end → end ≤ n → Counted limit near steps n i begun power sum → sum + counted limit near power * (end - begun) ≤ limit * n
-next_fits limit near steps n i begun power sum end a b so_far =
-    let up : begun + (end - begun) ≡ end = omega arith in
-    let more : sum + counted limit near power * (end - begun) ≤ limit * (begun + (end - begun)) = few-more limit near power (end - begun) begun sum so_far.few in
-    let more' : sum + counted limit near power * (end - begun) ≤ limit * end = rw up at more in
-    let wide : limit * end ≤ limit * n = mul-le-mul_left limit b in
-    omega arith
-
 -- the share of the limit is no more than the cycles
 quotient-le : (a n p : ℕ) → a ≤ p * n → a / p ≤ n
 quotient-le a n zero h = omega arith
@@ -106,9 +98,27 @@ quotient-le a n (suc p) h = elim (cases_lt n (a / suc p)) [
   | inr few ↦ few
 ]
 
-pub share-le : (a n p : ℕ) → a ≤ p * n → a / p ≤ n
-share-le = quotient-le
-
 pub power_use-le : (limits : LimitsValue) (near : ℕ) (l : LiveTest) (cycles : ℕ) (o : Option ℕ) → power_use limits near l cycles o ≤ cycles
 power_use-le limits near l cycles None = omega arith
 power_use-le limits near l cycles (Some limit) = quotient-le _ cycles limit (counted_sum-le limit near (power_of_id limits (id_of l) l.test.power) cycles)
+
+-- ---- by the profile of a test, or its own power
+
+abbrev pub counted_of : Limits → (limit near : ℕ) → LiveTest → ℕ → ℕ
+counted_of limits limit near l r = counted limit near (power_of_id (limits_value limits) (id_of l) l.test.power r)
+
+pub counted_steps-are : (limits : Limits) (limit near : ℕ) (l : LiveTest) (place : ℕ) (p : Profile) (steps : List (ℕ × ℕ)) (cycles : ℕ) → Some place ≡ position (λ (p : Profile). same_test p.test (id_of l)) limits.profiles.items →
+    slice_get limits.profiles.items place ≡ Some p → steps ≡ p.steps.items → sum_below (counted_at limit near steps) cycles ≡ sum_below (counted_of limits limit near l) cycles
+counted_steps-are limits limit near l place p steps cycles found at is =
+    sym (sum_below-same (counted_of limits limit near l) (counted_at limit near steps) cycles
+    (λ r h. ap (counted limit near) (said_at (id_of l) (λ p. step_power r 0 p.steps) l.test.power limits.profiles.items place p found at ∙ ap (step_power r 0) (sym is))))
+
+pub counted_own-is : (limits : Limits) (limit near : ℕ) (l : LiveTest) (own cycles : ℕ) → None ≡ position (λ (p : Profile). same_test p.test (id_of l)) limits.profiles.items → own ≡ l.test.power →
+    counted limit near own * cycles ≡ sum_below (counted_of limits limit near l) cycles
+counted_own-is limits limit near l own cycles found is =
+    mul_comm (counted limit near own) cycles ∙ sym (sum_below-const (counted limit near own) cycles)
+    ∙ sym (sum_below-same (counted_of limits limit near l) (λ r. counted limit near own) cycles (λ r h. ap (counted limit near) (said_by_none (id_of l) (λ p. step_power r 0 p.steps) l.test.power limits.profiles.items found ∙ sym is)))
+
+pub power_use-is : (limits : LimitsValue) (near : ℕ) (l : LiveTest) (cycles limit drawn share : ℕ) (o : Option ℕ) → o ≡ Some limit → drawn ≡ sum_below (λ r. counted limit near (power_of_id limits (id_of l) l.test.power r)) cycles →
+    share ≡ drawn / limit → share ≡ power_use limits near l cycles o
+power_use-is limits near l cycles limit drawn share o some drawn-is is = rw some (is ∙ ap (λ n. n / limit) drawn-is)

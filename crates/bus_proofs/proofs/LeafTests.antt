@@ -1,5 +1,4 @@
 -- What the live tests of a chip cost at the weights of a leaf, over lists and over tests.
-use mathlib.Core.Bool.{beq}
 use Rattle.std.proofs.Common.{◌≡◌, ◌≢◌, ℕ, zero, suc, ◌+◌, ◌-◌, ◌*◌, ◌^◌, ◌≤◌, ◌<◌, Bool, true, false, Option, Some, None, List, [], ◌∷◌, ◌++◌, length, get_or, map, take, drop, refl, sym, ap, subst, ◌∙◌, arith, inl, inr, ◌⊎◌, append_assoc, drop-cons, mul-le-mul_left}
 use Rattle.std.specs.Prelude.{if◌then◌else◌, ◌&&◌, not, slice_get, slice_index, nat_eq}
 use Rattle.std.specs.List.{sum_by, filter, range_with_len}
@@ -7,8 +6,8 @@ use Rattle.std.proofs.Math.Nat.{mul-le-mul_right}
 use Rattle.std.proofs.lemmas.Bool.{cases_Bool, eq-eqb, ne_eqb}
 use Rattle.std.proofs.lemmas.List.{drop_all, length-append, length-drop}
 use Rattle.std.proofs.lemmas.List.FromFn.{get_or-map-range_with_len, length-map-range_with_len}
-use Rattle.std.proofs.lemmas.List.Sums.{sum_by-cons, sum_by-append, sum_by-take-drop}
-use Rattle.std.proofs.lemmas.Option.{slice_get_within, get_or_from_slice_get}
+use Rattle.std.proofs.lemmas.List.Sums.{sum_by-cons, sum_by-append, sum_by-take-drop, sum_by-drop_more}
+use Rattle.std.proofs.lemmas.Option.{slice_get_within, get_or_from_slice_get, same_Some}
 use Rattle.soc_model.specs.declared.Test.{Test}
 use Rattle.soc_model.specs.Chips.{ModuleValue, SocValue, LiveTest, is_live, live_of, live_from, live_tests}
 use Rattle.soc_model.specs.Sizes.{test_work, work}
@@ -21,6 +20,8 @@ use Rattle.plan_model.proofs.Lists.{from_filter}
 use Rattle.plan_model.proofs.Sums.{sum_by-le_at}
 use Rattle.bound_rules.proofs.Modules.{the_live, only_module, sum_of_module, same_sum}
 use Rattle.bound_rules.proofs.Works.{live_patterns}
+use Rattle.bound_rules.proofs.SoundWork.{live_work-le_live}
+use Rattle.soc_model.specs.SoundChips.{IsSoundChip}
 use Rattle.packed_times.specs.Packed.{packed_time, packed_tam_time}
 use Rattle.packed_times.proofs.LeastTimes.{packed_time-le}
 use Rattle.bus_proofs.specs.declared.basis.Basis.{Basis}
@@ -28,9 +29,12 @@ use Rattle.bus_proofs.specs.declared.leaf_costs.Weighed.{Weighed}
 use Rattle.bus_proofs.specs.Proofs.{ListValue, OfTurns, OfTurnsOn, OfCrowd, OfPower, WeightsValue}
 use Rattle.bus_proofs.specs.Lists.{is_among, excludes_all, is_beside, use_of}
 use Rattle.bus_proofs.specs.Leaves.{cost, is_rank, module_use, self_use, slot, weighed}
-use Rattle.bus_proofs.specs.TestTables.{tests_before}
+use Rattle.plan_model.specs.declared.Limits.{Limits}
+use Rattle.bus_proofs.specs.declared.test_table.TestTable.{TestTable}
+use Rattle.bus_proofs.specs.declared.test_table.TestPlace.{TestPlace}
+use Rattle.bus_proofs.specs.TestTables.{IsTestAt, IsTestTable, tests_before}
 use Rattle.bus_proofs.specs.Bases.{IsBasis, chip_of, limits_of, lists_of}
-use Rattle.bus_proofs.specs.LeafCosts.{AreUses, IsWeighed, USES_COST_MOST, kind_cost, test_cost, weighed_by}
+use Rattle.bus_proofs.specs.LeafCosts.{AreUses, IsWeighed, USES_COST_MOST, is_over, kind_cost, test_cost, weighed_by}
 use Rattle.bus_proofs.proofs.Weighed.{weighed-add}
 use Rattle.bus_proofs.proofs.LeafSums.{uses-le}
 
@@ -119,17 +123,17 @@ before_grows soc p m at =
 
 -- a sum over the tests over the wires of a module
 pub sum_in_module : (f : LiveTest → ℕ) (soc : SocValue) (p : ℕ) (m : ModuleValue) → slice_get soc.modules p ≡ Some m →
-    sum_where (λ l. l.test.tam && is_of p l) f soc ≡ sum_by (λ l. if beq l.test.tam true then f l else 0) (live_of p m)
+    sum_where (λ l. l.test.tam && is_of p l) f soc ≡ sum_by (λ l. if l.test.tam then f l else 0) (live_of p m)
 sum_in_module f soc p m at =
     only_module (λ l. if l.test.tam && is_of p l then f l else 0) soc p m (λ l other. elsewhere l l.test.tam other) at
-    ∙ same_sum (λ t. if is_live t then (if t.tam && nat_eq p p then f (the_live p m t) else 0) else 0) (λ t. if is_live t then (if beq t.tam true then f (the_live p m t) else 0) else 0) m.tests (λ t. each t t.tam)
-    ∙ sym (sum_of_module (λ l. if beq l.test.tam true then f l else 0) p m)
+    ∙ same_sum (λ t. if is_live t then (if t.tam && nat_eq p p then f (the_live p m t) else 0) else 0) (λ t. if is_live t then (if t.tam then f (the_live p m t) else 0) else 0) m.tests (λ t. each t t.tam)
+    ∙ sym (sum_of_module (λ l. if l.test.tam then f l else 0) p m)
   where
     elsewhere : (l : LiveTest) (tam : Bool) → l.place ≢ p → (if tam && is_of p l then f l else 0) ≡ 0
     elsewhere l true other = rw (ne_eqb l.place p other) refl
     elsewhere l false other = refl
 
-    each : (t : Test) (tam : Bool) → (if is_live t then (if tam && nat_eq p p then f (the_live p m t) else 0) else 0) ≡ (if is_live t then (if beq tam true then f (the_live p m t) else 0) else 0)
+    each : (t : Test) (tam : Bool) → (if is_live t then (if tam && nat_eq p p then f (the_live p m t) else 0) else 0) ≡ (if is_live t then (if tam then f (the_live p m t) else 0) else 0)
     each t true = rw (eq-eqb p p refl) refl
     each t false = refl
 
@@ -167,13 +171,16 @@ self_uses g weights costs n all is =
     let here : costs ≡ sum_by (kind_cost g weights false None 1) (live_tests (chip_of g)) = omega (arith, is') in
     let turned : weighed (lists_of g) weights (self_use (chip_of g) (limits_of g)) ≡ sum_by (λ l. if not l.test.tam then weighed (lists_of g) weights (λ list. use_of (chip_of g) (limits_of g) (λ rank. false) list l.test.patterns l) else 0) (live_tests (chip_of g)) =
     weighed_sum (lists_of g) weights (λ l. not l.test.tam) (λ list l. use_of (chip_of g) (limits_of g) (λ rank. false) list l.test.patterns l) (live_tests (chip_of g)) in
-    here ∙ same_sum (kind_cost g weights false None 1) (λ l. if not l.test.tam then weighed (lists_of g) weights (λ list. use_of (chip_of g) (limits_of g) (λ rank. false) list l.test.patterns l) else 0) (live_tests (chip_of g)) (λ l. each l (cases_Bool l.test.tam)) ∙ sym turned
+    here ∙ same_sum (kind_cost g weights false None 1) (λ l. if not l.test.tam then weighed (lists_of g) weights (λ list. use_of (chip_of g) (limits_of g) (λ rank. false) list l.test.patterns l) else 0) (live_tests (chip_of g)) (λ l. each l) ∙ sym turned
   where
-    each : (l : LiveTest) → (l.test.tam ≡ true) ⊎ (l.test.tam ≡ false) →
-        kind_cost g weights false None 1 l ≡ (if not l.test.tam then weighed (lists_of g) weights (λ list. use_of (chip_of g) (limits_of g) (λ rank. false) list l.test.patterns l) else 0)
-    each l (inl wired) = rw wired refl
-    each l (inr own) =
-        rw own (weighed_same (lists_of g) weights (λ list. use_of (chip_of g) (limits_of g) (is_rank None) list (packed_time l.core l.test 1) l) (λ list. use_of (chip_of g) (limits_of g) (λ rank. false) list l.test.patterns l)
+    part : (tam : Bool) (x y : ℕ) → (tam ≡ false → x ≡ y) → (if not tam then x else 0) ≡ (if not tam then y else 0)
+    part true x y h = refl
+    part false x y h = h refl
+
+    each : (l : LiveTest) → kind_cost g weights false None 1 l ≡ (if not l.test.tam then weighed (lists_of g) weights (λ list. use_of (chip_of g) (limits_of g) (λ rank. false) list l.test.patterns l) else 0)
+    each l =
+        part l.test.tam (weighed (lists_of g) weights (λ list. use_of (chip_of g) (limits_of g) (is_rank None) list (packed_time l.core l.test 1) l)) (weighed (lists_of g) weights (λ list. use_of (chip_of g) (limits_of g) (λ rank. false) list l.test.patterns l))
+        (λ own. weighed_same (lists_of g) weights (λ list. use_of (chip_of g) (limits_of g) (is_rank None) list (packed_time l.core l.test 1) l) (λ list. use_of (chip_of g) (limits_of g) (λ rank. false) list l.test.patterns l)
         (λ list. ap (λ n. use_of (chip_of g) (limits_of g) (is_rank None) list n l) (own_time l 1 own) ∙ no_rank (chip_of g) (limits_of g) list l.test.patterns l))
 
 -- ---- bounds
@@ -204,10 +211,72 @@ all_costs-le g weights wires rank width is uses some =
         let live : 1 ≤ l.test.patterns = live_patterns l.test ((from_filter is_live l.core.tests o.n l.test o.test_at).2) in
         let few : test_cost (chip_of g) (limits_of g) (lists_of g) weights rank width l ≤ 2 ^ 24 * 10 ^ 9 * packed_time l.core l.test width = uses-le g weights (is_rank rank) (packed_time l.core l.test width) l uses in
         let wide : 2 ^ 24 * 10 ^ 9 * packed_time l.core l.test width ≤ 2 ^ 24 * 10 ^ 9 * test_work l.core l.test = mul-le-mul_left (2 ^ 24 * 10 ^ 9) (packed_time-le l.core l.test width live some) in
-        kind-le (beq l.test.tam wires) (test_cost (chip_of g) (limits_of g) (lists_of g) weights rank width l) (2 ^ 24 * 10 ^ 9 * test_work l.core l.test) (omega arith)
+        kind-le (is_over wires l.test.tam) (test_cost (chip_of g) (limits_of g) (lists_of g) weights rank width l) (2 ^ 24 * 10 ^ 9 * test_work l.core l.test) (omega arith)
 
 -- so what is added up on the way
 pub costs_fit : (g : Basis) (weights : WeightsValue) (wires : Bool) (rank : Option ℕ) (width from n sum : ℕ) → IsBasis g → AreUses g weights → 1 ≤ width →
     sum + sum_by (kind_cost g weights wires rank width) (drop n (live_tests (chip_of g))) ≡ sum_by (kind_cost g weights wires rank width) (drop from (live_tests (chip_of g))) → sum ≤ USES_COST_MOST
 costs_fit g weights wires rank width from n sum is uses some total =
     omega (arith, total, all_costs-le g weights wires rank width is uses some, sum_by-take-drop (kind_cost g weights wires rank width) (live_tests (chip_of g)) from)
+
+-- ---- one live test
+
+pub some_at : {X : Type 0} (xs : List X) (i : ℕ) → i < length xs → (x : X) × (slice_get xs i ≡ Some x)
+some_at [] i h = absurd (omega arith)
+some_at (x ∷ xs) zero h = (x, refl)
+some_at (x ∷ xs) (suc i) h = some_at xs i (omega arith)
+
+pub own_core : (soc : SocValue) (limits : Limits) (l : LiveTest) (t : TestPlace) (m : ModuleValue) → IsTestAt soc limits l t → slice_get soc.modules t.«module» ≡ Some m → l.core ≡ m
+own_core soc limits l t m is at = same_Some l.core m (sym is.core ∙ ap (slice_get soc.modules) (sym is.«module») ∙ at)
+
+pub own_test : (soc : SocValue) (limits : Limits) (l : LiveTest) (t : TestPlace) (m : ModuleValue) (own : Test) → IsTestAt soc limits l t → slice_get soc.modules t.«module» ≡ Some m → slice_get m.tests t.test ≡ Some own → l.test ≡ own
+own_test soc limits l t m own is at there = same_Some l.test own (sym is.test ∙ ap (λ (x : ModuleValue). slice_get x.tests t.test) (own_core soc limits l t m is at) ∙ there)
+
+pub place_within : (soc : SocValue) (limits : Limits) (l : LiveTest) (t : TestPlace) → IsTestAt soc limits l t → t.«module» < length soc.modules
+place_within soc limits l t is = omega (arith, is.«module», slice_get_within soc.modules l.place l.core is.core)
+
+pub test_within : (soc : SocValue) (limits : Limits) (l : LiveTest) (t : TestPlace) (m : ModuleValue) → IsTestAt soc limits l t → slice_get soc.modules t.«module» ≡ Some m → t.test < length m.tests
+test_within soc limits l t m is at = subst (λ (x : ModuleValue). t.test < length x.tests) (own_core soc limits l t m is at) (slice_get_within l.core.tests t.test l.test is.test)
+
+pub own_live : (soc : SocValue) (i : ℕ) (l : LiveTest) → slice_get (live_tests soc) i ≡ Some l → is_live l.test ≡ true
+own_live soc i l at =
+    let o : IsLive soc.modules 0 l = live_at soc.modules 0 i l at in
+    (from_filter is_live l.core.tests o.n l.test o.test_at).2
+
+pub kind_is : (g : Basis) (weights : WeightsValue) (wires : Bool) (rank : Option ℕ) (width : ℕ) (l : LiveTest) (m : ModuleValue) (own : Test) (cycles costs : ℕ) → l.core ≡ m → l.test ≡ own → is_over wires own.tam ≡ true →
+    cycles ≡ packed_time m own width → costs ≡ weighed (lists_of g) weights (λ list. use_of (chip_of g) (limits_of g) (is_rank rank) list cycles l) → costs ≡ kind_cost g weights wires rank width l
+kind_is g weights wires rank width l m own cycles costs core test over time is =
+    let over' : is_over wires l.test.tam ≡ true = ap (λ (t : Test). is_over wires t.tam) test ∙ over in
+    let time' : cycles ≡ packed_time l.core l.test width = time ∙ ap (λ (x : ModuleValue). packed_time x own width) (sym core) ∙ ap (λ (t : Test). packed_time l.core t width) (sym test) in
+    rw over' (is ∙ ap (λ n. weighed (lists_of g) weights (λ list. use_of (chip_of g) (limits_of g) (is_rank rank) list n l)) time')
+
+pub kind_not : (g : Basis) (weights : WeightsValue) (wires : Bool) (rank : Option ℕ) (width : ℕ) (l : LiveTest) (own : Test) → l.test ≡ own → is_over wires own.tam ≡ false → 0 ≡ kind_cost g weights wires rank width l
+kind_not g weights wires rank width l own test over =
+    let over' : is_over wires l.test.tam ≡ false = ap (λ (t : Test). is_over wires t.tam) test ∙ over in
+    rw over' refl
+
+-- ---- where the tests of a module begin
+
+pub starts_long : (soc : SocValue) (limits : Limits) (table : TestTable) → IsTestTable soc limits table → length table.starts.items ≡ length soc.modules + 1
+starts_long soc limits table is = ap length is.starts ∙ length-map-range_with_len (tests_before soc) 0 (length soc.modules + 1)
+
+pub start_is : (soc : SocValue) (limits : Limits) (table : TestTable) (p start : ℕ) → IsTestTable soc limits table → slice_get table.starts.items p ≡ Some start → start ≡ tests_before soc p
+start_is soc limits table p start is at =
+    let within : p < length table.starts.items = slice_get_within table.starts.items p start at in
+    sym (get_or_from_slice_get table.starts.items p start start at) ∙ ap (λ xs. get_or xs p start) is.starts
+    ∙ get_or-map-range_with_len (tests_before soc) 0 (length soc.modules + 1) p p start (omega (arith, starts_long soc limits table is)) (omega arith)
+
+-- ---- one test more
+
+pub own_work : (soc : SocValue) (limits : Limits) (i : ℕ) (l : LiveTest) (t : TestPlace) (m : ModuleValue) (own : Test) → IsSoundChip soc → slice_get (live_tests soc) i ≡ Some l → IsTestAt soc limits l t →
+    slice_get soc.modules t.«module» ≡ Some m → slice_get m.tests t.test ≡ Some own → test_work m own ≤ 10 ^ 18
+own_work soc limits i l t m own sound at is there own-at =
+    let work : test_work l.core l.test ≤ 10 ^ 18 = live_work-le_live soc sound i l at in
+    let work' : test_work m l.test ≤ 10 ^ 18 = subst (λ (x : ModuleValue). test_work x l.test ≤ 10 ^ 18) (own_core soc limits l t m is there) work in
+    subst (λ (x : Test). test_work m x ≤ 10 ^ 18) (own_test soc limits l t m own is there own-at) work'
+
+pub next_cost : (f : LiveTest → ℕ) (xs : List LiveTest) (whole i sum costs : ℕ) (l : LiveTest) → slice_get xs i ≡ Some l → costs ≡ f l → sum + sum_by f (drop i xs) ≡ whole → sum + costs + sum_by f (drop (i + 1) xs) ≡ whole
+next_cost f xs whole i sum costs l at is before =
+    let more : sum_by f (drop i xs) ≡ f (get_or xs i l) + sum_by f (drop (i + 1) xs) = sum_by-drop_more f xs i l (slice_get_within xs i l at) in
+    let here : f (get_or xs i l) ≡ f l = ap f (get_or_from_slice_get xs i l l at) in
+    omega (arith, more, here, is, before)

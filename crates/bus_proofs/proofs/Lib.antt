@@ -27,3 +27,6 @@ pub mod Bits
 pub mod CaseRooms
 pub mod TestTables
 pub mod CountedSteps
+pub mod CrowdSizes
+pub mod LeafSums
+pub mod LeafTests

@@ -1,6 +1,5 @@
 -- What a leaf weighs, made ready for sums over tests.
-use mathlib.Core.Bool.{beq}
-use Rattle.std.specs.Prelude.{◌≡◌, ℕ, ◌+◌, ◌*◌, ◌^◌, ◌<◌, ◌≤◌, ◌&&◌, Bool, true, false, Option, Some, List, length, slice_get, slice_index, vec_capacity, if◌then◌else◌}
+use Rattle.std.specs.Prelude.{◌≡◌, ℕ, ◌+◌, ◌*◌, ◌^◌, ◌<◌, ◌≤◌, ◌&&◌, Bool, true, false, not, Option, Some, List, length, slice_get, slice_index, vec_capacity, if◌then◌else◌}
 use Rattle.std.specs.List.{All, sum_by}
 use Rattle.soc_model.specs.Chips.{SocValue, LiveTest, live_tests}
 use Rattle.plan_model.specs.Plans.{LimitsValue}
@@ -81,7 +80,7 @@ UsesAre g os room = (at : ℕ → Bool) (i cycles : ℕ) (l : LiveTest) → slic
 pub record IsMade (g : Basis) (os : List (ℕ × ℕ)) (room : Weighed) : Type 0 where
   pub long : length room.sums.items ≡ length (live_tests (chip_of g))
   pub uses : UsesAre g os room
-  pub low : (i : ℕ) → slice_index room.sums.items i ≤ length os * 10 ^ 9
+  pub low : (i : ℕ) → i < length room.sums.items → slice_index room.sums.items i ≤ length os * 10 ^ 9
   pub beside : length room.beside.items ≤ length os
   pub listed : All (λ (b : BesideUse). b.list < length (lists_of g)) room.beside.items
   pub power : length room.power.items ≤ length os
@@ -99,8 +98,9 @@ pub record IsWeighed (g : Basis) (weights : WeightsValue) (room : Weighed) : Typ
 -- ---- what tests cost
 
 -- the tests over the wires, or the self tests
-abbrev pub is_over : (wires : Bool) → LiveTest → Bool
-is_over wires l = beq l.test.tam wires
+abbrev pub is_over : (wires tam : Bool) → Bool
+is_over true tam = tam
+is_over false tam = not tam
 
 -- what a test costs on the bus of a rank, at a width
 abbrev pub test_cost : SocValue → LimitsValue → List ListValue → WeightsValue → (rank : Option ℕ) → (width : ℕ) → LiveTest → ℕ
@@ -108,4 +108,4 @@ test_cost soc limits lists weights rank width l = weighed lists weights (λ list
 
 -- the same of a test of one kind, the others cost nothing
 abbrev pub kind_cost : Basis → WeightsValue → (wires : Bool) → (rank : Option ℕ) → (width : ℕ) → LiveTest → ℕ
-kind_cost g weights wires rank width l = if is_over wires l then test_cost (chip_of g) (limits_of g) (lists_of g) weights rank width l else 0
+kind_cost g weights wires rank width l = if is_over wires l.test.tam then test_cost (chip_of g) (limits_of g) (lists_of g) weights rank width l else 0

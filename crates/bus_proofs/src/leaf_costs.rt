@@ -1,10 +1,10 @@
 //! What modules cost at the weights of a leaf: their times at the rates of buses, and their uses of lists.
-ghost use Rattle.std.specs.Prelude.{◌≡◌, ◌^◌, ◌*◌, ◌+◌, ◌<◌, ◌≤◌, ℕ, Some, List, [], ◌∷◌, ◌++◌, IfOk, length, drop, map, position, slice_get, slice_index, vec_capacity};
+ghost use Rattle.std.specs.Prelude.{◌≡◌, ◌^◌, ◌*◌, ◌+◌, ◌/◌, ◌<◌, ◌≤◌, ℕ, Some, List, [], ◌∷◌, ◌++◌, IfOk, length, drop, map, position, slice_get, slice_index, vec_capacity};
 ghost use Rattle.std.specs.List.{All, sum_by};
-ghost use Rattle.soc_model.specs.Chips.{LiveTest, id_of, live_tests, same_test};
+ghost use Rattle.soc_model.specs.Chips.{LiveTest, id_of, live_tests, module_value, same_test};
 ghost use Rattle.plan_model.specs.declared.Profile.{Profile};
 ghost use Rattle.plan_model.specs.Bounds.{sum_below};
-ghost use Rattle.plan_model.specs.Plans.{step_power};
+ghost use Rattle.plan_model.specs.Plans.{power_of_id, step_power};
 ghost use Rattle.plan_model.specs.SoundLimits.{Grow};
 ghost use Rattle.plan_model.specs.Views.{limits_value};
 ghost use Rattle.bus_proofs.specs.Proofs.{WeightsValue, weights_value};
@@ -12,15 +12,16 @@ ghost use Rattle.bus_proofs.specs.Lists.{IsNear, counted as the_counted, power_u
 ghost use Rattle.bus_proofs.specs.Leaves.{cost, is_rank as the_rank, self_use, slot, weighed};
 ghost use Rattle.bus_proofs.specs.ListTables.{role_at as the_role};
 ghost use Rattle.bus_proofs.specs.Bases.{IsBasis, AllKept, chip_of, limits_of, lists_of};
-ghost use Rattle.bus_proofs.specs.LeafCosts.{AreUses, IsMade, IsWeighed, HasSpaceFor, LEAF_COST_MOST, USES_COST_MOST, beside_use, drawn_use, in_weight, kind_cost as the_kind_cost};
+ghost use Rattle.bus_proofs.specs.LeafCosts.{AreUses, IsMade, IsWeighed, HasSpaceFor, LEAF_COST_MOST, USES_COST_MOST, beside_use, drawn_use, in_weight, is_over as the_over, kind_cost as the_kind_cost};
 
 use crate::basis::Basis;
 use crate::list_table::{ListTable, Role};
 use crate::lists::{counted, room_of};
+use crate::test_table::{TestPlace, TestTable};
 use crate::{TestList, Weights};
 use outside::NoMemory;
 use plan_model::Limits;
-use soc_model::module_at;
+use soc_model::{Module, Test, module_at};
 use std::alloc::Global;
 
 /// The lists that a leaf weighs, at its most.
@@ -96,7 +97,7 @@ fn add_in(table: &ListTable, list: usize, weight: u64, sums: &mut [u64])
     requires long { length table.now.roles.items ≡ table.now.kept * table.now.tests }
     requires list { list < table.now.kept }
     requires tests { length sums.old ≡ table.now.tests }
-    requires low { (i : ℕ) → slice_index sums.old i ≤ 2 ^ 24 * 10 ^ 9 }
+    requires low { (i : ℕ) → i < length sums.old → slice_index sums.old i ≤ 2 ^ 24 * 10 ^ 9 }
     requires weight { weight ≤ 10 ^ 9 }
     ensures long { length sums.new ≡ length sums.old }
     ensures sums { (i : ℕ) → i < length sums.old → slice_index sums.new i ≡ slice_index sums.old i + in_weight (the_role table.now list i) weight }
@@ -208,6 +209,28 @@ fn share(drawn: u128, limit: u64, cycles: u64) -> u64
     (drawn / u128::from(limit)) as u64
 }
 
+/// What a live test draws over its first `cycles` cycles as it counts, where this is the place of its profile, and its own power.
+fn drawn_by(
+    limits: &Limits,
+    limit: u64,
+    near: u64,
+    profile: Option<usize>,
+    own: u64,
+    cycles: u64,
+) -> u128
+    requires near { near ≤ limit }
+    requires steps { (i : ℕ) (p : Profile) → slice_get limits.now.profiles.items i ≡ Some p → Grow 0 p.steps.items }
+    requires profile { (l : LiveTest) × (profile ≡ position (λ (p : Profile). same_test p.test (id_of l)) limits.now.profiles.items) }
+    ensures sum { (l : LiveTest) → profile ≡ position (λ (p : Profile). same_test p.test (id_of l)) limits.now.profiles.items → own ≡ l.test.power →
+        result ≡ sum_below (λ r. the_counted limit near (power_of_id (limits_value limits.now) (id_of l) l.test.power r)) cycles }
+    ensures small { result ≤ limit * cycles }
+{
+    match profile {
+        Some(place) => counted_steps(limit, near, &limits.profiles[place].steps, cycles),
+        None => counted_cycles(limit, near, own, cycles),
+    }
+}
+
 /// The share of all power that a live test takes in so many cycles, where this is the place of its profile, and its own power.
 fn power_use(limits: &Limits, near: u64, profile: Option<usize>, own: u64, cycles: u64) -> u64
     requires near { IsNear (limits_value limits.now) near }
@@ -220,10 +243,7 @@ fn power_use(limits: &Limits, near: u64, profile: Option<usize>, own: u64, cycle
     let Some(limit) = limits.power else {
         return 0;
     };
-    let drawn = match profile {
-        Some(place) => counted_steps(limit, near, &limits.profiles[place].steps, cycles),
-        None => counted_cycles(limit, near, own, cycles),
-    };
+    let drawn = drawn_by(limits, limit, near, profile, own, cycles);
     share(drawn, limit, cycles)
 }
 
@@ -282,6 +302,55 @@ fn drawn_uses(
     sum
 }
 
+/// The weights of the lists that the live test at a place is in, in so many cycles.
+fn inside_uses(room: &Weighed, test: usize, cycles: u64) -> u128
+    requires { test < length room.now.sums.items }
+    ensures { result ≡ slice_index room.now.sums.items test * cycles }
+{
+    u128::from(room.sums[test]) * u128::from(cycles)
+}
+
+/// Where the live test at a place is in the chip.
+fn place_at(table: &TestTable, test: usize) -> TestPlace
+    requires { test < length table.now.tests.items }
+    ensures { slice_get table.now.tests.items test ≡ Some result }
+{
+    table.tests[test]
+}
+
+/// How many live tests stand before those of the module at a place.
+fn start_at(table: &TestTable, place: usize) -> usize
+    requires { place < length table.now.starts.items }
+    ensures { slice_get table.now.starts.items place ≡ Some result }
+{
+    table.starts[place]
+}
+
+/// The test at a place of a module.
+fn test_at(module: &Module, test: usize) -> Test
+    requires { test < length (module_value «module».now).tests }
+    ensures { slice_get (module_value «module».now).tests test ≡ Some result }
+{
+    module.tests[test]
+}
+
+/// Whether a test is over the wires, or a self test, as is asked for.
+fn is_over(wires: bool, tam: bool) -> bool
+    ensures { result ≡ the_over wires tam }
+{
+    if wires { tam } else { !tam }
+}
+
+/// So many cycles at a rate.
+fn rated(rate: u64, cycles: u64) -> u128
+    requires rate { rate < 2 ^ 40 }
+    requires cycles { cycles ≤ 10 ^ 18 }
+    ensures rated { result ≡ rate * cycles }
+    ensures small { result ≤ 2 ^ 40 * 10 ^ 18 }
+{
+    u128::from(rate) * u128::from(cycles)
+}
+
 /// What the live test at a place uses of all lists on the bus of a rank in so many cycles, at their weights.
 fn test_uses(
     basis: &Basis<'_>,
@@ -299,10 +368,11 @@ fn test_uses(
     ensures { (weights : WeightsValue) (l : LiveTest) → IsWeighed basis.now weights room.now → slice_get (live_tests (chip_of basis.now)) test ≡ Some l → own ≡ l.test.power →
         result ≡ weighed (lists_of basis.now) weights (λ list. use_of (chip_of basis.now) (limits_of basis.now) (the_rank rank) list cycles l) }
 {
-    let inside = u128::from(room.sums[test]) * u128::from(cycles);
+    let profile = place_at(&basis.tests, test).profile;
+    let inside = inside_uses(room, test, cycles);
     let beside = beside_uses(&basis.lists, &room.beside, rank, test, cycles);
-    let profile = basis.tests.tests[test].profile;
-    inside + beside + drawn_uses(basis.limits, &room.power, profile, own, cycles)
+    let drawn = drawn_uses(basis.limits, &room.power, profile, own, cycles);
+    inside + beside + drawn
 }
 
 /// What the live test at a place costs where it is over the wires, or a self test, as is asked for.
@@ -323,13 +393,13 @@ fn kind_cost(
     ensures { (weights : WeightsValue) (l : LiveTest) → IsWeighed basis.now weights room.now → slice_get (live_tests (chip_of basis.now)) test ≡ Some l →
         result ≡ the_kind_cost basis.now weights wires rank width l }
 {
-    let place = basis.tests.tests[test];
-    let own = &module_at(basis.soc, place.module).tests[place.test];
-    if own.tam != wires {
-        return 0;
+    let place = place_at(&basis.tests, test);
+    let own = test_at(module_at(basis.soc, place.module), place.test);
+    if is_over(wires, own.tam) {
+        let cycles = basis.times.test_time(place.module, &own, width);
+        return test_uses(basis, room, test, own.power, rank, cycles);
     }
-    let cycles = basis.times.test_time(place.module, own, width);
-    test_uses(basis, room, test, own.power, rank, cycles)
+    0
 }
 
 /// What the live tests from one place up to another cost, of those over the wires, or of the self tests, as is asked for.
@@ -382,9 +452,9 @@ pub(crate) fn module_cost(
     ensures small { result ≤ LEAF_COST_MOST }
 {
     let time = basis.times.tam_time(place, width);
-    let from = basis.tests.starts[place];
-    let to = basis.tests.starts[place + 1];
-    u128::from(rate) * u128::from(time) + costs_between(basis, room, from, to, true, rank, width)
+    let from = start_at(&basis.tests, place);
+    let to = start_at(&basis.tests, place + 1);
+    rated(rate, time) + costs_between(basis, room, from, to, true, rank, width)
 }
 
 /// What all self tests cost.
