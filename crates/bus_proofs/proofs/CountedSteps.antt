@@ -1,6 +1,6 @@
 -- Powers as they count, added up over cycles by the steps of profiles.
-use Rattle.std.proofs.Common.{◌≡◌, ℕ, zero, suc, ◌+◌, ◌-◌, ◌*◌, ◌/◌, ◌≤◌, ◌<◌, true, Option, Some, None, MatchOption, List, [], ◌∷◌, length, get_or, drop, map, refl, sym, ap, ◌∙◌, arith, drop-cons, inl, inr, ◌⊎◌, add-one, mul_comm, mul-le-mul_left, div-mul-le_self, position}
-use Rattle.std.specs.Prelude.{if◌then◌else◌, min, slice_get}
+use Rattle.std.proofs.Common.{◌≡◌, ℕ, zero, suc, ◌+◌, ◌-◌, ◌*◌, ◌/◌, ◌≤◌, ◌<◌, Option, Some, None, List, [], ◌∷◌, length, get_or, drop, refl, sym, ap, ◌∙◌, arith, drop-cons, inl, inr, add-one, mul_comm, mul-le-mul_left, div-mul-le_self, position}
+use Rattle.std.specs.Prelude.{min, slice_get}
 use Rattle.std.proofs.lemmas.Bool.{cases_lt, lt-ltb, le-ltb, le-leb}
 use Rattle.std.proofs.lemmas.List.{drop_all}
 use Rattle.soc_model.specs.Chips.{LiveTest, id_of, same_test}
@@ -20,9 +20,9 @@ pub counted-le : (limit near p : ℕ) → counted limit near p ≤ limit
 counted-le limit near p = elim (cases_lt limit (p + near)) [
   | inl over ↦ rw (lt-ltb limit (p + near) over) (omega arith)
   | inr within ↦ elim (cases_lt p near) [
-      | inl small ↦ rw (le-ltb limit (p + near) within, lt-ltb p near small) (omega arith)
-      | inr large ↦ rw (le-ltb limit (p + near) within, le-ltb p near large) (omega arith)
-    ]
+    | inl small ↦ rw (le-ltb limit (p + near) within, lt-ltb p near small) (omega arith)
+    | inr large ↦ rw (le-ltb limit (p + near) within, le-ltb p near large) (omega arith)
+  ]
 ]
 
 abbrev pub counted_at : (limit near : ℕ) → List (ℕ × ℕ) → ℕ → ℕ

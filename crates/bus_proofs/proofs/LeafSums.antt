@@ -1,19 +1,16 @@
 -- What stands in the room of a leaf: one list more, and what tests use by it.
-use Rattle.std.proofs.Common.{◌≡◌, ℕ, zero, suc, ◌+◌, ◌-◌, ◌*◌, ◌^◌, ◌≤◌, ◌<◌, Bool, true, false, Option, Some, None, MatchOption, List, [], ◌∷◌, ◌++◌, length, get_or, map, take, drop, refl, sym, ap, subst, ◌∙◌, arith, inl, inr, ◌⊎◌, add-one, mul_comm, mul_left_comm, mul_assoc, mul-add, add-mul, mul-le-mul_left}
-use Rattle.std.specs.Prelude.{if◌then◌else◌, ◌&&◌, ◌||◌, slice_get, slice_index, nat_eq}
-use Rattle.std.specs.List.{All, sum_by, filter}
+use Rattle.std.proofs.Common.{◌≡◌, ℕ, zero, suc, ◌+◌, ◌*◌, ◌^◌, ◌≤◌, ◌<◌, Bool, true, false, Option, Some, None, List, [], ◌∷◌, ◌++◌, length, get_or, map, take, refl, sym, ap, subst, ◌∙◌, arith, inl, inr, add-one, add-mul, mul-le-mul_left}
+use Rattle.std.specs.Prelude.{if◌then◌else◌, ◌&&◌, ◌||◌, slice_get, slice_index}
+use Rattle.std.specs.List.{All, sum_by}
 use Rattle.std.proofs.Math.Nat.{mul-le-mul_right}
-use Rattle.std.proofs.lemmas.Bool.{cases_Bool, eq-eqb, ne_eqb}
 use Rattle.std.proofs.lemmas.List.{length-append, length-map}
 use Rattle.std.proofs.lemmas.List.Elements.{All-tail, All-push}
-use Rattle.std.proofs.lemmas.List.Sums.{sum_by-cons, sum_by-append, sum_by_push, sum_by-le, sum_by-take-drop}
+use Rattle.std.proofs.lemmas.List.Sums.{sum_by-cons, sum_by_push}
 use Rattle.std.proofs.lemmas.Option.{slice_get_within, slice_get-get_or, slice_get-map}
 use Rattle.soc_model.specs.declared.TestId.{TestId}
-use Rattle.soc_model.specs.declared.Test.{Test}
-use Rattle.soc_model.specs.Chips.{ModuleValue, SocValue, LiveTest, is_live, live_of, live_from, live_tests}
+use Rattle.soc_model.specs.Chips.{SocValue, LiveTest, live_tests}
 use Rattle.plan_model.specs.Plans.{LimitsValue}
 use Rattle.plan_model.specs.Certificates.{on}
-use Rattle.plan_model.specs.Rules.{Each, IsFirstBreach}
 use Rattle.bus_proofs.specs.declared.basis.Basis.{Basis}
 use Rattle.bus_proofs.specs.declared.leaf_costs.BesideUse.{BesideUse}
 use Rattle.bus_proofs.specs.declared.leaf_costs.Weighed.{Weighed}
@@ -22,11 +19,11 @@ use Rattle.bus_proofs.specs.declared.list_table.Role.TheVariants.{Out, In, Besid
 use Rattle.bus_proofs.specs.declared.TestList.{TestList}
 use Rattle.bus_proofs.specs.Proofs.{list_value, ListValue, OfTurns, OfTurnsOn, OfCrowd, OfPower, WeightsValue}
 use Rattle.bus_proofs.specs.Lists.{KeepsList, IsNear, is_among, is_beside, excludes_all, power_use, room_of, use_of}
-use Rattle.bus_proofs.specs.Bounds.{AreKept, KeptBehind}
+use Rattle.bus_proofs.specs.Bounds.{AreKept}
 use Rattle.bus_proofs.specs.ListTables.{KeepFirst, role_of, role_at}
-use Rattle.bus_proofs.specs.Leaves.{is_rank, weighed}
+use Rattle.bus_proofs.specs.Leaves.{weighed}
 use Rattle.bus_proofs.specs.Bases.{IsBasis, AllKept, chip_of, limits_of, lists_of}
-use Rattle.bus_proofs.specs.LeafCosts.{AreUses, HasSpaceFor, IsMade, IsWeighed, UsesAre, USES_COST_MOST, beside_use, drawn_use, in_weight, is_aside, is_in, weighed_by}
+use Rattle.bus_proofs.specs.LeafCosts.{AreUses, IsMade, IsWeighed, USES_COST_MOST, beside_use, drawn_use, in_weight, is_aside, weighed_by}
 use Rattle.bus_proofs.proofs.CountedSteps.{power_use-le}
 use Rattle.bus_proofs.proofs.CrowdSizes.{room-le}
 

@@ -1,9 +1,8 @@
 -- What the live tests of a chip cost at the weights of a leaf, over lists and over tests.
-use Rattle.std.proofs.Common.{◌≡◌, ◌≢◌, ℕ, zero, suc, ◌+◌, ◌-◌, ◌*◌, ◌^◌, ◌≤◌, ◌<◌, Bool, true, false, Option, Some, None, List, [], ◌∷◌, ◌++◌, length, get_or, map, take, drop, refl, sym, ap, subst, ◌∙◌, arith, inl, inr, ◌⊎◌, append_assoc, drop-cons, mul-le-mul_left}
-use Rattle.std.specs.Prelude.{if◌then◌else◌, ◌&&◌, not, slice_get, slice_index, nat_eq}
-use Rattle.std.specs.List.{sum_by, filter, range_with_len}
-use Rattle.std.proofs.Math.Nat.{mul-le-mul_right}
-use Rattle.std.proofs.lemmas.Bool.{cases_Bool, eq-eqb, ne_eqb}
+use Rattle.std.proofs.Common.{◌≡◌, ◌≢◌, ℕ, zero, suc, ◌+◌, ◌-◌, ◌*◌, ◌^◌, ◌≤◌, ◌<◌, Bool, true, false, Option, Some, None, List, [], ◌∷◌, ◌++◌, length, get_or, take, drop, refl, sym, ap, subst, ◌∙◌, arith, append_assoc, drop-cons, mul-le-mul_left}
+use Rattle.std.specs.Prelude.{if◌then◌else◌, ◌&&◌, not, slice_get, nat_eq}
+use Rattle.std.specs.List.{sum_by}
+use Rattle.std.proofs.lemmas.Bool.{eq-eqb, ne_eqb}
 use Rattle.std.proofs.lemmas.List.{drop_all, length-append, length-drop}
 use Rattle.std.proofs.lemmas.List.FromFn.{get_or-map-range_with_len, length-map-range_with_len}
 use Rattle.std.proofs.lemmas.List.Sums.{sum_by-cons, sum_by-append, sum_by-take-drop, sum_by-drop_more}
@@ -25,16 +24,15 @@ use Rattle.soc_model.specs.SoundChips.{IsSoundChip}
 use Rattle.packed_times.specs.Packed.{packed_time, packed_tam_time}
 use Rattle.packed_times.proofs.LeastTimes.{packed_time-le}
 use Rattle.bus_proofs.specs.declared.basis.Basis.{Basis}
-use Rattle.bus_proofs.specs.declared.leaf_costs.Weighed.{Weighed}
 use Rattle.bus_proofs.specs.Proofs.{ListValue, OfTurns, OfTurnsOn, OfCrowd, OfPower, WeightsValue}
-use Rattle.bus_proofs.specs.Lists.{is_among, excludes_all, is_beside, use_of}
+use Rattle.bus_proofs.specs.Lists.{use_of}
 use Rattle.bus_proofs.specs.Leaves.{cost, is_rank, module_use, self_use, slot, weighed}
 use Rattle.plan_model.specs.declared.Limits.{Limits}
 use Rattle.bus_proofs.specs.declared.test_table.TestTable.{TestTable}
 use Rattle.bus_proofs.specs.declared.test_table.TestPlace.{TestPlace}
 use Rattle.bus_proofs.specs.TestTables.{IsTestAt, IsTestTable, tests_before}
 use Rattle.bus_proofs.specs.Bases.{IsBasis, chip_of, limits_of, lists_of}
-use Rattle.bus_proofs.specs.LeafCosts.{AreUses, IsWeighed, USES_COST_MOST, is_over, kind_cost, test_cost, weighed_by}
+use Rattle.bus_proofs.specs.LeafCosts.{AreUses, USES_COST_MOST, is_over, kind_cost, test_cost, weighed_by}
 use Rattle.bus_proofs.proofs.Weighed.{weighed-add}
 use Rattle.bus_proofs.proofs.LeafSums.{uses-le}
 

@@ -100,7 +100,8 @@ fn add_in(table: &ListTable, list: usize, weight: u64, sums: &mut [u64])
     requires low { (i : ℕ) → i < length sums.old → slice_index sums.old i ≤ 2 ^ 24 * 10 ^ 9 }
     requires weight { weight ≤ 10 ^ 9 }
     ensures long { length sums.new ≡ length sums.old }
-    ensures sums { (i : ℕ) → i < length sums.old → slice_index sums.new i ≡ slice_index sums.old i + in_weight (the_role table.now list i) weight }
+    ensures sums { (i : ℕ) → i < length sums.old →
+        slice_index sums.new i ≡ slice_index sums.old i + in_weight (the_role table.now list i) weight }
 {
     for test in 0..sums.len() {
         let more = weight_of(role_at(table, list, test), weight);
@@ -221,7 +222,8 @@ fn drawn_by(
     requires near { near ≤ limit }
     requires steps { (i : ℕ) (p : Profile) → slice_get limits.now.profiles.items i ≡ Some p → Grow 0 p.steps.items }
     requires profile { (l : LiveTest) × (profile ≡ position (λ (p : Profile). same_test p.test (id_of l)) limits.now.profiles.items) }
-    ensures sum { (l : LiveTest) → profile ≡ position (λ (p : Profile). same_test p.test (id_of l)) limits.now.profiles.items → own ≡ l.test.power →
+    ensures sum { (l : LiveTest) → profile ≡ position (λ (p : Profile). same_test p.test (id_of l)) limits.now.profiles.items →
+        own ≡ l.test.power →
         result ≡ sum_below (λ r. the_counted limit near (power_of_id (limits_value limits.now) (id_of l) l.test.power r)) cycles }
     ensures small { result ≤ limit * cycles }
 {
@@ -236,7 +238,8 @@ fn power_use(limits: &Limits, near: u64, profile: Option<usize>, own: u64, cycle
     requires near { IsNear (limits_value limits.now) near }
     requires steps { (i : ℕ) (p : Profile) → slice_get limits.now.profiles.items i ≡ Some p → Grow 0 p.steps.items }
     requires profile { (l : LiveTest) × (profile ≡ position (λ (p : Profile). same_test p.test (id_of l)) limits.now.profiles.items) }
-    ensures share { (l : LiveTest) → profile ≡ position (λ (p : Profile). same_test p.test (id_of l)) limits.now.profiles.items → own ≡ l.test.power →
+    ensures share { (l : LiveTest) → profile ≡ position (λ (p : Profile). same_test p.test (id_of l)) limits.now.profiles.items →
+        own ≡ l.test.power →
         result ≡ the_power_use (limits_value limits.now) near l cycles limits.now.power }
     ensures small { result ≤ cycles }
 {
@@ -292,7 +295,8 @@ fn drawn_uses(
     requires steps { (i : ℕ) (p : Profile) → slice_get limits.now.profiles.items i ≡ Some p → Grow 0 p.steps.items }
     requires test { (l : LiveTest) × (profile ≡ position (λ (p : Profile). same_test p.test (id_of l)) limits.now.profiles.items)
         × (own ≡ l.test.power) × (sum_by (drawn_use (limits_value limits.now) l cycles) power.now ≤ USES_COST_MOST) }
-    ensures { (l : LiveTest) → profile ≡ position (λ (p : Profile). same_test p.test (id_of l)) limits.now.profiles.items → own ≡ l.test.power →
+    ensures { (l : LiveTest) → profile ≡ position (λ (p : Profile). same_test p.test (id_of l)) limits.now.profiles.items →
+        own ≡ l.test.power →
         result ≡ sum_by (drawn_use (limits_value limits.now) l cycles) power.now }
 {
     let mut sum = 0u128;
@@ -365,8 +369,10 @@ fn test_uses(
     requires test { (l : LiveTest) × (slice_get (live_tests (chip_of basis.now)) test ≡ Some l) × (own ≡ l.test.power) }
     requires cycles { cycles ≤ 10 ^ 18 }
     requires weighed { (weights : WeightsValue) × IsWeighed basis.now weights room.now }
-    ensures { (weights : WeightsValue) (l : LiveTest) → IsWeighed basis.now weights room.now → slice_get (live_tests (chip_of basis.now)) test ≡ Some l → own ≡ l.test.power →
-        result ≡ weighed (lists_of basis.now) weights (λ list. use_of (chip_of basis.now) (limits_of basis.now) (the_rank rank) list cycles l) }
+    ensures { (weights : WeightsValue) (l : LiveTest) → IsWeighed basis.now weights room.now →
+        slice_get (live_tests (chip_of basis.now)) test ≡ Some l → own ≡ l.test.power →
+        result ≡ weighed (lists_of basis.now) weights (λ list.
+        use_of (chip_of basis.now) (limits_of basis.now) (the_rank rank) list cycles l) }
 {
     let profile = place_at(&basis.tests, test).profile;
     let inside = inside_uses(room, test, cycles);
@@ -390,7 +396,8 @@ fn kind_cost(
     requires some_wire { 1 ≤ width }
     requires few_wires { width ≤ (limits_of basis.now).wires }
     requires weighed { (weights : WeightsValue) × IsWeighed basis.now weights room.now }
-    ensures { (weights : WeightsValue) (l : LiveTest) → IsWeighed basis.now weights room.now → slice_get (live_tests (chip_of basis.now)) test ≡ Some l →
+    ensures { (weights : WeightsValue) (l : LiveTest) → IsWeighed basis.now weights room.now →
+        slice_get (live_tests (chip_of basis.now)) test ≡ Some l →
         result ≡ the_kind_cost basis.now weights wires rank width l }
 {
     let place = place_at(&basis.tests, test);

@@ -1,5 +1,5 @@
-use Rattle.std.proofs.Common.{◌≡◌, ◌∙◌, Some, true, refl, sym, ap, subst, arith}
-use Rattle.std.specs.Prelude.{IsTrue, slice_get}
+use Rattle.std.proofs.Common.{◌≡◌, ◌∙◌, Some, true, sym, ap, subst}
+use Rattle.std.specs.Prelude.{slice_get}
 use Rattle.std.proofs.lemmas.Option.{same_Some}
 use Rattle.soc_model.specs.declared.Test.{Test}
 use Rattle.soc_model.specs.Chips.{is_live, live_tests, module_value}

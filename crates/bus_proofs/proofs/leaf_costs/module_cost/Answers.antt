@@ -1,4 +1,4 @@
-use Rattle.std.proofs.Common.{◌+◌, ◌∙◌, arith}
+use Rattle.std.proofs.Common.{◌+◌, arith}
 use Rattle.bus_proofs.specs.Bases.{chip_of}
 use Rattle.bus_proofs.proofs.LeafTests.{some_at, starts_long, start_is, before_grows, before_within, module_uses}
 use Rattle.bus_proofs.proofs.leaf_costs.module_cost.Goals as goal

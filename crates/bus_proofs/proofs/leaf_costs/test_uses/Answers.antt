@@ -1,8 +1,8 @@
-use Rattle.std.proofs.Common.{◌≡◌, ◌*◌, ◌∙◌, refl, sym, ap, arith}
+use Rattle.std.proofs.Common.{◌*◌, ◌∙◌, refl, sym, ap, arith}
 use Rattle.std.specs.Prelude.{slice_index}
 use Rattle.std.specs.List.{sum_by}
 use Rattle.std.proofs.lemmas.Option.{slice_get-map}
-use Rattle.plan_model.specs.Views.{limits_value, profile_value}
+use Rattle.plan_model.specs.Views.{profile_value}
 use Rattle.bound_rules.proofs.Energies.{sound_steps}
 use Rattle.bus_proofs.specs.Leaves.{is_rank}
 use Rattle.bus_proofs.specs.Bases.{chip_of, limits_of}

@@ -1,5 +1,4 @@
-use Rattle.std.proofs.Common.{rules, ◌≡◌, ◌+◌, ◌∙◌, ℕ, length, map, take, refl, sym, ap, arith}
-use Rattle.std.specs.List.{range_with_len}
+use Rattle.std.proofs.Common.{rules, ◌≡◌, ℕ, length, take, arith}
 use Rattle.std.proofs.lemmas.List.{length-map}
 use Rattle.soc_model.specs.declared.Module.{Module}
 use Rattle.soc_model.specs.Chips.{soc_value, module_value, live_from}
@@ -14,7 +13,7 @@ loop-place-preserved c =
     let len : c.len.result ≡ length c.loop-place.tests.items = search rules in
     record {
       tests = at_more (soc_value c.args.soc.now) c.args.limits.now c.push_tests.new.tests.items c.loop-place.place (module_value c.module_at.result.now) c.module_at.ensures
-      (c.in_ok-push_tests.ensures (soc_value c.args.soc.now) (live_from 0 (take c.loop-place.place (soc_value c.args.soc.now).modules)) c.module_at.ensures c.loop-place.invariant.tests);
+          (c.in_ok-push_tests.ensures (soc_value c.args.soc.now) (live_from 0 (take c.loop-place.place (soc_value c.args.soc.now).modules)) c.module_at.ensures c.loop-place.invariant.tests);
       starts = starts_more (soc_value c.args.soc.now) c.args.limits.now c.loop-place.tests.items c.loop-place.place c.len.result c.loop-place.starts.items c.push.new.to.items len c.in_ok-push.ensures.ok c.loop-place.invariant.tests c.loop-place.invariant.starts;
     }
 
