@@ -1,5 +1,5 @@
 //! What modules cost at the weights of a leaf: their times at the rates of buses, and their uses of lists.
-ghost use Rattle.std.specs.Prelude.{◌≡◌, ◌^◌, ◌*◌, ◌+◌, ◌/◌, ◌<◌, ◌≤◌, ℕ, Some, List, [], ◌∷◌, ◌++◌, IfOk, length, drop, map, position, slice_get, slice_index, vec_capacity};
+ghost use Rattle.std.specs.Prelude.{◌≡◌, ◌^◌, ◌*◌, ◌+◌, ◌/◌, ◌<◌, ◌≤◌, ℕ, Some, List, [], ◌∷◌, ◌++◌, IfOk, length, drop, position, slice_get, slice_index, vec_capacity};
 ghost use Rattle.std.specs.List.{All, sum_by};
 ghost use Rattle.soc_model.specs.Chips.{LiveTest, id_of, live_tests, module_value, same_test};
 ghost use Rattle.plan_model.specs.declared.Profile.{Profile};
