@@ -7,6 +7,8 @@ use Rattle.bus_proofs.specs.declared.basis.Basis.{Basis}
 use Rattle.bus_proofs.specs.Grammar.{AreWeights}
 use Rattle.bus_proofs.specs.Proofs.{WeightsValue}
 use Rattle.soc_model.specs.Chips.{live_tests}
+use Rattle.bus_proofs.specs.Lists.{room_of}
+use Rattle.bus_proofs.specs.Leaves.{weighed}
 use Rattle.bus_proofs.specs.Bases.{chip_of, lists_of}
 
 -- a module at its rate and with all lists costs no more: 2^40 is above every rate, 2^24 lists weigh less than 10^9 each, and no test takes more than 10^18 cycles
@@ -24,5 +26,6 @@ abbrev pub HasSpaceFor : Basis → ℕ → Weighed → Type 0
 HasSpaceFor g uses room = length room.sums.items ≡ length (live_tests (chip_of g))
 
 -- PLACEHOLDER: what stands in the room when a leaf was made ready
-abbrev pub IsWeighed : Basis → WeightsValue → Weighed → Type 0
-IsWeighed g weights room = ⊥
+pub record IsWeighed (g : Basis) (weights : WeightsValue) (room : Weighed) : Type 0 where
+  pub rooms_are : room.rooms ≡ weighed (lists_of g) weights room_of
+  pub rooms_small : room.rooms ≤ 2 ^ 120
