@@ -1,18 +1,26 @@
 -- The least cost over ranges of widths, and over all buses of a module.
-use Rattle.std.proofs.Common.{◌≡◌, ℕ, zero, suc, ◌+◌, ◌-◌, ◌*◌, ◌≤◌, ◌<◌, ◌⊎◌, min, max, Bool, true, false, Option, Some, None, List, [], ◌∷◌, length, map, refl, ap, sym, ◌∙◌, subst, arith, inl, inr}
-use Rattle.std.specs.Prelude.{slice_get, if◌then◌else◌}
+use Rattle.std.proofs.Common.{◌≡◌, ℕ, zero, suc, ◌+◌, ◌-◌, ◌*◌, ◌≤◌, ◌<◌, ◌⊎◌, min, max, Bool, true, false, Option, Some, None, List, [], ◌∷◌, length, map, refl, ap, sym, ◌∙◌, subst, arith, inl, inr, mul-le-mul_left}
+use Rattle.std.specs.Prelude.{slice_get, IfSome, if◌then◌else◌}
 use Rattle.std.specs.List.{range_with_len, flat_map, filter}
-use Rattle.std.proofs.lemmas.Bool.{cases_eq, cases_lt, cases_le, cases_Bool}
+use Rattle.std.proofs.lemmas.Bool.{cases_eq, cases_lt}
 use Rattle.soc_model.specs.Chips.{SocValue}
 use Rattle.packed_times.specs.Packed.{packed_tam_time, self_test_time}
 use Rattle.plan_model.specs.Plans.{smallest}
 use Rattle.plan_model.proofs.Lists.{from_append, from_map, from_flat_map, from_filter, in_append_left, in_append_right, in_flat_map}
 use Rattle.plan_model.proofs.Finding.{in_filter}
+use Rattle.bus_proofs.specs.declared.case.CaseRoom.{CaseRoom}
+use Rattle.bus_proofs.specs.declared.places.Placing.{Placing}
+use Rattle.bus_proofs.specs.CaseRooms.{IsCaseOf}
+use Rattle.bus_proofs.specs.Takings.{bit_at}
+use Rattle.bus_proofs.specs.Bits.{HasPlace, bit_place}
 use Rattle.bus_proofs.specs.declared.leaf_slots.WidthRange.{WidthRange}
+use Rattle.bus_proofs.specs.declared.basis.Basis.{Basis}
 use Rattle.bus_proofs.specs.Proofs.{WeightsValue}
+use Rattle.bus_proofs.specs.Bases.{chip_of, limits_of, lists_of}
+use Rattle.bus_proofs.specs.Laws.{WiderSlotsCostNoLess}
 use Rattle.bus_proofs.specs.Cases.{Case, known_ranks, low_at, high_at}
 use Rattle.bus_proofs.specs.Leaves.{Slot, slot, from_to, slot_at, slots_at, rest_high, rest_slot, rest_slots, all_slots, slots_of, is_short}
-use Rattle.bus_proofs.specs.LeafSlots.{IsCostOf, IsLeast, IsLeastOf, IsOfModule, IsOfRange, IsOfRanks, IsOfRest, lesser, range_slot, rank_range, rest_range}
+use Rattle.bus_proofs.specs.LeafSlots.{IsCostOf, IsLeast, IsLeastOf, IsOfModule, IsOfRange, IsOfRank, IsOfRanks, IsOfRest, costs_at, lesser, range_slot, rank_range, rest_range}
 use Rattle.bus_proofs.proofs.Slots.{in_range, of_known, of_rest, smallest-le}
 
 -- ---- the least of two
@@ -41,7 +49,7 @@ joined f A B C (Some m) None x y from left right = record {
     | inr r ↦ absurd (y s r)
   ];
 }
-joined f A B C (Some m) (Some n) x y from left right = elim (cases_le m n) [
+joined f A B C (Some m) (Some n) x y from left right = elim (cases_lt m n) [
   | inl less ↦
       let same : min m n ≡ m = omega arith in
       record {
@@ -157,53 +165,70 @@ width_same f soc claim place r w o from same more x = go o x
       ];
     }
 
--- a range that begins behind its end has none
-pub range_none : (f : Slot → ℕ) (soc : SocValue) (claim place : ℕ) (r : WidthRange) (end : ℕ) (o : Option ℕ) → end ≡ r.first → o ≡ None → IsLeastOf f (IsOfRange soc claim place r end) o
-range_none f soc claim place r end o same none = subst (IsLeastOf f (IsOfRange soc claim place r end)) (sym none) (no_width f soc claim place r end (omega (arith, same)))
+-- at no lesser rate
+pub width_costs : WiderSlotsCostNoLess → (g : Basis) (weights : WeightsValue) (place : ℕ) (r : WidthRange) (w : ℕ) → 1 ≤ r.first → r.first < w →
+    packed_tam_time (chip_of g) place (w - 1) ≡ packed_tam_time (chip_of g) place w → costs_at g weights place (range_slot r (w - 1)) ≤ costs_at g weights place (range_slot r w)
+width_costs law g weights place r w some more same =
+    let less : w - 1 - r.low ≤ w - r.low = omega arith in
+    let product : r.wire * (w - 1 - r.low) ≤ r.wire * (w - r.low) = mul-le-mul_left r.wire less in
+    law (chip_of g) (limits_of g) (lists_of g) weights place r.rank (w - 1) w (r.base + r.wire * (w - 1 - r.low)) (r.base + r.wire * (w - r.low))
+    (omega (arith, some, more)) (omega arith) same (omega (arith, product))
+
+-- all widths of the range are tried
+pub range_done : (f : Slot → ℕ) (soc : SocValue) (claim place : ℕ) (r : WidthRange) (w : ℕ) (o : Option ℕ) → r.high + 1 ≤ w → IsLeastOf f (IsOfRange soc claim place r (min w (r.high + 1))) o → IsLeastOf f (IsOfRange soc claim place r (r.high + 1)) o
+range_done f soc claim place r w o all x = let e : min w (r.high + 1) ≡ r.high + 1 = omega (arith, all) in subst (λ n. IsLeastOf f (IsOfRange soc claim place r n) o) e x
+
+-- one more is
+pub range_more : (f : Slot → ℕ) (soc : SocValue) (claim place : ℕ) (r : WidthRange) (w : ℕ) (a b : Option ℕ) → w < r.high + 1 →
+    (IsLeastOf f (IsOfRange soc claim place r w) a → IsLeastOf f (IsOfRange soc claim place r (w + 1)) b) →
+    IsLeastOf f (IsOfRange soc claim place r (min w (r.high + 1))) a → IsLeastOf f (IsOfRange soc claim place r (min (w + 1) (r.high + 1))) b
+range_more f soc claim place r w a b less step x =
+    let now : min w (r.high + 1) ≡ w = omega (arith, less) in
+    let next : w + 1 ≡ min (w + 1) (r.high + 1) = omega (arith, less) in
+    subst (λ n. IsLeastOf f (IsOfRange soc claim place r n) b) next (step (subst (λ n. IsLeastOf f (IsOfRange soc claim place r n) a) now x))
+
+-- the lesser is no greater than both
+pub lesser_small : (a b : Option ℕ) (k : ℕ) → IfSome a (λ n. n ≤ k) → IfSome b (λ n. n ≤ k) → IfSome (lesser a b) (λ n. n ≤ k)
+lesser_small None b k x y = y
+lesser_small (Some m) None k x y = x
+lesser_small (Some m) (Some n) k x y = omega (arith, x, y)
 
 -- ---- one rank more
 
-further : (soc : SocValue) (claim : ℕ) (c : Case) (weights : WeightsValue) (place k : ℕ) (s : Slot) → IsOfRanks soc claim c weights place k s → IsOfRanks soc claim c weights place (k + 1) s
-further soc claim c weights place k s is = record {
-  rank = is.rank;
-  below = omega (arith, is.below);
-  may = is.may;
-  of_range = is.of_range;
-}
+-- the module may be on the rank
+pub rank_tried : (f : Slot → ℕ) (soc : SocValue) (claim : ℕ) (c : Case) (weights : WeightsValue) (place k : ℕ) (r : WidthRange) (o : Option ℕ) → c.may place k ≡ true → r ≡ rank_range c weights k →
+    IsLeastOf f (IsOfRange soc claim place r (r.high + 1)) o → IsLeastOf f (IsOfRank soc claim c weights place k) o
+rank_tried f soc claim c weights place k r o may is x =
+    least_same f (IsOfRange soc claim place (rank_range c weights k) (high_at c k + 1)) (IsOfRank soc claim c weights place k) o
+    (subst (λ q. IsLeastOf f (IsOfRange soc claim place q (q.high + 1)) o) is x)
+    (λ s has. has.of_range) (λ s has. record { may = may; of_range = has })
+
+-- it may not
+pub rank_skipped : (f : Slot → ℕ) (soc : SocValue) (claim : ℕ) (c : Case) (weights : WeightsValue) (place k : ℕ) → c.may place k ≡ false → IsLeastOf f (IsOfRank soc claim c weights place k) None
+rank_skipped f soc claim c weights place k off = λ s is. let e : true ≡ false = sym is.may ∙ off in absurd cc
 
 pub no_rank : (f : Slot → ℕ) (soc : SocValue) (claim : ℕ) (c : Case) (weights : WeightsValue) (place : ℕ) → IsLeastOf f (IsOfRanks soc claim c weights place 0) None
 no_rank f soc claim c weights place = λ s is. omega (arith, is.below)
 
--- the module may be on the rank
-pub rank_tried : (f : Slot → ℕ) (soc : SocValue) (claim : ℕ) (c : Case) (weights : WeightsValue) (place k : ℕ) (a b : Option ℕ) → c.may place k ≡ true →
-    IsLeastOf f (IsOfRanks soc claim c weights place k) a → IsLeastOf f (IsOfRange soc claim place (rank_range c weights k) (high_at c k + 1)) b → IsLeastOf f (IsOfRanks soc claim c weights place (k + 1)) (lesser a b)
-rank_tried f soc claim c weights place k a b may x y =
-    joined f (IsOfRanks soc claim c weights place k) (IsOfRange soc claim place (rank_range c weights k) (high_at c k + 1)) (IsOfRanks soc claim c weights place (k + 1)) a b x y
+pub rank_more : (f : Slot → ℕ) (soc : SocValue) (claim : ℕ) (c : Case) (weights : WeightsValue) (place k : ℕ) (a b : Option ℕ) →
+    IsLeastOf f (IsOfRanks soc claim c weights place k) a → IsLeastOf f (IsOfRank soc claim c weights place k) b → IsLeastOf f (IsOfRanks soc claim c weights place (k + 1)) (lesser a b)
+rank_more f soc claim c weights place k a b x y =
+    joined f (IsOfRanks soc claim c weights place k) (IsOfRank soc claim c weights place k) (IsOfRanks soc claim c weights place (k + 1)) a b x y
     (λ s is. which s is (cases_eq is.rank k))
-    (further soc claim c weights place k)
-    (λ s is. record { rank = k; below = omega arith; may = may; of_range = is })
+    (λ s is. record { rank = is.rank; below = omega (arith, is.below); of_rank = is.of_rank })
+    (λ s is. record { rank = k; below = omega arith; of_rank = is })
   where
-    which : (s : Slot) (is : IsOfRanks soc claim c weights place (k + 1) s) → (is.rank ≡ k) ⊎ (is.rank ≡ k → ⊥) → IsOfRanks soc claim c weights place k s ⊎ IsOfRange soc claim place (rank_range c weights k) (high_at c k + 1) s
-    which s is (inl same) = inr (subst (λ q. IsOfRange soc claim place (rank_range c weights q) (high_at c q + 1) s) same is.of_range)
-    which s is (inr other) = inl record { rank = is.rank; below = omega (arith, is.below, other); may = is.may; of_range = is.of_range }
-
--- it may not
-pub rank_skipped : (f : Slot → ℕ) (soc : SocValue) (claim : ℕ) (c : Case) (weights : WeightsValue) (place k : ℕ) (o : Option ℕ) → c.may place k ≡ false →
-    IsLeastOf f (IsOfRanks soc claim c weights place k) o → IsLeastOf f (IsOfRanks soc claim c weights place (k + 1)) o
-rank_skipped f soc claim c weights place k o off x =
-    least_same f (IsOfRanks soc claim c weights place k) (IsOfRanks soc claim c weights place (k + 1)) o x
-    (λ s is. which s is (cases_eq is.rank k)) (further soc claim c weights place k)
-  where
-    which : (s : Slot) (is : IsOfRanks soc claim c weights place (k + 1) s) → (is.rank ≡ k) ⊎ (is.rank ≡ k → ⊥) → IsOfRanks soc claim c weights place k s
-    which s is (inl same) = let e : true ≡ false = sym is.may ∙ ap (c.may place) same ∙ off in absurd cc
-    which s is (inr other) = record { rank = is.rank; below = omega (arith, is.below, other); may = is.may; of_range = is.of_range }
+    which : (s : Slot) (is : IsOfRanks soc claim c weights place (k + 1) s) → (is.rank ≡ k) ⊎ (is.rank ≡ k → ⊥) → IsOfRanks soc claim c weights place k s ⊎ IsOfRank soc claim c weights place k s
+    which s is (inl same) = inr (subst (λ q. IsOfRank soc claim c weights place q s) same is.of_rank)
+    which s is (inr other) = inl record { rank = is.rank; below = omega (arith, is.below, other); of_rank = is.of_rank }
 
 -- ---- the rest
 
-pub rest_tried : (f : Slot → ℕ) (soc : SocValue) (w claim : ℕ) (c : Case) (weights : WeightsValue) (place : ℕ) (o : Option ℕ) → c.may_rest place ≡ true →
-    IsLeastOf f (IsOfRange soc claim place (rest_range w c weights) (rest_high w c (known_ranks c) + 1)) o → IsLeastOf f (IsOfRest soc w claim c weights place) o
-rest_tried f soc w claim c weights place o may x =
-    least_same f (IsOfRange soc claim place (rest_range w c weights) (rest_high w c (known_ranks c) + 1)) (IsOfRest soc w claim c weights place) o x
+pub rest_tried : (f : Slot → ℕ) (soc : SocValue) (w claim : ℕ) (c : Case) (weights : WeightsValue) (place : ℕ) (r : WidthRange) (o : Option ℕ) → c.may_rest place ≡ true → r ≡ rest_range w c weights →
+    IsLeastOf f (IsOfRange soc claim place r (r.high + 1)) o → IsLeastOf f (IsOfRest soc w claim c weights place) o
+rest_tried f soc w claim c weights place r o may is x =
+    least_same f (IsOfRange soc claim place (rest_range w c weights) (rest_high w c (known_ranks c) + 1)) (IsOfRest soc w claim c weights place) o
+    (subst (λ q. IsLeastOf f (IsOfRange soc claim place q (q.high + 1)) o) is x)
     (λ s is. is.of_range) (λ s is. record { may = may; of_range = is })
 
 pub rest_skipped : (f : Slot → ℕ) (soc : SocValue) (w claim : ℕ) (c : Case) (weights : WeightsValue) (place : ℕ) → c.may_rest place ≡ false → IsLeastOf f (IsOfRest soc w claim c weights place) None
@@ -240,8 +265,10 @@ bus_of soc w claim c weights place s is =
         record {
           rank = r;
           below = less;
-          may = e;
-          of_range = record { width = x.0; from = v.0; below = omega (arith, v.0, v.1); slot_is = sym x.2; short = short };
+          of_rank = record {
+            may = e;
+            of_range = record { width = x.0; from = v.0; below = omega (arith, v.0, v.1); slot_is = sym x.2; short = short };
+          };
         }
 
     on_rest : (j : ℕ) → (b : Bool) → c.may_rest place ≡ b → slice_get (if b then rest_slots w c weights else []) j ≡ Some s → is_short soc claim place s ≡ true → IsOfRest soc w claim c weights place s
@@ -256,9 +283,9 @@ bus_of soc w claim c weights place s is =
 
 pub of_ranks : (soc : SocValue) (w claim : ℕ) (c : Case) (weights : WeightsValue) (place : ℕ) (s : Slot) → IsOfRanks soc claim c weights place (known_ranks c) s → IsOfModule soc w claim c weights place s
 of_ranks soc w claim c weights place s is =
-    let low : max 1 (low_at c is.rank) ≤ is.of_range.width = is.of_range.from in
-    let at = of_known w c weights place is.rank is.of_range.width is.below is.may (omega (arith, low)) (omega (arith, low)) (omega (arith, is.of_range.below)) in
-    in_filter (is_short soc claim place) (all_slots w c weights place) at.0 s (at.1 ∙ ap Some (sym is.of_range.slot_is)) is.of_range.short
+    let low : max 1 (low_at c is.rank) ≤ is.of_rank.of_range.width = is.of_rank.of_range.from in
+    let at = of_known w c weights place is.rank is.of_rank.of_range.width is.below is.of_rank.may (omega (arith, low)) (omega (arith, low)) (omega (arith, is.of_rank.of_range.below)) in
+    in_filter (is_short soc claim place) (all_slots w c weights place) at.0 s (at.1 ∙ ap Some (sym is.of_rank.of_range.slot_is)) is.of_rank.of_range.short
 
 pub of_the_rest : (soc : SocValue) (w claim : ℕ) (c : Case) (weights : WeightsValue) (place : ℕ) (s : Slot) → IsOfRest soc w claim c weights place s → IsOfModule soc w claim c weights place s
 of_the_rest soc w claim c weights place s is =
@@ -278,7 +305,7 @@ smallest-in : (f : Slot → ℕ) (xs : List Slot) (x : Slot) → (n : ℕ) × (s
 smallest-in f [] x = (0, x, refl, refl)
 smallest-in f (y ∷ ys) x =
     let r = smallest-in f ys y in
-    elim (cases_le (f x) (smallest (map f (y ∷ ys)))) [
+    elim (cases_lt (f x) (smallest (map f (y ∷ ys)))) [
       | inl less ↦ (0, x, refl, omega (arith, less))
       | inr more ↦ (suc r.0, r.1, r.2, omega (arith, more, r.3))
     ]
@@ -298,3 +325,15 @@ has_some f (y ∷ ys) n x e = absurd cc
 pub has_none : (xs : List Slot) → ((s : Slot) → ((i : ℕ) × (slice_get xs i ≡ Some s)) → ⊥) → xs ≡ []
 has_none [] h = refl
 has_none (x ∷ xs) h = absurd (h x (0, refl))
+
+-- ---- what the bits of a case say
+
+pub may_is : (room : CaseRoom) (c : Case) (at : Placing) (rank : ℕ) (b : Bool) → IsCaseOf room c → HasPlace room.ranks.may.items at → at.modules ≡ room.modules → at.known ≡ length room.widths.intervals.items → rank < at.known →
+    b ≡ bit_at room.ranks.may.items (bit_place at.modules at.place rank) → c.may at.place rank ≡ b
+may_is room c at rank b of has modules known less is =
+    let e : b ≡ bit_at room.ranks.may.items (bit_place room.modules at.place rank) = is ∙ ap (λ m. bit_at room.ranks.may.items (bit_place m at.place rank)) modules in
+    let long : length room.widths.intervals.items ≡ length c.intervals = ap length of.intervals in
+    sym (e ∙ of.bits.may at.place rank (omega (arith, has.place, modules)) (omega (arith, less, known, long)))
+
+pub may_rest_is : (room : CaseRoom) (c : Case) (place : ℕ) (b : Bool) → IsCaseOf room c → place < room.modules → b ≡ bit_at room.ranks.may.items place → c.may_rest place ≡ b
+may_rest_is room c place b of less is = sym (is ∙ of.bits.rest place less)

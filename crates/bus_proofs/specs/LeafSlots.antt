@@ -48,12 +48,16 @@ pub record IsOfRange (soc : SocValue) (claim place : ℕ) (r : WidthRange) (end 
   pub slot_is : s ≡ range_slot r width
   pub short : is_short soc claim place s ≡ true
 
--- a bus of one of the first ranks that counts, where the module may be on the rank
+-- a bus of a rank that counts, where the module may be on the rank
+pub record IsOfRank (soc : SocValue) (claim : ℕ) (c : Case) (weights : WeightsValue) (place rank : ℕ) (s : Slot) : Type 0 where
+  pub may : c.may place rank ≡ true
+  pub of_range : IsOfRange soc claim place (rank_range c weights rank) (high_at c rank + 1) s
+
+-- of one of the first ranks
 pub record IsOfRanks (soc : SocValue) (claim : ℕ) (c : Case) (weights : WeightsValue) (place end : ℕ) (s : Slot) : Type 0 where
   pub rank : ℕ
   pub below : rank < end
-  pub may : c.may place rank ≡ true
-  pub of_range : IsOfRange soc claim place (rank_range c weights rank) (high_at c rank + 1) s
+  pub of_rank : IsOfRank soc claim c weights place rank s
 
 -- a bus of the rest that counts, where the module may be on the rest
 pub record IsOfRest (soc : SocValue) (w claim : ℕ) (c : Case) (weights : WeightsValue) (place : ℕ) (s : Slot) : Type 0 where

@@ -5,12 +5,13 @@ ghost use Rattle.bus_proofs.specs.declared.TheConstants.{WEIGHT_MOST};
 ghost use Rattle.bus_proofs.specs.Proofs.{WeightsValue, weights_value};
 ghost use Rattle.bus_proofs.specs.Grammar.{AreWeights};
 ghost use Rattle.bus_proofs.specs.Cases.{Case, known_ranks};
+ghost use Rattle.bus_proofs.specs.Bits.{HasPlace};
 ghost use Rattle.bus_proofs.specs.CaseRooms.{HasCase, IsCaseOf};
 ghost use Rattle.bus_proofs.specs.Leaves.{rank_weight, rest_high};
 ghost use Rattle.bus_proofs.specs.Bases.{IsBasis, AllKept, chip_of, limits_of, claim_of};
 ghost use Rattle.bus_proofs.specs.LeafCosts.{IsWeighed, LEAF_COST_MOST};
 ghost use Rattle.bus_proofs.specs.LeafAnswers.{IsCaseFor};
-ghost use Rattle.bus_proofs.specs.LeafSlots.{IsCostOf, IsLeastOf, IsOfModule, IsOfRange, IsOfRanks, IsOfRest, costs_at, lesser, range_slot, rank_range, rest_range};
+ghost use Rattle.bus_proofs.specs.LeafSlots.{IsCostOf, IsLeastOf, IsOfModule, IsOfRange, IsOfRank, IsOfRanks, IsOfRest, costs_at, lesser, range_slot, rank_range, rest_range};
 
 use crate::Weights;
 use crate::basis::Basis;
@@ -174,7 +175,40 @@ fn cost_at(
     Some(module_cost(basis, weighed, place, range.rank, width, rate))
 }
 
-/// The least cost of a module on a range: only widths on which its tests take another time than on the width before are tried.
+/// The least cost of a module on a range up to a width, from that on the widths before it. The width is tried where the tests take
+/// another time than on the width before.
+fn try_width(
+    basis: &Basis<'_>,
+    weighed: &Weighed,
+    place: usize,
+    range: WidthRange,
+    width: u64,
+    best: Option<u128>,
+) -> Option<u128>
+    requires basis { IsBasis basis.now }
+    requires kept { AllKept basis.now }
+    requires place { place < length (chip_of basis.now).modules }
+    requires some_wire { 1 ≤ range.first }
+    requires few_wires { range.high ≤ (limits_of basis.now).wires }
+    requires base { range.base ≤ WEIGHT_MOST }
+    requires wire { range.wire ≤ WEIGHT_MOST }
+    requires from { range.first ≤ width }
+    requires within { width ≤ range.high }
+    requires best { IfSome best (λ n. n ≤ LEAF_COST_MOST) }
+    ensures least { (weights : WeightsValue) → IsWeighed basis.now weights weighed.now →
+        IsLeastOf (costs_at basis.now weights place) (IsOfRange (chip_of basis.now) (claim_of basis.now) place range width) best →
+        IsLeastOf (costs_at basis.now weights place) (IsOfRange (chip_of basis.now) (claim_of basis.now) place range (width + 1)) result }
+    ensures small { IfSome result (λ n. n ≤ LEAF_COST_MOST) }
+{
+    wider_slots_cost_no_less();
+    if is_as_before(basis, place, range.first, width) {
+        return best;
+    }
+    let next = cost_at(basis, weighed, place, range, width);
+    lesser(best, next)
+}
+
+/// The least cost of a module on a range.
 fn least_in_range(
     basis: &Basis<'_>,
     weighed: &Weighed,
@@ -192,15 +226,41 @@ fn least_in_range(
         IsLeastOf (costs_at basis.now weights place) (IsOfRange (chip_of basis.now) (claim_of basis.now) place range (range.high + 1)) result }
     ensures small { IfSome result (λ n. n ≤ LEAF_COST_MOST) }
 {
-    wider_slots_cost_no_less();
     let mut best = None;
     for width in range.first..range.high + 1 {
-        if !is_as_before(basis, place, range.first, width) {
-            let next = cost_at(basis, weighed, place, range, width);
-            best = lesser(best, next);
-        }
+        best = try_width(basis, weighed, place, range, width, best);
     }
     best
+}
+
+/// The least cost of a module on a known rank.
+fn least_on_rank(
+    basis: &Basis<'_>,
+    weighed: &Weighed,
+    case: &CaseRoom,
+    weights: &Weights,
+    at: Placing,
+    rank: usize,
+) -> Option<u128>
+    requires basis { IsBasis basis.now }
+    requires kept { AllKept basis.now }
+    requires of { IsCaseFor basis.now case.now }
+    requires known { (c : Case) × IsCaseOf case.now c }
+    requires weights { AreWeights (weights_value weights.now) }
+    requires weighed { IsWeighed basis.now (weights_value weights.now) weighed.now }
+    requires at { HasPlace case.now.ranks.may.items at }
+    requires modules { at.modules ≡ case.now.modules }
+    requires known_are { at.known ≡ length case.now.widths.intervals.items }
+    requires rank { rank < at.known }
+    ensures least { (c : Case) → IsCaseOf case.now c → IsLeastOf (costs_at basis.now (weights_value weights.now) at.place)
+        (IsOfRank (chip_of basis.now) (claim_of basis.now) c (weights_value weights.now) at.place rank) result }
+    ensures small { IfSome result (λ n. n ≤ LEAF_COST_MOST) }
+{
+    if !may_be_on(&case.ranks, at, rank) {
+        return None;
+    }
+    let range = rank_range(case, weights, rank);
+    least_in_range(basis, weighed, at.place, range)
 }
 
 /// The least cost of a module on the known ranks.
@@ -231,11 +291,8 @@ fn least_on_ranks(
     };
     let mut best = None;
     for rank in 0..known {
-        if may_be_on(&case.ranks, at, rank) {
-            let range = rank_range(case, weights, rank);
-            let next = least_in_range(basis, weighed, place, range);
-            best = lesser(best, next);
-        }
+        let next = least_on_rank(basis, weighed, case, weights, at, rank);
+        best = lesser(best, next);
     }
     best
 }

@@ -1,6 +1,7 @@
 //! The least costs of all modules together, the worth of a cycle, and what both make of a claim.
 ghost use Rattle.std.specs.Prelude.{◌≡◌, ◌*◌, ◌^◌, ◌<◌, ◌≤◌, length, sum, IfSome};
 ghost use Rattle.std.specs.List.{All};
+ghost use Rattle.plan_model.specs.Certificates.{has_tam_at};
 ghost use Rattle.bus_proofs.specs.Proofs.{weights_value};
 ghost use Rattle.bus_proofs.specs.Grammar.{AreWeights, IsWeight};
 ghost use Rattle.bus_proofs.specs.Cases.{Case};
@@ -18,6 +19,15 @@ use crate::leaf::LeafAnswer;
 use crate::leaf_costs::Weighed;
 use crate::leaf_slots::least_cost;
 use crate::widths::spare_wires;
+
+/// Whether the module at a place has a test over the wires.
+fn is_wired(basis: &Basis<'_>, place: usize) -> bool
+    requires basis { IsBasis basis.now }
+    requires place { place < length (chip_of basis.now).modules }
+    ensures { result ≡ has_tam_at (chip_of basis.now) place }
+{
+    basis.wired[place]
+}
 
 /// The least cost of the module at a place: 0 where it has no test over the wires, `None` where it has one and no bus.
 fn module_least(
@@ -38,7 +48,7 @@ fn module_least(
     ensures cost { (c : Case) → IsCaseOf case.now c → IsModuleCost basis.now c (weights_value weights.now) place result }
     ensures small { IfSome result (λ n. n ≤ LEAF_COST_MOST) }
 {
-    if !basis.wired[place] {
+    if !is_wired(basis, place) {
         return Some(0);
     }
     least_cost(basis, weighed, case, weights, place)
@@ -104,7 +114,7 @@ pub(crate) fn worth_of_cycle(
 {
     let ranks = rank_sum(&weights.ranks);
     let spare = weights.wire * spare_wires(&case.widths);
-    u128::from(ranks) + u128::from(spare) + weighed.rooms
+    ranks as u128 + spare as u128 + weighed.rooms
 }
 
 /// What a cost and the worth of a cycle make of a claim: it holds where the cost is more than one cycle less is worth.
