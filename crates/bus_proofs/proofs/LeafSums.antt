@@ -1,7 +1,11 @@
 -- The least costs of all modules together, and the worth of a cycle.
-use Rattle.std.proofs.Common.{◌≡◌, ℕ, suc, ◌+◌, ◌*◌, ◌≤◌, ◌<◌, ◌⊎◌, inl, inr, true, false, Option, Some, None, List, refl, sym, subst, arith, mul-le-mul_right, add-mul}
+use Rattle.std.proofs.Common.{◌≡◌, ℕ, suc, ◌+◌, ◌*◌, ◌≤◌, ◌<◌, ◌⊎◌, inl, inr, true, false, Option, Some, None, List, length, refl, sym, ◌∙◌, subst, arith, mul-le-mul_right, add-mul}
 use Rattle.std.specs.List.{sum}
-use Rattle.std.proofs.lemmas.Bool.{cases_eq}
+use Rattle.std.proofs.lemmas.Bool.{cases_eq, cases_lt, lt-ltb}
+use Rattle.soc_model.specs.declared.Which.TheVariants.{Modules}
+use Rattle.soc_model.specs.Chips.{SocValue}
+use Rattle.soc_model.specs.Sizes.{over}
+use Rattle.soc_model.specs.SoundChips.{IsSoundChip}
 use Rattle.plan_model.specs.Bounds.{sum_below}
 use Rattle.plan_model.specs.Certificates.{has_tam_at}
 use Rattle.bus_proofs.specs.declared.basis.Basis.{Basis}
@@ -14,7 +18,7 @@ use Rattle.bus_proofs.specs.LeafSlots.{IsLeastOf, IsOfModule, IsModuleCost, IsSu
 use Rattle.bus_proofs.proofs.LeafSlots.{has_none, has_some, smallest_is}
 
 pub unwired : (g : Basis) (c : Case) (weights : WeightsValue) (place : ℕ) → has_tam_at (chip_of g) place ≡ false → IsModuleCost g c weights place (Some 0)
-unwired g c weights place off = (rw off refl, λ on none. let e : true ≡ false = rw on off in absurd cc)
+unwired g c weights place off = (rw off refl, λ on none. let e : true ≡ false = sym on ∙ off in absurd cc)
 
 pub wired : (g : Basis) (c : Case) (weights : WeightsValue) (place : ℕ) (o : Option ℕ) → has_tam_at (chip_of g) place ≡ true →
     IsLeastOf (costs_at g weights place) (IsOfModule (chip_of g) (limits_of g).wires (claim_of g) c weights place) o → IsModuleCost g c weights place o
@@ -53,3 +57,13 @@ few_all n m most s less x = omega (arith, x, mul-le-mul_right most less)
 pub worth_is : (w : ℕ) (lists : List ListValue) (c : Case) (weights : WeightsValue) (a b r : ℕ) → a ≡ sum weights.ranks → b ≡ weights.wire * spare w c.intervals → r ≡ weighed lists weights room_of → a + b + r ≡ worth_of_cycle w lists c weights
 unfolding worth_of_cycle
 worth_is w lists c weights a b r x y z = omega (arith, x, y, z)
+
+not_over : (most n : ℕ) → over most n ≡ None → n ≤ most
+not_over most n e = elim (cases_lt most n) [
+  | inl passed ↦ let more : over most n ≡ Some n = rw (lt-ltb most n passed) refl in let x : Some n ≡ None = sym more ∙ e in absurd cc
+  | inr fits ↦ fits
+]
+
+-- a chip has a thousand modules at most
+pub few_modules : (soc : SocValue) → IsSoundChip soc → length soc.modules ≤ 1000
+few_modules soc sound = not_over 1000 (length soc.modules) (sound.size Modules)

@@ -136,3 +136,13 @@ IsConclusion cost worth claim (Shows shown) = IsTooLittle cost worth claim shown
 abbrev pub IsSumOfLeast : Basis → Case → WeightsValue → (count : ℕ) → Option ℕ → Type 0
 IsSumOfLeast g c weights count None = HasNoBusIn g c weights
 IsSumOfLeast g c weights count (Some n) = (n ≡ sum_below (least_at g c weights) count) × ((p : ℕ) → p < count → HasBus g c weights p)
+
+-- what is found at a leaf that keeps its rule, in a case that isn't empty
+abbrev pub HoldsWeighed : Basis → Case → WeightsValue → Type 0
+HoldsWeighed g c weights = HasNoBusIn g c weights ⊎ CostTooMuch (chip_of g) (limits_of g) (lists_of g) (claim_of g) c weights
+
+abbrev pub IsWeighedAnswer : Basis → Case → WeightsValue → LeafAnswer → Type 0
+IsWeighedAnswer g c weights Broken = ⊥
+IsWeighedAnswer g c weights Holds = HoldsWeighed g c weights
+IsWeighedAnswer g c weights (Shows shown) =
+    (HoldsWeighed g c weights → ⊥) × (shown ≡ leaf_shows (chip_of g) (limits_of g) (lists_of g) (claim_of g) c weights)
