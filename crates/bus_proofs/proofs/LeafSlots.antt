@@ -104,12 +104,12 @@ last_or : (soc : SocValue) (claim place : ℕ) (r : WidthRange) (w : ℕ) (s : S
 last_or soc claim place r w s is = elim (cases_eq is.width w) [
   | inl same ↦ inr (is.slot_is ∙ ap (range_slot r) same, is.short)
   | inr other ↦ inl record {
-      width = is.width;
-      from = is.from;
-      below = omega (arith, is.below, other);
-      slot_is = is.slot_is;
-      short = is.short;
-    }
+    width = is.width;
+    from = is.from;
+    below = omega (arith, is.below, other);
+    slot_is = is.slot_is;
+    short = is.short;
+  }
 ]
 
 -- the one bus at a width

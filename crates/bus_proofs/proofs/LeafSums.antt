@@ -25,7 +25,7 @@ pub wired : (g : Basis) (c : Case) (weights : WeightsValue) (place : ℕ) (o : O
 wired g c weights place None on x = record { place = place; tam = on; none = has_none (slots_of (chip_of g) (limits_of g).wires (claim_of g) c weights place) x }
 wired g c weights place (Some n) on x = (
   rw on (smallest_is (costs_at g weights place) (slots_of (chip_of g) (limits_of g).wires (claim_of g) c weights place) n x),
-  λ also none. has_some (costs_at g weights place) (slots_of (chip_of g) (limits_of g).wires (claim_of g) c weights place) n x none
+  λ also none. has_some (costs_at g weights place) (slots_of (chip_of g) (limits_of g).wires (claim_of g) c weights place) n x none,
 )
 
 below_none : (f : ℕ → ℕ) → 0 ≡ sum_below f 0

@@ -11,12 +11,12 @@ ghost use Rattle.bus_proofs.specs.Grammar.{AreWeights};
 ghost use Rattle.bus_proofs.specs.Bases.{IsBasis, AllKept};
 ghost use Rattle.bus_proofs.specs.LeafAnswers.{HasLeafSpace, IsCaseFor, IsLeafAnswer};
 
-use crate::{TestList, Weights};
-use crate::case::CaseRoom;
 use crate::basis::Basis;
+use crate::case::CaseRoom;
 use crate::leaf_costs::{Weighed, self_cost, weigh};
 use crate::leaf_sums::{conclusion, sum_of_least, worth_of_cycle};
 use crate::widths::{is_empty, known_ranks};
+use crate::{TestList, Weights};
 use outside::NoMemory;
 use std::alloc::Global;
 

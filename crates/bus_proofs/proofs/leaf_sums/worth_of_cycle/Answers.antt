@@ -1,4 +1,4 @@
-use Rattle.std.proofs.Common.{◌≡◌, ◌*◌, ◌∙◌, ap}
+use Rattle.std.proofs.Common.{◌≡◌, ◌*◌, ◌∙◌, ap, rules}
 use Rattle.bus_proofs.specs.Proofs.{weights_value}
 use Rattle.bus_proofs.specs.Cases.{spare}
 use Rattle.bus_proofs.specs.Bases.{limits_of, lists_of}
