@@ -44,7 +44,8 @@ pub(crate) fn weigh(basis: &Basis<'_>, weights: &Weights, room: &mut Weighed)
     requires space { HasSpaceFor basis.now (length weights.now.lists.items) room.old }
     ensures weighed { IsWeighed basis.now (weights_value weights.now) room.new }
     ensures space { (uses : ℕ) → HasSpaceFor basis.now uses room.old → HasSpaceFor basis.now uses room.new }
-{}
+{
+}
 
 /// What the module at a place costs on a bus of this rank, where it is known, of this width and rate.
 pub(crate) fn module_cost(
