@@ -12,9 +12,11 @@ use Rattle.bus_proofs.specs.declared.basis.Basis.{Basis}
 use Rattle.bus_proofs.specs.Proofs.{ListValue, WeightsValue}
 use Rattle.bus_proofs.specs.Cases.{Case, spare}
 use Rattle.bus_proofs.specs.Lists.{room_of}
-use Rattle.bus_proofs.specs.Leaves.{weighed, slots_of, worth_of_cycle}
-use Rattle.bus_proofs.specs.Bases.{chip_of, limits_of, claim_of}
-use Rattle.bus_proofs.specs.LeafSlots.{IsLeastOf, IsOfModule, IsModuleCost, IsSumOfLeast, HasBus, costs_at, least_at}
+use Rattle.bus_proofs.specs.declared.leaf.LeafAnswer.{LeafAnswer}
+use Rattle.bus_proofs.specs.declared.leaf.LeafAnswer.TheVariants.{Broken, Holds, Shows}
+use Rattle.bus_proofs.specs.Leaves.{self_use, weighed, slots_of, cost_of_all, leaf_shows, worth_of_cycle}
+use Rattle.bus_proofs.specs.Bases.{chip_of, limits_of, lists_of, claim_of}
+use Rattle.bus_proofs.specs.LeafSlots.{IsLeastOf, IsOfModule, IsModuleCost, IsSumOfLeast, IsConclusion, IsWeighedAnswer, HasBus, HasNoBusIn, costs_at, least_at}
 use Rattle.bus_proofs.proofs.LeafSlots.{has_none, has_some, smallest_is}
 
 pub unwired : (g : Basis) (c : Case) (weights : WeightsValue) (place : ℕ) → has_tam_at (chip_of g) place ≡ false → IsModuleCost g c weights place (Some 0)
@@ -67,3 +69,15 @@ not_over most n e = elim (cases_lt most n) [
 -- a chip has a thousand modules at most
 pub few_modules : (soc : SocValue) → IsSoundChip soc → length soc.modules ≤ 1000
 few_modules soc sound = not_over 1000 (length soc.modules) (sound.size Modules)
+
+-- what a cost and a worth make of the claim is what is found at the leaf
+pub concluded : (g : Basis) (c : Case) (weights : WeightsValue) (modules own worth : ℕ) (o : LeafAnswer) → IsSumOfLeast g c weights (length (chip_of g).modules) (Some modules) →
+    own ≡ weighed (lists_of g) weights (self_use (chip_of g) (limits_of g)) → worth ≡ worth_of_cycle (limits_of g).wires (lists_of g) c weights → (HasNoBusIn g c weights → ⊥) →
+    IsConclusion (modules + own) worth (claim_of g) o → IsWeighedAnswer g c weights o
+unfolding cost_of_all leaf_shows
+concluded g c weights modules own worth Broken x y z some is = is
+concluded g c weights modules own worth Holds x y z some is = inr (rw (← x.0, ← y, ← z) is)
+concluded g c weights modules own worth (Shows shown) x y z some is = (λ h. elim h [
+  | inl none ↦ some none
+  | inr much ↦ is.less (rw (x.0, y, z) much)
+], is.shown_is ∙ rw (x.0, y, z) refl)
