@@ -26,4 +26,4 @@ pub mod Takings
 pub mod Bits
 pub mod CaseRooms
 pub mod LeafSlots
-pub mod LeafSums
+pub mod LeafTotals

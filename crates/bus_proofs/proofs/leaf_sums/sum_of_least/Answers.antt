@@ -2,7 +2,7 @@ use Rattle.std.proofs.Common.{◌≡◌, ◌+◌, ◌*◌, ◌≤◌, arith}
 use Rattle.bus_proofs.specs.Proofs.{weights_value}
 use Rattle.bus_proofs.specs.Bases.{chip_of}
 use Rattle.bus_proofs.specs.LeafCosts.{LEAF_COST_MOST}
-use Rattle.bus_proofs.proofs.LeafSums.{few_all, few_modules, few_more, sum_more, sum_none}
+use Rattle.bus_proofs.proofs.LeafTotals.{few_all, few_modules, few_more, sum_more, sum_none}
 use Rattle.bus_proofs.proofs.leaf_sums.sum_of_least.Goals as goal
 
 pub loop-place-init : goal.loop-place-init

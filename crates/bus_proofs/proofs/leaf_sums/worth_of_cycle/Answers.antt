@@ -2,7 +2,7 @@ use Rattle.std.proofs.Common.{◌≡◌, ◌*◌, ◌∙◌, ap, rules}
 use Rattle.bus_proofs.specs.Proofs.{weights_value}
 use Rattle.bus_proofs.specs.Cases.{spare}
 use Rattle.bus_proofs.specs.Bases.{limits_of, lists_of}
-use Rattle.bus_proofs.proofs.LeafSums.{worth_is}
+use Rattle.bus_proofs.proofs.LeafTotals.{worth_is}
 use Rattle.bus_proofs.proofs.leaf_sums.worth_of_cycle.Goals as goal
 
 pub returns-clause-worth : goal.returns-clause-worth
