@@ -30,3 +30,5 @@ pub mod CountedSteps
 pub mod CrowdSizes
 pub mod LeafSums
 pub mod LeafTests
+pub mod LeafSlots
+pub mod LeafTotals

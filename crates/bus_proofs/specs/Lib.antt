@@ -21,5 +21,6 @@ pub mod ListTables
 pub mod TestTables
 pub mod Bases
 pub mod LeafCosts
+pub mod LeafSlots
 pub mod LeafAnswers
 pub mod ProofRooms

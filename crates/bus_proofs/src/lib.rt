@@ -11,6 +11,8 @@ mod check;
 mod laws;
 mod leaf;
 mod leaf_costs;
+mod leaf_slots;
+mod leaf_sums;
 mod list_table;
 mod lists;
 mod parts;
