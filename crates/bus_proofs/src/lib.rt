@@ -11,6 +11,7 @@ mod check;
 mod laws;
 mod leaf;
 mod leaf_costs;
+mod list_rules;
 mod list_table;
 mod lists;
 mod parts;
