@@ -25,3 +25,4 @@ pub mod Trails
 pub mod Takings
 pub mod Bits
 pub mod CaseRooms
+pub mod Marked

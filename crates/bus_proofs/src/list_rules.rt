@@ -1,5 +1,5 @@
 //! The rules of lists of tests: each test is marked in its turn, so that a row of marks tells all that the next one needs.
-ghost use Rattle.std.specs.Prelude.{◌≡◌, ◌++◌, ◌<◌, ◌≤◌, ℕ, [], List, Some, false, true, length, map, position, slice_set, take, IfNone, IfOk, IfSome, OnOk};
+ghost use Rattle.std.specs.Prelude.{◌≡◌, ◌&&◌, ◌++◌, ◌<◌, ◌≤◌, ℕ, [], List, Some, false, true, length, map, position, slice_set, take, IfNone, IfOk, IfSome, OnOk};
 ghost use Rattle.std.specs.List.{filter, sum};
 ghost use Rattle.soc_model.specs.declared.TestId.{TestId};
 ghost use Rattle.soc_model.specs.Chips.{LiveTest, is_live, live_tests, same_test, soc_value};
@@ -114,13 +114,22 @@ fn mark_name(names: &LiveTests, among: &mut Vec<bool>, id: TestId) -> Option<usi
     Some(place)
 }
 
+/// Whether a place is marked both here and there.
+fn both_at(marks: &Vec<bool>, others: &[bool], place: usize) -> bool
+    requires here { place < length marks.now.items }
+    requires there { place < length others.now }
+    ensures { result ≡ (bit_at marks.now.items place && bit_at others.now place) }
+{
+    marks[place] && others[place]
+}
+
 /// Leaves those marks that others have too.
 fn keep_both(marks: &mut Vec<bool>, others: &[bool])
     requires { length others.now ≡ length marks.old.items }
     ensures { marks.new.items ≡ both_marked marks.old.items others.now }
 {
     for place in 0..others.len() {
-        marks[place] = marks[place] && others[place];
+        marks[place] = both_at(marks, others, place);
     }
 }
 
