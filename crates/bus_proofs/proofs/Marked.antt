@@ -140,7 +140,7 @@ pub among_more : (soc : SocValue) (earlier : List TestId) (id : TestId) (place :
 among_more soc earlier id place before after sound at was is =
     is ∙ ap (λ (l : List Bool). set l place true) was
     ∙ set_map (is_among earlier) (is_among (earlier ++ id ∷ [])) (live_tests soc) place
-    (λ x here. any_from (same_test (id_of x)) (earlier ++ id ∷ []) (length earlier) id (last earlier) (let one : x ≡ at.0 = cc in rw (one, at.2) (is_same_test id)))
+    (λ x here. any_from (same_test (id_of x)) (earlier ++ id ∷ []) (length earlier) id (last earlier) (let one : x ≡ at.0 = cc in subst (λ n. same_test n id ≡ true) (sym (ap id_of one ∙ at.2)) (is_same_test id)))
     (λ i x here other. list_any-append (same_test (id_of x)) earlier (id ∷ []) ∙ without (is_among earlier x) (same_test (id_of x) id) (false_from_ne_true (same_test (id_of x) id) (λ e. other (only i x here e))))
   where
     last : (xs : List TestId) → slice_get (xs ++ id ∷ []) (length xs) ≡ Some id
@@ -189,7 +189,7 @@ all_from p (y ∷ xs) h = rw (h 0 y refl) (all_from p xs (λ n x at. h (suc n) x
 pub is_new : (soc : SocValue) (earlier : List TestId) (id : TestId) (place : ℕ) (among : List Bool) → IsThere soc id place → among ≡ among_of soc earlier → bit_at among place ≡ false → Contains earlier id → ⊥
 is_new soc earlier id place among at are new c =
     let k = contains_at earlier id c in
-    let marked : is_among earlier at.0 ≡ true = any_from (same_test (id_of at.0)) earlier k.0 id k.1 (rw at.2 (is_same_test id)) in
+    let marked : is_among earlier at.0 ≡ true = any_from (same_test (id_of at.0)) earlier k.0 id k.1 (subst (λ n. same_test n id ≡ true) (sym at.2) (is_same_test id)) in
     true≢false (sym marked ∙ sym (bit_map (is_among earlier) (live_tests soc) place at.0 at.1) ∙ ap (λ (l : List Bool). bit_at l place) (sym are) ∙ new)
 
 -- a marked one isn't
