@@ -32,3 +32,4 @@ pub mod LeafSums
 pub mod LeafTests
 pub mod LeafSlots
 pub mod LeafTotals
+pub mod Marked

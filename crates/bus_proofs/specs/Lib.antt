@@ -18,6 +18,7 @@ pub mod Takings
 pub mod Bits
 pub mod CaseRooms
 pub mod ListTables
+pub mod ListRules
 pub mod TestTables
 pub mod Bases
 pub mod LeafCosts

@@ -13,6 +13,7 @@ mod leaf;
 mod leaf_costs;
 mod leaf_slots;
 mod leaf_sums;
+mod list_rules;
 mod list_table;
 mod lists;
 mod parts;
