@@ -25,3 +25,5 @@ pub mod Trails
 pub mod Takings
 pub mod Bits
 pub mod CaseRooms
+pub mod RoomSteps
+pub mod NodeRules

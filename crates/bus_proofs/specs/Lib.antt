@@ -22,4 +22,5 @@ pub mod TestTables
 pub mod Bases
 pub mod LeafCosts
 pub mod LeafAnswers
+pub mod Walks
 pub mod ProofRooms

@@ -13,6 +13,7 @@ mod leaf;
 mod leaf_costs;
 mod list_table;
 mod lists;
+mod nodes;
 mod parts;
 mod places;
 mod printing;
@@ -22,6 +23,7 @@ mod test_table;
 mod text_laws;
 mod tokens;
 mod twins;
+mod walk;
 mod widths;
 mod words;
 
