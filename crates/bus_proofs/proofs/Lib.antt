@@ -27,3 +27,4 @@ pub mod Bits
 pub mod CaseRooms
 pub mod RoomSteps
 pub mod NodeRules
+pub mod WalkSteps

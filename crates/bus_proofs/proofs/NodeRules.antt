@@ -2,7 +2,7 @@
 use Rattle.std.proofs.Common.{◌≡◌, ℕ, zero, suc, ◌+◌, ◌*◌, ◌^◌, ◌≤◌, ◌<◌, true, Some, List, ◌∷◌, length, get_or, refl, sym, ap, ◌∙◌, subst, arith, inl, inr}
 use Rattle.std.specs.Prelude.{Option, None, false, slice_get, slice_index}
 use Rattle.std.specs.List.{All}
-use Rattle.std.proofs.lemmas.Bool.{cases_order}
+use Rattle.std.proofs.lemmas.Bool.{cases_lt, cases_order}
 use Rattle.std.proofs.lemmas.List.{get_or_default}
 use Rattle.std.proofs.lemmas.List.Elements.{All-cons}
 use Rattle.std.proofs.lemmas.Option.{slice_get-get_or, slice_get_within, get_or_from_slice_get}
@@ -125,6 +125,16 @@ not_alike g room c rank twin basis for is rank_less twin_less unlike twins =
     unlike.differ (may_is g room c unlike.place twin basis for is within twin_less
     ∙ twins.alike unlike.place (sym (basis.wired unlike.place within) ∙ unlike.marked)
     ∙ sym (may_is g room c unlike.place rank basis for is within rank_less))
+
+-- one twin more
+pub twins_more : (soc : SocValue) (c : Case) (rank : ℕ) (twins : List ℕ) (at : ℕ) → ((k : ℕ) → k < at → AreTwins soc c rank (slice_index twins k)) →
+    AreTwins soc c rank (slice_index twins at) → (k : ℕ) → k < at + 1 → AreTwins soc c rank (slice_index twins k)
+twins_more soc c rank twins at before here k less = elim (cases_lt k at) [
+  | inl earlier ↦ before k earlier
+  | inr last ↦
+      let same : at ≡ k = omega (arith, last, less) in
+      subst (λ (n : ℕ). AreTwins soc c rank (slice_index twins n)) same here
+]
 
 -- each twin is one, place by place
 pub all_twins : (soc : SocValue) (c : Case) (rank : ℕ) (twins : List ℕ) (n : ℕ) → length twins ≤ n →

@@ -158,9 +158,9 @@ too_far a c w rank width is far rule =
 interval_is : (room : CaseRoom) (d : Case) (rank : ℕ) (i : Interval) → IsCaseOf room d → i ≡ interval_of room.widths.intervals.items rank → i ≡ interval_of d.intervals rank
 interval_is room d rank i is at = at ∙ ap (λ (l : List Interval). interval_of l rank) is.intervals
 
-pub wide_now : (a room : CaseRoom) (c : Case) (w rank width : ℕ) (i : Interval) → IsCaseOf a c → rank ≤ length a.widths.intervals.items → rank < 256 → IsCaseOf room (with_rank w c rank) →
+pub wide_now : (a room : CaseRoom) (c : Case) (w rank width : ℕ) (i : Interval) → IsCaseOf a c → rank ≤ length a.widths.intervals.items → rank < 256 → IsCaseOf room (with_rank w c rank) → rank < length room.widths.intervals.items →
     i ≡ interval_of room.widths.intervals.items rank → (i.low ≤ width) × (width < i.high) → IsWideNow room w c rank width
-wide_now a room c w rank width i is most few now at inside =
+wide_now a room c w rank width i is most few now within at inside =
     let long : length a.widths.intervals.items ≡ known_ranks c = ap length is.intervals in
     let here : i ≡ interval_of (with_rank w c rank).intervals rank = interval_is room (with_rank w c rank) rank i now at in
     record {
@@ -171,6 +171,7 @@ wide_now a room c w rank width i is most few now at inside =
         below = subst (λ (j : Interval). width < j.high) here inside.1;
       };
       case = now;
+      within = within;
     }
 
 pub not_wide : (room : CaseRoom) (c : Case) (w rank width : ℕ) (i : Interval) → IsCaseOf room (with_rank w c rank) → i ≡ interval_of room.widths.intervals.items rank →

@@ -46,6 +46,7 @@ FitsLeaves g leaf = (place : ℕ) (weights : WeightsValue) → IsNodeAt g place 
 pub record IsWideNow (room : CaseRoom) (w : ℕ) (c : Case) (rank width : ℕ) : Type 0 where
   pub rule : IsWide w c rank width
   pub case : IsCaseOf room (with_rank w c rank)
+  pub within : rank < length room.widths.intervals.items
 
 -- a module with a test over the wires stands at this place
 pub record IsWiredAt (soc : SocValue) (m place : ℕ) : Type 0 where

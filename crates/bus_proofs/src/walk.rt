@@ -128,9 +128,10 @@ fn off_ranks(basis: &Basis<'_>, case: &mut CaseRoom, number: u64, rank: u64, twi
     ensures further { IsFurther case.old case.new }
     ensures case { (c : Case) → IsCaseOf case.old c → IsCaseOf case.new (branch_later (chip_of basis.now) c (OfPlace number rank twins.now)) }
 {
-    if let Some(place) = place_of(basis.soc, number) {
-        case.place_off(place, rank as usize, twins);
-    }
+    let Some(place) = place_of(basis.soc, number) else {
+        return;
+    };
+    case.place_off(place, rank as usize, twins);
 }
 
 /// The second branch of the split of a node, from the case before its branches.

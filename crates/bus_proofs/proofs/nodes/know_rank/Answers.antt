@@ -1,3 +1,4 @@
+use Rattle.std.proofs.Common.{arith}
 use Rattle.bus_proofs.proofs.RoomSteps.{further_then, known_next, next_below}
 use Rattle.bus_proofs.proofs.nodes.know_rank.Goals as goal
 
@@ -11,5 +12,5 @@ returns-clause-below c =
 
 pub returns-clause-case : goal.returns-clause-case
 returns-clause-case c = λ e is.
-    known_next c.args.case.now c.extend.new.self c.tighten.new.self e c.args.rank is c.if-rank-known_ranks.false c.requires.rank c.extend.ensures.further
+    known_next c.args.case.now c.extend.new.self c.tighten.new.self e c.args.rank is (omega (arith, c.if-rank-known_ranks.false, c.known_ranks.ensures)) c.requires.rank c.extend.ensures.further
     (c.tighten.ensures.case _ (c.extend.ensures.case e is))
