@@ -285,7 +285,7 @@ front_from g root turns depth room c x left rest (Leaf weights) e h =
 front_from g root turns depth room c x left rest (Branches split a b) e h =
     let same : x ≡ in_case (tightened (limits_of g).wires c) (OfSplit split) = cc in
     let tails : left ≡ (cases_of (chip_of g) (limits_of g).wires (first_case (chip_of g) (limits_of g).wires (tightened (limits_of g).wires c) split) a
-        ++ cases_of (chip_of g) (limits_of g).wires (second_case (chip_of g) (limits_of g).wires (tightened (limits_of g).wires c) split) b) ++ rest = cc in
+    ++ cases_of (chip_of g) (limits_of g).wires (second_case (chip_of g) (limits_of g).wires (tightened (limits_of g).wires c) split) b) ++ rest = cc in
     let fork : IsFork g root turns depth room (tightened (limits_of g).wires c) split left = record {
       first = a;
       second = b;
