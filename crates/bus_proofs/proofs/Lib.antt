@@ -28,3 +28,4 @@ pub mod CaseRooms
 pub mod RoomSteps
 pub mod NodeRules
 pub mod WalkSteps
+pub mod ProofChecks
