@@ -123,12 +123,6 @@ with_rank_within w c rank all = by (nat_eq rank (known_ranks c))
 
 -- ---- the case that has a rank
 
--- a rank that is known already
-pub known_already : (a : CaseRoom) (c : Case) (w rank : ℕ) → IsCaseOf a c → rank < length a.widths.intervals.items → IsCaseOf a (with_rank w c rank)
-known_already a c w rank is less =
-    let long : length a.widths.intervals.items ≡ known_ranks c = ap length is.intervals in
-    rw (ne_eqb rank (known_ranks c) (λ e. omega (arith, e, long, less))) is
-
 -- the next one
 pub known_next : (a b d : CaseRoom) (c : Case) (rank : ℕ) → IsCaseOf a c → length a.widths.intervals.items ≤ rank → rank ≤ length a.widths.intervals.items → IsFurther a b →
     IsCaseOf d (tightened b.widths.wires (extended a.widths.wires c)) → IsCaseOf d (with_rank a.widths.wires c rank)
@@ -149,11 +143,6 @@ next_below a d c v w rank is most next =
     omega (arith, long, more, kept, last, most)
 
 -- ---- the rule of a width
-
-pub too_far : (a : CaseRoom) (c : Case) (w rank width : ℕ) → IsCaseOf a c → length a.widths.intervals.items < rank → IsWide w c rank width → ⊥
-too_far a c w rank width is far rule =
-    let long : length a.widths.intervals.items ≡ known_ranks c = ap length is.intervals in
-    omega (arith, long, far, rule.known)
 
 interval_is : (room : CaseRoom) (d : Case) (rank : ℕ) (i : Interval) → IsCaseOf room d → i ≡ interval_of room.widths.intervals.items rank → i ≡ interval_of d.intervals rank
 interval_is room d rank i is at = at ∙ ap (λ (l : List Interval). interval_of l rank) is.intervals

@@ -184,24 +184,9 @@ place_begun g root turns turns' depth node a d c m rank twins place mark from is
 
 -- ---- a second branch begins
 
-same_split : (s t : SplitValue) → OfSplit s ≡ OfSplit t → s ≡ t
-same_split s t e = cc
-
 -- a node of the proof has one value
 one_node : (g : Basis) (place : ℕ) (m n : NodeValue) → IsNodeAt g place m → IsNodeAt g place n → m ≡ n
 one_node g place m n a b = cc
-
--- the room is gone back to where the turn began
-pub back_room : (g : Basis) (root now back : CaseRoom) (turn : Turn) (before : CaseRoom) (c : Case) (split : SplitValue) → IsTurn g root now turn before c split → IsSame before back → IsRoomFor g back
-back_room g root now back turn before c split t same = same_room g before back same t.room
-
-pub second_begins : (g : Basis) (root now back new : CaseRoom) (turn : Turn) (before : CaseRoom) (c : Case) (split : SplitValue) → IsTurn g root now turn before c split → IsSame before back →
-    IsRoomFor g new → IsFurther back new → ((e : Case) → IsCaseOf back e → IsCaseOf new (branch_later (chip_of g) e split)) → IsSecond g before new c split
-second_begins g root now back new turn before c split t same for more goes = record {
-  room = for;
-  further = further_then before back new (same_further before back same) more;
-  case = goes c (same_case before back c same t.case);
-}
 
 -- the second branch, and what comes behind it
 behind_first : (g : Basis) (turn : Turn) (c : Case) (split : SplitValue) (P : List NodeCase → Type 0) (left : List NodeCase) → turn.second ≡ false →
@@ -347,27 +332,10 @@ split_judged g root turns depth next a place x left split node at rule =
     let enough : IsEnough (chip_of g) (limits_of g) (lists_of g) (claim_of g) (in_case x.within (OfSplit split)) = record { rule = rule; holds = tt } in
     subst (IsEnough (chip_of g) (limits_of g) (lists_of g) (claim_of g)) (node_is x (OfSplit split) (one_node g place x.node (OfSplit split) at.node node)) enough
 
-pub split_broken : (g : Basis) (root : CaseRoom) (turns : List Turn) (depth : ℕ) (a : CaseRoom) (place : ℕ) (x : NodeCase) (left : List NodeCase) (split : SplitValue) →
-    IsNodeAt g place (OfSplit split) → IsAt g root turns depth a place x left → (KeepsSplit (chip_of g) (limits_of g).wires x.within split → ⊥) → IsJudged {X = ℕ} g place x (Err (BadNode place))
-split_broken g root turns depth a place x left split node at broken =
-    let judged : IsJudged {X = ℕ} g place (in_case x.within (OfSplit split)) (Err (BadNode place)) = (refl, broken) in
-    subst (λ (n : NodeCase). IsJudged {X = ℕ} g place n (Err (BadNode place))) (node_is x (OfSplit split) (one_node g place x.node (OfSplit split) at.node node)) judged
-
 pub leaf_enough : (g : Basis) (root : CaseRoom) (turns : List Turn) (depth next : ℕ) (a : CaseRoom) (place : ℕ) (x : NodeCase) (left : List NodeCase) (weights : WeightsValue) →
     IsNodeAt g place (OfSum weights) → IsAt g root turns depth a place x left → IsJudged {X = Unit {0}} g place (in_case x.within (OfSum weights)) (Ok tt) → IsJudged {X = ℕ} g place x (Ok next)
 leaf_enough g root turns depth next a place x left weights node at judged =
     subst (IsEnough (chip_of g) (limits_of g) (lists_of g) (claim_of g)) (node_is x (OfSum weights) (one_node g place x.node (OfSum weights) at.node node)) judged
-
-judged_any : (g : Basis) (place : ℕ) (n : NodeCase) (fault : ProofFault) → IsJudged {X = Unit {0}} g place n (Err fault) → IsJudged {X = ℕ} g place n (Err fault)
-judged_any g place n (BadList p) h = h
-judged_any g place n (BadNode p) h = h
-judged_any g place n (Less p c s) h = h
-
-pub leaf_faulty : (g : Basis) (root : CaseRoom) (turns : List Turn) (depth : ℕ) (a : CaseRoom) (place : ℕ) (x : NodeCase) (left : List NodeCase) (weights : WeightsValue) (fault : ProofFault) →
-    IsNodeAt g place (OfSum weights) → IsAt g root turns depth a place x left → IsJudged {X = Unit {0}} g place (in_case x.within (OfSum weights)) (Err fault) → IsJudged {X = ℕ} g place x (Err fault)
-leaf_faulty g root turns depth a place x left weights fault node at judged =
-    subst (λ (n : NodeCase). IsJudged {X = ℕ} g place n (Err fault)) (node_is x (OfSum weights) (one_node g place x.node (OfSum weights) at.node node))
-    (judged_any g place (in_case x.within (OfSum weights)) fault judged)
 
 -- ---- all nodes
 

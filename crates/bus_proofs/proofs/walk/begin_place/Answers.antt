@@ -1,4 +1,3 @@
-use Rattle.std.proofs.Common.{refl}
 use Rattle.bus_proofs.specs.Cases.{placed_on}
 use Rattle.bus_proofs.proofs.RoomSteps.{room_next}
 use Rattle.bus_proofs.proofs.WalkSteps.{place_begun}

@@ -1,4 +1,4 @@
-use Rattle.std.proofs.Common.{refl, arith}
+use Rattle.std.proofs.Common.{refl}
 use Rattle.bus_proofs.specs.Bases.{limits_of}
 use Rattle.bus_proofs.specs.Cases.{with_rank}
 use Rattle.bus_proofs.proofs.RoomSteps.{further_then, narrow_within, room_next}
