@@ -68,7 +68,8 @@ fn uses_of(node: &Node) -> usize
 
 /// The most lists that a leaf weighs.
 fn most_uses(nodes: &[Node]) -> usize
-    ensures { (place : ℕ) (weights : WeightsValue) → slice_get (map node_value nodes.now) place ≡ Some (OfSum weights) → length weights.lists ≤ result }
+    ensures { (place : ℕ) (weights : WeightsValue) → slice_get (map node_value nodes.now) place ≡ Some (OfSum weights) →
+        length weights.lists ≤ result }
 {
     let mut most = 0;
     for place in 0..nodes.len() {

@@ -126,7 +126,8 @@ fn off_ranks(basis: &Basis<'_>, case: &mut CaseRoom, number: u64, rank: u64, twi
     requires forked { (c : Case) × IsCaseOf case.old c × IsForked (chip_of basis.now) c (OfPlace number rank twins.now) }
     ensures room { IsRoomFor basis.now case.new }
     ensures further { IsFurther case.old case.new }
-    ensures case { (c : Case) → IsCaseOf case.old c → IsCaseOf case.new (branch_later (chip_of basis.now) c (OfPlace number rank twins.now)) }
+    ensures case { (c : Case) → IsCaseOf case.old c →
+        IsCaseOf case.new (branch_later (chip_of basis.now) c (OfPlace number rank twins.now)) }
 {
     let Some(place) = place_of(basis.soc, number) else {
         return;
@@ -138,7 +139,8 @@ fn off_ranks(basis: &Basis<'_>, case: &mut CaseRoom, number: u64, rank: u64, twi
 fn take_second(basis: &Basis<'_>, case: &mut CaseRoom, node: &Node)
     requires basis { IsBasis basis.now }
     requires room { IsRoomFor basis.now case.old }
-    requires forked { (c : Case) × (split : SplitValue) × IsCaseOf case.old c × IsForked (chip_of basis.now) c split × (node_value node.now ≡ OfSplit split) }
+    requires forked { (c : Case) × (split : SplitValue) × IsCaseOf case.old c × IsForked (chip_of basis.now) c split ×
+        (node_value node.now ≡ OfSplit split) }
     ensures room { IsRoomFor basis.now case.new }
     ensures further { IsFurther case.old case.new }
     ensures case { (c : Case) (split : SplitValue) → IsCaseOf case.old c → node_value node.now ≡ OfSplit split →
@@ -183,12 +185,15 @@ fn next_branch(
     requires basis { IsBasis basis.now }
     requires room { IsRoomFor basis.now case.old }
     requires turns { under_way ≤ length turns.old }
-    requires awaits { (root : CaseRoom) × (left : List NodeCase) × IsFurther root case.old × Awaits basis.now root turns.old under_way case.old left }
+    requires awaits { (root : CaseRoom) × (left : List NodeCase) × IsFurther root case.old ×
+        Awaits basis.now root turns.old under_way case.old left }
     ensures room { IsRoomFor basis.now case.new }
     ensures few { result ≤ under_way }
-    ensures further { (root : CaseRoom) (left : List NodeCase) → IsFurther root case.old → Awaits basis.now root turns.old under_way case.old left →
+    ensures further { (root : CaseRoom) (left : List NodeCase) → IsFurther root case.old →
+        Awaits basis.now root turns.old under_way case.old left →
         IsFurther root case.new }
-    ensures goes_on { (root : CaseRoom) (left : List NodeCase) → IsFurther root case.old → Awaits basis.now root turns.old under_way case.old left →
+    ensures goes_on { (root : CaseRoom) (left : List NodeCase) → IsFurther root case.old →
+        Awaits basis.now root turns.old under_way case.old left →
         GoesOn basis.now root turns.new result case.new left }
 {
     let mut depth = under_way;
@@ -254,15 +259,19 @@ fn go_on(
     requires room { IsRoomFor basis.now case.old }
     requires leaves { FitsLeaves basis.now leaf.old }
     requires depth { at.depth < length turns.old }
-    requires at { (root : CaseRoom) × (x : NodeCase) × (left : List NodeCase) × IsAt basis.now root turns.old at.depth case.old at.node x left }
+    requires at { (root : CaseRoom) × (x : NodeCase) × (left : List NodeCase) ×
+        IsAt basis.now root turns.old at.depth case.old at.node x left }
     ensures leaves { FitsLeaves basis.now leaf.new }
     ensures room { IfOk result (λ next. IsRoomFor basis.now case.new) }
     ensures few { IfOk result (λ next. next ≤ at.depth + 1) }
-    ensures further { (root : CaseRoom) (x : NodeCase) (left : List NodeCase) → IsAt basis.now root turns.old at.depth case.old at.node x left →
+    ensures further { (root : CaseRoom) (x : NodeCase) (left : List NodeCase) →
+        IsAt basis.now root turns.old at.depth case.old at.node x left →
         IsFurther root case.new }
-    ensures judged { (root : CaseRoom) (x : NodeCase) (left : List NodeCase) → IsAt basis.now root turns.old at.depth case.old at.node x left →
+    ensures judged { (root : CaseRoom) (x : NodeCase) (left : List NodeCase) →
+        IsAt basis.now root turns.old at.depth case.old at.node x left →
         IsJudged basis.now at.node x result }
-    ensures goes_on { (root : CaseRoom) (x : NodeCase) (left : List NodeCase) → IsAt basis.now root turns.old at.depth case.old at.node x left →
+    ensures goes_on { (root : CaseRoom) (x : NodeCase) (left : List NodeCase) →
+        IsAt basis.now root turns.old at.depth case.old at.node x left →
         IfOk result (λ next. GoesOn basis.now root turns.new next case.new left) }
 {
     match node_at(basis.proof, at.node) {
@@ -303,15 +312,19 @@ fn check_node(
     requires room { IsRoomFor basis.now case.old }
     requires leaves { FitsLeaves basis.now leaf.old }
     requires depth { at.depth < length turns.old }
-    requires here { (root : CaseRoom) × (x : NodeCase) × (left : List NodeCase) × IsHere basis.now root turns.old at.depth case.old at.node x left }
+    requires here { (root : CaseRoom) × (x : NodeCase) × (left : List NodeCase) ×
+        IsHere basis.now root turns.old at.depth case.old at.node x left }
     ensures leaves { FitsLeaves basis.now leaf.new }
     ensures room { IfOk result (λ next. IsRoomFor basis.now case.new) }
     ensures few { IfOk result (λ next. next ≤ at.depth + 1) }
-    ensures further { (root : CaseRoom) (x : NodeCase) (left : List NodeCase) → IsHere basis.now root turns.old at.depth case.old at.node x left →
+    ensures further { (root : CaseRoom) (x : NodeCase) (left : List NodeCase) →
+        IsHere basis.now root turns.old at.depth case.old at.node x left →
         IsFurther root case.new }
-    ensures judged { (root : CaseRoom) (x : NodeCase) (left : List NodeCase) → IsHere basis.now root turns.old at.depth case.old at.node x left →
+    ensures judged { (root : CaseRoom) (x : NodeCase) (left : List NodeCase) →
+        IsHere basis.now root turns.old at.depth case.old at.node x left →
         IsJudged basis.now at.node x result }
-    ensures goes_on { (root : CaseRoom) (x : NodeCase) (left : List NodeCase) → IsHere basis.now root turns.old at.depth case.old at.node x left →
+    ensures goes_on { (root : CaseRoom) (x : NodeCase) (left : List NodeCase) →
+        IsHere basis.now root turns.old at.depth case.old at.node x left →
         IfOk result (λ next. GoesOn basis.now root turns.new next case.new left) }
 {
     case.tighten();
