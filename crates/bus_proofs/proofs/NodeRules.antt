@@ -1,23 +1,16 @@
 -- The rule of two cases by the place of a module.
-use Rattle.std.proofs.Common.{◌≡◌, ℕ, zero, suc, ◌+◌, ◌*◌, ◌^◌, ◌≤◌, ◌<◌, true, Some, List, ◌∷◌, length, get_or, refl, sym, ap, ◌∙◌, subst, arith, inl, inr}
-use Rattle.std.specs.Prelude.{Option, None, false, slice_get, slice_index}
+use Rattle.std.proofs.Common.{◌≡◌, ℕ, zero, suc, ◌+◌, ◌*◌, ◌^◌, ◌≤◌, ◌<◌, Some, List, ◌∷◌, length, refl, sym, ap, ◌∙◌, subst, arith, inl, inr}
+use Rattle.std.specs.Prelude.{slice_get, slice_index}
 use Rattle.std.specs.List.{All}
 use Rattle.std.proofs.lemmas.Bool.{cases_lt, cases_order}
 use Rattle.std.proofs.lemmas.List.{get_or_default}
 use Rattle.std.proofs.lemmas.List.Elements.{All-cons}
 use Rattle.std.proofs.lemmas.Option.{slice_get-get_or, slice_get_within, get_or_from_slice_get}
-use Rattle.soc_model.specs.Chips.{ModuleValue, SocValue}
-use Rattle.soc_model.specs.Modes.{has_tam}
-use Rattle.soc_model.specs.SoundChips.{AllDiffer}
-use Rattle.plan_model.specs.Certificates.{has_tam_at, passes}
-use Rattle.bus_proofs.specs.declared.basis.Basis.{Basis}
+use Rattle.soc_model.specs.Chips.{SocValue}
 use Rattle.bus_proofs.specs.declared.case.CaseRoom.{CaseRoom}
-use Rattle.bus_proofs.specs.Cases.{AreTwins, Case, Interval, IsPlace, interval_of, known_ranks}
+use Rattle.bus_proofs.specs.Cases.{AreTwins, Case}
 use Rattle.bus_proofs.specs.CaseRooms.{IsCaseOf}
-use Rattle.bus_proofs.specs.Takings.{bit_at}
-use Rattle.bus_proofs.specs.Bits.{AreAlike, IsUnlike, bit_place}
-use Rattle.bus_proofs.specs.Bases.{IsBasis, chip_of}
-use Rattle.bus_proofs.specs.Walks.{AreRanks, IsNewTwin, IsPlaceAt, IsRoomFor, IsWiredAt}
+use Rattle.bus_proofs.specs.Walks.{AreRanks, IsNewTwin, IsPlaceAt, IsWiredAt}
 
 -- ---- known ranks that differ
 

@@ -1,6 +1,6 @@
 -- What a whole check tells, and that its room serves again.
 use Rattle.std.proofs.Common.{◌≡◌, ◌⊎◌, ℕ, ◌+◌, ◌^◌, ◌≤◌, ◌<◌, Some, List, length, map, get_or, refl, sym, ap, ◌∙◌, subst, arith, inl, inr}
-use Rattle.std.specs.Prelude.{Bool, true, false, Option, None, nat_lt, option_map, slice_get, if◌then◌else◌, Result, Ok, Err, IfErr, OnOk}
+use Rattle.std.specs.Prelude.{Bool, true, false, None, nat_lt, option_map, slice_get, if◌then◌else◌, Result, Ok, Err, IfErr, OnOk}
 use Rattle.std.proofs.lemmas.Bool.{cases_lt, ltb-false}
 use Rattle.std.proofs.lemmas.Option.{slice_get-map, slice_get_read, slice_get_within}
 use Rattle.soc_model.specs.Chips.{SocValue}
@@ -16,7 +16,7 @@ use Rattle.bus_proofs.specs.declared.basis.Basis.{Basis}
 use Rattle.bus_proofs.specs.declared.case.CaseRoom.{CaseRoom}
 use Rattle.bus_proofs.specs.declared.leaf.LeafRoom.{LeafRoom}
 use Rattle.bus_proofs.specs.declared.walk.Turn.{Turn}
-use Rattle.bus_proofs.specs.Proofs.{ListValue, WeightsValue, NodeValue, OfSum, CaseTree, nodes_of, node_value, ProofValue}
+use Rattle.bus_proofs.specs.Proofs.{ListValue, WeightsValue, OfSum, CaseTree, nodes_of, node_value, ProofValue}
 use Rattle.bus_proofs.specs.Cases.{root_case}
 use Rattle.bus_proofs.specs.Grammar.{MayBeSaid}
 use Rattle.bus_proofs.specs.Bounds.{AreKept, IsAccepted, IsProofFault, all_cases}

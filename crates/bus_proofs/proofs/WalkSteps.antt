@@ -1,14 +1,11 @@
 -- How the splits that are under way change, node by node.
 use Rattle.std.proofs.Common.{◌≡◌, ◌⊎◌, ℕ, zero, suc, ◌+◌, ◌≤◌, ◌<◌, Bool, true, false, Some, List, [], ◌∷◌, ◌++◌, length, map, drop, get_or, refl, sym, ap, ◌∙◌, subst, arith, inl, inr, append_assoc, append-nil}
-use Rattle.std.specs.Prelude.{Option, None, option_map, slice_get, slice_set, MatchBool, Result, Ok, Err}
-use Rattle.std.specs.List.{All}
+use Rattle.std.specs.Prelude.{Option, option_map, slice_get, slice_set, MatchBool, Ok, Err}
 use Rattle.std.proofs.lemmas.Bool.{cases_lt}
 use Rattle.std.proofs.lemmas.List.{get_or-set_same, get_or-set_other, length-map, map-append}
 use Rattle.std.proofs.lemmas.Option.{slice_get-get_or, slice_get-map}
 use Rattle.std.proofs.Math.Seq.{drop-cons}
 use Rattle.soc_model.specs.Chips.{SocValue}
-use Rattle.soc_model.specs.Lookups.{module_place}
-use Rattle.plan_model.specs.Plans.{LimitsValue}
 use Rattle.bus_proofs.specs.declared.ProofFault.{ProofFault}
 use Rattle.bus_proofs.specs.declared.ProofFault.TheVariants.{BadList, BadNode, Less}
 use Rattle.bus_proofs.specs.declared.basis.Basis.{Basis}
@@ -18,12 +15,12 @@ use Rattle.bus_proofs.specs.declared.walk.Turn.{Turn}
 use Rattle.bus_proofs.specs.Proofs.{WeightsValue, SplitValue, OfWide, OfPlace, NodeValue, OfSplit, OfSum, CaseTree, Leaf, Branches, nodes_of}
 use Rattle.bus_proofs.specs.Cases.{Case, Interval, interval_of, known_ranks, narrow, placed_on, tightened, with_rank, case_by, first_case, second_case, NodeCase, in_case, cases_of, root_case, KeepsSplit}
 use Rattle.bus_proofs.specs.Bounds.{IsEnough, HasFault, KeepsNode, NodeHolds, all_cases}
-use Rattle.bus_proofs.specs.CaseRooms.{HasCase, IsCaseOf, IsFurther, IsMark, IsSame}
+use Rattle.bus_proofs.specs.CaseRooms.{HasCase, IsCaseOf, IsFurther, IsMark}
 use Rattle.bus_proofs.specs.Trails.{IsFew}
 use Rattle.bus_proofs.specs.Bases.{chip_of, limits_of, lists_of, claim_of, proof_of}
 use Rattle.bus_proofs.specs.Walks.{no_turn, turn_at, split_case, branch_later, IsRoomFor, IsNodeAt, IsWideNow, IsPlaceAt, IsForked, IsTurn, IsLaterThen, IsWithin, Awaits, Begins, GoesOn, IsHere, IsFork, Follows, IsAt, IsBegun, IsSecond, IsJudged}
 use Rattle.bus_proofs.proofs.Trails.{few_at}
-use Rattle.bus_proofs.proofs.RoomSteps.{further_none, further_then, same_case, same_further, same_room, room_next, with_rank_within}
+use Rattle.bus_proofs.proofs.RoomSteps.{further_none, further_then, room_next, with_rank_within}
 
 -- ---- what awaits behind the splits that are under way
 
