@@ -33,3 +33,7 @@ pub mod LeafTests
 pub mod LeafSlots
 pub mod LeafTotals
 pub mod Marked
+pub mod RoomSteps
+pub mod NodeRules
+pub mod WalkSteps
+pub mod ProofChecks

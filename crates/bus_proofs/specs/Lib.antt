@@ -24,4 +24,5 @@ pub mod Bases
 pub mod LeafCosts
 pub mod LeafSlots
 pub mod LeafAnswers
+pub mod Walks
 pub mod ProofRooms

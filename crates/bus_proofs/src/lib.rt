@@ -16,6 +16,7 @@ mod leaf_sums;
 mod list_rules;
 mod list_table;
 mod lists;
+mod nodes;
 mod parts;
 mod places;
 mod printing;
@@ -25,6 +26,7 @@ mod test_table;
 mod text_laws;
 mod tokens;
 mod twins;
+mod walk;
 mod widths;
 mod words;
 
