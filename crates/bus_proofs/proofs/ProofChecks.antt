@@ -100,7 +100,11 @@ few_modules soc size = go (nat_lt MODULES_MOST (length soc.modules)) refl (size 
 
 -- space for more lists is space for fewer
 fewer_uses : (g : Basis) (most uses : ℕ) (leaf : LeafRoom) → uses ≤ most → HasLeafSpace g most leaf → HasLeafSpace g uses leaf
-fewer_uses g most uses leaf less space = space
+fewer_uses g most uses leaf less space = record {
+  long = space.long;
+  beside = omega (arith, less, space.beside);
+  power = omega (arith, less, space.power);
+}
 
 pub new_room : (g : Basis) (soc : SocValue) (limits : LimitsValue) (p : ProofValue) (room : CaseRoom) (leaf : LeafRoom) (turns : List Turn) (uses : ℕ) → IsBasis g →
     chip_of g ≡ soc → limits_of g ≡ limits → proof_of g ≡ p → MayBeSaid p → HasCase room → IsCaseOf room root_case → room.modules ≡ length soc.modules → room.widths.wires ≡ limits.wires →
