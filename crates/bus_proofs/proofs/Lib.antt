@@ -32,4 +32,5 @@ pub mod LeafSums
 pub mod LeafTests
 pub mod LeafSlots
 pub mod LeafTotals
+pub mod LeafAnswers
 pub mod Marked
