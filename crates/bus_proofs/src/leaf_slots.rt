@@ -131,7 +131,8 @@ fn is_short(basis: &Basis<'_>, place: usize, width: u64) -> bool
     requires place { place < length (chip_of basis.now).modules }
     requires some_wire { 1 ≤ width }
     requires few_wires { width ≤ (limits_of basis.now).wires }
-    ensures { result ≡ nat_lt (packed_tam_time (chip_of basis.now) place width + self_test_time (chip_of basis.now) place) (claim_of basis.now) }
+    ensures { result ≡ nat_lt (packed_tam_time (chip_of basis.now) place width + self_test_time (chip_of basis.now) place)
+        (claim_of basis.now) }
 {
     let tam = basis.times.tam_time(place, width);
     let own = basis.times.self_time(place);
@@ -226,7 +227,8 @@ fn least_in_range(
     requires wire { range.wire ≤ WEIGHT_MOST }
     requires weighed { (weights : WeightsValue) × IsWeighed basis.now weights weighed.now }
     ensures least { (weights : WeightsValue) → IsWeighed basis.now weights weighed.now →
-        IsLeastOf (costs_at basis.now weights place) (IsOfRange (chip_of basis.now) (claim_of basis.now) place range (range.high + 1)) result }
+        IsLeastOf (costs_at basis.now weights place)
+        (IsOfRange (chip_of basis.now) (claim_of basis.now) place range (range.high + 1)) result }
     ensures small { IfSome result (λ n. n ≤ LEAF_COST_MOST) }
 {
     let mut best = None;
