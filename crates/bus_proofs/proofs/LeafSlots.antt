@@ -1,12 +1,12 @@
 -- The least cost over ranges of widths, and over all buses of a module.
 use Rattle.std.proofs.Common.{◌≡◌, ℕ, zero, suc, ◌+◌, ◌-◌, ◌*◌, ◌≤◌, ◌<◌, ◌⊎◌, min, max, Bool, true, false, Option, Some, None, List, [], ◌∷◌, length, map, refl, ap, sym, ◌∙◌, subst, arith, inl, inr, mul-le-mul_left}
 use Rattle.std.specs.Prelude.{slice_get, IfSome, if◌then◌else◌}
-use Rattle.std.specs.List.{range_with_len, flat_map, filter}
+use Rattle.std.specs.List.{range_with_len, flat_map}
 use Rattle.std.proofs.lemmas.Bool.{cases_eq, cases_lt}
 use Rattle.soc_model.specs.Chips.{SocValue}
-use Rattle.packed_times.specs.Packed.{packed_tam_time, self_test_time}
+use Rattle.packed_times.specs.Packed.{packed_tam_time}
 use Rattle.plan_model.specs.Plans.{smallest}
-use Rattle.plan_model.proofs.Lists.{from_append, from_map, from_flat_map, from_filter, in_append_left, in_append_right, in_flat_map}
+use Rattle.plan_model.proofs.Lists.{from_append, from_map, from_flat_map, from_filter}
 use Rattle.plan_model.proofs.Finding.{in_filter}
 use Rattle.bus_proofs.specs.declared.case.CaseRoom.{CaseRoom}
 use Rattle.bus_proofs.specs.declared.places.Placing.{Placing}
@@ -19,9 +19,9 @@ use Rattle.bus_proofs.specs.Proofs.{WeightsValue}
 use Rattle.bus_proofs.specs.Bases.{chip_of, limits_of, lists_of}
 use Rattle.bus_proofs.specs.Laws.{WiderSlotsCostNoLess}
 use Rattle.bus_proofs.specs.Cases.{Case, known_ranks, low_at, high_at}
-use Rattle.bus_proofs.specs.Leaves.{Slot, slot, from_to, slot_at, slots_at, rest_high, rest_slot, rest_slots, all_slots, slots_of, is_short}
+use Rattle.bus_proofs.specs.Leaves.{Slot, slot, from_to, slot_at, slots_at, rest_high, rest_slot, rest_slots, all_slots, is_short}
 use Rattle.bus_proofs.specs.LeafSlots.{IsCostOf, IsLeast, IsLeastOf, IsOfModule, IsOfRange, IsOfRank, IsOfRanks, IsOfRest, costs_at, lesser, range_slot, rank_range, rest_range}
-use Rattle.bus_proofs.proofs.Slots.{in_range, of_known, of_rest, smallest-le}
+use Rattle.bus_proofs.proofs.Slots.{of_known, of_rest, smallest-le}
 
 -- ---- the least of two
 

@@ -77,7 +77,10 @@ pub concluded : (g : Basis) (c : Case) (weights : WeightsValue) (modules own wor
 unfolding cost_of_all leaf_shows
 concluded g c weights modules own worth Broken x y z some is = is
 concluded g c weights modules own worth Holds x y z some is = inr (rw (← x.0, ← y, ← z) is)
-concluded g c weights modules own worth (Shows shown) x y z some is = (λ h. elim h [
-  | inl none ↦ some none
-  | inr much ↦ is.less (rw (x.0, y, z) much)
-], is.shown_is ∙ rw (x.0, y, z) refl)
+concluded g c weights modules own worth (Shows shown) x y z some is = (
+  λ h. elim h [
+    | inl none ↦ some none
+    | inr much ↦ is.less (rw (x.0, y, z) much)
+  ],
+  is.shown_is ∙ rw (x.0, y, z) refl,
+)

@@ -32,6 +32,7 @@ pub mod LeafSums
 pub mod LeafTests
 pub mod LeafSlots
 pub mod LeafTotals
+pub mod LeafAnswers
 pub mod Marked
 pub mod RoomSteps
 pub mod NodeRules

@@ -1,7 +1,6 @@
 -- The least cost of a module: its buses by ranges of widths, and what the least cost over some buses is.
-use Rattle.std.specs.Prelude.{◌≡◌, ℕ, ◌+◌, ◌-◌, ◌*◌, ◌<◌, ◌≤◌, ◌⊎◌, true, false, max, min, Option, None, Some, List, [], length, slice_get, MatchOption}
+use Rattle.std.specs.Prelude.{◌≡◌, ℕ, ◌+◌, ◌-◌, ◌*◌, ◌<◌, ◌≤◌, ◌⊎◌, true, false, max, min, Option, None, Some, List, [], slice_get, MatchOption}
 use Rattle.soc_model.specs.Chips.{SocValue}
-use Rattle.plan_model.specs.Plans.{LimitsValue}
 use Rattle.plan_model.specs.Bounds.{sum_below}
 use Rattle.plan_model.specs.Certificates.{has_tam_at}
 use Rattle.bus_proofs.specs.declared.basis.Basis.{Basis}

@@ -131,7 +131,8 @@ fn is_short(basis: &Basis<'_>, place: usize, width: u64) -> bool
     requires place { place < length (chip_of basis.now).modules }
     requires some_wire { 1 ≤ width }
     requires few_wires { width ≤ (limits_of basis.now).wires }
-    ensures { result ≡ nat_lt (packed_tam_time (chip_of basis.now) place width + self_test_time (chip_of basis.now) place) (claim_of basis.now) }
+    ensures { result ≡ nat_lt (packed_tam_time (chip_of basis.now) place width + self_test_time (chip_of basis.now) place)
+        (claim_of basis.now) }
 {
     let tam = basis.times.tam_time(place, width);
     let own = basis.times.self_time(place);
@@ -164,6 +165,7 @@ fn cost_at(
     requires few_wires { width ≤ (limits_of basis.now).wires }
     requires base { range.base ≤ WEIGHT_MOST }
     requires wire { range.wire ≤ WEIGHT_MOST }
+    requires weighed { (weights : WeightsValue) × IsWeighed basis.now weights weighed.now }
     ensures cost { (weights : WeightsValue) → IsWeighed basis.now weights weighed.now →
         IsCostOf (costs_at basis.now weights place) (chip_of basis.now) (claim_of basis.now) place (range_slot range width) result }
     ensures small { IfSome result (λ n. n ≤ LEAF_COST_MOST) }
@@ -195,6 +197,7 @@ fn try_width(
     requires from { range.first ≤ width }
     requires within { width ≤ range.high }
     requires best { IfSome best (λ n. n ≤ LEAF_COST_MOST) }
+    requires weighed { (weights : WeightsValue) × IsWeighed basis.now weights weighed.now }
     ensures least { (weights : WeightsValue) → IsWeighed basis.now weights weighed.now →
         IsLeastOf (costs_at basis.now weights place) (IsOfRange (chip_of basis.now) (claim_of basis.now) place range width) best →
         IsLeastOf (costs_at basis.now weights place) (IsOfRange (chip_of basis.now) (claim_of basis.now) place range (width + 1)) result }
@@ -222,8 +225,10 @@ fn least_in_range(
     requires few_wires { range.high ≤ (limits_of basis.now).wires }
     requires base { range.base ≤ WEIGHT_MOST }
     requires wire { range.wire ≤ WEIGHT_MOST }
+    requires weighed { (weights : WeightsValue) × IsWeighed basis.now weights weighed.now }
     ensures least { (weights : WeightsValue) → IsWeighed basis.now weights weighed.now →
-        IsLeastOf (costs_at basis.now weights place) (IsOfRange (chip_of basis.now) (claim_of basis.now) place range (range.high + 1)) result }
+        IsLeastOf (costs_at basis.now weights place)
+        (IsOfRange (chip_of basis.now) (claim_of basis.now) place range (range.high + 1)) result }
     ensures small { IfSome result (λ n. n ≤ LEAF_COST_MOST) }
 {
     let mut best = None;

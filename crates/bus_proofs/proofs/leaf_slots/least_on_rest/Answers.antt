@@ -14,3 +14,6 @@ returns-clause-least c = λ k of. rest_tried (costs_at c.args.basis.now (weights
     (may_rest_is c.args.case.now k c.args.place c.is_left.result of (omega (arith, c.requires.place, c.requires.of.modules)) c.is_left.ensures ∙ cc)
     (c.rest_range-range.ensures k of ∙ ap (λ w. rest_range w k (weights_value c.args.weights.now)) c.requires.of.wires)
     (c.least_in_range.ensures.least (weights_value c.args.weights.now) c.requires.weighed)
+
+pub least_in_range-requires-clause-weighed : goal.least_in_range-requires-clause-weighed
+least_in_range-requires-clause-weighed c = (weights_value c.args.weights.now, c.requires.weighed)

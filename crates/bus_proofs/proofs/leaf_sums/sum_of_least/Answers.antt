@@ -1,4 +1,4 @@
-use Rattle.std.proofs.Common.{◌≡◌, ◌+◌, ◌*◌, ◌≤◌, arith}
+use Rattle.std.proofs.Common.{◌+◌, ◌*◌, ◌≤◌, arith}
 use Rattle.bus_proofs.specs.Proofs.{weights_value}
 use Rattle.bus_proofs.specs.Bases.{chip_of}
 use Rattle.bus_proofs.specs.LeafCosts.{LEAF_COST_MOST}
