@@ -1,7 +1,7 @@
 -- Live tests that are marked for the tests of a list, one by one, and lists that keep their rules one by one.
-use Rattle.std.proofs.Common.{◌≡◌, ◌≢◌, ◌⊎◌, inl, inr, ℕ, zero, suc, ◌+◌, ◌≤◌, ◌<◌, Bool, true, false, true≢false, Option, Some, None, List, [], ◌∷◌, ◌++◌, length, map, take, get_or, set, replicate, refl, sym, ap, ◌∙◌, subst, arith, append_assoc}
-use Rattle.std.specs.Prelude.{slice_get, nat_eq, ◌&&◌, ◌||◌}
-use Rattle.std.specs.List.{list_any, list_all, position, position_or_len, Contains}
+use Rattle.std.proofs.Common.{◌≡◌, ◌≢◌, inl, inr, ℕ, zero, suc, ◌+◌, ◌≤◌, ◌<◌, Bool, true, false, true≢false, Some, List, [], ◌∷◌, ◌++◌, length, map, take, get_or, set, replicate, refl, sym, ap, ◌∙◌, subst, arith, append_assoc}
+use Rattle.std.specs.Prelude.{slice_get, ◌&&◌, ◌||◌}
+use Rattle.std.specs.List.{list_all, position, position_or_len, Contains}
 use Rattle.std.proofs.lemmas.Bool.{cases_eq, cases_lt, cases_Bool, lt-ltb, le-ltb, and_parts, false_from_ne_true}
 use Rattle.std.proofs.lemmas.List.{length-map, take_all, take_more, map-append}
 use Rattle.std.proofs.lemmas.List.Folds.{list_any-append, list_all-append}
@@ -110,9 +110,6 @@ both_map f g (x ∷ xs) [] long h = absurd (omega (arith, long))
 both_map f g (x ∷ xs) (o ∷ row) long h =
     ap (λ (b : Bool). b ∷ both_marked (map f xs) row) (sym (h 0 x refl))
     ∙ ap (λ (l : List Bool). g x ∷ l) (both_map f g xs row (omega (arith, long)) (λ i y at. h (suc i) y at))
-
-pub both_none : (marks : List Bool) → both_marked marks [] ≡ marks
-both_none marks = refl
 
 both_step : (marks others : List Bool) (i n : ℕ) → n ≡ i + 1 → i < length marks → i < length others →
     set (both_marked marks (take i others)) i (bit_at (both_marked marks (take i others)) i && bit_at others i) ≡ both_marked marks (take n others)
@@ -257,11 +254,13 @@ pub turn_added : (r : ListRules) (earlier : List TestId) (id : TestId) (place : 
     bit_at before.among.items place ≡ false → bit_at before.apart.items place ≡ true → after.among.items ≡ set before.among.items place true → after.apart.items ≡ both_marked before.apart.items row →
     length row ≡ length (live_tests (chip_ruled r)) → ((j : ℕ) → bit_at row j ≡ excludes (chip_ruled r) (limits_ruled r) place j) → TurnAdded r earlier id after true
 turn_added r earlier id place before after row rules are found new all is is' long marks =
-    let at : IsThere (chip_ruled r) id place = there (chip_ruled r) r.names.now id place rules.names found in
-    (turn_kept (chip_ruled r) (limits_ruled r) earlier id place before.among.items before.apart.items at are.among are.apart new all, record {
-      among = among_more (chip_ruled r) earlier id place before.among.items after.among.items rules.sound at are.among is;
-      apart = apart_more (chip_ruled r) (limits_ruled r) earlier id place before.apart.items after.apart.items row rules.sound at are.apart is' long marks;
-    })
+    let at : IsThere (chip_ruled r) id place = there (chip_ruled r) r.names.now id place rules.names found in (
+      turn_kept (chip_ruled r) (limits_ruled r) earlier id place before.among.items before.apart.items at are.among are.apart new all,
+      record {
+        among = among_more (chip_ruled r) earlier id place before.among.items after.among.items rules.sound at are.among is;
+        apart = apart_more (chip_ruled r) (limits_ruled r) earlier id place before.apart.items after.apart.items row rules.sound at are.apart is' long marks;
+      },
+    )
 
 pub turn_broken : (r : ListRules) (earlier : List TestId) (id : TestId) (before after : TurnMarks) → IsListRules r → AreTurnMarks r earlier before → ((p : ℕ) → position (same_test id) r.names.now ≡ Some p → bit_at before.among.items p ≡ true) → TurnAdded r earlier id after false
 turn_broken r earlier id before after rules are old t = name_broken (chip_ruled r) r.names.now earlier id before.among.items rules.names are.among old t.live t.new
@@ -274,11 +273,13 @@ pub member_added : (r : ListRules) (earlier : List TestId) (id : TestId) (place 
     bit_at before.among.items place ≡ false → after.among.items ≡ set before.among.items place true → after.powers.items ≡ before.powers.items ++ n ∷ [] →
     ((l : LiveTest) → slice_get (live_tests (chip_ruled r)) place ≡ Some l → n ≡ least_power (limits_ruled r) l) → MemberAdded r earlier id after true
 member_added r earlier id place n before after rules are found new is is' least =
-    let at : IsThere (chip_ruled r) id place = there (chip_ruled r) r.names.now id place rules.names found in
-    (member_kept (chip_ruled r) earlier id place before.among.items at are.among new, record {
-      among = among_more (chip_ruled r) earlier id place before.among.items after.among.items rules.sound at are.among is;
-      powers = powers_more (chip_ruled r) (limits_ruled r) earlier id place n before.powers.items after.powers.items rules.sound at are.powers is' least;
-    })
+    let at : IsThere (chip_ruled r) id place = there (chip_ruled r) r.names.now id place rules.names found in (
+      member_kept (chip_ruled r) earlier id place before.among.items at are.among new,
+      record {
+        among = among_more (chip_ruled r) earlier id place before.among.items after.among.items rules.sound at are.among is;
+        powers = powers_more (chip_ruled r) (limits_ruled r) earlier id place n before.powers.items after.powers.items rules.sound at are.powers is' least;
+      },
+    )
 
 pub member_broken : (r : ListRules) (earlier : List TestId) (id : TestId) (before after : CrowdMarks) → IsListRules r → AreCrowdMarks r earlier before → ((p : ℕ) → position (same_test id) r.names.now ≡ Some p → bit_at before.among.items p ≡ true) → MemberAdded r earlier id after false
 member_broken r earlier id before after rules are old t = name_broken (chip_ruled r) r.names.now earlier id before.among.items rules.names are.among old t.live t.new
@@ -303,13 +304,6 @@ bit_read bits place bit within is = get_or_from_slice_get bits place bit false (
 one_more : {X : Type 0} (xs : List X) (n : ℕ) (x : X) → slice_get xs n ≡ Some x → take (n + 1) xs ≡ take n xs ++ x ∷ []
 one_more xs n x at = take_more xs n x (slice_get_within xs n x at) ∙ ap (λ y. take n xs ++ y ∷ []) (get_or_from_slice_get xs n x x at)
 
-pub each_broken : {X : Type 0} (P : List X → X → Type 0) (xs : List X) (n : ℕ) (x : X) → slice_get xs n ≡ Some x → (P (take n xs) x → ⊥) → Each P xs → ⊥
-each_broken P xs n x at broken each = broken (each n x at)
-
-pub turns_long : (r : ListRules) (tests : List TestId) (m : TurnMarks) → AreTurnMarks r tests m → (length m.among.items ≡ length (live_tests (chip_ruled r))) × (length m.apart.items ≡ length (live_tests (chip_ruled r)))
-turns_long r tests m are =
-    (ap length are.among ∙ length-map (live_tests (chip_ruled r)) (is_among tests), ap length are.apart ∙ length-map (live_tests (chip_ruled r)) (excludes_all (chip_ruled r) (limits_ruled r) tests))
-
 pub turns_marked : (r : ListRules) (tests : List TestId) (n : ℕ) (id : TestId) (after : TurnMarks) → slice_get tests n ≡ Some id → TurnAdded r (take n tests) id after true → AreTurnMarks r (take (n + 1) tests) after
 turns_marked r tests n id after at added = subst (λ (l : List TestId). AreTurnMarks r l after) (sym (one_more tests n id at)) added.1
 
@@ -318,9 +312,6 @@ turns_each r tests n id after each at added = each_more (IsTurn (chip_ruled r) (
 
 pub turns_all : (r : ListRules) (tests : List TestId) (n : ℕ) (m : TurnMarks) → length tests ≤ n → EachTo (IsTurn (chip_ruled r) (limits_ruled r)) tests n → AreTurnMarks r (take n tests) m → TurnsMarked r tests (Some m)
 turns_all r tests n m past each are = (each_all (IsTurn (chip_ruled r) (limits_ruled r)) tests n past each, subst (λ (l : List TestId). AreTurnMarks r l m) (take_all n tests past) are)
-
-pub members_long : (r : ListRules) (tests : List TestId) (m : CrowdMarks) → AreCrowdMarks r tests m → length m.among.items ≡ length (live_tests (chip_ruled r))
-members_long r tests m are = ap length are.among ∙ length-map (live_tests (chip_ruled r)) (is_among tests)
 
 pub members_marked : (r : ListRules) (tests : List TestId) (n : ℕ) (id : TestId) (after : CrowdMarks) → slice_get tests n ≡ Some id → MemberAdded r (take n tests) id after true → AreCrowdMarks r (take (n + 1) tests) after
 members_marked r tests n id after at added = subst (λ (l : List TestId). AreCrowdMarks r l after) (sym (one_more tests n id at)) added.1

@@ -1,5 +1,4 @@
-use Rattle.std.proofs.Common.{◌≡◌, ◌∙◌, ◌<◌, Bool, List, true, false, length, ap, sym, arith}
-use Rattle.soc_model.specs.Chips.{live_tests}
+use Rattle.std.proofs.Common.{◌∙◌, ◌<◌, Bool, List, length, ap, sym}
 use Rattle.bus_proofs.specs.Takings.{bit_at}
 use Rattle.bus_proofs.specs.ListRules.{chip_ruled, limits_ruled}
 use Rattle.bus_proofs.proofs.Marked.{bit_read, has_row, place_within, turn_added, turn_broken, turn_meets}
