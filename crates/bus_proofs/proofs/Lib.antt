@@ -38,3 +38,4 @@ pub mod RoomSteps
 pub mod NodeRules
 pub mod WalkSteps
 pub mod ProofChecks
+pub mod Tams

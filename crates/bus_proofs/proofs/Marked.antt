@@ -1,9 +1,9 @@
 -- Live tests that are marked for the tests of a list, one by one, and lists that keep their rules one by one.
-use Rattle.std.proofs.Common.{◌≡◌, ◌≢◌, ◌⊎◌, inl, inr, ℕ, zero, suc, ◌+◌, ◌≤◌, ◌<◌, Bool, true, false, true≢false, Option, Some, None, List, [], ◌∷◌, ◌++◌, length, map, take, get_or, set, replicate, refl, sym, ap, ◌∙◌, subst, arith, append_assoc}
-use Rattle.std.specs.Prelude.{slice_get, nat_eq, ◌&&◌, ◌||◌}
-use Rattle.std.specs.List.{list_any, list_all, position, position_or_len, Contains}
+use Rattle.std.proofs.Common.{◌≡◌, ◌≢◌, inl, inr, ℕ, zero, suc, ◌+◌, ◌≤◌, ◌<◌, Bool, true, false, true≢false, Some, List, [], ◌∷◌, ◌++◌, length, map, take, get_or, set, replicate, refl, sym, ap, ◌∙◌, subst, arith, append_assoc}
+use Rattle.std.specs.Prelude.{slice_get, ◌&&◌, ◌||◌}
+use Rattle.std.specs.List.{list_all, position, position_or_len, Contains}
 use Rattle.std.proofs.lemmas.Bool.{cases_eq, cases_lt, cases_Bool, lt-ltb, le-ltb, and_parts, false_from_ne_true}
-use Rattle.std.proofs.lemmas.List.{length-map, take_more, map-append}
+use Rattle.std.proofs.lemmas.List.{length-map, take_all, take_more, map-append}
 use Rattle.std.proofs.lemmas.List.Folds.{list_any-append, list_all-append}
 use Rattle.std.proofs.lemmas.Option.{slice_get_within, slice_get-map, slice_get-get_or, get_or_from_slice_get}
 use Rattle.soc_model.specs.declared.TestId.{TestId}
@@ -12,13 +12,19 @@ use Rattle.soc_model.specs.SoundChips.{IsSoundChip}
 use Rattle.plan_model.specs.Plans.{LimitsValue}
 use Rattle.plan_model.specs.Rules.{Each, IsFirstBreach, live_ids}
 use Rattle.plan_model.proofs.CertificatesAreBounds.{same_test_is, is_same_test}
+use Rattle.plan_model.specs.Certificates.{is_called}
 use Rattle.plan_model.proofs.Lists.{at_contains, contains_at, any_at, any_from}
-use Rattle.exclusions.specs.Exclusions.{excludes}
+use Rattle.plan_model.proofs.PlannedTests.{of_first_is}
+use Rattle.exclusions.specs.Exclusions.{excludes, least_power}
+use Rattle.exclusions.specs.Rows.{HasRow}
 use Rattle.exclusions.proofs.Decided.{turned}
 use Rattle.bus_proofs.specs.Takings.{bit_at}
-use Rattle.bus_proofs.specs.Lists.{is_among, names_exclude, excludes_all, IsTurn, IsCrowdItem}
-use Rattle.bus_proofs.specs.ListRules.{among_of, apart_of, both_marked}
-use Rattle.bus_proofs.proofs.Turns.{place_is, name_at}
+use Rattle.bus_proofs.specs.declared.list_rules.ListRules.{ListRules}
+use Rattle.bus_proofs.specs.declared.list_rules.TurnMarks.{TurnMarks}
+use Rattle.bus_proofs.specs.declared.list_rules.CrowdMarks.{CrowdMarks}
+use Rattle.bus_proofs.specs.Lists.{is_among, names_exclude, excludes_all, least_power_of, IsTurn, IsCrowdItem}
+use Rattle.bus_proofs.specs.ListRules.{among_of, apart_of, both_marked, chip_ruled, limits_ruled, AreCrowdMarks, AreTurnMarks, IsListRules, MemberAdded, MembersMarked, TurnAdded, TurnsMarked}
+use Rattle.bus_proofs.proofs.Turns.{one_place, place_is, name_at}
 
 -- ---- items that keep their rules, up to a place
 
@@ -104,9 +110,6 @@ both_map f g (x ∷ xs) [] long h = absurd (omega (arith, long))
 both_map f g (x ∷ xs) (o ∷ row) long h =
     ap (λ (b : Bool). b ∷ both_marked (map f xs) row) (sym (h 0 x refl))
     ∙ ap (λ (l : List Bool). g x ∷ l) (both_map f g xs row (omega (arith, long)) (λ i y at. h (suc i) y at))
-
-pub both_none : (marks : List Bool) → both_marked marks [] ≡ marks
-both_none marks = refl
 
 both_step : (marks others : List Bool) (i n : ℕ) → n ≡ i + 1 → i < length marks → i < length others →
     set (both_marked marks (take i others)) i (bit_at (both_marked marks (take i others)) i && bit_at others i) ≡ both_marked marks (take n others)
@@ -229,6 +232,95 @@ name_broken soc names earlier id among are are' old live new =
     let f = is_found id (live_ids soc) live in
     let found : position (same_test id) names ≡ Some f.0 = ap (position (same_test id)) are ∙ f.1 in
     new (is_old soc earlier id f.0 among (there soc names id f.0 are found) are' (old f.0 found))
+
+-- the least power of a live test, by its name
+least_there : (soc : SocValue) (limits : LimitsValue) (id : TestId) (place n : ℕ) → IsSoundChip soc → IsThere soc id place → ((l : LiveTest) → slice_get (live_tests soc) place ≡ Some l → n ≡ least_power limits l) → n ≡ least_power_of soc limits id
+least_there soc limits id place n sound at least =
+    let f = of_first_is (is_called id) (least_power limits) 0 (live_tests soc) place at.0 at.1 (subst (λ m. same_test m id ≡ true) (sym at.2) (is_same_test id)) in
+    let here : f.0 ≡ place = one_place soc sound f.0 place f.1 at.0 f.2 at.1 (same_test_is (id_of f.1) id f.3 ∙ sym at.2) in
+    let there : slice_get (live_tests soc) place ≡ Some f.1 = subst (λ m. slice_get (live_tests soc) m ≡ Some f.1) here f.2 in
+    least f.1 there ∙ sym f.4
+
+pub powers_more : (soc : SocValue) (limits : LimitsValue) (earlier : List TestId) (id : TestId) (place n : ℕ) (before after : List ℕ) → IsSoundChip soc → IsThere soc id place → before ≡ map (least_power_of soc limits) earlier → after ≡ before ++ n ∷ [] →
+    ((l : LiveTest) → slice_get (live_tests soc) place ≡ Some l → n ≡ least_power limits l) → after ≡ map (least_power_of soc limits) (earlier ++ id ∷ [])
+powers_more soc limits earlier id place n before after sound at was is least =
+    is ∙ ap (λ (l : List ℕ). l ++ n ∷ []) was
+    ∙ ap (λ (m : ℕ). map (least_power_of soc limits) earlier ++ m ∷ []) (least_there soc limits id place n sound at least)
+    ∙ sym (map-append (least_power_of soc limits) earlier (id ∷ []))
+
+-- ---- the rules of lists
+
+pub turn_added : (r : ListRules) (earlier : List TestId) (id : TestId) (place : ℕ) (before after : TurnMarks) (row : List Bool) → IsListRules r → AreTurnMarks r earlier before → position (same_test id) r.names.now ≡ Some place →
+    bit_at before.among.items place ≡ false → bit_at before.apart.items place ≡ true → after.among.items ≡ set before.among.items place true → after.apart.items ≡ both_marked before.apart.items row →
+    length row ≡ length (live_tests (chip_ruled r)) → ((j : ℕ) → bit_at row j ≡ excludes (chip_ruled r) (limits_ruled r) place j) → TurnAdded r earlier id after true
+turn_added r earlier id place before after row rules are found new all is is' long marks =
+    let at : IsThere (chip_ruled r) id place = there (chip_ruled r) r.names.now id place rules.names found in (
+      turn_kept (chip_ruled r) (limits_ruled r) earlier id place before.among.items before.apart.items at are.among are.apart new all,
+      record {
+        among = among_more (chip_ruled r) earlier id place before.among.items after.among.items rules.sound at are.among is;
+        apart = apart_more (chip_ruled r) (limits_ruled r) earlier id place before.apart.items after.apart.items row rules.sound at are.apart is' long marks;
+      },
+    )
+
+pub turn_broken : (r : ListRules) (earlier : List TestId) (id : TestId) (before after : TurnMarks) → IsListRules r → AreTurnMarks r earlier before → ((p : ℕ) → position (same_test id) r.names.now ≡ Some p → bit_at before.among.items p ≡ true) → TurnAdded r earlier id after false
+turn_broken r earlier id before after rules are old t = name_broken (chip_ruled r) r.names.now earlier id before.among.items rules.names are.among old t.live t.new
+
+pub turn_meets : (r : ListRules) (earlier : List TestId) (id : TestId) (place : ℕ) (before after : TurnMarks) → IsListRules r → AreTurnMarks r earlier before → position (same_test id) r.names.now ≡ Some place → bit_at before.apart.items place ≡ false → TurnAdded r earlier id after false
+turn_meets r earlier id place before after rules are found not_all t =
+    turn_near (chip_ruled r) (limits_ruled r) earlier id place before.apart.items (there (chip_ruled r) r.names.now id place rules.names found) are.apart not_all t
+
+pub member_added : (r : ListRules) (earlier : List TestId) (id : TestId) (place n : ℕ) (before after : CrowdMarks) → IsListRules r → AreCrowdMarks r earlier before → position (same_test id) r.names.now ≡ Some place →
+    bit_at before.among.items place ≡ false → after.among.items ≡ set before.among.items place true → after.powers.items ≡ before.powers.items ++ n ∷ [] →
+    ((l : LiveTest) → slice_get (live_tests (chip_ruled r)) place ≡ Some l → n ≡ least_power (limits_ruled r) l) → MemberAdded r earlier id after true
+member_added r earlier id place n before after rules are found new is is' least =
+    let at : IsThere (chip_ruled r) id place = there (chip_ruled r) r.names.now id place rules.names found in (
+      member_kept (chip_ruled r) earlier id place before.among.items at are.among new,
+      record {
+        among = among_more (chip_ruled r) earlier id place before.among.items after.among.items rules.sound at are.among is;
+        powers = powers_more (chip_ruled r) (limits_ruled r) earlier id place n before.powers.items after.powers.items rules.sound at are.powers is' least;
+      },
+    )
+
+pub member_broken : (r : ListRules) (earlier : List TestId) (id : TestId) (before after : CrowdMarks) → IsListRules r → AreCrowdMarks r earlier before → ((p : ℕ) → position (same_test id) r.names.now ≡ Some p → bit_at before.among.items p ≡ true) → MemberAdded r earlier id after false
+member_broken r earlier id before after rules are old t = name_broken (chip_ruled r) r.names.now earlier id before.among.items rules.names are.among old t.live t.new
+
+-- ---- rows
+
+-- a live test has a row
+pub has_row : (r : ListRules) (place : ℕ) → IsListRules r → place < length r.names.now → HasRow r.rows place
+has_row r place rules within =
+    let less : place < length (live_tests (chip_ruled r)) = subst (λ n. place < n) (ap length rules.names ∙ length-map (live_tests (chip_ruled r)) id_of) within in
+    record { soc = chip_ruled r; limits = limits_ruled r; are = rules.rows; within = less }
+
+pub place_within : (r : ListRules) (place : ℕ) (bits : List Bool) → IsListRules r → length bits ≡ length (live_tests (chip_ruled r)) → place < length r.names.now → place < length bits
+place_within r place bits rules long within = subst (λ n. place < n) (ap length rules.names ∙ length-map (live_tests (chip_ruled r)) id_of ∙ sym long) within
+
+-- a mark that was read
+pub bit_read : (bits : List Bool) (place : ℕ) (bit : Bool) → place < length bits → bit ≡ get_or bits place bit → bit_at bits place ≡ bit
+bit_read bits place bit within is = get_or_from_slice_get bits place bit false (slice_get-get_or bits place bit within ∙ ap Some (sym is))
+
+-- ---- one entry more
+
+one_more : {X : Type 0} (xs : List X) (n : ℕ) (x : X) → slice_get xs n ≡ Some x → take (n + 1) xs ≡ take n xs ++ x ∷ []
+one_more xs n x at = take_more xs n x (slice_get_within xs n x at) ∙ ap (λ y. take n xs ++ y ∷ []) (get_or_from_slice_get xs n x x at)
+
+pub turns_marked : (r : ListRules) (tests : List TestId) (n : ℕ) (id : TestId) (after : TurnMarks) → slice_get tests n ≡ Some id → TurnAdded r (take n tests) id after true → AreTurnMarks r (take (n + 1) tests) after
+turns_marked r tests n id after at added = subst (λ (l : List TestId). AreTurnMarks r l after) (sym (one_more tests n id at)) added.1
+
+pub turns_each : (r : ListRules) (tests : List TestId) (n : ℕ) (id : TestId) (after : TurnMarks) → EachTo (IsTurn (chip_ruled r) (limits_ruled r)) tests n → slice_get tests n ≡ Some id → TurnAdded r (take n tests) id after true → EachTo (IsTurn (chip_ruled r) (limits_ruled r)) tests (n + 1)
+turns_each r tests n id after each at added = each_more (IsTurn (chip_ruled r) (limits_ruled r)) tests n id each at added.0
+
+pub turns_all : (r : ListRules) (tests : List TestId) (n : ℕ) (m : TurnMarks) → length tests ≤ n → EachTo (IsTurn (chip_ruled r) (limits_ruled r)) tests n → AreTurnMarks r (take n tests) m → TurnsMarked r tests (Some m)
+turns_all r tests n m past each are = (each_all (IsTurn (chip_ruled r) (limits_ruled r)) tests n past each, subst (λ (l : List TestId). AreTurnMarks r l m) (take_all n tests past) are)
+
+pub members_marked : (r : ListRules) (tests : List TestId) (n : ℕ) (id : TestId) (after : CrowdMarks) → slice_get tests n ≡ Some id → MemberAdded r (take n tests) id after true → AreCrowdMarks r (take (n + 1) tests) after
+members_marked r tests n id after at added = subst (λ (l : List TestId). AreCrowdMarks r l after) (sym (one_more tests n id at)) added.1
+
+pub members_each : (r : ListRules) (tests : List TestId) (n : ℕ) (id : TestId) (after : CrowdMarks) → EachTo (IsCrowdItem (chip_ruled r)) tests n → slice_get tests n ≡ Some id → MemberAdded r (take n tests) id after true → EachTo (IsCrowdItem (chip_ruled r)) tests (n + 1)
+members_each r tests n id after each at added = each_more (IsCrowdItem (chip_ruled r)) tests n id each at added.0
+
+pub members_all : (r : ListRules) (tests : List TestId) (n : ℕ) (m : CrowdMarks) → length tests ≤ n → EachTo (IsCrowdItem (chip_ruled r)) tests n → AreCrowdMarks r (take n tests) m → MembersMarked r tests (Some m)
+members_all r tests n m past each are = (each_all (IsCrowdItem (chip_ruled r)) tests n past each, subst (λ (l : List TestId). AreCrowdMarks r l m) (take_all n tests past) are)
 
 -- ---- roles
 

@@ -187,11 +187,7 @@ pub(crate) fn turn_marks(
 }
 
 /// Marks the live tests for one test more of a crowd. `false` where this one breaks its rule.
-fn add_member(
-    rules: &ListRules<'_>,
-    id: TestId,
-    marks: &mut CrowdMarks,
-) -> Result<bool, NoMemory>
+fn add_member(rules: &ListRules<'_>, id: TestId, marks: &mut CrowdMarks) -> Result<bool, NoMemory>
     requires rules { IsListRules rules.now }
     requires among { length marks.old.among.items ≡ length (live_tests (chip_ruled rules.now)) }
     ensures { IfOk result (λ kept. (earlier : List TestId) → AreCrowdMarks rules.now earlier marks.old →

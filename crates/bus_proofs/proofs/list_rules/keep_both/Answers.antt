@@ -1,4 +1,4 @@
-use Rattle.std.proofs.Common.{◌≡◌, ◌<◌, ◌∙◌, length, arith, rules}
+use Rattle.std.proofs.Common.{◌<◌, ◌∙◌, length, arith, rules}
 use Rattle.std.proofs.lemmas.List.{length-set}
 use Rattle.bus_proofs.proofs.Marked.{both_more}
 use Rattle.bus_proofs.proofs.list_rules.keep_both.Goals as goal

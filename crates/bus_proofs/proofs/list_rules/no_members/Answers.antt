@@ -1,4 +1,4 @@
-use Rattle.std.proofs.Common.{◌≡◌, ◌∙◌, false, true, length, replicate, ap, rules}
+use Rattle.std.proofs.Common.{◌≡◌, ◌∙◌, false, length, replicate, ap, rules}
 use Rattle.std.proofs.lemmas.List.{length-map}
 use Rattle.soc_model.specs.Chips.{LiveTest, live_tests}
 use Rattle.bus_proofs.specs.ListRules.{chip_ruled}
