@@ -33,3 +33,4 @@ pub mod LeafTests
 pub mod LeafSlots
 pub mod LeafTotals
 pub mod Marked
+pub mod ListRows
