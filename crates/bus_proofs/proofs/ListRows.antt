@@ -1,9 +1,9 @@
 -- Rows of one length one behind the other, and how live tests are in lists, list by list.
-use Rattle.std.proofs.Common.{◌≡◌, ◌⊎◌, inl, inr, ℕ, zero, suc, ◌+◌, ◌*◌, ◌<◌, ◌≤◌, Bool, true, false, Some, List, [], ◌∷◌, ◌++◌, length, map, take, get_or, refl, sym, ap, ◌∙◌, arith, append_assoc, add-one, append-nil, subst, Result, Ok, Err}
+use Rattle.std.proofs.Common.{◌≡◌, inl, inr, ℕ, zero, suc, ◌+◌, ◌*◌, ◌<◌, ◌≤◌, Bool, false, Some, List, [], ◌∷◌, ◌++◌, length, map, take, get_or, refl, sym, ap, ◌∙◌, arith, append_assoc, add-one, append-nil, subst, Result, Ok, Err}
 use Rattle.std.specs.Prelude.{slice_get}
 use Rattle.std.specs.List.{flat_map}
 use Rattle.std.specs.Result.{IfOk}
-use Rattle.std.proofs.lemmas.List.{length-append, length-map, take_all}
+use Rattle.std.proofs.lemmas.List.{length-append, length-map, length-take-le, get_or_append_left, get_or-append-add}
 use Rattle.std.proofs.lemmas.Option.{slice_get_within, slice_get-map, slice_get_read, get_or_from_slice_get}
 use Rattle.outside.specs.declared.NoMemory.{NoMemory}
 use Rattle.soc_model.specs.declared.TestId.{TestId}
@@ -21,6 +21,7 @@ use Rattle.bus_proofs.specs.declared.list_table.Role.TheVariants.{Out, Drawing}
 use Rattle.bus_proofs.specs.ListTables.{IsListTable, KeepFirst, role_of}
 use Rattle.bus_proofs.specs.ListRules.{AreCrowdMarks, AreHeavy, AreTurnMarks, IsListRules, among_of, chip_ruled, limits_ruled, member_role, roles_in, turn_role}
 use Rattle.bus_proofs.specs.Takings.{bit_at}
+use Rattle.bus_proofs.proofs.LeafTests.{some_at}
 
 -- ---- rows of one length
 
@@ -31,36 +32,22 @@ rows_long f (x ∷ xs) w every =
     let more : suc (length xs) * w ≡ length xs * w + w = omega arith in
     omega (arith, length-append (f x) (flat_map f xs), every x, ih, more)
 
-in_left : {X : Type 0} (xs ys : List X) (i : ℕ) (d : X) → i < length xs → get_or (xs ++ ys) i d ≡ get_or xs i d
-in_left [] ys i d h = absurd (omega arith)
-in_left (x ∷ xs) ys zero d h = refl
-in_left (x ∷ xs) ys (suc i) d h = in_left xs ys i d (omega arith)
-
-in_right : {X : Type 0} (xs ys : List X) (i j : ℕ) (d : X) → i ≡ length xs + j → get_or (xs ++ ys) i d ≡ get_or ys j d
-in_right [] ys i j d is = let same : i ≡ j = omega (arith, is) in ap (λ n. get_or ys n d) same
-in_right (x ∷ xs) ys zero j d is = absurd (omega (arith, is))
-in_right (x ∷ xs) ys (suc i) j d is = in_right xs ys i j d (omega (arith, is))
-
 pub row_at : {X Y : Type 0} (f : X → List Y) (xs : List X) (w : ℕ) → ((x : X) → length (f x) ≡ w) → (d : Y) (n i : ℕ) (x : X) → slice_get xs n ≡ Some x → i < w → get_or (flat_map f xs) (n * w + i) d ≡ get_or (f x) i d
 row_at f [] w every d n i x at within = absurd cc
 row_at f (y ∷ xs) w every d zero i x at within =
     let same : y ≡ x = cc in
     let here : 0 * w + i ≡ i = omega arith in
-    rw (here, same) (in_left (f x) (flat_map f xs) i d (omega (arith, every x, within)))
+    rw (here, same) (get_or_append_left (f x) (flat_map f xs) d i (omega (arith, every x, within)))
 row_at f (y ∷ xs) w every d (suc n) i x at within =
     let more : suc n * w ≡ n * w + w = omega arith in
-    in_right (f y) (flat_map f xs) (suc n * w + i) (n * w + i) d (omega (arith, every y, more)) ∙ row_at f xs w every d n i x at within
+    let behind : suc n * w + i ≡ length (f y) + (n * w + i) = omega (arith, every y, more) in
+    ap (λ k. get_or (f y ++ flat_map f xs) k d) behind ∙ get_or-append-add (f y) (flat_map f xs) (n * w + i) d ∙ row_at f xs w every d n i x at within
 
 in_front : {X : Type 0} (xs : List X) (k n : ℕ) (x : X) → n < k → slice_get xs n ≡ Some x → slice_get (take k xs) n ≡ Some x
 in_front [] k n x less at = absurd cc
 in_front (y ∷ xs) zero n x less at = absurd (omega (arith, less))
 in_front (y ∷ xs) (suc k) zero x less at = at
 in_front (y ∷ xs) (suc k) (suc n) x less at = in_front xs k n x (omega (arith, less)) at
-
-front_long : {X : Type 0} (xs : List X) (k : ℕ) → k ≤ length xs → length (take k xs) ≡ k
-front_long xs zero less = refl
-front_long [] (suc k) less = absurd (omega (arith, less))
-front_long (x ∷ xs) (suc k) less = ap suc (front_long xs k (omega (arith, less)))
 
 -- ---- one item more
 
@@ -95,43 +82,6 @@ bit_read bits i b within is = sym (get_or_from_slice_get bits i b false (slice_g
 pub made_at : {X Y : Type 0} (f : X → Y) (xs : List X) (i : ℕ) (x : X) → i < length xs → x ≡ get_or xs i x → slice_get (map f xs) i ≡ Some (f x)
 made_at f xs i x within is = slice_get-map f xs i ∙ rw (slice_get_read xs (length xs) i x refl within is) refl
 
--- what stands at a place within
-pub item_at : {X : Type 0} (xs : List X) (i : ℕ) → i < length xs → (x : X) × (slice_get xs i ≡ Some x)
-item_at [] i h = absurd (omega arith)
-item_at (x ∷ xs) zero h = (x, refl)
-item_at (x ∷ xs) (suc i) h = item_at xs i (omega arith)
-
--- ---- the table
-
-kept_within : (soc : SocValue) (limits : LimitsValue) (lists : List ListValue) (kept : ℕ) → KeepFirst soc limits lists kept → kept ≤ length lists
-kept_within soc limits lists kept (inl all) = omega (arith, all.0)
-kept_within soc limits lists kept (inr first) = omega (arith, slice_get_within lists kept first.0 first.1.there)
-
-pub is_list_table : (soc : SocValue) (limits : LimitsValue) (lists : List ListValue) (table : ListTable) → table.tests ≡ length (live_tests soc) → KeepFirst soc limits lists table.kept →
-    table.roles.items ≡ flat_map (λ (list : ListValue). map (role_of soc limits list) (live_tests soc)) (take table.kept lists) → IsListTable soc limits lists table
-is_list_table soc limits lists table tests first roles = record {
-  tests = tests;
-  first = first;
-  long = ap length roles ∙ rows_long rows (take table.kept lists) table.tests every ∙ ap (λ n. n * table.tests) (front_long lists table.kept (kept_within soc limits lists table.kept first));
-  roles = λ n i list l less at at-l.
-      ap (λ r. get_or r (n * table.tests + i) Out) roles
-      ∙ row_at rows (take table.kept lists) table.tests every Out n i list (in_front lists table.kept n list less at) (omega (arith, tests, slice_get_within (live_tests soc) i l at-l))
-      ∙ get_or_from_slice_get (rows list) i (role_of soc limits list l) Out (slice_get-map (role_of soc limits list) (live_tests soc) i ∙ rw at-l refl);
-}
-  where
-    rows : ListValue → List Role
-    rows list = map (role_of soc limits list) (live_tests soc)
-
-    every : (list : ListValue) → length (rows list) ≡ table.tests
-    every list = length-map (live_tests soc) (role_of soc limits list) ∙ sym tests
-
-pub table_of_rules : (r : ListRules) (soc : SocValue) (limits : LimitsValue) (lists : List ListValue) (table : ListTable) → IsListRules r → chip_ruled r ≡ soc → limits_ruled r ≡ limits → table.tests ≡ length r.tams.items →
-    KeepFirst (chip_ruled r) (limits_ruled r) lists table.kept → table.roles.items ≡ flat_map (roles_in r) (take table.kept lists) → IsListTable soc limits lists table
-table_of_rules r soc limits lists table are chip bound tests first roles =
-    let count : table.tests ≡ length (live_tests (chip_ruled r)) = tests ∙ ap length are.tams ∙ length-map (live_tests (chip_ruled r)) (λ (l : LiveTest). l.test.tam) in
-    let own : IsListTable (chip_ruled r) (limits_ruled r) lists table = is_list_table (chip_ruled r) (limits_ruled r) lists table count first roles in
-    subst (λ c. IsListTable c limits lists table) chip (subst (λ b. IsListTable (chip_ruled r) b lists table) bound own)
-
 -- ---- how live tests are in a list, by their marks
 
 members : (role : LiveTest → Role) (tests : List TestId) → ((l : LiveTest) → role l ≡ member_role (is_among tests l)) → (ls : List LiveTest) → map member_role (map (is_among tests) ls) ≡ map role ls
@@ -165,7 +115,7 @@ pub turns_on_more : (r : ListRules) (rank : ℕ) (tests : List TestId) (m : Turn
     old ≡ start ++ map (role_of (chip_ruled r) (limits_ruled r) (OfTurnsOn rank tests)) (take i (live_tests (chip_ruled r))) → new ≡ old ++ role ∷ [] →
     new ≡ start ++ map (role_of (chip_ruled r) (limits_ruled r) (OfTurnsOn rank tests)) (take (i + 1) (live_tests (chip_ruled r)))
 turns_on_more r rank tests m start old new i among tam apart role are marks within a t p is was more =
-    let l = item_at (live_tests (chip_ruled r)) i (omega (arith, within, ap length are.tams ∙ length-map (live_tests (chip_ruled r)) (λ (l : LiveTest). l.test.tam))) in
+    let l = some_at (live_tests (chip_ruled r)) i (omega (arith, within, ap length are.tams ∙ length-map (live_tests (chip_ruled r)) (λ (l : LiveTest). l.test.tam))) in
     let a' : among ≡ is_among tests l.0 = a ∙ mark_is (is_among tests) (live_tests (chip_ruled r)) m.among.items i l.0 marks.among l.1 in
     let t' : tam ≡ l.0.test.tam = t ∙ mark_is (λ (l : LiveTest). l.test.tam) (live_tests (chip_ruled r)) r.tams.items i l.0 are.tams l.1 in
     let p' : apart ≡ excludes_all (chip_ruled r) (limits_ruled r) tests l.0 = p ∙ mark_is (excludes_all (chip_ruled r) (limits_ruled r) tests) (live_tests (chip_ruled r)) m.apart.items i l.0 marks.apart l.1 in
@@ -176,3 +126,34 @@ turns_on_more r rank tests m start old new i among tam apart role are marks with
 pub for_rank : (result : Result Bool NoMemory) (P : ℕ → Bool → Type 0) (rank : ℕ) → IfOk result (λ kept. (n : ℕ) → P n kept) → IfOk result (P rank)
 for_rank (Ok kept) P rank h = h rank
 for_rank (Err e) P rank h = h
+
+-- ---- the table
+
+kept_within : (soc : SocValue) (limits : LimitsValue) (lists : List ListValue) (kept : ℕ) → KeepFirst soc limits lists kept → kept ≤ length lists
+kept_within soc limits lists kept (inl all) = omega (arith, all.0)
+kept_within soc limits lists kept (inr first) = omega (arith, slice_get_within lists kept first.0 first.1.there)
+
+pub is_list_table : (soc : SocValue) (limits : LimitsValue) (lists : List ListValue) (table : ListTable) → table.tests ≡ length (live_tests soc) → KeepFirst soc limits lists table.kept →
+    table.roles.items ≡ flat_map (λ (list : ListValue). map (role_of soc limits list) (live_tests soc)) (take table.kept lists) → IsListTable soc limits lists table
+is_list_table soc limits lists table tests first roles = record {
+  tests = tests;
+  first = first;
+  long = ap length roles ∙ rows_long rows (take table.kept lists) table.tests every ∙ ap (λ n. n * table.tests) (length-take-le table.kept lists (kept_within soc limits lists table.kept first));
+  roles = λ n i list l less at at-l.
+      ap (λ r. get_or r (n * table.tests + i) Out) roles
+      ∙ row_at rows (take table.kept lists) table.tests every Out n i list (in_front lists table.kept n list less at) (omega (arith, tests, slice_get_within (live_tests soc) i l at-l))
+      ∙ get_or_from_slice_get (rows list) i (role_of soc limits list l) Out (slice_get-map (role_of soc limits list) (live_tests soc) i ∙ rw at-l refl);
+}
+  where
+    rows : ListValue → List Role
+    rows list = map (role_of soc limits list) (live_tests soc)
+
+    every : (list : ListValue) → length (rows list) ≡ table.tests
+    every list = length-map (live_tests soc) (role_of soc limits list) ∙ sym tests
+
+pub table_of_rules : (r : ListRules) (soc : SocValue) (limits : LimitsValue) (lists : List ListValue) (table : ListTable) → IsListRules r → chip_ruled r ≡ soc → limits_ruled r ≡ limits → table.tests ≡ length r.tams.items →
+    KeepFirst (chip_ruled r) (limits_ruled r) lists table.kept → table.roles.items ≡ flat_map (roles_in r) (take table.kept lists) → IsListTable soc limits lists table
+table_of_rules r soc limits lists table are chip bound tests first roles =
+    let count : table.tests ≡ length (live_tests (chip_ruled r)) = tests ∙ ap length are.tams ∙ length-map (live_tests (chip_ruled r)) (λ (l : LiveTest). l.test.tam) in
+    let own : IsListTable (chip_ruled r) (limits_ruled r) lists table = is_list_table (chip_ruled r) (limits_ruled r) lists table count first roles in
+    subst (λ c. IsListTable c limits lists table) chip (subst (λ b. IsListTable (chip_ruled r) b lists table) bound own)
