@@ -39,3 +39,4 @@ pub mod NodeRules
 pub mod WalkSteps
 pub mod ProofChecks
 pub mod Tams
+pub mod ListRows
