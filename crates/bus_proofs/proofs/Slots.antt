@@ -33,7 +33,7 @@ mapped_at g xs i x at = slice_get-map g xs i ∙ rw at refl
 abbrev HasSlot : (w : ℕ) → Case → WeightsValue → ℕ → Slot → Type 0
 HasSlot w c weights p s = (n : ℕ) × (slice_get (all_slots w c weights p) n ≡ Some s)
 
-of_known : (w : ℕ) (c : Case) (weights : WeightsValue) (p r v : ℕ) → r < known_ranks c → c.may p r ≡ true → 1 ≤ v → low_at c r ≤ v → v ≤ high_at c r → HasSlot w c weights p (slot (Some r) v (rank_weight weights r + weights.wire * (v - low_at c r)))
+pub of_known : (w : ℕ) (c : Case) (weights : WeightsValue) (p r v : ℕ) → r < known_ranks c → c.may p r ≡ true → 1 ≤ v → low_at c r ≤ v → v ≤ high_at c r → HasSlot w c weights p (slot (Some r) v (rank_weight weights r + weights.wire * (v - low_at c r)))
 of_known w c weights p r v known may some low high =
     let at = in_range (max 1 (low_at c r)) (high_at c r + 1 - max 1 (low_at c r)) v (omega arith) (omega arith) in
     let here : slice_get (slots_at c weights r) at.0 ≡ Some (slot (Some r) v (rank_weight weights r + weights.wire * (v - low_at c r))) =
@@ -42,7 +42,7 @@ of_known w c weights p r v known may some low high =
     let all = in_flat_map (λ rank. if c.may p rank then slots_at c weights rank else []) (range_with_len 0 (known_ranks c)) k.0 at.0 r (slot (Some r) v (rank_weight weights r + weights.wire * (v - low_at c r))) k.1 (rw may here) in
     (all.0, in_append_left (flat_map (λ rank. if c.may p rank then slots_at c weights rank else []) (range_with_len 0 (known_ranks c))) (if c.may_rest p then rest_slots w c weights else []) all.0 (slot (Some r) v (rank_weight weights r + weights.wire * (v - low_at c r))) all.1)
 
-of_rest : (w : ℕ) (c : Case) (weights : WeightsValue) (p v : ℕ) → c.may_rest p ≡ true → 1 ≤ v → v ≤ rest_high w c (known_ranks c) → HasSlot w c weights p (slot None v (weights.wire * v))
+pub of_rest : (w : ℕ) (c : Case) (weights : WeightsValue) (p v : ℕ) → c.may_rest p ≡ true → 1 ≤ v → v ≤ rest_high w c (known_ranks c) → HasSlot w c weights p (slot None v (weights.wire * v))
 of_rest w c weights p v may some high =
     let at = in_range 1 (rest_high w c (known_ranks c) + 1 - 1) v some (omega arith) in
     let here : slice_get (rest_slots w c weights) at.0 ≡ Some (slot None v (weights.wire * v)) = mapped_at (λ v. slot None v (weights.wire * v)) (from_to 1 (rest_high w c (known_ranks c))) at.0 v at.1 in

@@ -1,5 +1,5 @@
 -- What is found at a leaf.
-use Rattle.std.specs.Prelude.{◌≡◌, ℕ, ◌+◌, ◌*◌, ◌^◌, ◌<◌, ◌≤◌, List, length}
+use Rattle.std.specs.Prelude.{◌≡◌, ℕ, ◌≤◌, length}
 use Rattle.std.specs.List.{All}
 use Rattle.bus_proofs.specs.declared.case.CaseRoom.{CaseRoom}
 use Rattle.bus_proofs.specs.declared.basis.Basis.{Basis}
@@ -30,6 +30,6 @@ IsLeafAnswer g c weights Broken = IsSum (lists_of g) c weights → ⊥
 IsLeafAnswer g c weights Holds = IsSum (lists_of g) c weights × LeafHolds (chip_of g) (limits_of g) (lists_of g) (claim_of g) c weights
 IsLeafAnswer g c weights (Shows shown) = IsShort g c weights shown
 
--- PLACEHOLDER, to be said by who builds it: the room has space for leaves of so many lists
+-- the room has space for leaves of so many lists
 abbrev pub HasLeafSpace : Basis → ℕ → LeafRoom → Type 0
 HasLeafSpace g uses room = HasSpaceFor g uses room.weighed

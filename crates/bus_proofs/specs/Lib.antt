@@ -18,8 +18,11 @@ pub mod Takings
 pub mod Bits
 pub mod CaseRooms
 pub mod ListTables
+pub mod ListRules
 pub mod TestTables
 pub mod Bases
 pub mod LeafCosts
+pub mod LeafSlots
 pub mod LeafAnswers
+pub mod Walks
 pub mod ProofRooms

@@ -1,13 +1,17 @@
 -- The room of the check.
-
+use Rattle.std.specs.Prelude.{◌≤◌, List, length}
 use Rattle.soc_model.specs.Chips.{SocValue}
 use Rattle.plan_model.specs.Plans.{LimitsValue}
 use Rattle.bus_proofs.specs.declared.basis.Basis.{Basis}
 use Rattle.bus_proofs.specs.declared.case.CaseRoom.{CaseRoom}
 use Rattle.bus_proofs.specs.declared.leaf.LeafRoom.{LeafRoom}
+use Rattle.bus_proofs.specs.declared.walk.Turn.{Turn}
 use Rattle.bus_proofs.specs.Proofs.{ProofValue}
-use Rattle.bus_proofs.specs.Bases.{IsBasis}
-use Rattle.bus_proofs.specs.CaseRooms.{HasCase}
+use Rattle.bus_proofs.specs.Cases.{root_case}
+use Rattle.bus_proofs.specs.Grammar.{MayBeSaid}
+use Rattle.bus_proofs.specs.Bases.{IsBasis, proof_of}
+use Rattle.bus_proofs.specs.CaseRooms.{IsCaseOf}
+use Rattle.bus_proofs.specs.Walks.{IsRoomFor, FitsLeaves}
 
 -- whose check a room is for
 pub record RoomValue : Type 0 where
@@ -15,7 +19,11 @@ pub record RoomValue : Type 0 where
   pub limits : LimitsValue
   pub proof : ProofValue
 
--- PLACEHOLDER, to be completed by who builds it
-pub record IsProofRoom (basis : Basis) (case : CaseRoom) (leaf : LeafRoom) : Type 0 where
+-- the room has the case of the root, and space for each leaf of a proof that a text may say, and for a turn at each node
+pub record IsProofRoom (basis : Basis) (case : CaseRoom) (leaf : LeafRoom) (turns : List Turn) : Type 0 where
   pub basis_is : IsBasis basis
-  pub case_is : HasCase case
+  pub said : MayBeSaid (proof_of basis)
+  pub room : IsRoomFor basis case
+  pub root : IsCaseOf case root_case
+  pub leaves : FitsLeaves basis leaf
+  pub turns_fit : length (proof_of basis).nodes ≤ length turns

@@ -1,6 +1,7 @@
 -- The live tests of a chip by the places of their modules.
-use Rattle.std.specs.Prelude.{◌≡◌, ◌↔◌, ℕ, ◌+◌, ◌<◌, ◌≤◌, Some, List, length, position, slice_get, slice_index}
-use Rattle.soc_model.specs.Chips.{SocValue, LiveTest, live_tests, id_of, same_test}
+use Rattle.std.specs.Prelude.{◌≡◌, ℕ, ◌+◌, Some, List, length, map, take, position, slice_get}
+use Rattle.std.specs.List.{range_with_len}
+use Rattle.soc_model.specs.Chips.{SocValue, LiveTest, live_tests, live_from, id_of, same_test}
 use Rattle.plan_model.specs.declared.Limits.{Limits}
 use Rattle.plan_model.specs.declared.Profile.{Profile}
 use Rattle.bus_proofs.specs.declared.test_table.TestTable.{TestTable}
@@ -13,11 +14,16 @@ pub record IsTestAt (soc : SocValue) (limits : Limits) (l : LiveTest) (t : TestP
   pub test : slice_get l.core.tests t.test ≡ Some l.test
   pub profile : t.profile ≡ position (λ (p : Profile). same_test p.test (id_of l)) limits.profiles.items
 
--- The table has all live tests in order, and where those of each module begin and end.
+-- each of the live tests is the one at the places beside it
+pub record AreTestsAt (soc : SocValue) (limits : Limits) (ls : List LiveTest) (ts : List TestPlace) : Type 0 where
+  pub long : length ts ≡ length ls
+  pub at : (i : ℕ) (l : LiveTest) (t : TestPlace) → slice_get ls i ≡ Some l → slice_get ts i ≡ Some t → IsTestAt soc limits l t
+
+-- how many live tests stand before those of the module at a place
+abbrev pub tests_before : SocValue → (place : ℕ) → ℕ
+tests_before soc place = length (live_from 0 (take place soc.modules))
+
+-- The table has all live tests in order, and where those of each module begin, and end.
 pub record IsTestTable (soc : SocValue) (limits : Limits) (table : TestTable) : Type 0 where
-  pub long : length table.tests.items ≡ length (live_tests soc)
-  pub tests : (i : ℕ) (l : LiveTest) (t : TestPlace) →
-      slice_get (live_tests soc) i ≡ Some l → slice_get table.tests.items i ≡ Some t → IsTestAt soc limits l t
-  pub starts_long : length table.starts.items ≡ length soc.modules + 1
-  pub starts : (i place : ℕ) (l : LiveTest) → place < length soc.modules → slice_get (live_tests soc) i ≡ Some l →
-      (l.place ≡ place) ↔ ((slice_index table.starts.items place ≤ i) × (i < slice_index table.starts.items (place + 1)))
+  pub tests : AreTestsAt soc limits (live_tests soc) table.tests.items
+  pub starts : table.starts.items ≡ map (tests_before soc) (range_with_len 0 (length soc.modules + 1))

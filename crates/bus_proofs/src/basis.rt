@@ -1,19 +1,22 @@
 //! What the check asks of a chip, its limits and a proof, the same at all nodes.
-ghost use Rattle.std.specs.Prelude.{◌≡◌, IfOk};
+ghost use Rattle.std.specs.Prelude.{◌≡◌, ℕ, ◌<◌, length, IfOk};
 ghost use Rattle.soc_model.specs.Chips.{soc_value};
 ghost use Rattle.soc_model.specs.SoundChips.{IsSoundChip};
 ghost use Rattle.plan_model.specs.Views.{limits_value};
 ghost use Rattle.plan_model.specs.SoundLimits.{IsSoundLimits};
+ghost use Rattle.plan_model.specs.Certificates.{has_tam_at};
 ghost use Rattle.bus_proofs.specs.Proofs.{proof_value};
+ghost use Rattle.bus_proofs.specs.Takings.{bit_at};
 ghost use Rattle.bus_proofs.specs.Bases.{IsBasis, chip_of, limits_of, proof_of};
 
 use crate::Proof;
-use crate::list_table::ListTable;
-use crate::test_table::TestTable;
-use outside::NoMemory;
+use crate::list_table::{ListTable, list_table};
+use crate::test_table::{TestTable, test_table};
+use live_tests::Resolved;
+use outside::{NoMemory, push};
 use packed_times::PackedTimes;
 use plan_model::Limits;
-use soc_model::Soc;
+use soc_model::{Soc, has_tam_test, module_at};
 use std::alloc::Global;
 
 /// A chip, limits and a proof, with what the check looks up.
@@ -32,6 +35,19 @@ pub(crate) struct Basis<'a> {
     pub lists: ListTable,
 }
 
+/// For each module whether it has a live test over the wires.
+fn all_wired(alloc: Global, soc: &Soc) -> Result<Vec<bool>, NoMemory>
+    ensures long { IfOk result (λ wired. length wired.items ≡ length (soc_value soc.now).modules) }
+    ensures wired { IfOk result (λ wired. (place : ℕ) → place < length (soc_value soc.now).modules →
+        bit_at wired.items place ≡ has_tam_at (soc_value soc.now) place) }
+{
+    let mut wired = Vec::new(alloc);
+    for place in 0..soc.modules.len() {
+        push(&mut wired, has_tam_test(module_at(soc, place)))?;
+    }
+    Ok(wired)
+}
+
 impl<'a> Basis<'a> {
     /// The basis of a check. `NoMemory` where there is none.
     pub fn new(
@@ -47,6 +63,20 @@ impl<'a> Basis<'a> {
         ensures limits { IfOk result (λ basis. limits_of basis ≡ limits_value limits.now) }
         ensures proof { IfOk result (λ basis. proof_of basis ≡ proof_value proof.now) }
     {
-        Err(NoMemory)
+        let wired = all_wired(alloc, soc)?;
+        let times = PackedTimes::new(alloc, soc, limits.wires)?;
+        let resolved = Resolved::new(alloc, soc, limits)?;
+        let tests = test_table(alloc, soc, limits, &resolved)?;
+        let lists = list_table(alloc, soc, limits, &resolved, &proof.lists)?;
+        drop(resolved);
+        Ok(Basis {
+            soc,
+            limits,
+            proof,
+            times,
+            wired,
+            tests,
+            lists,
+        })
     }
 }

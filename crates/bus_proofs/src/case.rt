@@ -42,6 +42,7 @@ impl CaseRoom {
         requires ranks { ranks ≤ 256 }
         ensures room { IfOk result HasCase }
         ensures root { IfOk result (λ room. IsCaseOf room root_case) }
+        ensures modules { IfOk result (λ room. room.modules ≡ modules) }
         ensures wires { IfOk result (λ room. room.widths.wires ≡ wires) }
         ensures most { IfOk result (λ room. room.widths.most ≡ ranks) }
     {

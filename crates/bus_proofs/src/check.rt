@@ -1,18 +1,24 @@
 //! The room of the check, and its public call.
-ghost use Rattle.std.specs.Prelude.{◌≡◌, Ok, IfErr, IfOk, OnOk};
+ghost use Rattle.std.specs.Prelude.{◌≡◌, ◌≤◌, ℕ, Some, Ok, IfErr, IfOk, OnOk, length, map, slice_get};
 ghost use Rattle.soc_model.specs.Chips.{soc_value};
 ghost use Rattle.soc_model.specs.SoundChips.{IsSoundChip};
 ghost use Rattle.plan_model.specs.Views.{limits_value};
 ghost use Rattle.plan_model.specs.Rules.{IsBound};
 ghost use Rattle.plan_model.specs.SoundLimits.{IsSoundLimits};
-ghost use Rattle.bus_proofs.specs.Proofs.{proof_value};
+ghost use Rattle.bus_proofs.specs.Proofs.{WeightsValue, OfSum, node_value, proof_value};
 ghost use Rattle.bus_proofs.specs.Grammar.{MayBeSaid};
 ghost use Rattle.bus_proofs.specs.Bounds.{IsAccepted, IsProofFault};
+ghost use Rattle.bus_proofs.specs.Bases.{chip_of, limits_of, proof_of};
+ghost use Rattle.bus_proofs.specs.ProofRooms.{IsProofRoom};
 
 use crate::basis::Basis;
-use crate::case::CaseRoom;
+use crate::case::{CaseRoom, Mark};
+use crate::laws::{accepted_proofs_are_bounds, accepted_proofs_have_no_fault};
 use crate::leaf::LeafRoom;
-use crate::{Proof, ProofFault};
+use crate::leaf_costs::USES_MOST;
+use crate::nodes::RANKS_MOST;
+use crate::walk::{Turn, check_nodes};
+use crate::{Node, Proof, ProofFault};
 use outside::NoMemory;
 use plan_model::Limits;
 use soc_model::Soc;
@@ -25,6 +31,8 @@ pub struct ProofRoom<'a> {
     basis: Basis<'a>,
     case: CaseRoom,
     leaf: LeafRoom,
+    /// The splits that are under way.
+    turns: Vec<Turn>,
 }
 
 impl<'a> Model for ProofRoom<'a> {
@@ -35,7 +43,39 @@ impl<'a> Model for ProofRoom<'a> {
 
     ghost view = { λ r. record { chip = chip_of r.basis; limits = limits_of r.basis; proof = proof_of r.basis } };
 
-    ghost invariant = { λ r. IsProofRoom r.basis r.case r.leaf };
+    ghost invariant = { λ r. IsProofRoom r.basis r.case r.leaf r.turns.items };
+}
+
+const NO_TURN: Turn = Turn {
+    mark: Mark {
+        changes: 0,
+        takings: 0,
+        places: 0,
+    },
+    node: 0,
+    second: false,
+};
+
+/// How many lists a node weighs.
+fn uses_of(node: &Node) -> usize
+    ensures { (weights : WeightsValue) → node_value node.now ≡ OfSum weights → result ≡ length weights.lists }
+{
+    match node {
+        Node::Sum { weights } => weights.lists.len(),
+        _ => 0,
+    }
+}
+
+/// The most lists that a leaf weighs.
+fn most_uses(nodes: &[Node]) -> usize
+    ensures { (place : ℕ) (weights : WeightsValue) → slice_get (map node_value nodes.now) place ≡ Some (OfSum weights) →
+        length weights.lists ≤ result }
+{
+    let mut most = 0;
+    for place in 0..nodes.len() {
+        most = uses_of(&nodes[place]).max(most);
+    }
+    most
 }
 
 impl<'a> ProofRoom<'a> {
@@ -52,8 +92,44 @@ impl<'a> ProofRoom<'a> {
         requires proof { MayBeSaid (proof_value proof.now) }
         ensures { IfOk result (λ room. room ≡ record { chip = soc_value soc.now; limits = limits_value limits.now; proof = proof_value proof.now }) }
     {
-        Err(NoMemory)
+        let uses = most_uses(&proof.nodes);
+        if uses > USES_MOST {
+            return Err(NoMemory);
+        }
+        let basis = Basis::new(alloc, soc, limits, proof)?;
+        let case = CaseRoom::new(alloc, soc.modules.len(), limits.wires, RANKS_MOST)?;
+        let leaf = LeafRoom::new(alloc, &basis, uses)?;
+        let turns = Vec::from_elem(alloc, NO_TURN, proof.nodes.len())?;
+        Ok(ProofRoom {
+            basis,
+            case,
+            leaf,
+            turns,
+        })
     }
+}
+
+/// The check over a room in the case of the root, which it has again at the end.
+fn check_in(
+    basis: &Basis<'_>,
+    case: &mut CaseRoom,
+    leaf: &mut LeafRoom,
+    turns: &mut [Turn],
+) -> Result<(), ProofFault>
+    requires room { IsProofRoom basis.now case.old leaf.old turns.old }
+    ensures accepted { OnOk result (IsAccepted (chip_of basis.now) (limits_of basis.now) (proof_of basis.now)) }
+    ensures fault { IfErr result (IsProofFault (chip_of basis.now) (limits_of basis.now) (proof_of basis.now)) }
+    ensures room { IsProofRoom basis.now case.new leaf.new turns.new }
+{
+    if basis.lists.kept < basis.proof.lists.len() {
+        return Err(ProofFault::BadList {
+            place: basis.lists.kept,
+        });
+    }
+    let root = case.mark();
+    let checked = check_nodes(basis, case, leaf, turns);
+    case.undo(root);
+    checked
 }
 
 /// Whether the proof of a room is accepted. Ok comes exactly where every list and every node keeps its rule and every leaf
@@ -68,5 +144,7 @@ pub fn check_proof(room: &mut ProofRoom<'_>) -> Result<(), ProofFault>
     ensures bound { OnOk result (IsBound room.old.chip room.old.limits room.old.proof.claimed) }
     ensures room { room.new ≡ room.old }
 {
-    Err(ProofFault::BadList { place: 0 })
+    accepted_proofs_are_bounds();
+    accepted_proofs_have_no_fault();
+    check_in(&room.basis, &mut room.case, &mut room.leaf, &mut room.turns)
 }

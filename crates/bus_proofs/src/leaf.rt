@@ -1,16 +1,22 @@
 //! Whether a leaf keeps its rule and holds, and what it shows.
-ghost use Rattle.std.specs.Prelude.{◌≡◌, ◌^◌, ◌<◌, ◌≤◌, ℕ, IfOk, length};
-ghost use Rattle.bus_proofs.specs.Proofs.{weights_value};
+ghost use Rattle.std.specs.Prelude.{◌≡◌, ◌^◌, ◌≤◌, ℕ, IfOk, true, false, length, map};
+ghost use Rattle.std.specs.List.{All};
+ghost use Rattle.bus_proofs.specs.Proofs.{list_value, weights_value};
+ghost use Rattle.bus_proofs.specs.Leaves.{IsKnownList};
+ghost use Rattle.bus_proofs.specs.LeafCosts.{IsWeighed};
+ghost use Rattle.bus_proofs.specs.LeafSlots.{IsNamed, IsWeighedAnswer};
 ghost use Rattle.bus_proofs.specs.Cases.{Case};
 ghost use Rattle.bus_proofs.specs.CaseRooms.{HasCase, IsCaseOf};
 ghost use Rattle.bus_proofs.specs.Grammar.{AreWeights};
-ghost use Rattle.bus_proofs.specs.Bases.{IsBasis, AllKept, chip_of, limits_of, lists_of, claim_of};
+ghost use Rattle.bus_proofs.specs.Bases.{IsBasis, AllKept};
 ghost use Rattle.bus_proofs.specs.LeafAnswers.{HasLeafSpace, IsCaseFor, IsLeafAnswer};
 
-use crate::Weights;
-use crate::case::CaseRoom;
 use crate::basis::Basis;
-use crate::leaf_costs::Weighed;
+use crate::case::CaseRoom;
+use crate::leaf_costs::{Weighed, self_cost, weigh};
+use crate::leaf_sums::{conclusion, sum_of_least, worth_of_cycle};
+use crate::widths::{is_empty, known_ranks};
+use crate::{TestList, Weights};
 use outside::NoMemory;
 use std::alloc::Global;
 
@@ -37,7 +43,72 @@ impl LeafRoom {
         requires basis { IsBasis basis.now }
         ensures { IfOk result (HasLeafSpace basis.now uses) }
     {
-        Err(NoMemory)
+        let weighed = Weighed::new(alloc, basis, uses)?;
+        Ok(LeafRoom { weighed })
+    }
+}
+
+/// Whether a list may be weighed where so many ranks are known: a rank that it speaks of is one of them.
+fn is_known_list(list: &TestList, known: usize) -> bool
+    ensures yes { result ≡ true → IsKnownList known (list_value list.now) }
+    ensures no { result ≡ false → IsKnownList known (list_value list.now) → ⊥ }
+{
+    match list {
+        TestList::TurnsOn { rank, tests: _ } => *rank < known as u64,
+        TestList::Turns { tests: _ } => true,
+        TestList::Crowd { most: _, tests: _ } => true,
+        TestList::Power { near: _ } => true,
+    }
+}
+
+/// Whether there is a list at a place, which may be weighed.
+fn is_named(lists: &[TestList], known: usize, place: u64) -> bool
+    ensures yes { result ≡ true → (weight : ℕ) → IsNamed (map list_value lists.now) known (place, weight) }
+    ensures no { result ≡ false → (weight : ℕ) → IsNamed (map list_value lists.now) known (place, weight) → ⊥ }
+{
+    if lists.len() as u64 <= place {
+        return false;
+    }
+    is_known_list(&lists[place as usize], known)
+}
+
+/// Whether all lists that a leaf weighs are there and may be weighed.
+fn are_named(lists: &[TestList], known: usize, uses: &[(u64, u64)]) -> bool
+    ensures yes { result ≡ true → All (IsNamed (map list_value lists.now) known) uses.now }
+    ensures no { result ≡ false → All (IsNamed (map list_value lists.now) known) uses.now → ⊥ }
+{
+    for item in uses {
+        if !is_named(lists, known, item.0) {
+            return false;
+        }
+    }
+    true
+}
+
+/// What is found at a leaf that keeps its rule, in a case that isn't empty.
+fn weighed_leaf(
+    basis: &Basis<'_>,
+    case: &CaseRoom,
+    weights: &Weights,
+    weighed: &Weighed,
+) -> LeafAnswer
+    requires basis { IsBasis basis.now }
+    requires kept { AllKept basis.now }
+    requires case { HasCase case.now }
+    requires of { IsCaseFor basis.now case.now }
+    requires known { (c : Case) × IsCaseOf case.now c }
+    requires weights { AreWeights (weights_value weights.now) }
+    requires few { length weights.now.ranks.items ≤ 256 }
+    requires weighed { IsWeighed basis.now (weights_value weights.now) weighed.now }
+    ensures answer { (c : Case) → IsCaseOf case.now c → IsWeighedAnswer basis.now c (weights_value weights.now) result }
+{
+    match sum_of_least(basis, weighed, case, weights) {
+        None => LeafAnswer::Holds,
+        Some(modules) => {
+            let cost = modules + self_cost(basis, weighed);
+            let worth = worth_of_cycle(basis, weighed, case, weights);
+            conclusion(cost, worth, basis.proof.claimed)
+        }
     }
 }
 
@@ -59,5 +130,16 @@ pub(crate) fn check_leaf(
     ensures answer { (c : Case) → IsCaseOf case.now c → IsLeafAnswer basis.now c (weights_value weights.now) result }
     ensures space { (uses : ℕ) → HasLeafSpace basis.now uses room.old → HasLeafSpace basis.now uses room.new }
 {
-    LeafAnswer::Broken
+    let known = known_ranks(&case.widths);
+    if known < weights.ranks.len() {
+        return LeafAnswer::Broken;
+    }
+    if !are_named(&basis.proof.lists, known, &weights.lists) {
+        return LeafAnswer::Broken;
+    }
+    if is_empty(&case.widths) {
+        return LeafAnswer::Holds;
+    }
+    weigh(basis, weights, &mut room.weighed);
+    weighed_leaf(basis, case, weights, &room.weighed)
 }

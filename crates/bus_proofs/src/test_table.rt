@@ -1,14 +1,18 @@
 //! The live tests of a chip by the places of their modules, with what their uses of lists are reckoned from.
-ghost use Rattle.std.specs.Prelude.{IfOk};
-ghost use Rattle.soc_model.specs.Chips.{soc_value};
+ghost use Rattle.std.specs.Prelude.{◌≡◌, ◌++◌, ◌<◌, Some, List, length, position, slice_get, IfOk, OnOk};
+ghost use Rattle.soc_model.specs.Chips.{LiveTest, SocValue, live_of, module_value, same_test, soc_value};
+ghost use Rattle.soc_model.specs.declared.Test.{Test};
 ghost use Rattle.soc_model.specs.SoundChips.{IsSoundChip};
+ghost use Rattle.plan_model.specs.declared.Profile.{Profile};
+ghost use Rattle.live_tests.specs.Names.{name_in};
+ghost use Rattle.live_tests.specs.Profiles.{AreProfilePlaces};
 ghost use Rattle.live_tests.specs.Resolved.{IsResolved};
-ghost use Rattle.bus_proofs.specs.TestTables.{IsTestTable};
+ghost use Rattle.bus_proofs.specs.TestTables.{AreTestsAt, IsTestTable};
 
-use live_tests::Resolved;
-use outside::NoMemory;
+use live_tests::{Resolved, profile_place};
+use outside::{NoMemory, push};
 use plan_model::Limits;
-use soc_model::Soc;
+use soc_model::{Module, Soc, TestId, live, module_at};
 use std::alloc::Global;
 
 /// A live test.
@@ -31,6 +35,55 @@ pub(crate) struct TestTable {
     pub starts: Vec<usize>,
 }
 
+/// The live test at a place among the tests of a module, whose place this is.
+fn test_place(
+    limits: &Limits,
+    resolved: &Resolved,
+    place: usize,
+    module: &Module,
+    test: usize,
+) -> TestPlace
+    requires profiles { AreProfilePlaces resolved.now.profiles limits.now.profiles.items }
+    requires test { test < length «module».now.tests.items }
+    ensures module { result.«module» ≡ place }
+    ensures test { result.test ≡ test }
+    ensures profile { (t : Test) → slice_get «module».now.tests.items test ≡ Some t →
+        result.profile ≡ position (λ (p : Profile). same_test p.test (name_in (module_value «module».now) t))
+        limits.now.profiles.items }
+{
+    let id = TestId {
+        module: module.number,
+        test: module.tests[test].number,
+    };
+    let profile = profile_place(&limits.profiles, &resolved.profiles, id);
+    TestPlace {
+        module: place,
+        test,
+        profile,
+    }
+}
+
+/// Adds the live tests of a module, whose place this is.
+fn push_tests(
+    tests: &mut Vec<TestPlace>,
+    limits: &Limits,
+    resolved: &Resolved,
+    place: usize,
+    module: &Module,
+) -> Result<(), NoMemory>
+    requires profiles { AreProfilePlaces resolved.now.profiles limits.now.profiles.items }
+    ensures { (soc : SocValue) (ls : List LiveTest) → slice_get soc.modules place ≡ Some (module_value «module».now) →
+        AreTestsAt soc limits.now ls tests.old.items →
+        OnOk result (AreTestsAt soc limits.now (ls ++ live_of place (module_value «module».now)) tests.new.items) }
+{
+    for test in 0..module.tests.len() {
+        if live(&module.tests[test]) {
+            push(tests, test_place(limits, resolved, place, module, test))?;
+        }
+    }
+    Ok(())
+}
+
 /// The live tests of a chip. `NoMemory` where there is none.
 pub(crate) fn test_table(
     alloc: Global,
@@ -42,5 +95,12 @@ pub(crate) fn test_table(
     requires resolved { IsResolved (soc_value soc.now) limits.now resolved.now }
     ensures { IfOk result (IsTestTable (soc_value soc.now) limits.now) }
 {
-    Err(NoMemory)
+    let mut tests = Vec::new(alloc);
+    let mut starts = Vec::new(alloc);
+    for place in 0..soc.modules.len() {
+        push(&mut starts, tests.len())?;
+        push_tests(&mut tests, limits, resolved, place, module_at(soc, place))?;
+    }
+    push(&mut starts, tests.len())?;
+    Ok(TestTable { tests, starts })
 }

@@ -1,11 +1,11 @@
 //! Which live tests a live test excludes, as a row of marks.
 ghost use Rattle.std.specs.Prelude.{◌≡◌, ℕ, ◌<◌, Some, length, slice_get, IfOk};
-ghost use Rattle.soc_model.specs.Chips.{SocValue, live_tests, soc_value};
+ghost use Rattle.soc_model.specs.Chips.{LiveTest, SocValue, live_tests, soc_value};
 ghost use Rattle.plan_model.specs.Plans.{LimitsValue};
 ghost use Rattle.plan_model.specs.Views.{limits_value};
 ghost use Rattle.live_tests.specs.Resolved.{IsResolved};
 ghost use Rattle.exclusions.specs.declared.facts.TestFacts.{TestFacts};
-ghost use Rattle.exclusions.specs.Exclusions.{excludes};
+ghost use Rattle.exclusions.specs.Exclusions.{excludes, least_power};
 ghost use Rattle.exclusions.specs.Marks.{is_marked};
 ghost use Rattle.exclusions.specs.Rows.{AreRowsOf, HasRow, mark_of as the_mark};
 
@@ -62,6 +62,15 @@ impl ExclusionRows {
         let ahead = tests_before(alloc, &self.before, test)?;
         mark_row(&self.facts, self.power, test, &ahead, &mut marks);
         Ok(marks)
+    }
+
+    /// The least that the live test at a place draws at a cycle, in the unit of the limits.
+    pub fn least(&self, test: usize) -> u64
+        requires { HasRow self.now test }
+        ensures { (soc : SocValue) (limits : LimitsValue) (l : LiveTest) → AreRowsOf soc limits self.now →
+            slice_get (live_tests soc) test ≡ Some l → result ≡ least_power limits l }
+    {
+        self.facts[test].least
     }
 }
 

@@ -7,4 +7,5 @@ mod table;
 mod times;
 
 pub use laws::{packed_times_are_least, planned_tests_are_packed};
+pub use lengths::sorted_lengths;
 pub use table::PackedTimes;

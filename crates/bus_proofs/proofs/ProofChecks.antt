@@ -1,0 +1,144 @@
+-- What a whole check tells, and that its room serves again.
+use Rattle.std.proofs.Common.{◌≡◌, ◌⊎◌, ℕ, ◌+◌, ◌^◌, ◌≤◌, ◌<◌, Some, List, length, map, get_or, refl, sym, ap, ◌∙◌, subst, arith, inl, inr}
+use Rattle.std.specs.Prelude.{Bool, true, false, None, nat_lt, option_map, slice_get, if◌then◌else◌, Result, Ok, Err, IfErr, OnOk}
+use Rattle.std.proofs.lemmas.Bool.{cases_lt, ltb-false}
+use Rattle.std.proofs.lemmas.Option.{slice_get-map, slice_get_read, slice_get_within}
+use Rattle.soc_model.specs.Chips.{SocValue}
+use Rattle.soc_model.specs.declared.TheConstants.{MODULES_MOST}
+use Rattle.soc_model.specs.Sizes.{IsWithinSize}
+use Rattle.soc_model.specs.declared.Which.TheVariants.{Modules}
+use Rattle.plan_model.specs.Plans.{LimitsValue}
+use Rattle.plan_model.specs.Rules.{IsBound}
+use Rattle.bus_proofs.specs.declared.Node.{Node}
+use Rattle.bus_proofs.specs.declared.ProofFault.{ProofFault}
+use Rattle.bus_proofs.specs.declared.ProofFault.TheVariants.{BadList, BadNode, Less}
+use Rattle.bus_proofs.specs.declared.basis.Basis.{Basis}
+use Rattle.bus_proofs.specs.declared.case.CaseRoom.{CaseRoom}
+use Rattle.bus_proofs.specs.declared.leaf.LeafRoom.{LeafRoom}
+use Rattle.bus_proofs.specs.declared.walk.Turn.{Turn}
+use Rattle.bus_proofs.specs.Proofs.{ListValue, WeightsValue, OfSum, CaseTree, nodes_of, node_value, ProofValue}
+use Rattle.bus_proofs.specs.Cases.{root_case}
+use Rattle.bus_proofs.specs.Grammar.{MayBeSaid}
+use Rattle.bus_proofs.specs.Bounds.{AreKept, IsAccepted, IsProofFault, all_cases}
+use Rattle.bus_proofs.specs.ListTables.{KeepFirst}
+use Rattle.bus_proofs.specs.CaseRooms.{HasCase, IsCaseOf, IsSame}
+use Rattle.bus_proofs.specs.Bases.{IsBasis, chip_of, limits_of, lists_of, proof_of}
+use Rattle.bus_proofs.specs.LeafAnswers.{HasLeafSpace}
+use Rattle.bus_proofs.specs.Walks.{FitsLeaves, IsChecked}
+use Rattle.bus_proofs.specs.ProofRooms.{IsProofRoom, RoomValue}
+use Rattle.bus_proofs.specs.Laws.{AcceptedProofsAreBounds}
+use Rattle.bus_proofs.proofs.RoomSteps.{AreWithin, same_case, same_room}
+
+-- ---- the lists
+
+pub bad_list : (soc : SocValue) (limits : LimitsValue) (p : ProofValue) (kept : ℕ) → KeepFirst soc limits p.lists kept → kept < length p.lists → IsProofFault soc limits p (BadList kept)
+bad_list soc limits p kept (inl all) less = absurd (omega (arith, all.0, less))
+bad_list soc limits p kept (inr bad) less = bad
+
+pub all_kept : (soc : SocValue) (limits : LimitsValue) (lists : List ListValue) (kept : ℕ) → KeepFirst soc limits lists kept → length lists ≤ kept → (kept ≡ length lists) × AreKept soc limits lists
+all_kept soc limits lists kept (inl all) most = all
+all_kept soc limits lists kept (inr bad) most = absurd (omega (arith, slice_get_within lists kept bad.0 bad.1.there, most))
+
+-- ---- the nodes
+
+pub checked_accepted : (g : Basis) (r : Result (Unit {0}) ProofFault) → AreKept (chip_of g) (limits_of g) (lists_of g) → MayBeSaid (proof_of g) →
+    ((t : CaseTree) → nodes_of t ≡ (proof_of g).nodes → IsChecked g (all_cases (chip_of g) (limits_of g) t) r) → OnOk r (IsAccepted (chip_of g) (limits_of g) (proof_of g))
+checked_accepted g (Ok u) kept said h = record { lists = kept; tree = said.one.0; nodes = said.one.1; enough = h said.one.0 said.one.1 }
+checked_accepted g (Err f) kept said h = tt
+
+pub checked_faulty : (g : Basis) (r : Result (Unit {0}) ProofFault) → AreKept (chip_of g) (limits_of g) (lists_of g) → MayBeSaid (proof_of g) →
+    ((t : CaseTree) → nodes_of t ≡ (proof_of g).nodes → IsChecked g (all_cases (chip_of g) (limits_of g) t) r) → IfErr r (IsProofFault (chip_of g) (limits_of g) (proof_of g))
+checked_faulty g (Ok u) kept said h = tt
+checked_faulty g (Err (BadList p)) kept said h = absurd (h said.one.0 said.one.1)
+checked_faulty g (Err (BadNode p)) kept said h = record { lists = kept; tree = said.one.0; nodes = said.one.1; has = h said.one.0 said.one.1 }
+checked_faulty g (Err (Less p c s)) kept said h = record { lists = kept; tree = said.one.0; nodes = said.one.1; has = h said.one.0 said.one.1 }
+
+-- ---- the room
+
+-- in the case of the root again
+pub room_back : (g : Basis) (a b : CaseRoom) (leaf leaf' : LeafRoom) (turns turns' : List Turn) → IsProofRoom g a leaf turns → IsSame a b → FitsLeaves g leaf' → length turns' ≡ length turns →
+    IsProofRoom g b leaf' turns'
+room_back g a b leaf leaf' turns turns' room same fits long = record {
+  basis_is = room.basis_is;
+  said = room.said;
+  room = same_room g a b same room.room;
+  root = same_case a b root_case same room.root;
+  leaves = fits;
+  turns_fit = omega (arith, long, room.turns_fit);
+}
+
+-- ---- how many lists a leaf weighs
+
+pub uses_more : (nodes : List Node) (place most next : ℕ) (node : Node) →
+    ((q : ℕ) (w : WeightsValue) → q < place → slice_get (map node_value nodes) q ≡ Some (OfSum w) → length w.lists ≤ most) → place < length nodes → node ≡ get_or nodes place node →
+    ((w : WeightsValue) → node_value node ≡ OfSum w → length w.lists ≤ next) → most ≤ next →
+    (q : ℕ) (w : WeightsValue) → q < place + 1 → slice_get (map node_value nodes) q ≡ Some (OfSum w) → length w.lists ≤ next
+uses_more nodes place most next node before within is here less q w q_less at = elim (cases_lt q place) [
+  | inl earlier ↦ (let few : length w.lists ≤ most = before q w earlier at in omega (arith, few, less))
+  | inr last ↦ this (let same : q ≡ place = omega (arith, q_less, last) in same)
+]
+  where
+    value : Some (node_value node) ≡ Some (OfSum w) → node_value node ≡ OfSum w
+    value e = cc
+
+    this : q ≡ place → length w.lists ≤ next
+    this same =
+        let there : slice_get (map node_value nodes) place ≡ Some (node_value node) = slice_get-map node_value nodes place ∙ ap (option_map node_value) (slice_get_read nodes (length nodes) place node refl within is) in
+        here w (value (sym there ∙ ap (slice_get (map node_value nodes)) (sym same) ∙ at))
+
+-- ---- a room is made
+
+pub few_modules : (soc : SocValue) → IsWithinSize soc → length soc.modules ≤ MODULES_MOST
+few_modules soc size = go (nat_lt MODULES_MOST (length soc.modules)) refl (size Modules)
+  where
+    some : Some (length soc.modules) ≡ None → ⊥
+    some e = cc
+
+    go : (b : Bool) → nat_lt MODULES_MOST (length soc.modules) ≡ b → (if b then Some (length soc.modules) else None) ≡ None → length soc.modules ≤ MODULES_MOST
+    go true is e = absurd (some e)
+    go false is e = ltb-false MODULES_MOST (length soc.modules) is
+
+-- space for more lists is space for fewer
+fewer_uses : (g : Basis) (most uses : ℕ) (leaf : LeafRoom) → uses ≤ most → HasLeafSpace g most leaf → HasLeafSpace g uses leaf
+fewer_uses g most uses leaf less space = record {
+  long = space.long;
+  beside = omega (arith, less, space.beside);
+  power = omega (arith, less, space.power);
+}
+
+pub new_room : (g : Basis) (soc : SocValue) (limits : LimitsValue) (p : ProofValue) (room : CaseRoom) (leaf : LeafRoom) (turns : List Turn) (uses : ℕ) → IsBasis g →
+    chip_of g ≡ soc → limits_of g ≡ limits → proof_of g ≡ p → MayBeSaid p → HasCase room → IsCaseOf room root_case → room.modules ≡ length soc.modules → room.widths.wires ≡ limits.wires →
+    room.widths.most ≡ 256 → HasLeafSpace g uses leaf → uses ≤ 2 ^ 24 →
+    ((place : ℕ) (w : WeightsValue) → slice_get p.nodes place ≡ Some (OfSum w) → length w.lists ≤ uses) → length p.nodes ≤ length turns → IsProofRoom g room leaf turns
+new_room g soc limits p room leaf turns uses basis chip_is limits_is proof_is said has root modules wires most space few each fit = record {
+  basis_is = basis;
+  said = subst MayBeSaid (sym proof_is) said;
+  room = record {
+    has = has;
+    of = record {
+      modules = modules ∙ ap (λ (s : SocValue). length s.modules) (sym chip_is);
+      wires = wires ∙ ap (λ (l : LimitsValue). l.wires) (sym limits_is);
+      within = subst (AreWithin (limits_of g).wires) (sym root.intervals) (λ k d less. absurd (omega (arith, less)));
+    };
+    most = most;
+  };
+  root = root;
+  leaves = λ place w at.
+      let lists : length w.lists ≤ uses = each place w (ap (λ (q : ProofValue). slice_get q.nodes place) (sym proof_is) ∙ at) in
+      record { few = omega (arith, lists, few); space = fewer_uses g uses (length w.lists) leaf lists space };
+  turns_fit = omega (arith, fit, ap (λ (q : ProofValue). length q.nodes) proof_is);
+}
+
+-- ---- the bound
+
+-- what a room is for
+abbrev pub room_value : Basis → RoomValue
+room_value g = record { chip = chip_of g; limits = limits_of g; proof = proof_of g }
+
+pub room_bound : (g : Basis) (room : RoomValue) (r : Result (Unit {0}) ProofFault) → room_value g ≡ room → AcceptedProofsAreBounds → IsBasis g →
+    OnOk r (IsAccepted (chip_of g) (limits_of g) (proof_of g)) → OnOk r (IsBound room.chip room.limits room.proof.claimed)
+room_bound g room r view law basis accepted = subst (λ (v : RoomValue). OnOk r (IsBound v.chip v.limits v.proof.claimed)) view (go r accepted)
+  where
+    go : (r : Result (Unit {0}) ProofFault) → OnOk r (IsAccepted (chip_of g) (limits_of g) (proof_of g)) → OnOk r (IsBound (chip_of g) (limits_of g) (proof_of g).claimed)
+    go (Ok u) a = law (chip_of g) (limits_of g) (proof_of g) basis.sound basis.limits a
+    go (Err f) a = tt

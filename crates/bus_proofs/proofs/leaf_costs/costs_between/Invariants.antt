@@ -1,0 +1,12 @@
+use Rattle.std.proofs.Common.{◌≡◌, ◌+◌, drop}
+use Rattle.std.specs.List.{sum_by}
+use Rattle.soc_model.specs.Chips.{live_tests}
+use Rattle.bus_proofs.specs.Proofs.{WeightsValue}
+use Rattle.bus_proofs.specs.Bases.{chip_of}
+use Rattle.bus_proofs.specs.LeafCosts.{IsWeighed, kind_cost}
+use Rattle.bus_proofs.proofs.leaf_costs.costs_between.Given as goal
+
+abbrev pub invariant-loop-test : goal.invariant-loop-test
+invariant-loop-test l = (weights : WeightsValue) → IsWeighed l.basis weights l.room →
+    l.sum + sum_by (kind_cost l.basis weights l.wires l.rank l.width) (drop l.test (live_tests (chip_of l.basis)))
+    ≡ sum_by (kind_cost l.basis weights l.wires l.rank l.width) (drop l.from (live_tests (chip_of l.basis)))

@@ -1,0 +1,9 @@
+use Rattle.std.proofs.Common.{◌≡◌, ◌≤◌, ◌*◌, ◌^◌, take}
+use Rattle.std.specs.List.{sum}
+use Rattle.bus_proofs.proofs.leaf_sums.rank_sum.Given as goal
+
+abbrev pub invariant-loop-weight : goal.invariant-loop-weight
+invariant-loop-weight l = record {
+  sum : l.sum ≡ sum (take l.weight-index l.ranks);
+  few : l.sum ≤ l.weight-index * 10 ^ 9;
+}

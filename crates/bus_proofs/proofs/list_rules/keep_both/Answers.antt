@@ -1,0 +1,12 @@
+use Rattle.std.proofs.Common.{◌<◌, ◌∙◌, length, arith, rules}
+use Rattle.std.proofs.lemmas.List.{length-set}
+use Rattle.bus_proofs.proofs.Marked.{both_more}
+use Rattle.bus_proofs.proofs.list_rules.keep_both.Goals as goal
+
+pub loop-place-preserved : goal.loop-place-preserved
+loop-place-preserved c =
+    let within : c.loop-place.place < length c.args.others.now = search rules in
+    record {
+      long = length-set c.loop-place.marks.items c.loop-place.place c.both_at.result ∙ c.loop-place.invariant.long;
+      marks = both_more c.args.marks.now.items c.args.others.now c.loop-place.marks.items c.loop-place.place c.both_at.result (omega (arith, within, c.requires)) within c.loop-place.invariant.marks c.both_at.ensures;
+    }

@@ -1,0 +1,13 @@
+use Rattle.std.proofs.Common.{◌≡◌, ◌++◌, map, take}
+use Rattle.std.specs.List.{flat_map}
+use Rattle.bus_proofs.specs.Proofs.{list_value}
+use Rattle.bus_proofs.specs.Bounds.{KeptBehind}
+use Rattle.bus_proofs.specs.ListRules.{chip_ruled, limits_ruled, roles_in}
+use Rattle.bus_proofs.proofs.Marked.{EachTo}
+use Rattle.bus_proofs.proofs.list_table.add_lists.Given as goal
+
+abbrev pub invariant-loop-place : goal.invariant-loop-place
+invariant-loop-place l = record {
+  each : EachTo (KeptBehind (chip_ruled l.rules) (limits_ruled l.rules)) (map list_value l.lists) l.place;
+  roles : l.roles.items ≡ l.initial.roles.items ++ flat_map (roles_in l.rules) (take l.place (map list_value l.lists));
+}

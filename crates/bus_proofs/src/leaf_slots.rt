@@ -1,0 +1,356 @@
+//! The least cost of a module over the buses that it may be on in a case.
+ghost use Rattle.std.specs.Prelude.{◌≡◌, ◌+◌, ◌-◌, ◌*◌, ◌^◌, ◌<◌, ◌≤◌, true, length, nat_lt, IfSome};
+ghost use Rattle.packed_times.specs.Packed.{packed_tam_time, self_test_time};
+ghost use Rattle.bus_proofs.specs.declared.TheConstants.{WEIGHT_MOST};
+ghost use Rattle.bus_proofs.specs.Proofs.{WeightsValue, weights_value};
+ghost use Rattle.bus_proofs.specs.Grammar.{AreWeights};
+ghost use Rattle.bus_proofs.specs.Cases.{Case, known_ranks};
+ghost use Rattle.bus_proofs.specs.Bits.{HasPlace};
+ghost use Rattle.bus_proofs.specs.CaseRooms.{HasCase, IsCaseOf};
+ghost use Rattle.bus_proofs.specs.Leaves.{rank_weight, rest_high};
+ghost use Rattle.bus_proofs.specs.Bases.{IsBasis, AllKept, chip_of, limits_of, claim_of};
+ghost use Rattle.bus_proofs.specs.LeafCosts.{IsWeighed, LEAF_COST_MOST};
+ghost use Rattle.bus_proofs.specs.LeafAnswers.{IsCaseFor};
+ghost use Rattle.bus_proofs.specs.LeafSlots.{IsCostOf, IsLeastOf, IsOfModule, IsOfRange, IsOfRank, IsOfRanks, IsOfRest, costs_at, lesser, range_slot, rank_range, rest_range};
+
+use crate::Weights;
+use crate::basis::Basis;
+use crate::case::CaseRoom;
+use crate::laws::wider_slots_cost_no_less;
+use crate::leaf_costs::{Weighed, module_cost};
+use crate::places::{Placing, may_be_on};
+use crate::ranks::is_left;
+use crate::widths::{interval_at, known_ranks, spare_wires};
+
+/// The buses of one rank, where it is known, on each width of a range, in wires.
+#[derive(Clone, Copy)]
+pub(crate) struct WidthRange {
+    pub rank: Option<u64>,
+    pub first: u64,
+    pub high: u64,
+    /// The width at which a cycle has the weight `base`.
+    pub low: u64,
+    pub base: u64,
+    /// The weight of each wire more.
+    pub wire: u64,
+}
+
+/// The lesser of two costs, where they are there.
+pub(crate) fn lesser(a: Option<u128>, b: Option<u128>) -> Option<u128>
+    ensures { result ≡ lesser a b }
+{
+    match a {
+        None => b,
+        Some(m) => match b {
+            None => Some(m),
+            Some(n) => Some(m.min(n)),
+        },
+    }
+}
+
+/// The weight of a rank: 0 where it has none.
+fn rank_weight(weights: &Weights, rank: usize) -> u64
+    requires weights { AreWeights (weights_value weights.now) }
+    ensures weight { result ≡ rank_weight (weights_value weights.now) rank }
+    ensures small { result ≤ WEIGHT_MOST }
+{
+    if rank < weights.ranks.len() {
+        return weights.ranks[rank];
+    }
+    0
+}
+
+/// The range of a known rank.
+fn rank_range(case: &CaseRoom, weights: &Weights, rank: usize) -> WidthRange
+    requires weights { AreWeights (weights_value weights.now) }
+    requires rank { rank < length case.now.widths.intervals.items }
+    ensures range { (c : Case) → IsCaseOf case.now c → result ≡ rank_range c (weights_value weights.now) rank }
+    ensures base { result.base ≤ WEIGHT_MOST }
+{
+    let interval = interval_at(&case.widths, rank);
+    let base = rank_weight(weights, rank);
+    WidthRange {
+        rank: Some(rank as u64),
+        first: interval.low.max(1),
+        high: interval.high,
+        low: interval.low,
+        base,
+        wire: weights.wire,
+    }
+}
+
+/// The greatest width of a bus of the rest.
+fn rest_high(case: &CaseRoom) -> u64
+    requires case { HasCase case.now }
+    ensures { (c : Case) → IsCaseOf case.now c → result ≡ rest_high case.now.widths.wires c (known_ranks c) }
+{
+    let known = known_ranks(&case.widths);
+    if known == 0 {
+        return case.widths.wires;
+    }
+    let last = interval_at(&case.widths, known - 1);
+    last.high.min(spare_wires(&case.widths))
+}
+
+/// The range of the rest.
+fn rest_range(case: &CaseRoom, weights: &Weights) -> WidthRange
+    requires case { HasCase case.now }
+    ensures { (c : Case) → IsCaseOf case.now c → result ≡ rest_range case.now.widths.wires c (weights_value weights.now) }
+{
+    WidthRange {
+        rank: None,
+        first: 1,
+        high: rest_high(case),
+        low: 0,
+        base: 0,
+        wire: weights.wire,
+    }
+}
+
+/// Whether a width isn't the first, and the tests of the module over the wires take as long on it as on the width before.
+fn is_as_before(basis: &Basis<'_>, place: usize, first: u64, width: u64) -> bool
+    requires basis { IsBasis basis.now }
+    requires place { place < length (chip_of basis.now).modules }
+    requires some_wire { 1 ≤ first }
+    requires width { first ≤ width }
+    requires few_wires { width ≤ (limits_of basis.now).wires }
+    ensures more { result ≡ true → first < width }
+    ensures same { result ≡ true → packed_tam_time (chip_of basis.now) place (width - 1) ≡ packed_tam_time (chip_of basis.now) place width }
+{
+    if width == first {
+        return false;
+    }
+    let before = basis.times.tam_time(place, width - 1);
+    let now = basis.times.tam_time(place, width);
+    before == now
+}
+
+/// Whether the tests of the module take fewer cycles than claimed on a bus of a width.
+fn is_short(basis: &Basis<'_>, place: usize, width: u64) -> bool
+    requires basis { IsBasis basis.now }
+    requires place { place < length (chip_of basis.now).modules }
+    requires some_wire { 1 ≤ width }
+    requires few_wires { width ≤ (limits_of basis.now).wires }
+    ensures { result ≡ nat_lt (packed_tam_time (chip_of basis.now) place width + self_test_time (chip_of basis.now) place)
+        (claim_of basis.now) }
+{
+    let tam = basis.times.tam_time(place, width);
+    let own = basis.times.self_time(place);
+    tam + own < basis.proof.claimed
+}
+
+/// What a cycle weighs on a bus of the range.
+fn rate_of(range: WidthRange, width: u64) -> u64
+    requires base { range.base ≤ WEIGHT_MOST }
+    requires wire { range.wire ≤ WEIGHT_MOST }
+    requires width { width ≤ 256 }
+    ensures rate { result ≡ range.base + range.wire * (width - range.low) }
+    ensures small { result < 2 ^ 40 }
+{
+    range.base + range.wire * width.saturating_sub(range.low)
+}
+
+/// What the module costs on the bus of the range at a width, where that counts.
+fn cost_at(
+    basis: &Basis<'_>,
+    weighed: &Weighed,
+    place: usize,
+    range: WidthRange,
+    width: u64,
+) -> Option<u128>
+    requires basis { IsBasis basis.now }
+    requires kept { AllKept basis.now }
+    requires place { place < length (chip_of basis.now).modules }
+    requires some_wire { 1 ≤ width }
+    requires few_wires { width ≤ (limits_of basis.now).wires }
+    requires base { range.base ≤ WEIGHT_MOST }
+    requires wire { range.wire ≤ WEIGHT_MOST }
+    requires weighed { (weights : WeightsValue) × IsWeighed basis.now weights weighed.now }
+    ensures cost { (weights : WeightsValue) → IsWeighed basis.now weights weighed.now →
+        IsCostOf (costs_at basis.now weights place) (chip_of basis.now) (claim_of basis.now) place (range_slot range width) result }
+    ensures small { IfSome result (λ n. n ≤ LEAF_COST_MOST) }
+{
+    if !is_short(basis, place, width) {
+        return None;
+    }
+    let rate = rate_of(range, width);
+    Some(module_cost(basis, weighed, place, range.rank, width, rate))
+}
+
+/// The least cost of a module on a range up to a width, from that on the widths before it. The width is tried where the tests take
+/// another time than on the width before.
+fn try_width(
+    basis: &Basis<'_>,
+    weighed: &Weighed,
+    place: usize,
+    range: WidthRange,
+    width: u64,
+    best: Option<u128>,
+) -> Option<u128>
+    requires basis { IsBasis basis.now }
+    requires kept { AllKept basis.now }
+    requires place { place < length (chip_of basis.now).modules }
+    requires some_wire { 1 ≤ range.first }
+    requires few_wires { range.high ≤ (limits_of basis.now).wires }
+    requires base { range.base ≤ WEIGHT_MOST }
+    requires wire { range.wire ≤ WEIGHT_MOST }
+    requires from { range.first ≤ width }
+    requires within { width ≤ range.high }
+    requires best { IfSome best (λ n. n ≤ LEAF_COST_MOST) }
+    requires weighed { (weights : WeightsValue) × IsWeighed basis.now weights weighed.now }
+    ensures least { (weights : WeightsValue) → IsWeighed basis.now weights weighed.now →
+        IsLeastOf (costs_at basis.now weights place) (IsOfRange (chip_of basis.now) (claim_of basis.now) place range width) best →
+        IsLeastOf (costs_at basis.now weights place) (IsOfRange (chip_of basis.now) (claim_of basis.now) place range (width + 1)) result }
+    ensures small { IfSome result (λ n. n ≤ LEAF_COST_MOST) }
+{
+    wider_slots_cost_no_less();
+    if is_as_before(basis, place, range.first, width) {
+        return best;
+    }
+    let next = cost_at(basis, weighed, place, range, width);
+    lesser(best, next)
+}
+
+/// The least cost of a module on a range.
+fn least_in_range(
+    basis: &Basis<'_>,
+    weighed: &Weighed,
+    place: usize,
+    range: WidthRange,
+) -> Option<u128>
+    requires basis { IsBasis basis.now }
+    requires kept { AllKept basis.now }
+    requires place { place < length (chip_of basis.now).modules }
+    requires some_wire { 1 ≤ range.first }
+    requires few_wires { range.high ≤ (limits_of basis.now).wires }
+    requires base { range.base ≤ WEIGHT_MOST }
+    requires wire { range.wire ≤ WEIGHT_MOST }
+    requires weighed { (weights : WeightsValue) × IsWeighed basis.now weights weighed.now }
+    ensures least { (weights : WeightsValue) → IsWeighed basis.now weights weighed.now →
+        IsLeastOf (costs_at basis.now weights place)
+        (IsOfRange (chip_of basis.now) (claim_of basis.now) place range (range.high + 1)) result }
+    ensures small { IfSome result (λ n. n ≤ LEAF_COST_MOST) }
+{
+    let mut best = None;
+    for width in range.first..range.high + 1 {
+        best = try_width(basis, weighed, place, range, width, best);
+    }
+    best
+}
+
+/// The least cost of a module on a known rank.
+fn least_on_rank(
+    basis: &Basis<'_>,
+    weighed: &Weighed,
+    case: &CaseRoom,
+    weights: &Weights,
+    at: Placing,
+    rank: usize,
+) -> Option<u128>
+    requires basis { IsBasis basis.now }
+    requires kept { AllKept basis.now }
+    requires of { IsCaseFor basis.now case.now }
+    requires known { (c : Case) × IsCaseOf case.now c }
+    requires weights { AreWeights (weights_value weights.now) }
+    requires weighed { IsWeighed basis.now (weights_value weights.now) weighed.now }
+    requires at { HasPlace case.now.ranks.may.items at }
+    requires modules { at.modules ≡ case.now.modules }
+    requires known_are { at.known ≡ length case.now.widths.intervals.items }
+    requires rank { rank < at.known }
+    ensures least { (c : Case) → IsCaseOf case.now c → IsLeastOf (costs_at basis.now (weights_value weights.now) at.place)
+        (IsOfRank (chip_of basis.now) (claim_of basis.now) c (weights_value weights.now) at.place rank) result }
+    ensures small { IfSome result (λ n. n ≤ LEAF_COST_MOST) }
+{
+    if !may_be_on(&case.ranks, at, rank) {
+        return None;
+    }
+    let range = rank_range(case, weights, rank);
+    least_in_range(basis, weighed, at.place, range)
+}
+
+/// The least cost of a module on the known ranks.
+fn least_on_ranks(
+    basis: &Basis<'_>,
+    weighed: &Weighed,
+    case: &CaseRoom,
+    weights: &Weights,
+    place: usize,
+) -> Option<u128>
+    requires basis { IsBasis basis.now }
+    requires kept { AllKept basis.now }
+    requires case { HasCase case.now }
+    requires of { IsCaseFor basis.now case.now }
+    requires known { (c : Case) × IsCaseOf case.now c }
+    requires weights { AreWeights (weights_value weights.now) }
+    requires weighed { IsWeighed basis.now (weights_value weights.now) weighed.now }
+    requires place { place < length (chip_of basis.now).modules }
+    ensures least { (c : Case) → IsCaseOf case.now c → IsLeastOf (costs_at basis.now (weights_value weights.now) place)
+        (IsOfRanks (chip_of basis.now) (claim_of basis.now) c (weights_value weights.now) place (known_ranks c)) result }
+    ensures small { IfSome result (λ n. n ≤ LEAF_COST_MOST) }
+{
+    let known = known_ranks(&case.widths);
+    let at = Placing {
+        place,
+        modules: case.modules,
+        known,
+    };
+    let mut best = None;
+    for rank in 0..known {
+        let next = least_on_rank(basis, weighed, case, weights, at, rank);
+        best = lesser(best, next);
+    }
+    best
+}
+
+/// The least cost of a module on the rest.
+fn least_on_rest(
+    basis: &Basis<'_>,
+    weighed: &Weighed,
+    case: &CaseRoom,
+    weights: &Weights,
+    place: usize,
+) -> Option<u128>
+    requires basis { IsBasis basis.now }
+    requires kept { AllKept basis.now }
+    requires case { HasCase case.now }
+    requires of { IsCaseFor basis.now case.now }
+    requires known { (c : Case) × IsCaseOf case.now c }
+    requires weights { AreWeights (weights_value weights.now) }
+    requires weighed { IsWeighed basis.now (weights_value weights.now) weighed.now }
+    requires place { place < length (chip_of basis.now).modules }
+    ensures least { (c : Case) → IsCaseOf case.now c → IsLeastOf (costs_at basis.now (weights_value weights.now) place)
+        (IsOfRest (chip_of basis.now) (limits_of basis.now).wires (claim_of basis.now) c (weights_value weights.now) place) result }
+    ensures small { IfSome result (λ n. n ≤ LEAF_COST_MOST) }
+{
+    if !is_left(&case.ranks, place) {
+        return None;
+    }
+    let range = rest_range(case, weights);
+    least_in_range(basis, weighed, place, range)
+}
+
+/// The least cost of a module over all buses that it may be on: the cost of one of them, and none costs less. `None` where
+/// there is no such bus.
+pub(crate) fn least_cost(
+    basis: &Basis<'_>,
+    weighed: &Weighed,
+    case: &CaseRoom,
+    weights: &Weights,
+    place: usize,
+) -> Option<u128>
+    requires basis { IsBasis basis.now }
+    requires kept { AllKept basis.now }
+    requires case { HasCase case.now }
+    requires of { IsCaseFor basis.now case.now }
+    requires known { (c : Case) × IsCaseOf case.now c }
+    requires weights { AreWeights (weights_value weights.now) }
+    requires weighed { IsWeighed basis.now (weights_value weights.now) weighed.now }
+    requires place { place < length (chip_of basis.now).modules }
+    ensures least { (c : Case) → IsCaseOf case.now c → IsLeastOf (costs_at basis.now (weights_value weights.now) place)
+        (IsOfModule (chip_of basis.now) (limits_of basis.now).wires (claim_of basis.now) c (weights_value weights.now) place) result }
+    ensures small { IfSome result (λ n. n ≤ LEAF_COST_MOST) }
+{
+    let known = least_on_ranks(basis, weighed, case, weights, place);
+    let rest = least_on_rest(basis, weighed, case, weights, place);
+    lesser(known, rest)
+}
