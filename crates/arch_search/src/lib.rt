@@ -13,6 +13,7 @@ mod dealing;
 mod draws;
 mod kinds;
 mod moves;
+mod opening;
 mod order;
 mod pairs;
 mod problem;

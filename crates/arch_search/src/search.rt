@@ -9,6 +9,7 @@ ghost use Rattle.arch_search.specs.States.{IsTaken};
 use crate::changes::change;
 use crate::dealing::{DEALT_MOST, Taken};
 use crate::draws::coin;
+use crate::opening::{deal_to_equal, first_count, next_count};
 use crate::order::change_order;
 use crate::problem::Problem;
 use crate::repair::fits;
@@ -59,6 +60,8 @@ pub struct Search<'a> {
     next: State,
     /// The tries since the best state was found, or since the last kick.
     since: u64,
+    /// The buses of the next try of the opening; none where it is over.
+    opening: usize,
 }
 
 impl<'a> Model for Search<'a> {
@@ -149,6 +152,7 @@ impl<'a> Search<'a> {
         let taken = no_modules(alloc, problem)?;
         let less = zeros(alloc, problem.wires)?;
         let table = Table::new(alloc, job)?;
+        let opening = first_count(problem.modules.len());
         let mut search = Search {
             setting,
             table,
@@ -160,6 +164,7 @@ impl<'a> Search<'a> {
             current,
             next,
             since: 0,
+            opening,
         };
         search.begin();
         Ok(search)
@@ -285,11 +290,35 @@ impl<'a> Search<'a> {
         self.note_best();
     }
 
-    /// Tries one change, or from time to time, where none has helped for long, several changes of a good state. What comes of
+    /// Makes the next state from the current one by dealing all modules to equal buses, one try of the opening. Whether its buses take no
+    /// more cycles than the current state.
+    fn open(&mut self) -> bool
+        ensures { self.new ≡ self.old }
+    {
+        let count = self.opening;
+        let problem = self.setting.problem;
+        self.opening = next_count(count, problem.wires, problem.modules.len());
+        self.next.become_as(problem, &self.current);
+        deal_to_equal(&self.setting.times, &mut self.next.buses, count);
+        fits(
+            &self.setting.times,
+            &mut self.next.buses,
+            &mut self.less,
+            self.current.cycles,
+        )
+    }
+
+    /// Tries an opening, then one change, or from time to time, where none has helped for long, several changes of a good state. What comes of
     /// them is taken on where it takes no more cycles than now, and after several changes always.
     fn try_once(&mut self)
         ensures { self.new ≤ self.old }
     {
+        if self.opening > 0 {
+            if self.open() {
+                self.weigh_next(self.current.cycles);
+            }
+            return;
+        }
         if self.since >= PATIENCE {
             if self.kick() {
                 self.weigh_next(u64::MAX);
