@@ -3,8 +3,8 @@ use Rattle.soc_model.specs.Chips.{soc_value}
 use Rattle.plan_model.specs.Views.{limits_value, plan_value}
 use Rattle.picture.proofs.parts_of.Goals as goal
 
-pub new-requires-clause-good : goal.new-requires-clause-good
-new-requires-clause-good c = c.good_without_limits.ensures.alone (soc_value c.args.soc.now) (limits_value c.args.limits.now) (plan_value c.args.plan.now) c.requires.good
+pub tests_placed-requires-clause-good : goal.tests_placed-requires-clause-good
+tests_placed-requires-clause-good c = c.good_without_limits.ensures.alone (soc_value c.args.soc.now) (limits_value c.args.limits.now) (plan_value c.args.plan.now) c.requires.good
 
 pub parts_with-requires : goal.parts_with-requires
 parts_with-requires c = (
@@ -12,7 +12,7 @@ parts_with-requires c = (
   record {
     sound_limits = c.requires.sound_limits;
     good = c.requires.good;
-    placed = c.tests-placed.ensures ∙ c.in_ok-tests.ensures;
+    placed = c.deref.ensures.value ∙ c.in_ok-tests.ensures;
   },
 )
 
@@ -20,5 +20,5 @@ pub returns : goal.returns
 returns c = c.parts_with.ensures (soc_value c.args.soc.now) (record {
   sound_limits = c.requires.sound_limits;
   good = c.requires.good;
-  placed = c.tests-placed.ensures ∙ c.in_ok-tests.ensures;
+  placed = c.deref.ensures.value ∙ c.in_ok-tests.ensures;
 })
