@@ -43,7 +43,7 @@ pub fn call<H: Shelf, K: Sink, T: Sink>(
         TopCall::Picture => draw(alloc, words, shelf, out),
         TopCall::Simulate => simulate(alloc, words, shelf, out),
         TopCall::Bound => check_bound(alloc, words, shelf, out),
-        TopCall::Soctest => soctest(alloc, words, shelf, out),
+        TopCall::Soctest | TopCall::Prove => soctest(alloc, words, shelf, out),
     }
 }
 

@@ -24,7 +24,7 @@ fn run(rt: &HostRuntime, words: &[String]) -> Status {
         TopCall::Picture => draw(alloc, words, &mut shelf, &mut out),
         TopCall::Simulate => simulate(alloc, words, &mut shelf, &mut out),
         TopCall::Bound => check_bound(alloc, words, &mut shelf, &mut out),
-        TopCall::Soctest => soctest(alloc, words, &mut shelf, &mut out),
+        TopCall::Soctest | TopCall::Prove => soctest(alloc, words, &mut shelf, &mut out),
     }
 }
 
