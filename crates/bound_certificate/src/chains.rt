@@ -1,16 +1,16 @@
 //! The precedence chain that the planner's bound weighs among its candidates. Tests go by their places among the live
 //! tests of the chip, in its order; sums are in cycles.
 ghost use Rattle.std.specs.Prelude.{◌≡◌, ◌<◌, List, ◌∷◌, length, reverse, slice_get, IfOk, IfSome, Some};
-ghost use Rattle.std.specs.List.{All, Contains, flat_map};
+ghost use Rattle.std.specs.List.{All, Contains};
 ghost use Rattle.soc_model.specs.declared.TestId.{TestId as TheTestId};
 ghost use Rattle.soc_model.specs.Chips.{SocValue, soc_value};
 ghost use Rattle.soc_model.specs.SoundChips.{IsSoundChip};
 ghost use Rattle.plan_model.specs.Plans.{LimitsValue};
-ghost use Rattle.plan_model.specs.Rules.{Each, live_ids};
+ghost use Rattle.plan_model.specs.Rules.{Each};
 ghost use Rattle.plan_model.specs.SoundLimits.{IsSoundLimits};
 ghost use Rattle.plan_model.specs.Views.{limits_value};
 ghost use Rattle.plan_model.specs.Certificates.{IsChainItem};
-ghost use Rattle.live_tests.specs.Names.{places_of};
+ghost use Rattle.live_tests.specs.Names.{precedences as precedences_of};
 ghost use Rattle.bound_certificate.specs.Best.{GoesBack, IsPrintedChain, IsGreatestChain};
 ghost use Rattle.bound_certificate.specs.Nodes.{NodeValue, node_values, AreNodes};
 ghost use Rattle.bound_certificate.specs.Sums.{AreSums};
@@ -121,7 +121,7 @@ pub fn printed_chain(
 ) -> Result<Option<Vec<TestId>>, NoMemory>
     requires sound { IsSoundChip (soc_value soc.now) }
     requires limits { IsSoundLimits (soc_value soc.now) (limits_value limits.now) }
-    requires precedences { precedences.now ≡ flat_map (places_of (live_ids (soc_value soc.now))) (limits_value limits.now).before }
+    requires precedences { precedences.now ≡ precedences_of (soc_value soc.now) (limits_value limits.now) }
     ensures printed { IfOk result (λ chain. IsPrintedChain (soc_value soc.now) (limits_value limits.now) (names_of chain)) }
     ensures keeps { IfOk result (λ chain. IfSome chain (λ tests. Each (IsChainItem (soc_value soc.now) (limits_value limits.now)) tests.items)) }
     ensures greatest { IfOk result (λ chain. IsGreatestChain (soc_value soc.now) (limits_value limits.now) (names_of chain)) }

@@ -1,11 +1,9 @@
 //! The live tests of a chip as the nodes of a graph, with their precedences as its edges.
 ghost use Rattle.std.specs.Prelude.{◌≡◌, ℕ, ◌<◌, ◌≤◌, ◌++◌, length, IfOk, OnOk};
-ghost use Rattle.std.specs.List.{flat_map};
 ghost use Rattle.soc_model.specs.Chips.{soc_value, module_value};
 ghost use Rattle.soc_model.specs.SoundChips.{IsSoundChip};
-ghost use Rattle.plan_model.specs.Rules.{live_ids};
 ghost use Rattle.plan_model.specs.Views.{limits_value};
-ghost use Rattle.live_tests.specs.Names.{places_of};
+ghost use Rattle.live_tests.specs.Names.{precedences as precedences_of};
 ghost use Rattle.bound_rules.specs.Sizes.{IsMeasurable};
 ghost use Rattle.bound_certificate.specs.Nodes.{node_values, fixed_parts, before_at, tests_at, nodes_in, live_nodes as nodes_of_tests, AreNodes};
 
@@ -89,7 +87,7 @@ pub fn nodes_of(
 ) -> Result<Vec<Node>, NoMemory>
     requires sound { IsSoundChip (soc_value soc.now) }
     requires wires { 1 ≤ limits.now.wires }
-    requires precedences { precedences.now ≡ flat_map (places_of (live_ids (soc_value soc.now))) (limits_value limits.now).before }
+    requires precedences { precedences.now ≡ precedences_of (soc_value soc.now) (limits_value limits.now) }
     ensures { IfOk result (λ nodes. AreNodes (soc_value soc.now) (limits_value limits.now) (node_values nodes.items)) }
 {
     let mut nodes = live_nodes(alloc, soc, limits.wires)?;
