@@ -96,7 +96,8 @@ fn times_by_width(
 /// For each bus the greatest of the times but for that bus and another.
 fn times_besides(alloc: Global, times: &[u64], bus: usize) -> Result<Vec<u64>, NoMemory>
     ensures count { IfOk result (λ besides. length besides.items ≡ length times.now) }
-    ensures times { IfOk result (λ besides. (c : ℕ) → c < length times.now → slice_index besides.items c ≡ greatest_of (slice_set (slice_set times.now bus 0) c 0)) }
+    ensures times { IfOk result (λ besides. (c : ℕ) → c < length times.now →
+        slice_index besides.items c ≡ greatest_of (slice_set (slice_set times.now bus 0) c 0)) }
 {
     let mut besides = Vec::new(alloc);
     for other in 0..times.len() {
@@ -221,8 +222,11 @@ fn with_buses(table: &WidthTable, arch: &Arch, weights: &Weights, nth: usize, be
     requires sound { IsSoundArch table.now (arch_value arch.now) }
     requires weights { AreWeights table.now (arch_value arch.now) weights.now }
     requires nth { nth < length (bus_at (arch_value arch.now) weights.now.bus).places }
-    requires best { IsBestMove table.now (arch_value arch.now) weights.now.bus (flat_map (moves (arch_value arch.now) weights.now.bus) (range_with_len 0 nth)) best }
-    ensures { IsBestMove table.now (arch_value arch.now) weights.now.bus (flat_map (moves (arch_value arch.now) weights.now.bus) (range_with_len 0 nth) ++ map (moved (arch_value arch.now) weights.now.bus nth) (others (length (arch_value arch.now)) weights.now.bus)) result }
+    requires best { IsBestMove table.now (arch_value arch.now) weights.now.bus
+        (flat_map (moves (arch_value arch.now) weights.now.bus) (range_with_len 0 nth)) best }
+    ensures { IsBestMove table.now (arch_value arch.now) weights.now.bus
+        (flat_map (moves (arch_value arch.now) weights.now.bus) (range_with_len 0 nth)
+        ++ map (moved (arch_value arch.now) weights.now.bus nth) (others (length (arch_value arch.now)) weights.now.bus)) result }
 {
     let mut best = best;
     for bus in 0..arch.buses.len() {
@@ -240,8 +244,11 @@ fn with_widths(table: &WidthTable, arch: &Arch, weights: &Weights, nth: usize, b
     requires sound { IsSoundArch table.now (arch_value arch.now) }
     requires weights { AreWeights table.now (arch_value arch.now) weights.now }
     requires nth { nth < length (bus_at (arch_value arch.now) weights.now.bus).places }
-    requires best { IsBestMove table.now (arch_value arch.now) weights.now.bus (flat_map (moves (arch_value arch.now) weights.now.bus) (range_with_len 0 nth) ++ map (moved (arch_value arch.now) weights.now.bus nth) (others (length (arch_value arch.now)) weights.now.bus)) best }
-    ensures { IsBestMove table.now (arch_value arch.now) weights.now.bus (flat_map (moves (arch_value arch.now) weights.now.bus) (range_with_len 0 (nth + 1))) result }
+    requires best { IsBestMove table.now (arch_value arch.now) weights.now.bus
+        (flat_map (moves (arch_value arch.now) weights.now.bus) (range_with_len 0 nth)
+        ++ map (moved (arch_value arch.now) weights.now.bus nth) (others (length (arch_value arch.now)) weights.now.bus)) best }
+    ensures { IsBestMove table.now (arch_value arch.now) weights.now.bus
+        (flat_map (moves (arch_value arch.now) weights.now.bus) (range_with_len 0 (nth + 1))) result }
 {
     let mut best = best;
     for width in 1..width_of(arch, weights.bus) {
@@ -260,7 +267,9 @@ pub(crate) fn best_move(
 ) -> Result<Option<Move>, NoMemory>
     requires sound { IsSoundArch table.now (arch_value arch.now) }
     requires bus { bus < length (arch_value arch.now) }
-    ensures { IfOk result (λ choice. MatchOption choice (IsAtRest table.now (all_moves (arch_value arch.now) bus) (arch_value arch.now)) (λ move. IsMoveFrom (arch_value arch.now) bus move × IsStep table.now (all_moves (arch_value arch.now) bus) (arch_value arch.now) (moved_by (arch_value arch.now) bus move))) }
+    ensures { IfOk result (λ choice. MatchOption choice (IsAtRest table.now (all_moves (arch_value arch.now) bus) (arch_value arch.now))
+        (λ move. IsMoveFrom (arch_value arch.now) bus move × IsStep table.now (all_moves (arch_value arch.now) bus) (arch_value arch.now)
+        (moved_by (arch_value arch.now) bus move))) }
 {
     let weights = weights_of(alloc, table, arch, bus)?;
     let mut best = Best {

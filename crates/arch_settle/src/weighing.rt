@@ -89,11 +89,13 @@ fn widen_slowest(table: &WidthTable, arch: &Arch, from: usize, into: usize, load
     requires some { 0 < vec_len loads.old }
     requires fits { IsSoundArch table.now (loads_value (arch_value arch.now) from into loads.old.items) }
     requires free { wires_used (loads_value (arch_value arch.now) from into loads.old.items) + 1 ≤ table.now.wires }
-    ensures value { loads_value (arch_value arch.now) from into loads.new.items ≡ spread_of table.now 1 (loads_value (arch_value arch.now) from into loads.old.items) }
+    ensures value { loads_value (arch_value arch.now) from into loads.new.items
+        ≡ spread_of table.now 1 (loads_value (arch_value arch.now) from into loads.old.items) }
     ensures loads { AreLoads table.now (arch_value arch.now) from into loads.new.items }
     ensures count { vec_len loads.new ≡ vec_len loads.old }
     ensures sound { IsSoundArch table.now (loads_value (arch_value arch.now) from into loads.new.items) }
-    ensures used { wires_used (loads_value (arch_value arch.now) from into loads.new.items) ≡ wires_used (loads_value (arch_value arch.now) from into loads.old.items) + 1 }
+    ensures used { wires_used (loads_value (arch_value arch.now) from into loads.new.items)
+        ≡ wires_used (loads_value (arch_value arch.now) from into loads.old.items) + 1 }
 {
     // the call tells what every table keeps
     let _wires = table.wires();
