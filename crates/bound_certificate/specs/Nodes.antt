@@ -56,8 +56,10 @@ tests_at lists i = slice_index_or (map tests_of lists) i []
 
 -- the nodes have exactly these precedences
 pub record AreLinked (before : List (TestId × TestId)) (nodes : List NodeValue) : Type 0 where
-  pub listed : (j p : ℕ) (n : NodeValue) → slice_get nodes j ≡ Some n → Contains n.before p → (m : NodeValue) × (slice_get nodes p ≡ Some m) × Contains before (m.id, n.id)
-  pub all : (i j : ℕ) (m n : NodeValue) → slice_get nodes i ≡ Some m → slice_get nodes j ≡ Some n → Contains before (m.id, n.id) → Contains n.before i
+  pub listed : (j p : ℕ) (n : NodeValue) → slice_get nodes j ≡ Some n → Contains n.before p →
+      (m : NodeValue) × (slice_get nodes p ≡ Some m) × Contains before (m.id, n.id)
+  pub all : (i j : ℕ) (m n : NodeValue) → slice_get nodes i ≡ Some m → slice_get nodes j ≡ Some n → Contains before (m.id, n.id) →
+      Contains n.before i
 
 -- the live tests of the chip with their lower times and precedences
 pub record AreNodes (soc : SocValue) (limits : LimitsValue) (nodes : List NodeValue) : Type 0 where

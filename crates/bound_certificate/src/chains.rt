@@ -80,7 +80,8 @@ fn chain_to(
     requires within { last < length nodes.now }
     requires long { length sums.now ≡ length nodes.now }
     requires fall { SumsFall (node_values nodes.now) sums.now }
-    ensures { IfOk result (λ chain. (soc : SocValue) (limits : LimitsValue) (n : NodeValue) → AreNodes soc limits (node_values nodes.now) → AreSums soc limits (node_values nodes.now) sums.now → slice_get (node_values nodes.now) last ≡ Some n →
+    ensures { IfOk result (λ chain. (soc : SocValue) (limits : LimitsValue) (n : NodeValue) → AreNodes soc limits (node_values nodes.now) →
+        AreSums soc limits (node_values nodes.now) sums.now → slice_get (node_values nodes.now) last ≡ Some n →
         (back : List TheTestId) × (chain.items ≡ reverse (n.id ∷ back)) × GoesBack soc limits n.id back) }
 {
     let mut chain = Vec::new(alloc);
@@ -99,7 +100,8 @@ fn chain_to(
 fn best_chain(alloc: Global, nodes: &[Node], sums: &[u128]) -> Result<Option<Vec<TestId>>, NoMemory>
     requires long { length sums.now ≡ length nodes.now }
     requires fall { SumsFall (node_values nodes.now) sums.now }
-    ensures { IfOk result (λ chain. (soc : SocValue) (limits : LimitsValue) → AreNodes soc limits (node_values nodes.now) → AreSums soc limits (node_values nodes.now) sums.now → IsPrintedChain soc limits (names_of chain)) }
+    ensures { IfOk result (λ chain. (soc : SocValue) (limits : LimitsValue) → AreNodes soc limits (node_values nodes.now) →
+        AreSums soc limits (node_values nodes.now) sums.now → IsPrintedChain soc limits (names_of chain)) }
 {
     let Some(last) = last_test(nodes, sums) else {
         return Ok(None);
@@ -123,7 +125,8 @@ pub fn printed_chain(
     requires limits { IsSoundLimits (soc_value soc.now) (limits_value limits.now) }
     requires precedences { precedences.now ≡ flat_map (places_of (live_ids (soc_value soc.now))) (limits_value limits.now).before }
     ensures printed { IfOk result (λ chain. IsPrintedChain (soc_value soc.now) (limits_value limits.now) (names_of chain)) }
-    ensures keeps { IfOk result (λ chain. IfSome chain (λ tests. Each (IsChainItem (soc_value soc.now) (limits_value limits.now)) tests.items)) }
+    ensures keeps { IfOk result (λ chain. IfSome chain (λ tests.
+        Each (IsChainItem (soc_value soc.now) (limits_value limits.now)) tests.items)) }
     ensures greatest { IfOk result (λ chain. IsGreatestChain (soc_value soc.now) (limits_value limits.now) (names_of chain)) }
 {
     let nodes = nodes_of(alloc, soc, limits, precedences)?;
