@@ -73,7 +73,8 @@ fn has_come(test: &WiredTest, bus: usize, cycle: u64) -> bool
 fn come_by(tests: &[WiredTest], bus: usize, cycle: u64) -> usize
     requires { AreInOrder tests.now }
     ensures bound { result ≤ length tests.now }
-    ensures parts { IsPartitionPoint (λ (t : WiredTest). comes_by bus cycle t ≡ true) (λ (t : WiredTest). comes_by bus cycle t ≡ false) tests.now result }
+    ensures parts { IsPartitionPoint (λ (t : WiredTest). comes_by bus cycle t ≡ true)
+        (λ (t : WiredTest). comes_by bus cycle t ≡ false) tests.now result }
 {
     tests.partition_point(
         |test: &WiredTest| -> bool
@@ -116,7 +117,8 @@ fn turn_behind(test: &WiredTest, cycle: u64) -> Option<Turn>
 fn cell_of(placing: &Placing<'_>, test: &WiredTest, chain: usize, shifts: u64) -> Option<Cell>
     requires sound { IsSoundChip (soc_value placing.now.soc.now) }
     requires wired { (u : PlannedTest) × IsWired (soc_value placing.now.soc.now) (plan_value placing.now.plan.now) u test.now }
-    ensures { (u : PlannedTest) → IsWired (soc_value placing.now.soc.now) (plan_value placing.now.plan.now) u test.now → IsFromEnd (cells_at u.chains chain) shifts result }
+    ensures { (u : PlannedTest) → IsWired (soc_value placing.now.soc.now) (plan_value placing.now.plan.now) u test.now →
+        IsFromEnd (cells_at u.chains chain) shifts result }
 {
     let module = module_at(placing.soc, test.place);
     let wrapper = &placing.plan.wrappers[test.wrapper];
