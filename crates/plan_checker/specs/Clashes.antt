@@ -86,7 +86,8 @@ rule_for apart.ParentAndChild = Parents
 
 -- a test of a parent stands before each test of the child
 abbrev pub ParentsFirst : List ℕ → List PlacedTest → Type 0
-ParentsFirst parents placed = (i j : ℕ) (a b : PlacedTest) → slice_get placed i ≡ Some a → slice_get placed j ≡ Some b → a.place ≡ slice_index parents b.place → i < j
+ParentsFirst parents placed =
+    (i j : ℕ) (a b : PlacedTest) → slice_get placed i ≡ Some a → slice_get placed j ≡ Some b → a.place ≡ slice_index parents b.place → i < j
 
 abbrev pub PlacesWithin : ℕ → List PlacedTest → Type 0
 PlacesWithin n placed = (i : ℕ) (j : PlacedTest) → slice_get placed i ≡ Some j → j.place < n

@@ -14,7 +14,8 @@ use Rattle.plan_checker.specs.Starting.{AreStarts}
 
 -- the chip and the plan, the names of the live tests, the starts at their places, the pairs of a module and a mode in the
 -- order of the wrappers, and the buses
-pub record IsPlacedBy (soc : Soc) (plan : Plan) (names : List TestId) (starts : List ℕ) (pairs : List (ℕ × Bool)) (buses : List ℕ) : Type 0 where
+pub record IsPlacedBy (soc : Soc) (plan : Plan) (names : List TestId) (starts : List ℕ) (pairs : List (ℕ × Bool))
+    (buses : List ℕ) : Type 0 where
   pub sound : IsSoundChip (soc_value soc)
   pub wrapped : Each (HasWrapper (plan_value plan)) (used_pairs (soc_value soc))
   pub proper : Each (HasProperCells (soc_value soc)) (plan_value plan).wrappers

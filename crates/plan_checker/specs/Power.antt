@@ -9,7 +9,8 @@ use Rattle.plan_checker.specs.declared.power.Load.{Load}
 
 -- for each test the place of its profile
 abbrev pub AreProfiles : LimitsValue → List PlacedTest → List ℕ → Type 0
-AreProfiles limits placed places = (i : ℕ) (j : PlacedTest) → slice_get placed i ≡ Some j → slice_get places i ≡ Some (profile_place limits j.id)
+AreProfiles limits placed places =
+    (i : ℕ) (j : PlacedTest) → slice_get placed i ≡ Some j → slice_get places i ≡ Some (profile_place limits j.id)
 
 -- few steps with growing begins, and powers that leave room for sums
 pub record HasSmallSteps (limits : LimitsValue) (j : PlacedTest) : Type 0 where

@@ -188,7 +188,8 @@ pub(crate) fn check_apart(
     ends: &mut [u64],
 ) -> Option<PlanFault>
     requires { IsLayout parents.now placed.now begins.now (length ends.old) }
-    ensures { (soc : SocValue) (limits : LimitsValue) (plan : PlanValue) → placed.now ≡ placed_tests soc plan → AreParents soc parents.now → IsStage soc limits plan (rule_for apart) result }
+    ensures { (soc : SocValue) (limits : LimitsValue) (plan : PlanValue) → placed.now ≡ placed_tests soc plan → AreParents soc parents.now →
+        IsStage soc limits plan (rule_for apart) result }
 {
     match first_clash(parents, apart, placed, begins, ends) {
         Some(found) => Some(fault_of(

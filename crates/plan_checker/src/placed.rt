@@ -122,9 +122,12 @@ fn fill_module(
 ) -> usize
     requires placing { IsPlacing from.now }
     requires there { slice_get (soc_value from.now.soc.now).modules place ≡ Some (module_value «module».now) }
-    requires room { done + length (placed_in (plan_value from.now.plan.now) place (module_value «module».now) «module».now.tests.items) ≤ length placed.old }
-    ensures filled { take result placed.new ≡ take done placed.old ++ placed_in (plan_value from.now.plan.now) place (module_value «module».now) «module».now.tests.items }
-    ensures count { result ≡ done + length (placed_in (plan_value from.now.plan.now) place (module_value «module».now) «module».now.tests.items) }
+    requires room { done + length (placed_in (plan_value from.now.plan.now) place (module_value «module».now) «module».now.tests.items)
+        ≤ length placed.old }
+    ensures filled { take result placed.new ≡ take done placed.old
+        ++ placed_in (plan_value from.now.plan.now) place (module_value «module».now) «module».now.tests.items }
+    ensures count { result ≡ done + length (placed_in (plan_value from.now.plan.now) place
+        (module_value «module».now) «module».now.tests.items) }
 {
     let wrappers = mode_wrappers(from, place, module);
     let mut next = done;

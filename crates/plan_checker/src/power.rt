@@ -77,7 +77,8 @@ fn profile_count(profiles: &[Profile]) -> usize
 fn profile_of(load: &Load<'_>, place: usize) -> usize
     requires load { IsSoundLoad load.now }
     requires within { place < length load.now.placed.now }
-    ensures { (j : PlacedTest) → slice_get load.now.placed.now place ≡ Some j → result ≡ profile_place (limits_value load.now.limits.now) j.id }
+    ensures { (j : PlacedTest) → slice_get load.now.placed.now place ≡ Some j →
+        result ≡ profile_place (limits_value load.now.limits.now) j.id }
 {
     load.profiles[place]
 }
@@ -87,7 +88,8 @@ fn put_test(load: &Load<'_>, place: usize, events: &mut Vec<Event>)
     requires load { IsSoundLoad load.now }
     requires within { place < length load.now.placed.now }
     requires space { length events.old.items + EVENTS_EACH ≤ vec_capacity events.old }
-    ensures put { (j : PlacedTest) → slice_get load.now.placed.now place ≡ Some j → events.new.items ≡ events.old.items ++ test_events (limits_value load.now.limits.now) j }
+    ensures put { (j : PlacedTest) → slice_get load.now.placed.now place ≡ Some j →
+        events.new.items ≡ events.old.items ++ test_events (limits_value load.now.limits.now) j }
     ensures room { vec_capacity events.old ≤ vec_capacity events.new }
 {
     let test = test_at(load.placed, place);
@@ -138,7 +140,8 @@ pub(crate) fn check_power(
 ) -> Option<PlanFault>
     requires load { (most : ℕ) → limits.now.power ≡ Some most → IsLoad (limits_value limits.now) placed.now profiles.now most }
     requires space { length placed.now * EVENTS_EACH ≤ vec_capacity events.old }
-    ensures stage { (soc : SocValue) (plan : PlanValue) → placed.now ≡ placed_tests soc plan → IsStage soc (limits_value limits.now) plan Power result }
+    ensures stage { (soc : SocValue) (plan : PlanValue) → placed.now ≡ placed_tests soc plan →
+        IsStage soc (limits_value limits.now) plan Power result }
     ensures room { vec_capacity events.old ≤ vec_capacity events.new }
 {
     match limits.power {
