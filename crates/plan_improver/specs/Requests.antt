@@ -15,5 +15,6 @@ IsQuiet other = Unit {0}
 -- The answer is the text of a plan that is improved after so many tries: for the chip and the limits, from the plan that is
 -- accepted for both. All other commands are none here.
 abbrev pub procedure_of : CommandValue → Procedure
-procedure_of (Improve soc limits plan tries seed) = with_all soc limits plan (λ chip bounds given. done_with_any (λ text. (value : PlanValue) × IsImproved chip bounds tries given value × (text ≡ plan_text value)))
+procedure_of (Improve soc limits plan tries seed) = with_all soc limits plan
+    (λ chip bounds given. done_with_any (λ text. (value : PlanValue) × IsImproved chip bounds tries given value × (text ≡ plan_text value)))
 procedure_of other = NoCommand

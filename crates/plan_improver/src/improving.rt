@@ -52,8 +52,10 @@ fn greater_bound(
     requires resolved { IsResolved (soc_value known.now.soc.now) known.now.limits.now known.now.resolved.now }
     requires good { (n : ℕ) → IsBound (soc_value known.now.soc.now) (limits_value known.now.limits.now) n → n ≤ cycles }
     requires accepted { IsAccepted (soc_value known.now.soc.now) (limits_value known.now.limits.now) (bound_value given) }
-    ensures greater { IfOk result (λ bound. IsGreaterBound (soc_value known.now.soc.now) (limits_value known.now.limits.now) cycles (bound_value given) (bound_value bound)) }
-    ensures accepted { IfOk result (λ bound. IsAccepted (soc_value known.now.soc.now) (limits_value known.now.limits.now) (bound_value bound)) }
+    ensures greater { IfOk result (λ bound. IsGreaterBound (soc_value known.now.soc.now) (limits_value known.now.limits.now) cycles
+        (bound_value given) (bound_value bound)) }
+    ensures accepted { IfOk result (λ bound. IsAccepted (soc_value known.now.soc.now) (limits_value known.now.limits.now)
+        (bound_value bound)) }
     ensures at_least { IfOk result (λ bound. given.cycles ≤ bound.cycles) }
 {
     let best = best_bound_with(alloc, known.soc, known.limits, known.resolved, cycles)?;
@@ -75,7 +77,8 @@ fn with_greater_bound(
     requires resolved { IsResolved (soc_value known.now.soc.now) known.now.limits.now known.now.resolved.now }
     requires good { IsGood (soc_value known.now.soc.now) (limits_value known.now.limits.now) (plan_value plan) }
     requires accepted { IsAccepted (soc_value known.now.soc.now) (limits_value known.now.limits.now) (bound_value given) }
-    ensures { IfOk result (λ new. IsRaised (soc_value known.now.soc.now) (limits_value known.now.limits.now) (plan_value plan) (bound_value given) (plan_value new)) }
+    ensures { IfOk result (λ new. IsRaised (soc_value known.now.soc.now) (limits_value known.now.limits.now) (plan_value plan)
+        (bound_value given) (plan_value new)) }
 {
     let Plan {
         buses,
@@ -156,7 +159,8 @@ fn searched_on<T: Sink>(
     requires limits { IsSoundLimits (soc_value known.now.soc.now) (limits_value known.now.limits.now) }
     requires resolved { IsResolved (soc_value known.now.soc.now) known.now.limits.now known.now.resolved.now }
     requires grounds { AreGrounds (soc_value known.now.soc.now) grounds.now }
-    ensures good { IfOk result (λ plan. IfSome plan (λ p. IsGood (soc_value known.now.soc.now) (limits_value known.now.limits.now) (plan_value p))) }
+    ensures good { IfOk result (λ plan. IfSome plan (λ p. IsGood (soc_value known.now.soc.now) (limits_value known.now.limits.now)
+        (plan_value p))) }
     ensures small_starts { IfOk result (λ plan. IfSome plan (λ p. AreSmallStarts (plan_value p).starts)) }
     ensures fewer { IfOk result (λ plan. IfSome plan (λ p. p.cycles < given.now.cycles)) }
     ensures faults_never_fall { T.faults told.old ≤ T.faults told.new }
@@ -194,7 +198,8 @@ fn searched<T: Sink>(
     requires limits { IsSoundLimits (soc_value known.now.soc.now) (limits_value known.now.limits.now) }
     requires resolved { IsResolved (soc_value known.now.soc.now) known.now.limits.now known.now.resolved.now }
     requires given { IsFaultless (soc_value known.now.soc.now) (limits_value known.now.limits.now) (plan_value given.now) }
-    ensures good { IfOk result (λ plan. IfSome plan (λ p. IsGood (soc_value known.now.soc.now) (limits_value known.now.limits.now) (plan_value p))) }
+    ensures good { IfOk result (λ plan. IfSome plan (λ p. IsGood (soc_value known.now.soc.now) (limits_value known.now.limits.now)
+        (plan_value p))) }
     ensures small_starts { IfOk result (λ plan. IfSome plan (λ p. AreSmallStarts (plan_value p).starts)) }
     ensures fewer { IfOk result (λ plan. IfSome plan (λ p. p.cycles < given.now.cycles)) }
     ensures faults_never_fall { T.faults told.old ≤ T.faults told.new }
@@ -229,8 +234,10 @@ pub fn improved<T: Sink>(
     requires limits { IsSoundLimits (soc_value known.now.soc.now) (limits_value known.now.limits.now) }
     requires resolved { IsResolved (soc_value known.now.soc.now) known.now.limits.now known.now.resolved.now }
     requires given { IsFaultless (soc_value known.now.soc.now) (limits_value known.now.limits.now) (plan_value given) }
-    ensures improved { IfOk result (λ plan. IsImproved (soc_value known.now.soc.now) (limits_value known.now.limits.now) tries (plan_value given) (plan_value plan)) }
-    ensures right { IfOk result (λ plan. (content : Content) → IsRight (soc_value known.now.soc.now) (limits_value known.now.limits.now) (plan_value plan) content) }
+    ensures improved { IfOk result (λ plan. IsImproved (soc_value known.now.soc.now) (limits_value known.now.limits.now) tries
+        (plan_value given) (plan_value plan)) }
+    ensures right { IfOk result (λ plan. (content : Content) →
+        IsRight (soc_value known.now.soc.now) (limits_value known.now.limits.now) (plan_value plan) content) }
     ensures faults_never_fall { T.faults told.old ≤ T.faults told.new }
     ensures quiet { tries < TOLD_FROM → told.new ≡ told.old }
     ensures told { MayTell tries (T.written told.old) (T.written told.new) }
