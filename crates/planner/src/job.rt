@@ -81,7 +81,8 @@ fn part_places<'a>(
     resolved: &'a Resolved,
 ) -> Result<PartPlaces<'a>, NoMemory>
     requires resolved { IsResolved (soc_value parts.now.soc.now) parts.now.limits.now resolved.now }
-    ensures parts { IfOk result (λ places. IsIndex (settled_parts (map bus_value parts.now.buses.now) (map wrapper_value parts.now.wrappers.now)) places.buses.entries places.wrappers.entries []) }
+    ensures parts { IfOk result (λ places. IsIndex (settled_parts (map bus_value parts.now.buses.now)
+        (map wrapper_value parts.now.wrappers.now)) places.buses.entries places.wrappers.entries []) }
     ensures resolved { IfOk result (λ places. IsResolved (soc_value parts.now.soc.now) parts.now.limits.now places.resolved.now) }
 {
     let buses = buses_by_module(alloc, parts.buses)?;
@@ -109,12 +110,15 @@ struct Shared {
 /// What the tests of the module at a place share.
 fn shared_of(parts: &JobParts<'_>, places: &PartPlaces<'_>, place: usize, module: &Module) -> Shared
     requires sound { IsSoundChip (soc_value parts.now.soc.now) }
-    requires proper { Keeps (soc_value parts.now.soc.now) (limits_value parts.now.limits.now) (settled_parts (map bus_value parts.now.buses.now) (map wrapper_value parts.now.wrappers.now)) Proper }
-    requires places { IsIndex (settled_parts (map bus_value parts.now.buses.now) (map wrapper_value parts.now.wrappers.now)) places.now.buses.entries places.now.wrappers.entries [] }
+    requires proper { Keeps (soc_value parts.now.soc.now) (limits_value parts.now.limits.now)
+        (settled_parts (map bus_value parts.now.buses.now) (map wrapper_value parts.now.wrappers.now)) Proper }
+    requires places { IsIndex (settled_parts (map bus_value parts.now.buses.now) (map wrapper_value parts.now.wrappers.now))
+        places.now.buses.entries places.now.wrappers.entries [] }
     requires resolved { IsResolved (soc_value parts.now.soc.now) parts.now.limits.now places.now.resolved.now }
     requires module_there { slice_get (soc_value parts.now.soc.now).modules place ≡ Some (module_value «module».now) }
     ensures place { result.place ≡ place }
-    ensures shared { IsShared (soc_value parts.now.soc.now) (settled_parts (map bus_value parts.now.buses.now) (map wrapper_value parts.now.wrappers.now)) (module_value «module».now) result }
+    ensures shared { IsShared (soc_value parts.now.soc.now)
+        (settled_parts (map bus_value parts.now.buses.now) (map wrapper_value parts.now.wrappers.now)) (module_value «module».now) result }
 {
     let scan = places.wrappers.get(&(module.number, true)).copied();
     let terminals = places.wrappers.get(&(module.number, false)).copied();
@@ -137,12 +141,17 @@ fn test_of(
     test: &Test,
 ) -> Result<JobTest, NoMemory>
     requires sound { IsSoundChip (soc_value parts.now.soc.now) }
-    requires wrapped { Keeps (soc_value parts.now.soc.now) (limits_value parts.now.limits.now) (settled_parts (map bus_value parts.now.buses.now) (map wrapper_value parts.now.wrappers.now)) Wrappers }
+    requires wrapped { Keeps (soc_value parts.now.soc.now) (limits_value parts.now.limits.now)
+        (settled_parts (map bus_value parts.now.buses.now) (map wrapper_value parts.now.wrappers.now)) Wrappers }
     requires resolved { IsResolved (soc_value parts.now.soc.now) parts.now.limits.now places.now.resolved.now }
-    requires shared { IsShared (soc_value parts.now.soc.now) (settled_parts (map bus_value parts.now.buses.now) (map wrapper_value parts.now.wrappers.now)) (module_value «module».now) shared.now }
+    requires shared { IsShared (soc_value parts.now.soc.now)
+        (settled_parts (map bus_value parts.now.buses.now) (map wrapper_value parts.now.wrappers.now))
+        (module_value «module».now) shared.now }
     requires test_there { (k : ℕ) × (slice_get «module».now.tests.items k ≡ Some test.now) }
     requires is_live { is_live test.now ≡ true }
-    ensures { IfOk result (λ t. test_value t ≡ test_in (soc_value parts.now.soc.now) (limits_value parts.now.limits.now) (settled_parts (map bus_value parts.now.buses.now) (map wrapper_value parts.now.wrappers.now)) shared.now.place (module_value «module».now) test.now) }
+    ensures { IfOk result (λ t. test_value t ≡ test_in (soc_value parts.now.soc.now) (limits_value parts.now.limits.now)
+        (settled_parts (map bus_value parts.now.buses.now) (map wrapper_value parts.now.wrappers.now)) shared.now.place
+        (module_value «module».now) test.now) }
 {
     let id = TestId {
         module: module.number,
@@ -175,12 +184,18 @@ fn push_live(
     module: &Module,
 ) -> Result<(), NoMemory>
     requires sound { IsSoundChip (soc_value parts.now.soc.now) }
-    requires wrapped { Keeps (soc_value parts.now.soc.now) (limits_value parts.now.limits.now) (settled_parts (map bus_value parts.now.buses.now) (map wrapper_value parts.now.wrappers.now)) Wrappers }
-    requires proper { Keeps (soc_value parts.now.soc.now) (limits_value parts.now.limits.now) (settled_parts (map bus_value parts.now.buses.now) (map wrapper_value parts.now.wrappers.now)) Proper }
-    requires places { IsIndex (settled_parts (map bus_value parts.now.buses.now) (map wrapper_value parts.now.wrappers.now)) places.now.buses.entries places.now.wrappers.entries [] }
+    requires wrapped { Keeps (soc_value parts.now.soc.now) (limits_value parts.now.limits.now)
+        (settled_parts (map bus_value parts.now.buses.now) (map wrapper_value parts.now.wrappers.now)) Wrappers }
+    requires proper { Keeps (soc_value parts.now.soc.now) (limits_value parts.now.limits.now)
+        (settled_parts (map bus_value parts.now.buses.now) (map wrapper_value parts.now.wrappers.now)) Proper }
+    requires places { IsIndex (settled_parts (map bus_value parts.now.buses.now) (map wrapper_value parts.now.wrappers.now))
+        places.now.buses.entries places.now.wrappers.entries [] }
     requires resolved { IsResolved (soc_value parts.now.soc.now) parts.now.limits.now places.now.resolved.now }
     requires module_there { slice_get (soc_value parts.now.soc.now).modules place ≡ Some (module_value «module».now) }
-    ensures { OnOk result (map test_value tests.new.items ≡ map test_value tests.old.items ++ map (test_in (soc_value parts.now.soc.now) (limits_value parts.now.limits.now) (settled_parts (map bus_value parts.now.buses.now) (map wrapper_value parts.now.wrappers.now)) place (module_value «module».now)) (filter is_live «module».now.tests.items)) }
+    ensures { OnOk result (map test_value tests.new.items ≡ map test_value tests.old.items
+        ++ map (test_in (soc_value parts.now.soc.now) (limits_value parts.now.limits.now)
+        (settled_parts (map bus_value parts.now.buses.now) (map wrapper_value parts.now.wrappers.now)) place (module_value «module».now))
+        (filter is_live «module».now.tests.items)) }
 {
     let shared = shared_of(parts, places, place, module);
     for test in &module.tests {
@@ -199,11 +214,17 @@ fn tests_at(
     places: &PartPlaces<'_>,
 ) -> Result<Vec<JobTest>, NoMemory>
     requires sound { IsSoundChip (soc_value parts.now.soc.now) }
-    requires wrapped { Keeps (soc_value parts.now.soc.now) (limits_value parts.now.limits.now) (settled_parts (map bus_value parts.now.buses.now) (map wrapper_value parts.now.wrappers.now)) Wrappers }
-    requires proper { Keeps (soc_value parts.now.soc.now) (limits_value parts.now.limits.now) (settled_parts (map bus_value parts.now.buses.now) (map wrapper_value parts.now.wrappers.now)) Proper }
-    requires places { IsIndex (settled_parts (map bus_value parts.now.buses.now) (map wrapper_value parts.now.wrappers.now)) places.now.buses.entries places.now.wrappers.entries [] }
+    requires wrapped { Keeps (soc_value parts.now.soc.now) (limits_value parts.now.limits.now)
+        (settled_parts (map bus_value parts.now.buses.now) (map wrapper_value parts.now.wrappers.now)) Wrappers }
+    requires proper { Keeps (soc_value parts.now.soc.now) (limits_value parts.now.limits.now)
+        (settled_parts (map bus_value parts.now.buses.now) (map wrapper_value parts.now.wrappers.now)) Proper }
+    requires places { IsIndex (settled_parts (map bus_value parts.now.buses.now) (map wrapper_value parts.now.wrappers.now))
+        places.now.buses.entries places.now.wrappers.entries [] }
     requires resolved { IsResolved (soc_value parts.now.soc.now) parts.now.limits.now places.now.resolved.now }
-    ensures { IfOk result (λ tests. map test_value tests.items ≡ map (the_test (soc_value parts.now.soc.now) (limits_value parts.now.limits.now) (settled_parts (map bus_value parts.now.buses.now) (map wrapper_value parts.now.wrappers.now))) (live_tests (soc_value parts.now.soc.now))) }
+    ensures { IfOk result (λ tests. map test_value tests.items
+        ≡ map (the_test (soc_value parts.now.soc.now) (limits_value parts.now.limits.now)
+        (settled_parts (map bus_value parts.now.buses.now) (map wrapper_value parts.now.wrappers.now)))
+        (live_tests (soc_value parts.now.soc.now))) }
 {
     let mut tests = Vec::new(alloc);
     for place in 0..module_count(parts.soc) {
@@ -226,10 +247,15 @@ fn tests_of(
     resolved: &Resolved,
 ) -> Result<Vec<JobTest>, NoMemory>
     requires sound { IsSoundChip (soc_value parts.now.soc.now) }
-    requires wrapped { Keeps (soc_value parts.now.soc.now) (limits_value parts.now.limits.now) (settled_parts (map bus_value parts.now.buses.now) (map wrapper_value parts.now.wrappers.now)) Wrappers }
-    requires proper { Keeps (soc_value parts.now.soc.now) (limits_value parts.now.limits.now) (settled_parts (map bus_value parts.now.buses.now) (map wrapper_value parts.now.wrappers.now)) Proper }
+    requires wrapped { Keeps (soc_value parts.now.soc.now) (limits_value parts.now.limits.now)
+        (settled_parts (map bus_value parts.now.buses.now) (map wrapper_value parts.now.wrappers.now)) Wrappers }
+    requires proper { Keeps (soc_value parts.now.soc.now) (limits_value parts.now.limits.now)
+        (settled_parts (map bus_value parts.now.buses.now) (map wrapper_value parts.now.wrappers.now)) Proper }
     requires resolved { IsResolved (soc_value parts.now.soc.now) parts.now.limits.now resolved.now }
-    ensures { IfOk result (λ tests. map test_value tests.items ≡ map (the_test (soc_value parts.now.soc.now) (limits_value parts.now.limits.now) (settled_parts (map bus_value parts.now.buses.now) (map wrapper_value parts.now.wrappers.now))) (live_tests (soc_value parts.now.soc.now))) }
+    ensures { IfOk result (λ tests. map test_value tests.items
+        ≡ map (the_test (soc_value parts.now.soc.now) (limits_value parts.now.limits.now)
+        (settled_parts (map bus_value parts.now.buses.now) (map wrapper_value parts.now.wrappers.now)))
+        (live_tests (soc_value parts.now.soc.now))) }
 {
     let places = part_places(alloc, parts, resolved)?;
     let tests = tests_at(alloc, parts, &places);
@@ -242,10 +268,14 @@ fn tests_of(
 /// none.
 pub fn job_of(alloc: Global, parts: &JobParts<'_>) -> Result<Job, NoMemory>
     requires sound { IsSoundChip (soc_value parts.now.soc.now) }
-    requires wrapped { Keeps (soc_value parts.now.soc.now) (limits_value parts.now.limits.now) (settled_parts (map bus_value parts.now.buses.now) (map wrapper_value parts.now.wrappers.now)) Wrappers }
-    requires proper { Keeps (soc_value parts.now.soc.now) (limits_value parts.now.limits.now) (settled_parts (map bus_value parts.now.buses.now) (map wrapper_value parts.now.wrappers.now)) Proper }
-    ensures job { IfOk result (λ job. job_value job ≡ the_job (soc_value parts.now.soc.now) (limits_value parts.now.limits.now) (settled_parts (map bus_value parts.now.buses.now) (map wrapper_value parts.now.wrappers.now))) }
-    ensures sound { IsSoundLimits (soc_value parts.now.soc.now) (limits_value parts.now.limits.now) → IfOk result (λ job. IsSoundJob (job_value job)) }
+    requires wrapped { Keeps (soc_value parts.now.soc.now) (limits_value parts.now.limits.now)
+        (settled_parts (map bus_value parts.now.buses.now) (map wrapper_value parts.now.wrappers.now)) Wrappers }
+    requires proper { Keeps (soc_value parts.now.soc.now) (limits_value parts.now.limits.now)
+        (settled_parts (map bus_value parts.now.buses.now) (map wrapper_value parts.now.wrappers.now)) Proper }
+    ensures job { IfOk result (λ job. job_value job ≡ the_job (soc_value parts.now.soc.now) (limits_value parts.now.limits.now)
+        (settled_parts (map bus_value parts.now.buses.now) (map wrapper_value parts.now.wrappers.now))) }
+    ensures sound { IsSoundLimits (soc_value parts.now.soc.now) (limits_value parts.now.limits.now) →
+        IfOk result (λ job. IsSoundJob (job_value job)) }
 {
     let resolved = Resolved::new(alloc, parts.soc, parts.limits)?;
     job_with(alloc, parts, &resolved)
@@ -254,11 +284,15 @@ pub fn job_of(alloc: Global, parts: &JobParts<'_>) -> Result<Job, NoMemory>
 /// The same job, where the chip and its limits are resolved already.
 pub fn job_with(alloc: Global, parts: &JobParts<'_>, resolved: &Resolved) -> Result<Job, NoMemory>
     requires sound { IsSoundChip (soc_value parts.now.soc.now) }
-    requires wrapped { Keeps (soc_value parts.now.soc.now) (limits_value parts.now.limits.now) (settled_parts (map bus_value parts.now.buses.now) (map wrapper_value parts.now.wrappers.now)) Wrappers }
-    requires proper { Keeps (soc_value parts.now.soc.now) (limits_value parts.now.limits.now) (settled_parts (map bus_value parts.now.buses.now) (map wrapper_value parts.now.wrappers.now)) Proper }
+    requires wrapped { Keeps (soc_value parts.now.soc.now) (limits_value parts.now.limits.now)
+        (settled_parts (map bus_value parts.now.buses.now) (map wrapper_value parts.now.wrappers.now)) Wrappers }
+    requires proper { Keeps (soc_value parts.now.soc.now) (limits_value parts.now.limits.now)
+        (settled_parts (map bus_value parts.now.buses.now) (map wrapper_value parts.now.wrappers.now)) Proper }
     requires resolved { IsResolved (soc_value parts.now.soc.now) parts.now.limits.now resolved.now }
-    ensures job { IfOk result (λ job. job_value job ≡ the_job (soc_value parts.now.soc.now) (limits_value parts.now.limits.now) (settled_parts (map bus_value parts.now.buses.now) (map wrapper_value parts.now.wrappers.now))) }
-    ensures sound { IsSoundLimits (soc_value parts.now.soc.now) (limits_value parts.now.limits.now) → IfOk result (λ job. IsSoundJob (job_value job)) }
+    ensures job { IfOk result (λ job. job_value job ≡ the_job (soc_value parts.now.soc.now) (limits_value parts.now.limits.now)
+        (settled_parts (map bus_value parts.now.buses.now) (map wrapper_value parts.now.wrappers.now))) }
+    ensures sound { IsSoundLimits (soc_value parts.now.soc.now) (limits_value parts.now.limits.now) →
+        IfOk result (λ job. IsSoundJob (job_value job)) }
 {
     let tests = tests_of(alloc, parts, resolved)?;
     let before = copied(alloc, &resolved.precedences)?;
