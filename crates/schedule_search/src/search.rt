@@ -159,7 +159,8 @@ fn search_all<J, E: Estimate<J>>(
     requires estimates { E.estimates ahead.now }
     requires first { IsFirstOrder (job_value job.now) first.now }
     requires room { HasRoom (length (job_value job.now).tests) room.old }
-    ensures found { IsFound (job_value job.now) tries.now.budget room.new.progress.best.items room.new.starts.items room.new.progress.cycles (not room.new.progress.refused) }
+    ensures found { IsFound (job_value job.now) tries.now.budget room.new.progress.best.items room.new.starts.items room.new.progress.cycles
+        (not room.new.progress.refused) }
     ensures table { table.new ≡ table.old }
     ensures room { HasRoom (length (job_value job.now).tests) room.new }
 {
