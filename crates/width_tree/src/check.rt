@@ -157,7 +157,8 @@ fn check_in(
     requires areas { length widths.old.areas.items ≡ length (soc_value soc.now).modules }
     requires marks { length marks.old ≡ length (soc_value soc.now).modules }
     requires turns { length tree.now.nodes.items ≤ length turns.old }
-    ensures checked { (t : WidthTree) → nodes_of t ≡ map node_value tree.now.nodes.items → IsChecked (soc_value soc.now) wires tree.now.claimed (cases_of (soc_value soc.now) (root_case (soc_value soc.now) wires) t) result }
+    ensures checked { (t : WidthTree) → nodes_of t ≡ map node_value tree.now.nodes.items →
+        IsChecked (soc_value soc.now) wires tree.now.claimed (cases_of (soc_value soc.now) (root_case (soc_value soc.now) wires) t) result }
     ensures intervals { length widths.new.intervals.items ≡ length widths.old.intervals.items }
     ensures areas { length widths.new.areas.items ≡ length widths.old.areas.items }
 {

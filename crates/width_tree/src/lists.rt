@@ -23,7 +23,8 @@ pub struct Least {
 /// this number.
 pub fn tam_place(table: &Table<'_>, number: u64) -> Option<usize>
     requires { IsTable table.now }
-    ensures some { IfSome result (λ place. (module_place (chip_of table.now) number ≡ Some place) × (place < length (chip_of table.now).modules)) }
+    ensures some { IfSome result (λ place. (module_place (chip_of table.now) number ≡ Some place)
+        × (place < length (chip_of table.now).modules)) }
     ensures exact { is_some result ≡ passes (has_tam_at (chip_of table.now)) (module_place (chip_of table.now) number) }
 {
     match place_of(table.soc, number) {
@@ -63,11 +64,14 @@ fn take_module(
     requires room { length marks.old ≡ length (chip_of table.now).modules }
     requires low { least.low ≤ table.now.wires + 1 }
     requires so_far { IsBusSoFar (chip_of table.now) table.now.wires intervals.now (take place modules.now) marks.old stamp least }
-    ensures kept { IfSome result (λ next. (m : ℕ) → slice_get modules.now place ≡ Some m → IsBusItem (chip_of table.now) table.now.wires intervals.now (take place modules.now) m × IsBusSoFar (chip_of table.now) table.now.wires intervals.now (take (place + 1) modules.now) marks.new stamp next) }
+    ensures kept { IfSome result (λ next. (m : ℕ) → slice_get modules.now place ≡ Some m →
+        IsBusItem (chip_of table.now) table.now.wires intervals.now (take place modules.now) m
+        × IsBusSoFar (chip_of table.now) table.now.wires intervals.now (take (place + 1) modules.now) marks.new stamp next) }
     ensures low { IfSome result (λ next. next.low ≤ table.now.wires + 1) }
     ensures some { IfSome result (λ next. 1 ≤ least.high → 1 ≤ next.high) }
     ensures few { IfSome result (λ next. next.high ≤ least.high) }
-    ensures breach { IfNone result ((m : ℕ) → slice_get modules.now place ≡ Some m → IsBusItem (chip_of table.now) table.now.wires intervals.now (take place modules.now) m → ⊥) }
+    ensures breach { IfNone result ((m : ℕ) → slice_get modules.now place ≡ Some m →
+        IsBusItem (chip_of table.now) table.now.wires intervals.now (take place modules.now) m → ⊥) }
     ensures older { AreOlder (stamp + 1) marks.old → AreOlder (stamp + 1) marks.new }
 {
     match tam_place(table, modules[place]) {
@@ -104,7 +108,8 @@ pub fn least_widths(
     requires older { AreOlder stamp marks.old }
     ensures exact { MatchOption result
         (Each (IsBusItem (chip_of table.now) table.now.wires intervals.now) modules.now → ⊥)
-        (λ least. Each (IsBusItem (chip_of table.now) table.now.wires intervals.now) modules.now × (least.high ≡ least_high (chip_of table.now) table.now.wires intervals.now modules.now)) }
+        (λ least. Each (IsBusItem (chip_of table.now) table.now.wires intervals.now) modules.now
+        × (least.high ≡ least_high (chip_of table.now) table.now.wires intervals.now modules.now)) }
     ensures some { IfSome result (λ least. 1 ≤ least.high) }
     ensures few { IfSome result (λ least. least.high ≤ table.now.wires) }
     ensures older { AreOlder (stamp + 1) marks.new }

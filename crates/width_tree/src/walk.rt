@@ -32,7 +32,8 @@ pub struct Turn {
 
 /// The answer to what was found at the node at a place.
 fn judge(claimed: u64, place: usize, finding: Finding) -> Result<(), TreeFault>
-    ensures { (soc : SocValue) (w : ℕ) (c : Case) (n : NodeValue) → IsFinding soc w c n finding → IsJudged soc w claimed place (in_case c n) result }
+    ensures { (soc : SocValue) (w : ℕ) (c : Case) (n : NodeValue) → IsFinding soc w c n finding →
+        IsJudged soc w claimed place (in_case c n) result }
 {
     match finding {
         Finding::Broken => Err(TreeFault::BadNode { place }),
@@ -69,8 +70,10 @@ fn begin_split(
     ensures widths { AreWidths table.now.wires (length (chip_of table.now).modules) table.now.times.now widths.new }
     ensures narrow { widths.new.intervals.items ≡ narrow_at widths.old.intervals.items at place }
     ensures depth { result ≡ depth + 1 }
-    ensures awaits { (wide : WidthTree) (rest : List NodeCase) → Awaits (chip_of table.now) table.now.wires table.now.times.now turns.old depth widths.old.intervals.items rest →
-        Awaits (chip_of table.now) table.now.wires table.now.times.now turns.new (depth + 1) widths.new.intervals.items (cases_of (chip_of table.now) (wide_at widths.old.intervals.items at place) wide ++ rest) }
+    ensures awaits { (wide : WidthTree) (rest : List NodeCase) →
+        Awaits (chip_of table.now) table.now.wires table.now.times.now turns.old depth widths.old.intervals.items rest →
+        Awaits (chip_of table.now) table.now.wires table.now.times.now turns.new (depth + 1) widths.new.intervals.items
+        (cases_of (chip_of table.now) (wide_at widths.old.intervals.items at place) wide ++ rest) }
 {
     let old = widths.intervals[place];
     let area = widths.areas[place];
@@ -129,10 +132,12 @@ fn next_branch(
     requires table { IsTable table.now }
     requires widths { AreWidths table.now.wires (length (chip_of table.now).modules) table.now.times.now widths.old }
     requires room { under_way ≤ length turns.old }
-    requires awaits { (rest : List NodeCase) × Awaits (chip_of table.now) table.now.wires table.now.times.now turns.old under_way widths.old.intervals.items rest }
+    requires awaits { (rest : List NodeCase) × Awaits (chip_of table.now) table.now.wires table.now.times.now turns.old under_way
+        widths.old.intervals.items rest }
     ensures widths { AreWidths table.now.wires (length (chip_of table.now).modules) table.now.times.now widths.new }
     ensures few { result ≤ under_way }
-    ensures goes_on { (rest : List NodeCase) → Awaits (chip_of table.now) table.now.wires table.now.times.now turns.old under_way widths.old.intervals.items rest →
+    ensures goes_on { (rest : List NodeCase) → Awaits (chip_of table.now) table.now.wires table.now.times.now turns.old under_way
+        widths.old.intervals.items rest →
         GoesOn (chip_of table.now) table.now.wires table.now.times.now turns.new result widths.new.intervals.items rest }
 {
     let mut depth = under_way;
@@ -160,10 +165,12 @@ fn go_on(
     requires widths { AreWidths table.now.wires (length (chip_of table.now).modules) table.now.times.now widths.old }
     requires room { depth < length turns.old }
     requires rule { KeepsNode (chip_of table.now) table.now.wires widths.old.intervals.items (node_value node.now) }
-    requires begins { (left : List NodeCase) × Begins (chip_of table.now) table.now.wires table.now.times.now turns.old depth widths.old.intervals.items (in_case widths.old.intervals.items (node_value node.now) ∷ left) }
+    requires begins { (left : List NodeCase) × Begins (chip_of table.now) table.now.wires table.now.times.now turns.old depth
+        widths.old.intervals.items (in_case widths.old.intervals.items (node_value node.now) ∷ left) }
     ensures widths { AreWidths table.now.wires (length (chip_of table.now).modules) table.now.times.now widths.new }
     ensures few { result ≤ depth + 1 }
-    ensures goes_on { (left : List NodeCase) → Begins (chip_of table.now) table.now.wires table.now.times.now turns.old depth widths.old.intervals.items (in_case widths.old.intervals.items (node_value node.now) ∷ left) →
+    ensures goes_on { (left : List NodeCase) → Begins (chip_of table.now) table.now.wires table.now.times.now turns.old depth
+        widths.old.intervals.items (in_case widths.old.intervals.items (node_value node.now) ∷ left) →
         GoesOn (chip_of table.now) table.now.wires table.now.times.now turns.new result widths.new.intervals.items left }
 {
     if let Node::Split { module, at } = node {
@@ -192,13 +199,17 @@ fn check_node(
     requires marks { length marks.old ≡ length (chip_of table.now).modules }
     requires older { AreOlder (place + 1) marks.old }
     requires room { depth < length turns.old }
-    requires begins { (left : List NodeCase) × Begins (chip_of table.now) table.now.wires table.now.times.now turns.old depth widths.old.intervals.items (in_case widths.old.intervals.items (node_value node.now) ∷ left) }
-    ensures judged { IsJudged (chip_of table.now) table.now.wires claimed place (in_case widths.old.intervals.items (node_value node.now)) result }
+    requires begins { (left : List NodeCase) × Begins (chip_of table.now) table.now.wires table.now.times.now turns.old depth
+        widths.old.intervals.items (in_case widths.old.intervals.items (node_value node.now) ∷ left) }
+    ensures judged { IsJudged (chip_of table.now) table.now.wires claimed place
+        (in_case widths.old.intervals.items (node_value node.now)) result }
     ensures older { AreOlder (place + 2) marks.new }
     ensures widths { AreWidths table.now.wires (length (chip_of table.now).modules) table.now.times.now widths.new }
     ensures few { IfOk result (λ next. next ≤ depth + 1) }
-    ensures goes_on { (left : List NodeCase) → Begins (chip_of table.now) table.now.wires table.now.times.now turns.old depth widths.old.intervals.items (in_case widths.old.intervals.items (node_value node.now) ∷ left) →
-        IfOk result (λ next. GoesOn (chip_of table.now) table.now.wires table.now.times.now turns.new next widths.new.intervals.items left) }
+    ensures goes_on { (left : List NodeCase) → Begins (chip_of table.now) table.now.wires table.now.times.now turns.old depth
+        widths.old.intervals.items (in_case widths.old.intervals.items (node_value node.now) ∷ left) →
+        IfOk result (λ next. GoesOn (chip_of table.now) table.now.wires table.now.times.now turns.new next
+        widths.new.intervals.items left) }
 {
     let finding = find(table, widths, node, place + 1, marks);
     match judge(claimed, place, finding) {
@@ -223,7 +234,8 @@ pub fn check_nodes(
     requires room { length tree.now.nodes.items ≤ length turns.old }
     requires tree { IsOneTree (map node_value tree.now.nodes.items) }
     ensures widths { AreWidths table.now.wires (length (chip_of table.now).modules) table.now.times.now widths.new }
-    ensures checked { (t : WidthTree) → nodes_of t ≡ map node_value tree.now.nodes.items → IsChecked (chip_of table.now) table.now.wires tree.now.claimed (cases_of (chip_of table.now) widths.old.intervals.items t) result }
+    ensures checked { (t : WidthTree) → nodes_of t ≡ map node_value tree.now.nodes.items →
+        IsChecked (chip_of table.now) table.now.wires tree.now.claimed (cases_of (chip_of table.now) widths.old.intervals.items t) result }
 {
     let mut depth = 0;
     for place in 0..tree.nodes.len() {
