@@ -23,7 +23,7 @@ pub(crate) enum Move {
 
 /// What the moves from a bus are weighed by, all times in cycles.
 #[derive(Drop)]
-pub(crate) struct Weights {
+pub(crate) struct MoveWeights {
     /// The bus that a module is to leave.
     pub bus: usize,
     /// The greatest time of the other buses.
@@ -112,7 +112,7 @@ pub(crate) fn weights_of(
     table: &WidthTable,
     arch: &Arch,
     bus: usize,
-) -> Result<Weights, NoMemory>
+) -> Result<MoveWeights, NoMemory>
     requires sound { IsSoundArch table.now (arch_value arch.now) }
     requires bus { bus < length (arch_value arch.now) }
     ensures bus { IfOk result (λ weights. weights.bus ≡ bus) }
@@ -122,7 +122,7 @@ pub(crate) fn weights_of(
     let besides = times_besides(alloc, times.as_slice(), bus)?;
     let from = &arch.buses[bus];
     let row = times_by_width(alloc, table, from.places.as_slice(), from.width)?;
-    Ok(Weights {
+    Ok(MoveWeights {
         bus,
         others: greatest_besides(times.as_slice(), bus, bus),
         times,
@@ -156,7 +156,7 @@ fn width_of(arch: &Arch, bus: usize) -> u64
 pub(crate) fn cost_to(
     table: &WidthTable,
     arch: &Arch,
-    weights: &Weights,
+    weights: &MoveWeights,
     nth: usize,
     bus: usize,
 ) -> u64
@@ -181,7 +181,7 @@ pub(crate) fn cost_to(
 pub(crate) fn cost_alone(
     table: &WidthTable,
     arch: &Arch,
-    weights: &Weights,
+    weights: &MoveWeights,
     nth: usize,
     width: u64,
 ) -> u64
@@ -218,7 +218,13 @@ fn better(best: Best, cost: u64, choice: Move) -> Best
 }
 
 /// The best move once those of a module to the other buses are looked at too.
-fn with_buses(table: &WidthTable, arch: &Arch, weights: &Weights, nth: usize, best: Best) -> Best
+fn with_buses(
+    table: &WidthTable,
+    arch: &Arch,
+    weights: &MoveWeights,
+    nth: usize,
+    best: Best,
+) -> Best
     requires sound { IsSoundArch table.now (arch_value arch.now) }
     requires weights { AreWeights table.now (arch_value arch.now) weights.now }
     requires nth { nth < length (bus_at (arch_value arch.now) weights.now.bus).places }
@@ -240,7 +246,13 @@ fn with_buses(table: &WidthTable, arch: &Arch, weights: &Weights, nth: usize, be
 }
 
 /// The best move once those of a module to new buses are looked at too.
-fn with_widths(table: &WidthTable, arch: &Arch, weights: &Weights, nth: usize, best: Best) -> Best
+fn with_widths(
+    table: &WidthTable,
+    arch: &Arch,
+    weights: &MoveWeights,
+    nth: usize,
+    best: Best,
+) -> Best
     requires sound { IsSoundArch table.now (arch_value arch.now) }
     requires weights { AreWeights table.now (arch_value arch.now) weights.now }
     requires nth { nth < length (bus_at (arch_value arch.now) weights.now.bus).places }
