@@ -25,7 +25,7 @@ use bound_certificate::best_bound_with;
 use live_tests::Resolved;
 use outside::{NoMemory, Sink};
 use plan_model::{Bound, Limits, Plan, good_plans_run_right};
-use planner::{JobParts, job_with};
+use planner::{JobSource, job_with};
 use resource_table::Job;
 use soc_model::Soc;
 use std::alloc::Global;
@@ -106,7 +106,7 @@ fn job_of_plan(alloc: Global, known: &Known<'_>, given: &Plan) -> Result<Job, No
     ensures sound { IfOk result (λ job. IsSoundJob (job_value job)) }
     ensures tests { IfOk result (λ job. length (job_value job).tests ≡ length (live_tests (soc_value known.now.soc.now))) }
 {
-    let parts = JobParts {
+    let parts = JobSource {
         soc: known.soc,
         limits: known.limits,
         buses: &given.buses,

@@ -28,7 +28,7 @@ use std::alloc::Global;
 
 /// What the job of a plan is made from: a chip, limits, and the buses and wrappers of the plan.
 #[derive(Clone, Copy, Drop)]
-pub struct JobParts<'a> {
+pub struct JobSource<'a> {
     pub soc: &'a Soc,
     pub limits: &'a Limits,
     pub buses: &'a [Bus],
@@ -77,7 +77,7 @@ struct PartPlaces<'a> {
 /// The places of all parts.
 fn part_places<'a>(
     alloc: Global,
-    parts: &JobParts<'_>,
+    parts: &JobSource<'_>,
     resolved: &'a Resolved,
 ) -> Result<PartPlaces<'a>, NoMemory>
     requires resolved { IsResolved (soc_value parts.now.soc.now) parts.now.limits.now resolved.now }
@@ -108,7 +108,12 @@ struct Shared {
 }
 
 /// What the tests of the module at a place share.
-fn shared_of(parts: &JobParts<'_>, places: &PartPlaces<'_>, place: usize, module: &Module) -> Shared
+fn shared_of(
+    parts: &JobSource<'_>,
+    places: &PartPlaces<'_>,
+    place: usize,
+    module: &Module,
+) -> Shared
     requires sound { IsSoundChip (soc_value parts.now.soc.now) }
     requires proper { Keeps (soc_value parts.now.soc.now) (limits_value parts.now.limits.now)
         (settled_parts (map bus_value parts.now.buses.now) (map wrapper_value parts.now.wrappers.now)) Proper }
@@ -134,7 +139,7 @@ fn shared_of(parts: &JobParts<'_>, places: &PartPlaces<'_>, place: usize, module
 /// A live test of a module.
 fn test_of(
     alloc: Global,
-    parts: &JobParts<'_>,
+    parts: &JobSource<'_>,
     places: &PartPlaces<'_>,
     shared: &Shared,
     module: &Module,
@@ -178,7 +183,7 @@ fn test_of(
 fn push_live(
     alloc: Global,
     tests: &mut Vec<JobTest>,
-    parts: &JobParts<'_>,
+    parts: &JobSource<'_>,
     places: &PartPlaces<'_>,
     place: usize,
     module: &Module,
@@ -210,7 +215,7 @@ fn push_live(
 /// The live tests, in the order of the chip, found by the places of all parts.
 fn tests_at(
     alloc: Global,
-    parts: &JobParts<'_>,
+    parts: &JobSource<'_>,
     places: &PartPlaces<'_>,
 ) -> Result<Vec<JobTest>, NoMemory>
     requires sound { IsSoundChip (soc_value parts.now.soc.now) }
@@ -243,7 +248,7 @@ fn tests_at(
 /// The live tests, in the order of the chip.
 fn tests_of(
     alloc: Global,
-    parts: &JobParts<'_>,
+    parts: &JobSource<'_>,
     resolved: &Resolved,
 ) -> Result<Vec<JobTest>, NoMemory>
     requires sound { IsSoundChip (soc_value parts.now.soc.now) }
@@ -266,7 +271,7 @@ fn tests_of(
 /// The job of the live tests, in the order of the chip, each with the cycles that it takes in the wrappers and the bus that
 /// it goes over. Under sound limits it is a sound job, which a schedule can be searched for. `NoMemory` where there is
 /// none.
-pub fn job_of(alloc: Global, parts: &JobParts<'_>) -> Result<Job, NoMemory>
+pub fn job_of(alloc: Global, parts: &JobSource<'_>) -> Result<Job, NoMemory>
     requires sound { IsSoundChip (soc_value parts.now.soc.now) }
     requires wrapped { Keeps (soc_value parts.now.soc.now) (limits_value parts.now.limits.now)
         (settled_parts (map bus_value parts.now.buses.now) (map wrapper_value parts.now.wrappers.now)) Wrappers }
@@ -282,7 +287,7 @@ pub fn job_of(alloc: Global, parts: &JobParts<'_>) -> Result<Job, NoMemory>
 }
 
 /// The same job, where the chip and its limits are resolved already.
-pub fn job_with(alloc: Global, parts: &JobParts<'_>, resolved: &Resolved) -> Result<Job, NoMemory>
+pub fn job_with(alloc: Global, parts: &JobSource<'_>, resolved: &Resolved) -> Result<Job, NoMemory>
     requires sound { IsSoundChip (soc_value parts.now.soc.now) }
     requires wrapped { Keeps (soc_value parts.now.soc.now) (limits_value parts.now.limits.now)
         (settled_parts (map bus_value parts.now.buses.now) (map wrapper_value parts.now.wrappers.now)) Wrappers }

@@ -14,7 +14,7 @@ ghost use Rattle.schedule_search.specs.Estimates.{IsEstimate};
 ghost use Rattle.planner.specs.Jobs.{settled_parts};
 ghost use Rattle.planner.specs.Schedules.{IsFoundSchedule, AreStartsOf, IsFoundList, KeepsTimes};
 
-use crate::job::{JobParts, job_with};
+use crate::job::{JobSource, job_with};
 use live_tests::Resolved;
 use outside::{NoMemory, push};
 use plan_model::{Bus, Limits, Wrapper};
@@ -99,7 +99,7 @@ where
     ensures early { IfOk result (λ s. All (λ (start : TestId × ℕ). start.1 ≤ 10 ^ 18) s.starts.items) }
     ensures short { IfOk result (λ s. s.cycles ≤ 10 ^ 18) }
 {
-    let parts = JobParts {
+    let parts = JobSource {
         soc,
         limits,
         buses,
