@@ -8,7 +8,7 @@ use Rattle.plan_model.specs.Views.{plan_value}
 use Rattle.plan_model.specs.Rules.{Each, HasStart, HasWrapper, HasProperCells, live_ids, used_pairs, pair_of}
 use Rattle.soc_model.specs.SoundChips.{IsSoundChip}
 use Rattle.indexmap.specs.IndexSet.{keys}
-use Rattle.plan_checker.specs.declared.placed.Placing.{Placing}
+use Rattle.plan_checker.specs.declared.placed.PlanLookups.{PlanLookups}
 use Rattle.plan_checker.specs.Listed.{AreBuses, StartEarly}
 use Rattle.plan_checker.specs.Starting.{AreStarts}
 
@@ -27,5 +27,5 @@ pub record IsPlacedBy (soc : Soc) (plan : Plan) (names : List TestId) (starts : 
   pub buses_are : AreBuses (soc_value soc) (plan_value plan) buses
 
 -- the same of what the code has
-abbrev pub IsPlacing : Placing → Type 0
+abbrev pub IsPlacing : PlanLookups → Type 0
 IsPlacing from = IsPlacedBy from.soc.now from.plan.now (keys from.names.now) from.starts.now (keys from.wrappers.now) from.buses.now

@@ -35,7 +35,7 @@ use crate::events::EVENTS_EACH;
 use crate::known::{check_cells, check_known};
 use crate::meetings::{Begin, fill_begins};
 use crate::order::{check_before, check_cycles};
-use crate::placed::{Placing, fill_tests};
+use crate::placed::{PlanLookups, fill_tests};
 use crate::places::check_places;
 use crate::power::{check_power, fill_profiles};
 use crate::starts::check_starts;
@@ -145,7 +145,11 @@ fn check_ends(
 }
 
 /// The tests as the plan places them, once its buses, wrappers and starts have passed.
-fn check_placed(limits: &Limits, from: &Placing<'_>, rooms: &mut PlacedRooms) -> Option<PlanFault>
+fn check_placed(
+    limits: &Limits,
+    from: &PlanLookups<'_>,
+    rooms: &mut PlacedRooms,
+) -> Option<PlanFault>
     requires placing { IsPlacing from.now }
     requires kept { KeptTo (soc_value from.now.soc.now) (limits_value limits.now) (plan_value from.now.plan.now) 7 }
     requires limits { IsSoundLimits (soc_value from.now.soc.now) (limits_value limits.now) }
@@ -225,7 +229,7 @@ pub(crate) fn check_rules(
         ) {
             Some(fault) => Some(fault),
             None => {
-                let from = Placing {
+                let from = PlanLookups {
                     soc,
                     plan,
                     names: &rooms.names,
