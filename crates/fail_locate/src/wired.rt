@@ -154,12 +154,12 @@ fn wired_tests(alloc: Global, chip: &PlannedChip<'_>) -> Result<Vec<WiredTest>, 
 
 /// A chip and a plan for it.
 #[derive(Clone, Copy, Drop)]
-pub struct Placing<'a> {
+pub struct ChipWithPlan<'a> {
     pub soc: &'a Soc,
     pub plan: &'a Plan,
 }
 
-impl<'a> Placing<'a> {
+impl<'a> ChipWithPlan<'a> {
     /// The tests over the wires, in the order of the chip.
     pub fn tests(&self, alloc: Global) -> Result<Vec<WiredTest>, NoMemory>
         requires sound { IsSoundChip (soc_value self.now.soc.now) }
