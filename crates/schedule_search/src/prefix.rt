@@ -29,7 +29,7 @@ pub(crate) struct Prefix {
 
 /// A test that is out of the lists of a prefix, and its place among the tests that are left.
 #[derive(Clone, Copy, Drop)]
-pub(crate) struct Taken {
+pub(crate) struct TakenOut {
     /// The test.
     pub(crate) test: usize,
     /// Its place.
@@ -195,7 +195,7 @@ impl Prefix {
     }
 
     /// Takes the test at a place of the free ones out. It isn't appended yet.
-    pub(crate) fn take_out(&mut self, job: &Job, place: usize) -> Taken
+    pub(crate) fn take_out(&mut self, job: &Job, place: usize) -> TakenOut
         requires at { IsAt (job_value job.now) self.old.tests.items self.old }
         requires within { place < length self.old.free.items }
         ensures out { IsOut (job_value job.now) self.old.tests.items result.test self.new }
@@ -204,7 +204,7 @@ impl Prefix {
         let test = take_at(&mut self.free, place);
         let left = place_left(job, &self.rest, place, test);
         take_at(&mut self.rest, left);
-        Taken { test, left }
+        TakenOut { test, left }
     }
 
     /// Appends a test that was taken out.
@@ -253,7 +253,7 @@ impl Prefix {
     }
 
     /// Puts the test that is out back to its place among the free ones, and takes the one behind it out.
-    fn exchange(&mut self, job: &Job, place: usize, taken: Taken) -> Taken
+    fn exchange(&mut self, job: &Job, place: usize, taken: TakenOut) -> TakenOut
         requires out { IsOut (job_value job.now) self.old.tests.items taken.test self.old }
         requires turn { IsTurn (job_value job.now) self.old.tests.items place taken }
         requires more { place < length self.old.free.items }
@@ -262,11 +262,11 @@ impl Prefix {
     {
         let test = put_for(&mut self.free, place, taken.test);
         let left = pass_left(job, &mut self.rest, taken.left, taken.test, test);
-        Taken { test, left }
+        TakenOut { test, left }
     }
 
     /// Puts the test that is out back to its place among the free ones.
-    fn put_back(&mut self, job: &Job, place: usize, taken: Taken)
+    fn put_back(&mut self, job: &Job, place: usize, taken: TakenOut)
         requires out { IsOut (job_value job.now) self.old.tests.items taken.test self.old }
         requires turn { IsTurn (job_value job.now) self.old.tests.items place taken }
         ensures { IsAt (job_value job.now) self.old.tests.items self.new }
@@ -276,7 +276,7 @@ impl Prefix {
     }
 
     /// Puts the test that is out back to its place among the free ones. Where there is one behind it, that is taken out.
-    pub(crate) fn pass(&mut self, job: &Job, place: usize, taken: Taken) -> Taken
+    pub(crate) fn pass(&mut self, job: &Job, place: usize, taken: TakenOut) -> TakenOut
         requires out { IsOut (job_value job.now) self.old.tests.items taken.test self.old }
         requires turn { IsTurn (job_value job.now) self.old.tests.items place taken }
         ensures out { place + 1 < length (followers (job_value job.now) self.old.tests.items) →
