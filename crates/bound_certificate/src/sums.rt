@@ -7,7 +7,7 @@ ghost use Rattle.bound_certificate.specs.declared.sums.Sum.TheVariants.{Unknown}
 ghost use Rattle.bound_certificate.specs.Nodes.{node_values, AreNodes};
 ghost use Rattle.bound_certificate.specs.Sums.{HasSum, AreRight, GoOn, AreAcyclic, IsUnderWay, AreSums};
 
-use crate::nodes::Node;
+use crate::nodes::PrecedenceNode;
 use outside::{NoMemory, push};
 use std::alloc::Global;
 
@@ -25,7 +25,7 @@ enum Sum {
 /// The greatest sum of a test: its own lower time, and the greatest of the sums of the tests before it. All sums that are
 /// found on the way are noted, so that each is sought once. A call goes one test back, so that no more are open than the
 /// chip has live tests.
-fn greatest_sum(nodes: &[Node], sums: &mut Vec<Sum>, test: usize) -> u128
+fn greatest_sum(nodes: &[PrecedenceNode], sums: &mut Vec<Sum>, test: usize) -> u128
     requires within { test < length nodes.now }
     requires few { length nodes.now < 2 ^ 64 }
     requires long { length sums.old.items ≡ length nodes.now }
@@ -62,7 +62,7 @@ fn unknown_sums(alloc: Global, count: usize) -> Result<Vec<Sum>, NoMemory>
 }
 
 /// The greatest sums of all tests.
-pub fn greatest_sums(alloc: Global, nodes: &[Node]) -> Result<Vec<u128>, NoMemory>
+pub fn greatest_sums(alloc: Global, nodes: &[PrecedenceNode]) -> Result<Vec<u128>, NoMemory>
     requires { AreAcyclic (node_values nodes.now) }
     ensures { IfOk result (λ sums. (soc : SocValue) (limits : LimitsValue) → AreNodes soc limits (node_values nodes.now) →
         AreSums soc limits (node_values nodes.now) sums.items) }
