@@ -12,7 +12,7 @@ ghost use Rattle.width_tree.specs.Walks.{turn_at, case_later, IsTurn, Awaits, Be
 use crate::areas::{Widths, least_area, put};
 use crate::intervals::Interval;
 use crate::leaves::{Finding, find};
-use crate::tables::Table;
+use crate::tables::ChipTimes;
 use crate::{Node, Tree, TreeFault};
 use soc_model::place_of;
 
@@ -54,7 +54,7 @@ fn judge(claimed: u64, place: usize, finding: Finding) -> Result<(), TreeFault>
 /// Begins the first branch of a split at a width, with the narrow case of its module. The answer is how many splits are
 /// under way then.
 fn begin_split(
-    table: &Table<'_>,
+    table: &ChipTimes<'_>,
     widths: &mut Widths,
     turns: &mut [Turn],
     depth: usize,
@@ -98,7 +98,7 @@ fn begin_split(
 }
 
 /// Begins the second branch of the last split that is under way, with the wide case of its module.
-fn begin_second(table: &Table<'_>, widths: &mut Widths, turns: &mut [Turn], last: usize)
+fn begin_second(table: &ChipTimes<'_>, widths: &mut Widths, turns: &mut [Turn], last: usize)
     requires table { IsTable table.now }
     requires widths { AreWidths table.now.wires (length (chip_of table.now).modules) table.now.times.now widths.old }
     requires room { last < length turns.old }
@@ -124,7 +124,7 @@ fn begin_second(table: &Table<'_>, widths: &mut Widths, turns: &mut [Turn], last
 /// After a leaf: takes back the cases of splits of which both branches are over, and begins the second branch of the split
 /// before them. The answer is how many splits are under way then.
 fn next_branch(
-    table: &Table<'_>,
+    table: &ChipTimes<'_>,
     widths: &mut Widths,
     turns: &mut [Turn],
     under_way: usize,
@@ -155,7 +155,7 @@ fn next_branch(
 
 /// Goes on behind a node that keeps its rule. The answer is how many splits are under way then.
 fn go_on(
-    table: &Table<'_>,
+    table: &ChipTimes<'_>,
     node: &Node,
     widths: &mut Widths,
     turns: &mut [Turn],
@@ -184,7 +184,7 @@ fn go_on(
 
 /// Checks the node at a place and goes on behind it. The answer is how many splits are under way then.
 fn check_node(
-    table: &Table<'_>,
+    table: &ChipTimes<'_>,
     claimed: u64,
     node: &Node,
     place: usize,
@@ -221,7 +221,7 @@ fn check_node(
 /// Checks the nodes of a tree one after another, the widths being those of its root. An error is the fault of the first
 /// node that has one.
 pub fn check_nodes(
-    table: &Table<'_>,
+    table: &ChipTimes<'_>,
     tree: &Tree,
     widths: &mut Widths,
     marks: &mut [usize],
