@@ -62,7 +62,7 @@ has_room o characters = nat_le (7 * characters) o.width && is_high o
 abbrev pub fill : (place : ℕ) → List ℕ
 fill place = (97 + place % 4) ∷ []
 
--- what a reader is told of a test: its module, with the name of that, and its number, the cycle at which it starts, and the first one
+-- what the picture says of a test: its module, with the name of that, and its number, the cycle at which it starts, and the first one
 -- after it
 unfoldable pub title_text : (name : List ℕ) → PlacedTest → List ℕ
 title_text name t = codes "<title>module " ++ (decimal t.id.module

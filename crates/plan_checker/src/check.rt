@@ -234,7 +234,7 @@ pub fn first_fault(
 {
     let mut room = Scratch::new(alloc, soc, plan)?;
     let checked = check_plan(soc, limits, plan, &mut room);
-    // let go by a call: an arm below would let go of each of its parts, and be proved for each
+    // dropped by a call: an arm below would drop each of its parts, and be proved for each
     drop(room);
     match checked {
         Ok(()) => Ok(None),

@@ -180,7 +180,7 @@ fn searched_on<T: Sink>(
         &search.found(),
         given.cycles,
     );
-    // let go by a call: the end of the scope would let go of each of its parts, and be proved for each
+    // dropped by a call: the end of the scope would drop each of its parts, and be proved for each
     drop(search);
     plan
 }
@@ -212,7 +212,7 @@ fn searched<T: Sink>(
     }
     let grounds = grounds_of(alloc, known, given)?;
     let plan = searched_on(alloc, known, &grounds, given, tries, seed, told);
-    // let go by a call, as the search is
+    // dropped by a call, as the search is
     drop(grounds);
     plan
 }
@@ -220,7 +220,7 @@ fn searched<T: Sink>(
 /// A plan of no more cycles than the given one has, for the same chip and limits, after so many tries of a search that draws
 /// from a seed; the given plan where none is better. It is good, so that it runs right for every content, and its bound is
 /// the greater of the given one and of the best one at its cycles. Every number of it is in the range of a plan's text, where
-/// the given plan's starts are. From 100,000 tries on `told` is told each tenth of them, with the best cycles so far; a `told`
+/// the given plan's starts are. From 100,000 tries on `told` gets a line at each tenth of them, with the best cycles so far; a `told`
 /// that fails changes nothing else. `NoMemory` where there is none.
 pub fn improved<T: Sink>(
     alloc: Global,

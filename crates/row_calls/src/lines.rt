@@ -39,7 +39,7 @@ pub enum RowLine<'a> {
     Puts {
         shape: &'a str,
     },
-    /// `tells ROOM MOST N ..`: the same for the second output, which is told how far a run has come.
+    /// `tells ROOM MOST N ..`: the same for the second output, on which is reported how far a run has come.
     Tells {
         shape: &'a str,
     },

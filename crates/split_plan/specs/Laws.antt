@@ -65,7 +65,7 @@ pub record HasPatternsOf (parts : List Part) (whole content : Content) : Type 0 
 abbrev pub EachContentInParts : List Part → Type 0
 EachContentInParts parts = (whole : Content) → (content : Content) × HasPatternsOf parts whole content
 
--- the limit that the chip of parts passes first, of tests or of work; want of memory may come at any time
+-- the limit that the chip of parts passes first, of tests or of work; out of memory may come at any time
 abbrev pub IsRefusal : SocValue → SplitFault → Type 0
 IsRefusal parts (Limit which value) = IsFirstPassed parts (record { which = which; value = value }) × ((which ≡ Tests) ⊎ (which ≡ Work))
 IsRefusal parts NoMemory = Unit {0}
