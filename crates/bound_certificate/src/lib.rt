@@ -172,7 +172,8 @@ pub fn check_bound(
     requires sound { IsSoundChip (soc_value soc.now) }
     requires limits { IsSoundLimits (soc_value soc.now) (limits_value limits.now) }
     ensures accepted { OnOk result (IsAccepted (soc_value soc.now) (limits_value limits.now) (bound_value bound.now)) }
-    ensures fault { IfErr result (λ f. IsCertificateFault (soc_value soc.now) (limits_value limits.now) (bound_value bound.now) (certificate_fault f)) }
+    ensures fault { IfErr result (λ f. IsCertificateFault (soc_value soc.now) (limits_value limits.now) (bound_value bound.now)
+        (certificate_fault f)) }
     ensures exact { IsAccepted (soc_value soc.now) (limits_value limits.now) (bound_value bound.now) → result ≡ Ok tt }
     ensures bound { OnOk result (IsBound (soc_value soc.now) (limits_value limits.now) bound.now.cycles) }
 {

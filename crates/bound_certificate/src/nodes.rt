@@ -17,7 +17,7 @@ use std::mem;
 
 /// A live test among its precedences.
 #[derive(Drop)]
-pub struct Node {
+pub struct PrecedenceNode {
     /// The test.
     pub id: TestId,
     /// The cycles that it takes at least on all wires.
@@ -29,7 +29,7 @@ pub struct Node {
 /// Adds the live tests of a module, without precedences.
 fn push_live(
     alloc: Global,
-    nodes: &mut Vec<Node>,
+    nodes: &mut Vec<PrecedenceNode>,
     module: &Module,
     wires: u64,
 ) -> Result<(), NoMemory>
@@ -40,7 +40,7 @@ fn push_live(
     let lower = LowerTimes::new(module);
     for test in &module.tests {
         if live(test) {
-            let node = Node {
+            let node = PrecedenceNode {
                 id: TestId {
                     module: module.number,
                     test: test.number,
@@ -55,7 +55,7 @@ fn push_live(
 }
 
 /// The live tests in the order of the chip, without precedences.
-fn live_nodes(alloc: Global, soc: &Soc, wires: u64) -> Result<Vec<Node>, NoMemory>
+fn live_nodes(alloc: Global, soc: &Soc, wires: u64) -> Result<Vec<PrecedenceNode>, NoMemory>
     requires wires { 1 ≤ wires }
     requires sound { IsSoundChip (soc_value soc.now) }
     ensures { IfOk result (λ nodes. node_values nodes.items ≡ nodes_of_tests (soc_value soc.now) wires) }
@@ -68,7 +68,7 @@ fn live_nodes(alloc: Global, soc: &Soc, wires: u64) -> Result<Vec<Node>, NoMemor
 }
 
 /// Gives each node the tests before it, which stand in these lists.
-fn link(nodes: &mut Vec<Node>, lists: &mut Vec<Neighbours>)
+fn link(nodes: &mut Vec<PrecedenceNode>, lists: &mut Vec<Neighbours>)
     requires { length lists.old.items ≡ length nodes.old.items }
     ensures fixed { fixed_parts (node_values nodes.new.items) ≡ fixed_parts (node_values nodes.old.items) }
     ensures before { (i : ℕ) → i < length nodes.old.items → before_at nodes.new.items i ≡ tests_at lists.old.items i }
@@ -84,7 +84,7 @@ pub fn nodes_of(
     soc: &Soc,
     limits: &Limits,
     precedences: &[(usize, usize)],
-) -> Result<Vec<Node>, NoMemory>
+) -> Result<Vec<PrecedenceNode>, NoMemory>
     requires sound { IsSoundChip (soc_value soc.now) }
     requires wires { 1 ≤ limits.now.wires }
     requires precedences { precedences.now ≡ precedences_of (soc_value soc.now) (limits_value limits.now) }

@@ -139,7 +139,8 @@ fn stands_behind(before: &[(TestId, TestId)], tests: &[TestId], place: usize, pa
     requires later { 1 ≤ place }
     requires within { place < length tests.now }
     requires stated { AreStated before.now tests.now pairs.now }
-    ensures { (a b : TestId) → slice_get tests.now (place - 1) ≡ Some a → slice_get tests.now place ≡ Some b → IsTrue result ↔ Contains before.now (a, b) }
+    ensures { (a b : TestId) → slice_get tests.now (place - 1) ≡ Some a → slice_get tests.now place ≡ Some b →
+        IsTrue result ↔ Contains before.now (a, b) }
 {
     let first = tests[place - 1];
     let second = tests[place];
@@ -156,7 +157,9 @@ fn keeps_chain(soc: &Soc, limits: &Limits, tests: &[TestId], place: usize, pairs
     requires limits { IsSoundLimits (soc_value soc.now) (limits_value limits.now) }
     requires place { place < length tests.now }
     requires stated { AreStated limits.now.before.items tests.now pairs.now }
-    ensures { (id : TestId) → slice_get tests.now place ≡ Some id → MatchBool result (IsChainItem (soc_value soc.now) (limits_value limits.now) (take place tests.now) id) (IsChainItem (soc_value soc.now) (limits_value limits.now) (take place tests.now) id → ⊥) }
+    ensures { (id : TestId) → slice_get tests.now place ≡ Some id →
+        MatchBool result (IsChainItem (soc_value soc.now) (limits_value limits.now) (take place tests.now) id)
+        (IsChainItem (soc_value soc.now) (limits_value limits.now) (take place tests.now) id → ⊥) }
 {
     if live_time(soc, tests[place], limits.wires).is_none() {
         return false;

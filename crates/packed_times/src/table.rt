@@ -59,7 +59,8 @@ fn tam_row(
     requires flops { flops ≡ sum «module».now.chains.items }
     requires lengths { lengths.now ≡ map (packed «module».now.chains.items) (range_with_len 1 (length lengths.now)) }
     ensures { IfOk result (λ row.
-        row.items ≡ map (λ w. tam_times_of (module_value «module».now) w «module».now.tests.items) (range_with_len 1 (length lengths.now))) }
+        row.items ≡ map (λ w. tam_times_of (module_value «module».now) w «module».now.tests.items)
+        (range_with_len 1 (length lengths.now))) }
 {
     let mut row = Vec::new(alloc);
     for place in 0..lengths.len() {

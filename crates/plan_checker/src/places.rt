@@ -64,7 +64,8 @@ fn listed_twice(soc: &Soc, buses: &[Bus], marks: &mut [usize]) -> Option<u64>
     requires known { EachOf (Contains (numbers (soc_value soc.now))) (flat_map (λ (b : BusValue). b.modules) (map bus_value buses.now)) }
     requires room { length marks.old ≡ length (numbers (soc_value soc.now)) }
     ensures new { IfNone result (Each IsNew (flat_map (λ (b : BusValue). b.modules) (map bus_value buses.now))) }
-    ensures first { IfSome result (λ m. (n : ℕ) × IsFirstBreach IsNew (flat_map (λ (b : BusValue). b.modules) (map bus_value buses.now)) n m) }
+    ensures first { IfSome result (λ m. (n : ℕ) × IsFirstBreach IsNew
+        (flat_map (λ (b : BusValue). b.modules) (map bus_value buses.now)) n m) }
     ensures marked { IfNone result (AreBusesBy (numbers (soc_value soc.now)) (map bus_value buses.now) marks.new) }
 {
     let count = buses.len();
@@ -81,7 +82,8 @@ fn listed_twice(soc: &Soc, buses: &[Bus], marks: &mut [usize]) -> Option<u64>
 /// The first module with a test over the wires that is on no bus.
 fn unplaced(soc: &Soc, marks: &[usize], count: usize) -> Option<u64>
     requires { length marks.now ≡ length (soc_value soc.now).modules }
-    ensures { (plan : PlanValue) → AreBusesBy (numbers (soc_value soc.now)) plan.buses marks.now → count ≡ length plan.buses → IsFirstUnplaced (soc_value soc.now) plan result }
+    ensures { (plan : PlanValue) → AreBusesBy (numbers (soc_value soc.now)) plan.buses marks.now → count ≡ length plan.buses →
+        IsFirstUnplaced (soc_value soc.now) plan result }
 {
     for (place, bus) in marks.iter().enumerate() {
         if *bus < count {

@@ -39,7 +39,8 @@ fn text_of<T: Sink>(
     requires limits { IsSoundLimits (soc_value all.soc) (limits_value all.limits) }
     requires live { IfSome all.live (λ tests. tests ≡ live_ids (soc_value all.soc)) }
     requires given { IsFaultless (soc_value all.soc) (limits_value all.limits) (plan_value all.plan) }
-    ensures text { IfOk result (λ text. (value : PlanValue) × IsImproved (soc_value all.soc) (limits_value all.limits) tries (plan_value all.plan) value × (text.items ≡ plan_text value)) }
+    ensures text { IfOk result (λ text. (value : PlanValue)
+        × IsImproved (soc_value all.soc) (limits_value all.limits) tries (plan_value all.plan) value × (text.items ≡ plan_text value)) }
     ensures faults_never_fall { T.faults told.old ≤ T.faults told.new }
     ensures quiet { tries < TOLD_FROM → told.new ≡ told.old }
     ensures told { MayTell tries (T.written told.old) (T.written told.new) }
@@ -75,7 +76,8 @@ fn decide_improve<H: Shelf, T: Sink>(
     ensures held_stays { H.held shelf.new ≡ H.held shelf.old }
     ensures faults_never_fall { H.faults shelf.old ≤ H.faults shelf.new }
     ensures told_faults_never_fall { T.faults told.old ≤ T.faults told.new }
-    ensures follows { Follows (procedure_of (Improve soc.now limits.now plan.now tries seed)) (H.held shelf.old) (H.faults shelf.old) (H.faults shelf.new) result }
+    ensures follows { Follows (procedure_of (Improve soc.now limits.now plan.now tries seed)) (H.held shelf.old) (H.faults shelf.old)
+        (H.faults shelf.new) result }
     ensures quiet { tries < TOLD_FROM → told.new ≡ told.old }
     ensures told { MayTell tries (T.written told.old) (T.written told.new) }
 {
@@ -95,7 +97,8 @@ pub(crate) fn decide<H: Shelf, T: Sink>(
     ensures held_stays { H.held shelf.new ≡ H.held shelf.old }
     ensures faults_never_fall { H.faults shelf.old ≤ H.faults shelf.new }
     ensures told_faults_never_fall { T.faults told.old ≤ T.faults told.new }
-    ensures decides { Decides (asked procedure_of (asked_command (map string_bytes words.now))) (H.held shelf.old) (H.faults shelf.old) (H.faults shelf.new) result }
+    ensures decides { Decides (asked procedure_of (asked_command (map string_bytes words.now))) (H.held shelf.old) (H.faults shelf.old)
+        (H.faults shelf.new) result }
     ensures untouched { (IsCommand (asked procedure_of (asked_command (map string_bytes words.now))) → ⊥) → shelf.new ≡ shelf.old }
     ensures quiet { IsQuiet (asked_command (map string_bytes words.now)) → told.new ≡ told.old }
     ensures told { MayTellOf (asked_command (map string_bytes words.now)) (T.written told.old) (T.written told.new) }

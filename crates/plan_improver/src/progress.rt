@@ -1,4 +1,4 @@
-//! How far a search is, told as it goes.
+//! How far a search is, reported as it goes.
 ghost use Rattle.std.specs.Prelude.{◌≡◌, ◌<◌, ◌≤◌, OnOk};
 ghost use Rattle.plan_improver.specs.declared.progress.TheConstants.{TOLD_FROM};
 ghost use Rattle.plan_improver.specs.Told.{MayAdd, MayTell, told_line};
@@ -7,7 +7,7 @@ use arch_search::Search;
 use outside::{NoMemory, Sink, WriteFault, extend, push_number, put_all};
 use std::alloc::Global;
 
-/// From so many tries on it is told how far they are.
+/// From so many tries on it is reported how far they are.
 const TOLD_FROM: u64 = 100_000;
 /// How often.
 const PARTS: u64 = 10;
@@ -49,7 +49,7 @@ fn tell<T: Sink>(told: &mut T, line: &mut Vec<u8>, tries: u64, cycles: u64)
     }
 }
 
-/// Tries so many changes. Where they are many, each tenth of them is told.
+/// Tries so many changes. Where they are many, each tenth of them is reported.
 pub(crate) fn run_told<T: Sink>(
     search: &mut Search<'_>,
     tries: u64,

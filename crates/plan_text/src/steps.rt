@@ -301,7 +301,7 @@ fn step_test(part: &mut Part, cycles: u64, mut tests: Vec<TestId>, test: TestId)
     Ok(())
 }
 
-/// Ends a step: puts the next part in place of this one. Each place that writes a part also lets go of whatever the old one may
+/// Ends a step: puts the next part in place of this one. Each place that writes a part also drops whatever the old one may
 /// own, and is proved for all of it, so one function writes. In its caller's place no whole part is moved through memory for
 /// each word.
 #[inline(always)]

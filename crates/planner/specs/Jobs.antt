@@ -9,7 +9,8 @@ use Rattle.resource_table.specs.Jobs.{TestValue, JobValue}
 
 -- a plan of which only the buses and the wrappers are settled
 abbrev pub settled_parts : List BusValue → List WrapperValue → PlanValue
-settled_parts buses wrappers = record { buses = buses; wrappers = wrappers; starts = []; cycles = 0; bound = record { cycles = 0; why = OfArea } }
+settled_parts buses wrappers =
+    record { buses = buses; wrappers = wrappers; starts = []; cycles = 0; bound = record { cycles = 0; why = OfArea } }
 
 -- a test's power in steps: those of its profile, or its own power at every cycle
 abbrev pub steps_of : LimitsValue → TestId → ℕ → List (ℕ × ℕ)

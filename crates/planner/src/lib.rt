@@ -8,7 +8,7 @@ mod planning;
 mod schedule;
 mod wrappers;
 
-pub use job::{JobParts, job_of, job_with};
+pub use job::{JobSource, job_of, job_with};
 use outside::NoMemory;
 pub use planning::{plan, plan_with};
 pub use wrappers::{table_wrappers, width_of};

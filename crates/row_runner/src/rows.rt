@@ -3,7 +3,7 @@
 use crate::comparing::{are_same, takes_fewer};
 use crate::keeping::keep_lines;
 use crate::real_files::{hold_data, run_of_real_files, what_a_load_answers};
-use crate::report::Report;
+use crate::report::RowReport;
 use crate::runs::run_of_command;
 use outside::{Loaded, NoMemory, RealShelf, Shelf, copied};
 use row_calls::{
@@ -62,7 +62,7 @@ fn is_wanted(rig: &Rig, wanted: &str, answer: &[u8]) -> bool {
 fn said_of_line<R: Files + AllocGlobal>(
     rt: &R,
     rig: &mut Rig,
-    report: &mut Report,
+    report: &mut RowReport,
     line: Line<'_>,
 ) -> Result<Option<Vec<u8>>, NoMemory> {
     match line {
@@ -98,7 +98,7 @@ fn said_of_line<R: Files + AllocGlobal>(
 /// Goes by the lines of a file of rows.
 pub fn take_file<R: Files + AllocGlobal>(
     rt: &R,
-    report: &mut Report,
+    report: &mut RowReport,
     name: &str,
 ) -> Result<(), NoMemory> {
     let mut shelf = RealShelf::new(rt);

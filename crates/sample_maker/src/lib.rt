@@ -41,7 +41,10 @@ impl From<NoMemory> for SampleFault {
 /// Adds a module last. `NoMemory` where there is none for it.
 fn add(soc: &mut Soc, module: Module) -> Result<(), NoMemory>
     requires new { has_module_number (soc_value soc.old) «module».number ≡ false }
-    ensures { OnOk result (soc_value soc.new ≡ record (soc_value soc.old) { keys = (soc_value soc.old).keys ++ «module».number ∷ []; modules = (soc_value soc.old).modules ++ module_value «module» ∷ [] }) }
+    ensures { OnOk result (soc_value soc.new ≡ record (soc_value soc.old) {
+      keys = (soc_value soc.old).keys ++ «module».number ∷ [];
+      modules = (soc_value soc.old).modules ++ module_value «module» ∷ [];
+    }) }
 {
     match soc.put(module) {
         Ok(()) => Ok(()),
@@ -93,8 +96,8 @@ fn make_chip(alloc: Global, n: u64, seed: u64) -> Result<Soc, NoMemory>
 }
 
 /// The made chip of so many modules, 1 to [`SAMPLE_MODULES_MOST`], and a seed: a sound chip whose module 0 has nothing, and
-/// whose other modules have up to nine scan chains, a test over the wires, and some a self test; none draws more than 99. `SampleSize` comes exactly
-/// where the number of modules is 0 or more than that; `NoMemory` where there is no memory for the chip.
+/// whose other modules have up to nine scan chains, a test over the wires, and some a self test; none draws more than 99. `SampleSize`
+/// comes exactly where the number of modules is 0 or more than that; `NoMemory` where there is no memory for the chip.
 pub fn sample(alloc: Global, n: u64, seed: u64) -> Result<Soc, SampleFault>
     requires seed { seed < 10 ^ 12 }
     ensures chip { IfOk result (λ soc. soc_value soc ≡ made_chip n seed) }

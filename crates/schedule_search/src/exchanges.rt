@@ -82,7 +82,8 @@ fn exchange_from<J>(
     requires topological { IsTopological (job_value job.now) order.old }
     ensures fewer { IfSome result (TakesFewer (job_value job.now) (length order.old) cycles order.new) }
     ensures stays { IfNone result (order.new ≡ order.old) }
-    ensures none_helps { IfNone result ((later : ℕ) → place ≤ later → later + 1 < length order.old → NoGainAt (job_value job.now) order.old later cycles) }
+    ensures none_helps { IfNone result ((later : ℕ) → place ≤ later → later + 1 < length order.old →
+        NoGainAt (job_value job.now) order.old later cycles) }
     ensures table { table.new ≡ table.old }
 {
     if place + 1 == order.len() {

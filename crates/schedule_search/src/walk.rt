@@ -45,7 +45,8 @@ pub(crate) struct Seen {
 /// Enters one prefix more, where the budget isn't spent; else notes the refusal.
 fn enter(progress: &mut Progress, budget: u64) -> bool
     requires { progress.old.entered ≤ budget }
-    ensures entered { result ≡ true → (progress.old.entered < budget) × (progress.new ≡ record progress.old { entered = progress.old.entered + 1 }) }
+    ensures entered { result ≡ true → (progress.old.entered < budget)
+        × (progress.new ≡ record progress.old { entered = progress.old.entered + 1 }) }
     ensures refused { result ≡ false → (progress.old.entered ≡ budget) × (progress.new ≡ record progress.old { refused = true }) }
 {
     if progress.entered == budget {
@@ -59,7 +60,8 @@ fn enter(progress: &mut Progress, budget: u64) -> bool
 /// Takes an order for the best one, if it takes fewer cycles.
 fn offer(progress: &mut Progress, order: &[usize], cycles: u64)
     requires { length order.now ≤ vec_capacity progress.old.best }
-    ensures fewer { cycles < progress.old.cycles → stand_of progress.new ≡ record (stand_of progress.old) { best = order.now; cycles = cycles } }
+    ensures fewer { cycles < progress.old.cycles → stand_of progress.new
+        ≡ record (stand_of progress.old) { best = order.now; cycles = cycles } }
     ensures kept { progress.old.cycles ≤ cycles → progress.new ≡ progress.old }
     ensures room { vec_capacity progress.new.best ≡ vec_capacity progress.old.best }
 {
@@ -97,7 +99,8 @@ fn ends_late<J, E: Estimate<J>>(
     requires job { table.old.job ≡ job_value job.now }
     requires estimates { E.estimates ahead.now }
     requires asked { CanAsk table.old test }
-    ensures late { result ≡ true → (start : ℕ) → IsEarliest table.old.job table.old.placed test start → cycles ≤ start + cycles_of table.old.job test }
+    ensures late { result ≡ true → (start : ℕ) → IsEarliest table.old.job table.old.placed test start →
+        cycles ≤ start + cycles_of table.old.job test }
     ensures in_time { result ≡ false → ready_at table.old.job table.old.placed test + cycles_of table.old.job test < cycles }
     ensures same { table.new ≡ table.old }
 {
@@ -207,7 +210,8 @@ fn ends_late_after<J, E: Estimate<J>>(
     requires seen { IfSome seen (IsSeen table.old) }
     requires calm { IfSome calm (IsCalm table.old.job table.old.placed most) }
     requires at_last { IfSome calm (λ from. from ≤ last_end table.old.job table.old.placed) }
-    ensures late { result ≡ true → (start : ℕ) → IsEarliest table.old.job table.old.placed test start → cycles ≤ start + cycles_of table.old.job test }
+    ensures late { result ≡ true → (start : ℕ) → IsEarliest table.old.job table.old.placed test start →
+        cycles ≤ start + cycles_of table.old.job test }
     ensures in_time { result ≡ false → ready_at table.old.job table.old.placed test + cycles_of table.old.job test < cycles }
     ensures same { table.new ≡ table.old }
 {
@@ -360,7 +364,9 @@ fn go_on<J, E: Estimate<J>>(
     ensures best_room { vec_capacity progress.new.best ≡ vec_capacity progress.old.best }
     ensures within { progress.new.entered ≤ tries.now.budget }
     ensures best { IsBest (job_value job.now) (stand_of progress.new) }
-    ensures explored { Explored (job_value job.now) tries.now.budget (walk_from (job_value job.now) (length (job_value job.now).tests - length prefix.old.tests.items - 1) (prefix.old.tests.items ++ test ∷ [])) (stand_of progress.old) (stand_of progress.new) }
+    ensures explored { Explored (job_value job.now) tries.now.budget
+        (walk_from (job_value job.now) (length (job_value job.now).tests - length prefix.old.tests.items - 1)
+        (prefix.old.tests.items ++ test ∷ [])) (stand_of progress.old) (stand_of progress.new) }
 {
     list_schedules_are_short();
     let start = table.noted_start(test);
@@ -416,7 +422,9 @@ pub(crate) fn explore<J, E: Estimate<J>>(
     ensures best_room { vec_capacity progress.new.best ≡ vec_capacity progress.old.best }
     ensures within { progress.new.entered ≤ tries.now.budget }
     ensures best { IsBest (job_value job.now) (stand_of progress.new) }
-    ensures explored { Explored (job_value job.now) tries.now.budget (walk_from (job_value job.now) (length (job_value job.now).tests - length prefix.old.tests.items) prefix.old.tests.items) (stand_of progress.old) (stand_of progress.new) }
+    ensures explored { Explored (job_value job.now) tries.now.budget
+        (walk_from (job_value job.now) (length (job_value job.now).tests - length prefix.old.tests.items) prefix.old.tests.items)
+        (stand_of progress.old) (stand_of progress.new) }
 {
     if !enter(progress, tries.budget) {
         return;

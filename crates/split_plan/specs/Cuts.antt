@@ -20,7 +20,8 @@ part_size most t = if is_tam t then most else t.patterns
 
 -- the most that a test draws: the greatest power of its profile, its own where it has none
 abbrev pub peak : LimitsValue → TestId → (own : ℕ) → ℕ
-peak limits id own = of_first (λ (p : ProfileValue). same_test id p.test) (λ p. greatest (map (λ (s : ℕ × ℕ). s.1) p.steps)) own limits.profiles
+peak limits id own =
+    of_first (λ (p : ProfileValue). same_test id p.test) (λ p. greatest (map (λ (s : ℕ × ℕ). s.1) p.steps)) own limits.profiles
 
 -- the power of each part: a test of one part keeps its own
 abbrev pub part_power : LimitsValue → TestId → Test → (count : ℕ) → ℕ
@@ -77,7 +78,8 @@ patterns_of c k = min c.size (c.test.patterns - k * c.size)
 
 -- the test that a part is
 abbrev pub part_test : Cut × ℕ → Test
-part_test e = record { number = e.0.number + e.1; scan = e.0.test.scan; tam = e.0.test.tam; patterns = patterns_of e.0 e.1; power = e.0.power }
+part_test e =
+    record { number = e.0.number + e.1; scan = e.0.test.scan; tam = e.0.test.tam; patterns = patterns_of e.0 e.1; power = e.0.power }
 
 -- the patterns of a part, from the first to the last, counted from 1
 abbrev pub part_at : Cut × ℕ → Part

@@ -25,7 +25,8 @@ pub record IsInOnePart (parts : List Part) (id : TestId) (n : ℕ) : Type 0 wher
 
 -- each pattern of each live test is in exactly one part
 abbrev pub EachPatternOnce : SocValue → List Part → Type 0
-EachPatternOnce soc parts = (i : ℕ) (l : LiveTest) (n : ℕ) → slice_get (live_tests soc) i ≡ Some l → 1 ≤ n → n ≤ l.test.patterns → IsInOnePart parts (id_of l) n
+EachPatternOnce soc parts =
+    (i : ℕ) (l : LiveTest) (n : ℕ) → slice_get (live_tests soc) i ≡ Some l → 1 ≤ n → n ≤ l.test.patterns → IsInOnePart parts (id_of l) n
 
 -- A part: a run of patterns of a live test, and a live test of the chip of parts that is its like, in a module at the same
 -- place with the same cells.
@@ -55,14 +56,16 @@ pub record AreParts (soc parts : SocValue) (list : List Part) : Type 0 where
 -- A content of the parts has the patterns of a content of the chip that is cut: pattern `k` of a part is that of its test with
 -- the number `first + k - 1`. Its bits at first may be any.
 pub record HasPatternsOf (parts : List Part) (whole content : Content) : Type 0 where
-  pub stimulus : (i : ℕ) (p : Part) (k : ℕ) (x : Cell) → slice_get parts i ≡ Some p → 1 ≤ k → content.stimulus p.part k x ≡ whole.stimulus p.whole (p.first + k - 1) x
-  pub response : (i : ℕ) (p : Part) (k : ℕ) (x : Cell) → slice_get parts i ≡ Some p → 1 ≤ k → content.response p.part k x ≡ whole.response p.whole (p.first + k - 1) x
+  pub stimulus : (i : ℕ) (p : Part) (k : ℕ) (x : Cell) → slice_get parts i ≡ Some p → 1 ≤ k →
+      content.stimulus p.part k x ≡ whole.stimulus p.whole (p.first + k - 1) x
+  pub response : (i : ℕ) (p : Part) (k : ℕ) (x : Cell) → slice_get parts i ≡ Some p → 1 ≤ k →
+      content.response p.part k x ≡ whole.response p.whole (p.first + k - 1) x
 
 -- for each content of the chip that is cut there is one of the parts with its patterns
 abbrev pub EachContentInParts : List Part → Type 0
 EachContentInParts parts = (whole : Content) → (content : Content) × HasPatternsOf parts whole content
 
--- the limit that the chip of parts passes first, of tests or of work; want of memory may come at any time
+-- the limit that the chip of parts passes first, of tests or of work; out of memory may come at any time
 abbrev pub IsRefusal : SocValue → SplitFault → Type 0
 IsRefusal parts (Limit which value) = IsFirstPassed parts (record { which = which; value = value }) × ((which ≡ Tests) ⊎ (which ≡ Work))
 IsRefusal parts NoMemory = Unit {0}

@@ -52,7 +52,8 @@ kept_profile (Some c) p = if nat_le c.count 1 then record { test = part_id c 0; 
 kept_profile None p = []
 
 abbrev pub precedences_of : List Cut → List (TestId × TestId) → List (TestId × TestId)
-precedences_of cuts before = flat_map chain cuts ++ flat_map (λ (p : TestId × TestId). joined (cut_named cuts p.0) (cut_named cuts p.1)) before
+precedences_of cuts before =
+    flat_map chain cuts ++ flat_map (λ (p : TestId × TestId). joined (cut_named cuts p.0) (cut_named cuts p.1)) before
 
 abbrev pub profiles_of : List Cut → List ProfileValue → List ProfileValue
 profiles_of cuts profiles = flat_map (λ (p : ProfileValue). kept_profile (cut_named cuts p.test) p) profiles
@@ -66,4 +67,5 @@ split_limits limits most soc = record limits {
 
 -- all three
 abbrev pub split_of : SocValue → LimitsValue → (most : ℕ) → SplitValue
-split_of soc limits most = record { soc = split_chip limits most soc; limits = split_limits limits most soc; parts = split_parts limits most soc }
+split_of soc limits most =
+    record { soc = split_chip limits most soc; limits = split_limits limits most soc; parts = split_parts limits most soc }

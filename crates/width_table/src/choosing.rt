@@ -39,8 +39,10 @@ impl Choices {
     /// The choice at a width.
     pub fn at(&self, width: u64) -> Choice
         requires some { 1 ≤ width }
-        requires within { (m : ModuleValue) × (scan : Bool) × (wires : ℕ) × AreChoices m scan wires self.now.taken.items self.now.places.items × (width ≤ wires) }
-        ensures { (m : ModuleValue) (scan : Bool) (wires : ℕ) → AreChoices m scan wires self.now.taken.items self.now.places.items → width ≤ wires → IsChoice m scan width result }
+        requires within { (m : ModuleValue) × (scan : Bool) × (wires : ℕ)
+            × AreChoices m scan wires self.now.taken.items self.now.places.items × (width ≤ wires) }
+        ensures { (m : ModuleValue) (scan : Bool) (wires : ℕ) → AreChoices m scan wires self.now.taken.items self.now.places.items →
+            width ≤ wires → IsChoice m scan width result }
     {
         let place = self.places[(width - 1) as usize];
         self.taken[place as usize]

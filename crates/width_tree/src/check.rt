@@ -15,7 +15,7 @@ ghost use Rattle.width_tree.specs.Walks.{HasRoom};
 use crate::areas::{Widths, least_area};
 use crate::intervals::{Interval, fill_root};
 use crate::laws::{accepted_trees_are_bounds, accepted_trees_have_no_fault};
-use crate::tables::{ROW_WIDTHS, Table, fill_own_times, fill_times};
+use crate::tables::{ChipTimes, ROW_WIDTHS, fill_own_times, fill_times};
 use crate::walk::{Turn, check_nodes};
 use crate::{Tree, TreeFault};
 use outside::NoMemory;
@@ -92,7 +92,7 @@ impl TreeRoom {
 }
 
 /// Writes the least area of each module within its interval.
-fn fill_areas(table: &Table<'_>, intervals: &[Interval], areas: &mut [u128])
+fn fill_areas(table: &ChipTimes<'_>, intervals: &[Interval], areas: &mut [u128])
     requires table { IsTable table.now }
     requires intervals { AreIntervals table.now.wires (length (chip_of table.now).modules) intervals.now }
     requires room { length areas.old ≡ length (chip_of table.now).modules }
@@ -112,7 +112,7 @@ fn sum_of(areas: &[u128]) -> u128
 }
 
 /// Writes the intervals of the root and the least areas within them. The answer is the sum of the areas.
-fn fill_slices(table: &Table<'_>, intervals: &mut [Interval], areas: &mut [u128]) -> u128
+fn fill_slices(table: &ChipTimes<'_>, intervals: &mut [Interval], areas: &mut [u128]) -> u128
     requires table { IsTable table.now }
     requires intervals { length intervals.old ≡ length (chip_of table.now).modules }
     requires areas { length areas.old ≡ length (chip_of table.now).modules }
@@ -126,7 +126,7 @@ fn fill_slices(table: &Table<'_>, intervals: &mut [Interval], areas: &mut [u128]
 }
 
 /// The widths of the root, with their areas.
-fn fill_widths(table: &Table<'_>, widths: &mut Widths)
+fn fill_widths(table: &ChipTimes<'_>, widths: &mut Widths)
     requires table { IsTable table.now }
     requires intervals { length widths.old.intervals.items ≡ length (chip_of table.now).modules }
     requires areas { length widths.old.areas.items ≡ length (chip_of table.now).modules }
@@ -157,13 +157,14 @@ fn check_in(
     requires areas { length widths.old.areas.items ≡ length (soc_value soc.now).modules }
     requires marks { length marks.old ≡ length (soc_value soc.now).modules }
     requires turns { length tree.now.nodes.items ≤ length turns.old }
-    ensures checked { (t : WidthTree) → nodes_of t ≡ map node_value tree.now.nodes.items → IsChecked (soc_value soc.now) wires tree.now.claimed (cases_of (soc_value soc.now) (root_case (soc_value soc.now) wires) t) result }
+    ensures checked { (t : WidthTree) → nodes_of t ≡ map node_value tree.now.nodes.items →
+        IsChecked (soc_value soc.now) wires tree.now.claimed (cases_of (soc_value soc.now) (root_case (soc_value soc.now) wires) t) result }
     ensures intervals { length widths.new.intervals.items ≡ length widths.old.intervals.items }
     ensures areas { length widths.new.areas.items ≡ length widths.old.areas.items }
 {
     fill_times(soc, wires, times);
     fill_own_times(soc, wires, own);
-    let table = Table {
+    let table = ChipTimes {
         soc,
         wires,
         times,

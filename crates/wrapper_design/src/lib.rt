@@ -37,7 +37,11 @@ use std::alloc::{AllocError, Global};
 pub fn design(alloc: Global, module: &Module, scan: bool, width: u64) -> Result<Wrapper, NoMemory>
     requires small { module_size (module_value «module».now) ≤ 10 ^ 18 }
     requires some_wire { 1 ≤ width }
-    ensures designed { IfOk result (λ w. wrapper_value w ≡ record { «module» = «module».now.number; scan = scan; chains = design (mode_of (module_value «module».now) scan) width }) }
+    ensures designed { IfOk result (λ w. wrapper_value w ≡ record {
+      «module» = «module».now.number;
+      scan = scan;
+      chains = design (mode_of (module_value «module».now) scan) width;
+    }) }
     ensures width { IfOk result (λ w. length (wrapper_value w).chains ≡ width) }
     ensures proper { IfOk result (λ w. IsProper (module_value «module».now) scan (wrapper_value w).chains) }
     ensures balanced { IfOk result (λ w. IsBalanced (mode_of (module_value «module».now) scan) (wrapper_value w).chains) }

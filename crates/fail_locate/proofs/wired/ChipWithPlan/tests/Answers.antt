@@ -4,7 +4,7 @@ use Rattle.soc_model.specs.Chips.{soc_value}
 use Rattle.plan_model.specs.Plans.{PlanValue, planned}
 use Rattle.plan_model.specs.Rules.{IsGoodAlone}
 use Rattle.fail_locate.specs.Wired.{AreWired}
-use Rattle.fail_locate.proofs.wired.Placing.tests.Goals as goal
+use Rattle.fail_locate.proofs.wired.ChipWithPlan.tests.Goals as goal
 
 pub wired_tests-requires-clause-good : goal.wired_tests-requires-clause-good
 wired_tests-requires-clause-good c = subst (λ (plan : PlanValue). IsGoodAlone (soc_value c.args.self.now.soc.now) plan) (sym c.in_ok-index.ensures) c.requires.good
