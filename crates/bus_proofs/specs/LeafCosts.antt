@@ -1,5 +1,5 @@
 -- What a leaf weighs, made ready for sums over tests.
-use Rattle.std.specs.Prelude.{◌≡◌, ℕ, ◌+◌, ◌*◌, ◌^◌, ◌<◌, ◌≤◌, ◌&&◌, Bool, true, false, not, Option, Some, List, length, slice_get, slice_index, vec_capacity, if◌then◌else◌}
+use Rattle.std.specs.Prelude.{◌≡◌, ℕ, ◌+◌, ◌*◌, ◌^◌, ◌<◌, ◌≤◌, ◌&&◌, Bool, true, false, not, Option, Some, List, [], length, slice_get, slice_index, vec_capacity, if◌then◌else◌}
 use Rattle.std.specs.List.{All, sum_by}
 use Rattle.soc_model.specs.Chips.{SocValue, LiveTest, live_tests}
 use Rattle.plan_model.specs.Plans.{LimitsValue}
@@ -94,6 +94,12 @@ pub record IsWeighed (g : Basis) (weights : WeightsValue) (room : Weighed) : Typ
   pub made : IsMade g weights.lists room
   pub rooms : room.rooms ≡ weighed (lists_of g) weights room_of
   pub few_rooms : room.rooms ≤ 2 ^ 24 * 10 ^ 9 * 4096
+
+-- the test at a place uses nothing: no list that it is in has a weight, and none that tests may be beside or draw of
+pub record IsIdle (room : Weighed) (i : ℕ) : Type 0 where
+  pub sum : slice_index room.sums.items i ≡ 0
+  pub beside : room.beside.items ≡ []
+  pub power : room.power.items ≡ []
 
 -- ---- what tests cost
 

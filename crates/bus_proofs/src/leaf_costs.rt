@@ -1,5 +1,5 @@
 //! What modules cost at the weights of a leaf: their times at the rates of buses, and their uses of lists.
-ghost use Rattle.std.specs.Prelude.{◌≡◌, ◌^◌, ◌*◌, ◌+◌, ◌/◌, ◌<◌, ◌≤◌, ℕ, Some, List, [], ◌∷◌, ◌++◌, IfOk, length, drop, position, slice_get, slice_index, vec_capacity};
+ghost use Rattle.std.specs.Prelude.{◌≡◌, ◌^◌, ◌*◌, ◌+◌, ◌/◌, ◌<◌, ◌≤◌, ℕ, true, Some, List, [], ◌∷◌, ◌++◌, IfOk, length, drop, position, slice_get, slice_index, vec_capacity};
 ghost use Rattle.std.specs.List.{All, sum_by};
 ghost use Rattle.soc_model.specs.Chips.{LiveTest, id_of, live_tests, module_value, same_test};
 ghost use Rattle.plan_model.specs.declared.Profile.{Profile};
@@ -12,7 +12,7 @@ ghost use Rattle.bus_proofs.specs.Lists.{IsNear, counted as the_counted, power_u
 ghost use Rattle.bus_proofs.specs.Leaves.{cost, is_rank as the_rank, self_use, slot, weighed};
 ghost use Rattle.bus_proofs.specs.ListTables.{role_at as the_role};
 ghost use Rattle.bus_proofs.specs.Bases.{IsBasis, AllKept, chip_of, limits_of, lists_of};
-ghost use Rattle.bus_proofs.specs.LeafCosts.{AreUses, IsMade, IsWeighed, HasSpaceFor, LEAF_COST_MOST, USES_COST_MOST, beside_use, drawn_use, in_weight, is_over as the_over, kind_cost as the_kind_cost};
+ghost use Rattle.bus_proofs.specs.LeafCosts.{AreUses, IsMade, IsIdle, IsWeighed, HasSpaceFor, LEAF_COST_MOST, USES_COST_MOST, beside_use, drawn_use, in_weight, is_over as the_over, kind_cost as the_kind_cost};
 
 use crate::basis::Basis;
 use crate::list_table::{ListTable, Role};
@@ -381,6 +381,20 @@ fn test_uses(
     inside + beside + drawn
 }
 
+/// Whether the live test at a place is in no list that has a weight, and none has one that is beside tests or of power.
+fn is_idle(room: &Weighed, test: usize) -> bool
+    requires { test < length room.now.sums.items }
+    ensures { result ≡ true → IsIdle room.now test }
+{
+    if room.sums[test] > 0 {
+        return false;
+    }
+    if !room.beside.is_empty() {
+        return false;
+    }
+    room.power.is_empty()
+}
+
 /// What the live test at a place costs where it is over the wires, or a self test, as is asked for.
 fn kind_cost(
     basis: &Basis<'_>,
@@ -400,6 +414,9 @@ fn kind_cost(
         slice_get (live_tests (chip_of basis.now)) test ≡ Some l →
         result ≡ the_kind_cost basis.now weights wires rank width l }
 {
+    if is_idle(room, test) {
+        return 0;
+    }
     let place = place_at(&basis.tests, test);
     let own = test_at(module_at(basis.soc, place.module), place.test);
     if is_over(wires, own.tam) {
