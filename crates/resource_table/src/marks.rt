@@ -3,7 +3,7 @@
 //! are taken out together, where there is no room.
 ghost use Rattle.std.specs.Prelude.{◌≡◌, ℕ, ◌+◌, ◌-◌, ◌^◌, ◌<◌, ◌≤◌, ◌++◌, ◌∷◌, true, false, List, drop, length, slice_index_or, vec_capacity};
 ghost use Rattle.std.specs.List.{sum_by};
-ghost use Rattle.std.specs.List.Sorted.{IsNonDecreasingBy};
+ghost use Rattle.std.specs.List.Sorted.{IsNonDecreasingBy, IsPartitionPoint};
 ghost use Rattle.resource_table.specs.declared.power.Draw.{Draw};
 ghost use Rattle.resource_table.specs.declared.points.Point.{Point};
 ghost use Rattle.resource_table.specs.Resources.{marks_from};
@@ -42,6 +42,25 @@ fn add_standing_mark(points: &mut Vec<Point>, place: usize, cycle: u64) -> bool
     false
 }
 
+/// Adds a mark at a cycle to the point at a place, before which the points of earlier cycles stand, or puts a point there, in room that
+/// is there. The loads stay as they are. The place is answered.
+fn put_mark(points: &mut Vec<Point>, place: usize, cycle: u64) -> usize
+    requires room { length points.old.items < vec_capacity points.old }
+    requires fits { all_uses points.old.items + 1 < 2 ^ 64 }
+    requires place { place ≤ length points.old.items }
+    requires parts { IsPartitionPoint (λ (p : Point). p.cycle < cycle) (λ (p : Point). cycle ≤ p.cycle) points.old.items place }
+    ensures points { (held : List Draw) (cycles : List ℕ) → AreMarked held cycles → ArePoints held cycles points.old.items → ArePoints held (cycle ∷ cycles) points.new.items }
+    ensures capacity { vec_capacity points.new ≡ vec_capacity points.old }
+{
+    if add_standing_mark(points, place, cycle) {
+        return place;
+    }
+    let load = load_before(points, place);
+    let uses = 1;
+    put_point(points, place, Point { cycle, load, uses });
+    place
+}
+
 /// Adds a mark at a cycle, in room that is there. The loads stay as they are. Its place, which is sought from a near one, is
 /// answered.
 fn add_mark(points: &mut Vec<Point>, near: usize, cycle: u64) -> usize
@@ -52,13 +71,7 @@ fn add_mark(points: &mut Vec<Point>, near: usize, cycle: u64) -> usize
     ensures capacity { vec_capacity points.new ≡ vec_capacity points.old }
 {
     let place = places_before_near(points, near, cycle);
-    if add_standing_mark(points, place, cycle) {
-        return place;
-    }
-    let load = load_before(points, place);
-    let uses = 1;
-    put_point(points, place, Point { cycle, load, uses });
-    place
+    put_mark(points, place, cycle)
 }
 
 /// Takes away a mark that stands at a cycle. Its place, which is sought from a near one, is answered.
@@ -148,6 +161,9 @@ fn add_next_mark(points: &mut Vec<Point>, near: usize, spare: usize, cycle: u64)
         let uses = 1;
         put_over(points, place, spare, Point { cycle, load, uses });
         return (place, spare + 1);
+    }
+    if points.len() < points.capacity() {
+        return (put_mark(points, place, cycle), spare);
     }
     make_room(points, 1);
     (add_mark(points, place, cycle), spare)
