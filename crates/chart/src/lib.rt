@@ -1,4 +1,6 @@
 //! Draws the schedule of a plan as text.
+//!
+//! The text is by its definition, a bar for each live test of a good plan, from `live_tests`. The only error is out of memory.
 #![tactic(auto)]
 
 ghost use Rattle.std.specs.Prelude.{◌≡◌, ◌++◌, ◌∷◌, [], ◌<◌, decimal, OnOk, IfOk};

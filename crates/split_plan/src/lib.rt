@@ -1,5 +1,8 @@
 //! Cuts the tests of a chip between their patterns into parts, so that long tests fit into the gaps of a plan. The parts
 //! are tests of a chip of their own, under limits of their own.
+//!
+//! Each pattern of each live test is in exactly one part. Errors are the size limit that the chip of parts passes first, and out
+//! of memory.
 #![tactic(auto)]
 
 ghost use Rattle.std.specs.Prelude.{◌≡◌, ◌≤◌, IfOk, IfErr};

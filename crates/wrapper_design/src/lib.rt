@@ -2,6 +2,8 @@
 //! design of Iyengar, Chakrabarty and Marinissen 2002; the order, the ties and the filling are this program's own).
 //!
 //! Widths are in wires, one chain a wire; lengths are in cells.
+//!
+//! The wrapper is proper for `plan_model`, and its chains are by the definition. The only error is out of memory.
 #![tactic(auto)]
 
 ghost use Rattle.std.specs.Prelude.{◌≡◌, ◌^◌, ◌≤◌, length, map, IfOk};
