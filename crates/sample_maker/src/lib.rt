@@ -1,7 +1,7 @@
 //! Made chips for whoever wants to try the planner: a number of modules and a seed fix the chip.
 //!
-//! The chip is by its definition, and sound; it is made from `soc_model` alone. Errors are a number of modules that is too large,
-//! and out of memory.
+//! The chip is by its definition, and sound; it is made from `soc_model` alone. Errors are a number of modules that is 0 or too
+//! large, and out of memory.
 #![tactic(auto)]
 
 ghost use Rattle.std.specs.Prelude.{◌≡◌, ℕ, ◌↔◌, ◌⊎◌, ◌+◌, ◌<◌, ◌≤◌, ◌^◌, ◌++◌, ◌∷◌, [], false, IfOk, OnOk, Err};
