@@ -21,7 +21,7 @@ use crate::placing::order_cycles;
 use crate::prefix::Prefix;
 use crate::starts::list_starts;
 use crate::tries::{Tries, tries_of};
-use crate::walk::{Progress, explore};
+use crate::walk::{Progress, Reached, explore};
 use outside::NoMemory;
 use resource_table::{Job, Table, TableOf};
 use std::alloc::Global;
@@ -139,7 +139,8 @@ fn search_orders<J, E: Estimate<J>>(
 {
     begin(job, table, first, progress);
     prefix.begin(job, tries);
-    explore(job, tries, ahead, table, prefix, progress, 0, None);
+    let from = Reached { end: 0, seen: None };
+    explore(job, tries, ahead, table, prefix, progress, from);
     improve_best(job, table, progress);
 }
 

@@ -40,9 +40,9 @@ explore-returns-then-is_empty-clause-best g t c =
     let empty : length c.args.prefix.now.rest.items ≡ 0 = sym c.args.prefix.now.rest.ok.0 ∙ none_left c.args.prefix.now.rest.len c.is_empty.result c.is_empty.ensures c.if-is_empty.true in
     let long : length path ≡ length job.tests = omega (arith, empty, ap length c.requires.at.rest_are, c.requires.at.left) in
     let is = c.deref.ensures.value in
-    best_offered job c.deref.result.now c.args.progress.now c.enter.new.progress c.offer.new.progress c.args.end (c.enter.ensures.entered c.if-not-enter.false).1
-    (subst (IsTopological job) (sym is) (path_topological c.args.table.now job path c.args.end c.requires.job c.requires.sound c.requires.placed long))
-    (subst (λ (l : List ℕ). Takes job l c.args.end) (sym is) (takes_placed c.args.table.now job path c.args.end c.requires.job c.requires.placed))
+    best_offered job c.deref.result.now c.args.progress.now c.enter.new.progress c.offer.new.progress c.args.from.end (c.enter.ensures.entered c.if-not-enter.false).1
+    (subst (IsTopological job) (sym is) (path_topological c.args.table.now job path c.args.from.end c.requires.job c.requires.sound c.requires.placed long))
+    (subst (λ (l : List ℕ). Takes job l c.args.from.end) (sym is) (takes_placed c.args.table.now job path c.args.from.end c.requires.job c.requires.placed))
     c.offer.ensures.fewer c.offer.ensures.kept c.requires.best
 
 pub explore-returns-then-is_empty-clause-explored : goal.explore-returns-then-is_empty-clause-explored
@@ -51,9 +51,9 @@ explore-returns-then-is_empty-clause-explored g t c =
     let path : List ℕ = c.args.prefix.now.tests.items in
     let empty : length c.args.prefix.now.rest.items ≡ 0 = sym c.args.prefix.now.rest.ok.0 ∙ none_left c.args.prefix.now.rest.len c.is_empty.result c.is_empty.ensures c.if-is_empty.true in
     let none : length job.tests - length path ≡ 0 = omega (arith, empty, ap length c.requires.at.rest_are, c.requires.at.left) in
-    explored_whole job c.args.tries.now.budget (length job.tests - length path) path c.args.progress.now c.enter.new.progress c.offer.new.progress c.args.end none (c.enter.ensures.entered c.if-not-enter.false).1
-    (takes_placed c.args.table.now job path c.args.end c.requires.job c.requires.placed)
-    (λ less. c.offer.ensures.fewer less ∙ ap (λ (l : List ℕ). record (stand_of c.enter.new.progress) { best = l; cycles = c.args.end }) c.deref.ensures.value) c.offer.ensures.kept c.requires.opened c.requires.going c.requires.none_before
+    explored_whole job c.args.tries.now.budget (length job.tests - length path) path c.args.progress.now c.enter.new.progress c.offer.new.progress c.args.from.end none (c.enter.ensures.entered c.if-not-enter.false).1
+    (takes_placed c.args.table.now job path c.args.from.end c.requires.job c.requires.placed)
+    (λ less. c.offer.ensures.fewer less ∙ ap (λ (l : List ℕ). record (stand_of c.enter.new.progress) { best = l; cycles = c.args.from.end }) c.deref.ensures.value) c.offer.ensures.kept c.requires.opened c.requires.going c.requires.none_before
 
 pub explore-is_over-requires-clause-rest : goal.explore-is_over-requires-clause-rest
 explore-is_over-requires-clause-rest g t c =
@@ -66,7 +66,7 @@ explore-returns-then-is_over-clause-best g t c = best_entered (job_value c.args.
 pub explore-returns-then-is_over-clause-explored : goal.explore-returns-then-is_over-clause-explored
 explore-returns-then-is_over-clause-explored g t c =
     let path : List ℕ = c.args.prefix.now.tests.items in
-    explored_left c.args.table.now (job_value c.args.job.now) c.args.tries.now.budget (length (job_value c.args.job.now).tests - length path) path c.args.end c.args.progress.now c.enter.new.progress
+    explored_left c.args.table.now (job_value c.args.job.now) c.args.tries.now.budget (length (job_value c.args.job.now).tests - length path) path c.args.from.end c.args.progress.now c.enter.new.progress
     c.requires.job c.requires.sound c.requires.placed (c.is_over.ensures.late c.if-is_over.true) (c.enter.ensures.entered c.if-not-enter.false).1 c.requires.opened c.requires.going c.requires.none_before
 
 pub explore-take_out-taken-requires-clause-within : goal.explore-take_out-taken-requires-clause-within
@@ -115,12 +115,12 @@ explore-go_on-requires g t c κs within_measure =
     let test_is : get_or (followers job path) place 0 ≡ test = get_or_from_slice_get (followers job path) place test 0 (inv.turn within').free_at in
     let job_is : c.loop-place.table.job ≡ job = ap (λ (v : TableValue). v.job) inv.table ∙ c.requires.job in
     let sound : IsSoundTable c.loop-place.table = subst IsSoundTable (sym inv.table) c.requires.sound in
-    let placed : HasPlaced c.loop-place.table now c.args.end = subst (λ (l : List ℕ). HasPlaced c.loop-place.table l c.args.end) (sym now_is) (subst (λ (v : TableValue). HasPlaced v path c.args.end) (sym inv.table) c.requires.placed) in
+    let placed : HasPlaced c.loop-place.table now c.args.from.end = subst (λ (l : List ℕ). HasPlaced c.loop-place.table l c.args.from.end) (sym now_is) (subst (λ (v : TableValue). HasPlaced v path c.args.from.end) (sym inv.table) c.requires.placed) in
     let out : IsOut job now test c.loop-place.prefix = out_own job path test c.loop-place.prefix has in
     let best_room : length job.tests ≤ vec_capacity c.loop-place.progress.best = omega (arith, c.requires.best_room, inv.best_room, ap (λ (p : Progress). vec_capacity p.best) entered.1) in
     let cycles_same : c.enter.new.progress.cycles ≡ c.args.progress.now.cycles = ap (λ (p : Progress). p.cycles) entered.1 in
     let most : AtMostFirst job c.enter.new.progress.cycles = subst (AtMostFirst job) (sym cycles_same) c.requires.best.at_most_first in
-    let opened : IsOpen job (now ++ test ∷ []) = open_below c.args.table.now job path (now ++ test ∷ []) c.args.end c.enter.new.progress.cycles test c.requires.job c.requires.placed (c.is_over.ensures.in_time c.if-is_over.false) most c.requires.opened (ap (λ (l : List ℕ). l ++ test ∷ []) now_is) in
+    let opened : IsOpen job (now ++ test ∷ []) = open_below c.args.table.now job path (now ++ test ∷ []) c.args.from.end c.enter.new.progress.cycles test c.requires.job c.requires.placed (c.is_over.ensures.in_time c.if-is_over.false) most c.requires.opened (ap (λ (l : List ℕ). l ++ test ∷ []) now_is) in
     let none_before : NoneBefore job (now ++ test ∷ []) c.loop-place.progress.best.items = subst (λ (l : List ℕ). NoneBefore job (l ++ test ∷ []) c.loop-place.progress.best.items) (sym now_is) (subst (λ (n : ℕ). NoneBefore job (path ++ n ∷ []) c.loop-place.progress.best.items) test_is (inv.none_before place (omega arith) within')) in
     let measure : (length job.tests - length now) * 2 < (length job.tests - length path) * 2 + 1 = omega (arith, ap length now_is) in
     let in_time : AreInTime c.loop-place.table c.enter.new.progress.cycles = subst (λ (v : TableValue). AreInTime v c.enter.new.progress.cycles) (sym inv.table) (c.is_over.ensures.in_time c.if-is_over.false) in
@@ -214,20 +214,20 @@ explore-returns-clause-explored g t c =
 
 pub go_on-noted_start-start-requires : goal.go_on-noted_start-start-requires
 go_on-noted_start-start-requires g t c =
-    let test : ℕ = c.args.test in
+    let test : ℕ = c.args.next.test in
     let last = each_last (IsReady (job_value c.args.job.now)) c.args.prefix.now.tests.items test c.requires.out.ready in
     record { in_job = subst (λ (j : JobValue). test < length j.tests) (sym c.requires.job) last.in_job }
 
 pub go_on-cycles_at-requires : goal.go_on-cycles_at-requires
-go_on-cycles_at-requires g t c = (each_last (IsReady (job_value c.args.job.now)) c.args.prefix.now.tests.items c.args.test c.requires.out.ready).in_job
+go_on-cycles_at-requires g t c = (each_last (IsReady (job_value c.args.job.now)) c.args.prefix.now.tests.items c.args.next.test c.requires.out.ready).in_job
 
 pub go_on-place-frame-requires : goal.go_on-place-frame-requires
 go_on-place-frame-requires g t c =
     let job = job_value c.args.job.now in
     let path : List ℕ = c.args.prefix.now.tests.items in
-    let test : ℕ = c.args.test in
+    let test : ℕ = c.args.next.test in
     let last = each_last (IsReady job) path test c.requires.out.ready in
-    let free = may_place c.args.table.now job path c.args.end test c.noted_start-start.result c.requires.job c.requires.sound c.requires.placed last.in_job (ready_to job path test last) c.noted_start-start.ensures.earliest in
+    let free = may_place c.args.table.now job path c.args.next.end test c.noted_start-start.result c.requires.job c.requires.sound c.requires.placed last.in_job (ready_to job path test last) c.noted_start-start.ensures.earliest in
     let inside : test < length c.args.table.now.job.tests = subst (λ (j : JobValue). test < length j.tests) (sym c.requires.job) last.in_job in
     let new : is_placed c.args.table.now.placed test ≡ false = unplaced_in c.args.table.now.placed path test c.requires.placed.in_order (not_in path test last.new) in
     let placed : MayPlace c.args.table.now.job c.args.table.now.placed test c.noted_start-start.result = free (c.list_schedules_are_short.ensures.fits c.args.table.now test c.noted_start-start.result c.requires.sound c.requires.placed.list inside new c.noted_start-start.ensures.earliest) in
@@ -237,7 +237,7 @@ pub go_on-overflow_add-start : goal.go_on-overflow_add-start
 go_on-overflow_add-start g t c =
     let job = job_value c.args.job.now in
     let path : List ℕ = c.args.prefix.now.tests.items in
-    let test : ℕ = c.args.test in
+    let test : ℕ = c.args.next.test in
     let last = each_last (IsReady job) path test c.requires.out.ready in
     let inside : test < length c.args.table.now.job.tests = subst (λ (j : JobValue). test < length j.tests) (sym c.requires.job) last.in_job in
     let new : is_placed c.args.table.now.placed test ≡ false = unplaced_in c.args.table.now.placed path test c.requires.placed.in_order (not_in path test last.new) in
@@ -250,17 +250,17 @@ pub go_on-explore-requires : goal.go_on-explore-requires
 go_on-explore-requires g t c κs within_measure =
     let job = job_value c.args.job.now in
     let path : List ℕ = c.args.prefix.now.tests.items in
-    let test : ℕ = c.args.test in
+    let test : ℕ = c.args.next.test in
     let more : List ℕ = c.append.new.self.tests.items in
     let more_is : more ≡ path ++ test ∷ [] = c.append.ensures.tests_are in
     let grown : c.table.result.now ≡ record c.args.table.now { placed = c.args.table.now.placed ++ at_start test c.noted_start-start.result ∷ [] } = c.table.ensures.value ∙ c.place-frame.ensures.table ∙ ap (λ (t : TableValue). record t { placed = t.placed ++ at_start test c.noted_start-start.result ∷ [] }) c.noted_start-start.ensures.same in
     let job_is : c.table.result.now.job ≡ job = ap (λ (v : TableValue). v.job) grown ∙ c.requires.job in
     let sound : IsSoundTable c.table.result.now = c.table.ensures.sound in
     let cycles : c.cycles_at.result ≡ cycles_of c.args.table.now.job test = c.cycles_at.ensures ∙ ap (λ (j : JobValue). cycles_of j test) (sym c.requires.job) in
-    let end' : c.max-next_end.result ≡ max c.args.end (c.noted_start-start.result + cycles_of c.args.table.now.job test) = omega (arith, c.max-next_end.ensures, cycles) in
-    let placed : HasPlaced c.table.result.now more c.max-next_end.result = one_placed c.args.table.now c.table.result.now path more c.args.end c.max-next_end.result test c.noted_start-start.result c.requires.placed c.noted_start-start.ensures.earliest grown more_is end' in
+    let end' : c.max-next_end.result ≡ max c.args.next.end (c.noted_start-start.result + cycles_of c.args.table.now.job test) = omega (arith, c.max-next_end.ensures, cycles) in
+    let placed : HasPlaced c.table.result.now more c.max-next_end.result = one_placed c.args.table.now c.table.result.now path more c.args.next.end c.max-next_end.result test c.noted_start-start.result c.requires.placed c.noted_start-start.ensures.earliest grown more_is end' in
     let inside : test < length job.tests = (each_last (IsReady job) path test c.requires.out.ready).in_job in
-    let seen : IfSome c.seen_beside-seen.result (IsSeen c.table.result.now) = seen_more c.args.table.now c.table.result.now job (at_start test c.noted_start-start.result) c.args.cycles c.seen_beside-seen.result c.requires.job grown inside c.requires.in_time c.seen_beside-seen.ensures.seen c.seen_beside-seen.ensures.precedes_none in
+    let seen : IfSome c.seen_beside-seen.result (IsSeen c.table.result.now) = seen_more c.args.table.now c.table.result.now job (at_start test c.noted_start-start.result) c.args.next.cycles c.seen_beside-seen.result c.requires.job grown inside c.requires.in_time c.seen_beside-seen.ensures.seen c.seen_beside-seen.ensures.precedes_none in
     let at : IsAt job more c.append.new.self = at_own job (path ++ test ∷ []) c.append.new.self c.append.ensures in
     let long : length more ≡ length path + 1 = omega (arith, ap length more_is, length-append path (test ∷ [])) in
     let opened : IsOpen job more = subst (IsOpen job) (sym more_is) c.requires.opened in
@@ -274,32 +274,32 @@ go_on-go_back-requires-clause-at g t c = at_own (job_value c.args.job.now) c.app
 pub go_on-go_back-requires-clause-some : goal.go_on-go_back-requires-clause-some
 go_on-go_back-requires-clause-some g t c =
     let path : List ℕ = c.args.prefix.now.tests.items in
-    omega (arith, ap length (c.explore.ensures.at c.if-not-progress.true).tests_are, ap length c.append.ensures.tests_are, length-append path (c.args.test ∷ []))
+    omega (arith, ap length (c.explore.ensures.at c.if-not-progress.true).tests_are, ap length c.append.ensures.tests_are, length-append path (c.args.next.test ∷ []))
 
 pub go_on-returns-then-not-progress-clause-table : goal.go_on-returns-then-not-progress-clause-table
 go_on-returns-then-not-progress-clause-table g t c =
-    let test : ℕ = c.args.test in
+    let test : ℕ = c.args.next.test in
     let grown : c.table.result.now ≡ record c.args.table.now { placed = c.args.table.now.placed ++ at_start test c.noted_start-start.result ∷ [] } = c.table.ensures.value ∙ c.place-frame.ensures.table ∙ ap (λ (t : TableValue). record t { placed = t.placed ++ at_start test c.noted_start-start.result ∷ [] }) c.noted_start-start.ensures.same in
     let back : c.undo.new.self.0 ≡ c.args.table.now = taken_back c.args.table.now c.explore.new.table c.undo.new.self.0 c.place-frame.result.before test c.noted_start-start.result c.undo.ensures.table (c.explore.ensures.table ∙ grown) (c.place-frame.ensures.before ∙ ap (λ (t : TableValue). length t.placed) c.noted_start-start.ensures.same) in
     search rules
 
 pub go_on-returns-then-not-progress-clause-out : goal.go_on-returns-then-not-progress-clause-out
 go_on-returns-then-not-progress-clause-out g t c = λ going.
-    c.go_back.ensures c.args.prefix.now.tests.items c.args.test ((c.explore.ensures.at c.if-not-progress.true).tests_are ∙ c.append.ensures.tests_are)
+    c.go_back.ensures c.args.prefix.now.tests.items c.args.next.test ((c.explore.ensures.at c.if-not-progress.true).tests_are ∙ c.append.ensures.tests_are)
 
 pub go_on-returns-then-not-progress-clause-room : goal.go_on-returns-then-not-progress-clause-room
 go_on-returns-then-not-progress-clause-room g t c =
-    (c.go_back.ensures c.args.prefix.now.tests.items c.args.test ((c.explore.ensures.at c.if-not-progress.true).tests_are ∙ c.append.ensures.tests_are)).has_room
+    (c.go_back.ensures c.args.prefix.now.tests.items c.args.next.test ((c.explore.ensures.at c.if-not-progress.true).tests_are ∙ c.append.ensures.tests_are)).has_room
 
 pub go_on-returns-then-not-progress-clause-explored : goal.go_on-returns-then-not-progress-clause-explored
 go_on-returns-then-not-progress-clause-explored g t c =
     let job = job_value c.args.job.now in
     let path : List ℕ = c.args.prefix.now.tests.items in
-    followed job c.args.tries.now.budget (length job.tests) path c.append.new.self.tests.items c.args.test (stand_of c.args.progress.now) (stand_of c.explore.new.progress) c.append.ensures.tests_are c.explore.ensures.explored
+    followed job c.args.tries.now.budget (length job.tests) path c.append.new.self.tests.items c.args.next.test (stand_of c.args.progress.now) (stand_of c.explore.new.progress) c.append.ensures.tests_are c.explore.ensures.explored
 
 pub go_on-returns-else-not-progress-clause-table : goal.go_on-returns-else-not-progress-clause-table
 go_on-returns-else-not-progress-clause-table g t c =
-    let test : ℕ = c.args.test in
+    let test : ℕ = c.args.next.test in
     let grown : c.table.result.now ≡ record c.args.table.now { placed = c.args.table.now.placed ++ at_start test c.noted_start-start.result ∷ [] } = c.table.ensures.value ∙ c.place-frame.ensures.table ∙ ap (λ (t : TableValue). record t { placed = t.placed ++ at_start test c.noted_start-start.result ∷ [] }) c.noted_start-start.ensures.same in
     let back : c.undo.new.self.0 ≡ c.args.table.now = taken_back c.args.table.now c.explore.new.table c.undo.new.self.0 c.place-frame.result.before test c.noted_start-start.result c.undo.ensures.table (c.explore.ensures.table ∙ grown) (c.place-frame.ensures.before ∙ ap (λ (t : TableValue). length t.placed) c.noted_start-start.ensures.same) in
     search rules
@@ -308,7 +308,7 @@ pub go_on-returns-else-not-progress-clause-explored : goal.go_on-returns-else-no
 go_on-returns-else-not-progress-clause-explored g t c =
     let job = job_value c.args.job.now in
     let path : List ℕ = c.args.prefix.now.tests.items in
-    followed job c.args.tries.now.budget (length job.tests) path c.append.new.self.tests.items c.args.test (stand_of c.args.progress.now) (stand_of c.explore.new.progress) c.append.ensures.tests_are c.explore.ensures.explored
+    followed job c.args.tries.now.budget (length job.tests) path c.append.new.self.tests.items c.args.next.test (stand_of c.args.progress.now) (stand_of c.explore.new.progress) c.append.ensures.tests_are c.explore.ensures.explored
 
 pub explore-overflow_add-place : goal.explore-overflow_add-place
 explore-overflow_add-place g t c =
@@ -318,7 +318,7 @@ explore-overflow_add-place g t c =
 
 pub go_on-undo-requires : goal.go_on-undo-requires
 go_on-undo-requires g t c =
-    let test : ℕ = c.args.test in
+    let test : ℕ = c.args.next.test in
     let grown : c.table.result.now ≡ record c.args.table.now { placed = c.args.table.now.placed ++ at_start test c.noted_start-start.result ∷ [] } = c.table.ensures.value ∙ c.place-frame.ensures.table ∙ ap (λ (t : TableValue). record t { placed = t.placed ++ at_start test c.noted_start-start.result ∷ [] }) c.noted_start-start.ensures.same in
     let before : c.place-frame.result.before ≡ length c.args.table.now.placed = c.place-frame.ensures.before ∙ ap (λ (t : TableValue). length t.placed) c.noted_start-start.ensures.same in
     let after : length c.explore.new.table.placed ≡ length (c.args.table.now.placed ++ at_start test c.noted_start-start.result ∷ []) = ap (λ (t : TableValue). length t.placed) (c.explore.ensures.table ∙ grown) in
@@ -334,4 +334,4 @@ pub explore-returns-clause-best_room : goal.explore-returns-clause-best_room
 explore-returns-clause-best_room g t c = c.loop-place.invariant.best_room ∙ ap (λ (p : Progress). vec_capacity p.best) (c.enter.ensures.entered c.if-not-enter.false).1
 
 pub go_on-seen_beside-seen-requires-clause-in_job : goal.go_on-seen_beside-seen-requires-clause-in_job
-go_on-seen_beside-seen-requires-clause-in_job g t c = (each_last (IsReady (job_value c.args.job.now)) c.args.prefix.now.tests.items c.args.test c.requires.out.ready).in_job
+go_on-seen_beside-seen-requires-clause-in_job g t c = (each_last (IsReady (job_value c.args.job.now)) c.args.prefix.now.tests.items c.args.next.test c.requires.out.ready).in_job
