@@ -9,9 +9,9 @@ ghost use Rattle.width_tree.specs.Tables.{chip_of, IsTable};
 ghost use Rattle.width_tree.specs.Findings.{AreWidths, AreOlder, IsFinding};
 ghost use Rattle.width_tree.specs.Walks.{turn_at, case_later, IsTurn, Awaits, Begins, GoesOn, IsJudged};
 
-use crate::areas::{Widths, least_area, put};
+use crate::areas::{Widths, least_area, put_interval};
 use crate::intervals::Interval;
-use crate::leaves::{Finding, find};
+use crate::leaves::{Finding, find_shown};
 use crate::tables::ChipTimes;
 use crate::{Node, Tree, TreeFault};
 use soc_model::place_of;
@@ -31,7 +31,7 @@ pub struct Turn {
 }
 
 /// The answer to what was found at the node at a place.
-fn judge(claimed: u64, place: usize, finding: Finding) -> Result<(), TreeFault>
+fn judge_node(claimed: u64, place: usize, finding: Finding) -> Result<(), TreeFault>
     ensures { (soc : SocValue) (w : ℕ) (c : Case) (n : NodeValue) → IsFinding soc w c n finding →
         IsJudged soc w claimed place (in_case c n) result }
 {
@@ -88,7 +88,7 @@ fn begin_split(
         area,
         second: false,
     };
-    put(
+    put_interval(
         widths,
         place,
         narrow,
@@ -113,7 +113,7 @@ fn begin_second(table: &ChipTimes<'_>, widths: &mut Widths, turns: &mut [Turn], 
         high: turn.old.high,
     };
     turns[last].second = true;
-    put(
+    put_interval(
         widths,
         turn.place,
         wide,
@@ -147,7 +147,7 @@ fn next_branch(
             begin_second(table, widths, turns, depth - 1);
             return depth;
         }
-        put(widths, turn.place, turn.old, turn.area);
+        put_interval(widths, turn.place, turn.old, turn.area);
         depth -= 1;
     }
     depth
@@ -217,8 +217,8 @@ fn check_node(
         IfOk result (λ next. GoesOn (chip_of table.now) table.now.wires table.now.times.now turns.new next
         widths.new.intervals.items left) }
 {
-    let finding = find(table, widths, node, by.place + 1, marks);
-    match judge(by.claimed, by.place, finding) {
+    let finding = find_shown(table, widths, node, by.place + 1, marks);
+    match judge_node(by.claimed, by.place, finding) {
         Ok(()) => Ok(go_on(table, node, widths, turns, depth)),
         Err(fault) => Err(fault),
     }
