@@ -19,7 +19,7 @@ mod loads;
 mod order;
 mod path_lengths;
 
-use dealing::build;
+use dealing::build_chains;
 use order::{flops_of, longest_first};
 use outside::NoMemory;
 pub use path_lengths::PathLengths;
