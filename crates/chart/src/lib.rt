@@ -21,7 +21,7 @@ use std::alloc::Global;
 const BAR: u64 = 48;
 
 /// Whether character `i` of a bar lies in the cycles of a test.
-fn marks(start: u64, end: u64, cycles: u64, i: u64) -> bool
+fn is_marked(start: u64, end: u64, cycles: u64, i: u64) -> bool
     requires { i < 48 }
     ensures { result ≡ is_marked start end cycles i }
 {
@@ -36,7 +36,7 @@ fn push_mark(text: &mut Vec<u8>, start: u64, end: u64, cycles: u64, i: u64) -> R
     requires { i < 48 }
     ensures { OnOk result (text.new.items ≡ text.old.items ++ mark start end cycles i ∷ []) }
 {
-    if marks(start, end, cycles, i) {
+    if is_marked(start, end, cycles, i) {
         extend(text, b"#")
     } else {
         extend(text, b".")
