@@ -43,7 +43,7 @@ pub(crate) struct Seen {
 }
 
 /// Enters one prefix more, where the budget isn't spent; else notes the refusal.
-fn enter(progress: &mut Progress, budget: u64) -> bool
+fn enter_prefix(progress: &mut Progress, budget: u64) -> bool
     requires { progress.old.entered ≤ budget }
     ensures entered { result ≡ true → (progress.old.entered < budget)
         × (progress.new ≡ record progress.old { entered = progress.old.entered + 1 }) }
@@ -58,7 +58,7 @@ fn enter(progress: &mut Progress, budget: u64) -> bool
 }
 
 /// Takes an order for the best one, if it takes fewer cycles.
-fn offer(progress: &mut Progress, order: &[usize], cycles: u64)
+fn offer_order(progress: &mut Progress, order: &[usize], cycles: u64)
     requires { length order.now ≤ vec_capacity progress.old.best }
     ensures fewer { cycles < progress.old.cycles → stand_of progress.new
         ≡ record (stand_of progress.old) { best = order.now; cycles = cycles } }
@@ -358,7 +358,7 @@ pub(crate) struct Reached {
 
 /// Goes on with all orders that begin with the placed tests and then with one more, which is taken out. Its start is noted:
 /// the orders that go on from here with other tests ask for it and place it again and again.
-#[cycle(explore)]
+#[cycle(explore_orders)]
 fn go_on<J, E: Estimate<J>>(
     job: &Job,
     tries: &Tries,
@@ -401,7 +401,7 @@ fn go_on<J, E: Estimate<J>>(
         seen,
     };
     let mut frame = table.place(next.test, start);
-    explore(job, tries, ahead, frame.table(), prefix, progress, reached);
+    explore_orders(job, tries, ahead, frame.table(), prefix, progress, reached);
     frame.undo();
     if !progress.refused {
         prefix.go_back(job, tries);
@@ -410,8 +410,8 @@ fn go_on<J, E: Estimate<J>>(
 
 /// Goes on with all orders that begin with the placed tests. Where a prefix was refused, the walk is over, and its own
 /// prefix is left as it is then.
-#[cycle(explore)]
-pub(crate) fn explore<J, E: Estimate<J>>(
+#[cycle(explore_orders)]
+pub(crate) fn explore_orders<J, E: Estimate<J>>(
     job: &Job,
     tries: &Tries,
     ahead: &E,
@@ -443,11 +443,11 @@ pub(crate) fn explore<J, E: Estimate<J>>(
         (walk_from (job_value job.now) (length (job_value job.now).tests - length prefix.old.tests.items) prefix.old.tests.items)
         (stand_of progress.old) (stand_of progress.new) }
 {
-    if !enter(progress, tries.budget) {
+    if !enter_prefix(progress, tries.budget) {
         return;
     }
     if prefix.rest.is_empty() {
-        offer(progress, &prefix.tests, from.end);
+        offer_order(progress, &prefix.tests, from.end);
         return;
     }
     let cycles = progress.cycles;
