@@ -1,4 +1,7 @@
 //! The walk over the orders of a job, depth first, within a budget of prefixes that are entered.
+//!
+//! A test is late where it ends, by its estimate, no earlier than the best order so far; then no order that begins with the placed
+//! tests is better. A cycle is calm for a power where a test that draws no more than that stays within the limit from it on.
 ghost use Rattle.std.specs.Prelude.{◌≡◌, ℕ, ◌+◌, ◌-◌, ◌<◌, ◌≤◌, ◌++◌, ◌∷◌, [], true, false, length, vec_capacity, Some, IfSome};
 ghost use Rattle.resource_table.specs.Jobs.{job_value, cycles_of, Precedes};
 ghost use Rattle.resource_table.specs.Schedules.{last_end, ready_at, IsEarliest, IsSoundTable};
