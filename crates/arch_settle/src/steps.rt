@@ -5,7 +5,7 @@ ghost use Rattle.bus_model.specs.Sound.{IsSoundArch};
 ghost use Rattle.arch_settle.specs.Neighbours.{merged, merges, bottom_up_of, top_down_of};
 ghost use Rattle.arch_settle.specs.Settling.{IsStep, IsAtRest, IsTaken, Rests};
 
-use crate::merging::merge;
+use crate::merging::merge_buses;
 use crate::weighing::{loads_of, merged_cost};
 use bus_model::{Arch, bottleneck, cost, quickest};
 use outside::NoMemory;
@@ -59,7 +59,7 @@ fn merge_best(
     match best_merge(alloc, table, arch, from)? {
         None => Ok(false),
         Some(into) => {
-            merge(table, arch, from, into)?;
+            merge_buses(table, arch, from, into)?;
             Ok(true)
         }
     }

@@ -22,7 +22,7 @@ use plan_model::{Limits, Why};
 use soc_model::{Module, Soc, TestId, live, module_at};
 
 /// What one more candidate makes of the best so far; among equals the earlier one stays.
-fn consider(best: Option<(u128, Why)>, shown: u128, why: Why) -> Option<(u128, Why)>
+fn better_known(best: Option<(u128, Why)>, shown: u128, why: Why) -> Option<(u128, Why)>
     ensures { result ≡ considered best shown why }
 {
     match best {
@@ -88,7 +88,7 @@ fn consider_module(
     }
     let module = module_at(soc, place).number;
     let shown = u128::from(module_bound(soc, place, limits.wires));
-    consider(best, shown, Why::Module { module })
+    better_known(best, shown, Why::Module { module })
 }
 
 /// The candidates of the modules.
@@ -130,7 +130,7 @@ fn consider_pair(
     let module = module_at(soc, place).number;
     match pair_bound_with(soc, place, parent, limits.wires) {
         None => best,
-        Some(shown) => consider(best, u128::from(shown), Why::Pair { module }),
+        Some(shown) => better_known(best, u128::from(shown), Why::Pair { module }),
     }
 }
 
@@ -164,7 +164,7 @@ fn consider_area(soc: &Soc, limits: &Limits, best: Option<(u128, Why)>) -> Optio
     ensures seen { seen result ≡ better (certificate_value (soc_value soc.now) (limits_value limits.now)) (seen best) OfArea }
     ensures value { HasValue (soc_value soc.now) (limits_value limits.now) result }
 {
-    consider(best, u128::from(area_bound(soc, limits.wires)), Why::Area)
+    better_known(best, u128::from(area_bound(soc, limits.wires)), Why::Area)
 }
 
 /// The candidate Power, where the limits have a power.
@@ -186,7 +186,7 @@ fn consider_power(
         None => best,
         Some(_) => {
             let shown = u128::from(power_bound_with(soc, limits, places));
-            consider(best, shown, Why::Power)
+            better_known(best, shown, Why::Power)
         }
     }
 }
@@ -210,7 +210,7 @@ fn consider_chain(
         None => best,
         Some(tests) => {
             let shown = chain_bound(soc, &tests, limits.wires);
-            consider(best, shown, Why::Chain { tests })
+            better_known(best, shown, Why::Chain { tests })
         }
     }
 }

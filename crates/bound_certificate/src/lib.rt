@@ -1,6 +1,10 @@
 //! Certificates of lower bounds on the cycles of a chip's plans: their check, and the planner's bound.
 //!
 //! Claims and values are in cycles; a certificate's modules and tests go by their numbers.
+//!
+//! A certificate is accepted exactly where its definition says so, and then its claim bounds every good plan; the planner's bound
+//! is accepted and at least every elementary value. The sums are those of `bound_rules`. Errors are a certificate's fault and out
+//! of memory.
 #![tactic(auto)]
 
 ghost use Rattle.std.specs.Prelude.{◌≡◌, ◌+◌, ◌<◌, ◌≤◌, Ok, Err, IfErr, OnOk, length, nat_lt, if◌then◌else◌, vec_len};

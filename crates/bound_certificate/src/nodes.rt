@@ -68,7 +68,7 @@ fn live_nodes(alloc: Global, soc: &Soc, wires: u64) -> Result<Vec<PrecedenceNode
 }
 
 /// Gives each node the tests before it, which stand in these lists.
-fn link(nodes: &mut Vec<PrecedenceNode>, lists: &mut Vec<Neighbours>)
+fn link_nodes(nodes: &mut Vec<PrecedenceNode>, lists: &mut Vec<Neighbours>)
     requires { length lists.old.items ≡ length nodes.old.items }
     ensures fixed { fixed_parts (node_values nodes.new.items) ≡ fixed_parts (node_values nodes.old.items) }
     ensures before { (i : ℕ) → i < length nodes.old.items → before_at nodes.new.items i ≡ tests_at lists.old.items i }
@@ -92,6 +92,6 @@ pub fn nodes_of(
 {
     let mut nodes = live_nodes(alloc, soc, limits.wires)?;
     let mut before = all_before(alloc, nodes.len(), precedences)?;
-    link(&mut nodes, &mut before);
+    link_nodes(&mut nodes, &mut before);
     Ok(nodes)
 }

@@ -22,7 +22,7 @@ use plan_model::Limits;
 use soc_model::{Soc, TESTS_MOST, TestId};
 
 /// Whether a precedence sets the second test behind the first.
-fn precedes(before: &[(TestId, TestId)], first: TestId, second: TestId) -> bool
+fn is_before(before: &[(TestId, TestId)], first: TestId, second: TestId) -> bool
     ensures { IsTrue result ↔ Contains before.now (first, second) }
 {
     for (a, b) in before {
@@ -147,7 +147,7 @@ fn stands_behind(before: &[(TestId, TestId)], tests: &[TestId], place: usize, pa
     if place <= TESTS_MOST as usize {
         is_stated(pairs, first, second)
     } else {
-        precedes(before, first, second)
+        is_before(before, first, second)
     }
 }
 

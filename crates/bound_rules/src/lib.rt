@@ -1,6 +1,8 @@
 //! Lower bounds on the cycles of every good plan of a chip, by sums over its tests.
 //!
 //! Lower times are in cycles, widths in wires, lengths of chains in cells. Nothing here takes memory.
+//!
+//! Each sum is by its definition in `plan_model`, and no good plan ends before it. There are no errors.
 #![tactic(auto)]
 
 ghost use Rattle.std.specs.Prelude.{◌≡◌, ◌*◌, ◌^◌, ◌<◌, ◌≤◌, true, false, Some, List, length, option_map, IfSome, IsTrue};

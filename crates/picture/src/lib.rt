@@ -1,4 +1,7 @@
 //! Draws a plan as a picture: one SVG image, with the wires from top to bottom and the cycles from left to right.
+//!
+//! Its text is by its definition, and a wire is drawn at exactly the cycles at which the run of a good plan uses it. The tests
+//! are those of `live_tests`, what they draw that of `power_events`. The only error is out of memory.
 #![tactic(auto)]
 
 ghost use Rattle.std.specs.Prelude.{◌≡◌, ℕ, ◌+◌, ◌^◌, ◌≤◌, ◌++◌, List, Some, slice_get, IfOk, OnOk};

@@ -50,7 +50,7 @@ fn list_bus(soc: &Soc, listed: &[u64], bus: usize, count: usize, marks: &mut [us
 }
 
 /// Writes one number at each place.
-pub(crate) fn clear(marks: &mut [usize], count: usize)
+pub(crate) fn clear_marks(marks: &mut [usize], count: usize)
     ensures { (p : ℕ) → p < length marks.old → slice_get marks.new p ≡ Some count }
 {
     for mark in marks.iter_mut() {
@@ -69,7 +69,7 @@ fn listed_twice(soc: &Soc, buses: &[Bus], marks: &mut [usize]) -> Option<u64>
     ensures marked { IfNone result (AreBusesBy (numbers (soc_value soc.now)) (map bus_value buses.now) marks.new) }
 {
     let count = buses.len();
-    clear(marks, count);
+    clear_marks(marks, count);
     for (place, bus) in buses.iter().enumerate() {
         let double = list_bus(soc, &bus.modules, place, count, marks);
         if double.is_some() {

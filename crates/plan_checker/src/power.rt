@@ -19,7 +19,7 @@ ghost use Rattle.plan_checker.specs.Stages.{IsStage};
 use crate::PlanFault;
 use crate::events::{EVENTS_EACH, Excess, first_excess};
 use crate::named::{place_named, test_at};
-use crate::places::clear;
+use crate::places::clear_marks;
 use indexmap::IndexSet;
 use live_tests::PlacedTest;
 use plan_model::{Limits, Profile};
@@ -57,7 +57,7 @@ pub(crate) fn fill_profiles(
     ensures { AreProfiles (limits_value limits.now) placed.now profiles.new }
 {
     let count = profile_count(&limits.profiles);
-    clear(profiles, count);
+    clear_marks(profiles, count);
     for at in (0..count).rev() {
         match place_named(names, limits.profiles[at].test) {
             Some(place) => write_place(profiles, place, at),

@@ -120,7 +120,7 @@ fn take_wrappers(
 }
 
 /// Whether the module uses the mode and the room has no wrapper for it.
-fn lacks(module: &Module, scan: bool, room: &IndexSet<(u64, bool)>) -> bool
+fn lacks_wrapper(module: &Module, scan: bool, room: &IndexSet<(u64, bool)>) -> bool
     ensures broken { IsTrue result → Breaks (Contains (keys room.now)) (mode_pair scan (module_value «module».now))
         («module».now.number, scan) }
     ensures kept { result ≡ false → EachOf (Contains (keys room.now)) (mode_pair scan (module_value «module».now)) }
@@ -138,10 +138,10 @@ fn unwrapped_in(module: &Module, room: &IndexSet<(u64, bool)>) -> Option<(u64, b
     ensures first { IfSome result (λ p. Breaks (Contains (keys room.now))
         (mode_pair true (module_value «module».now) ++ mode_pair false (module_value «module».now)) p) }
 {
-    if lacks(module, true, room) {
+    if lacks_wrapper(module, true, room) {
         return Some((module.number, true));
     }
-    if lacks(module, false, room) {
+    if lacks_wrapper(module, false, room) {
         return Some((module.number, false));
     }
     None

@@ -1,4 +1,7 @@
 //! Made chips for whoever wants to try the planner: a number of modules and a seed fix the chip.
+//!
+//! The chip is by its definition, and sound; it is made from `soc_model` alone. Errors are a number of modules that is 0 or too
+//! large, and out of memory.
 #![tactic(auto)]
 
 ghost use Rattle.std.specs.Prelude.{◌≡◌, ℕ, ◌↔◌, ◌⊎◌, ◌+◌, ◌<◌, ◌≤◌, ◌^◌, ◌++◌, ◌∷◌, [], false, IfOk, OnOk, Err};
@@ -39,7 +42,7 @@ impl From<NoMemory> for SampleFault {
 }
 
 /// Adds a module last. `NoMemory` where there is none for it.
-fn add(soc: &mut Soc, module: Module) -> Result<(), NoMemory>
+fn add_module(soc: &mut Soc, module: Module) -> Result<(), NoMemory>
     requires new { has_module_number (soc_value soc.old) «module».number ≡ false }
     ensures { OnOk result (soc_value soc.new ≡ record (soc_value soc.old) {
       keys = (soc_value soc.old).keys ++ «module».number ∷ [];
@@ -77,7 +80,7 @@ fn start_chip(alloc: Global, seed: u64) -> Result<Soc, NoMemory>
     let mut soc = Soc::new(alloc);
     soc.name = copied(alloc, b"sample")?;
     soc.power_flag = true;
-    add(&mut soc, make_top(alloc))?;
+    add_module(&mut soc, make_top(alloc))?;
     Ok(soc)
 }
 
@@ -90,7 +93,7 @@ fn make_chip(alloc: Global, n: u64, seed: u64) -> Result<Soc, NoMemory>
     let mut soc = start_chip(alloc, seed)?;
     for done in 0..n {
         let module = make_module(alloc, seed, done + 1)?;
-        add(&mut soc, module)?;
+        add_module(&mut soc, module)?;
     }
     Ok(soc)
 }

@@ -126,7 +126,12 @@ fn exchange_first<J>(
 
 /// Exchanges neighbours in a topological order that takes so many cycles: the first exchange that gives fewer is made,
 /// again and again, until none does. Answers the cycles that the order takes then.
-pub(crate) fn improve<J>(job: &Job, table: &mut TableOf<J>, order: &mut [usize], cycles: u64) -> u64
+pub(crate) fn improve_order<J>(
+    job: &Job,
+    table: &mut TableOf<J>,
+    order: &mut [usize],
+    cycles: u64,
+) -> u64
     requires job { table.old.job ≡ job_value job.now }
     requires empty { table.old.placed ≡ [] }
     requires topological { IsTopological (job_value job.now) order.old }

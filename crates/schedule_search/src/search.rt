@@ -14,14 +14,14 @@ ghost use Rattle.schedule_search.specs.Searches.{Keeps};
 ghost use Rattle.schedule_search.specs.Begun.{IsBegun, IsImproved, IsSearched};
 
 use crate::ahead::{Ahead, Estimate};
-use crate::exchanges::improve;
+use crate::exchanges::improve_order;
 use crate::lists::{copy_to, room_for};
 use crate::order::first_by;
 use crate::placing::order_cycles;
 use crate::prefix::Prefix;
 use crate::starts::list_starts;
 use crate::tries::{Tries, tries_of};
-use crate::walk::{Progress, explore};
+use crate::walk::{Progress, Reached, explore_orders};
 use outside::NoMemory;
 use resource_table::{Job, Table, TableOf};
 use std::alloc::Global;
@@ -110,7 +110,7 @@ fn improve_best<J>(job: &Job, table: &mut TableOf<J>, progress: &mut Progress)
     ensures room { vec_capacity progress.new.best ≡ vec_capacity progress.old.best }
 {
     if job.tests.len() <= EXCHANGED_MOST {
-        progress.cycles = improve(job, table, &mut progress.best, progress.cycles);
+        progress.cycles = improve_order(job, table, &mut progress.best, progress.cycles);
     }
 }
 
@@ -139,7 +139,8 @@ fn search_orders<J, E: Estimate<J>>(
 {
     begin(job, table, first, progress);
     prefix.begin(job, tries);
-    explore(job, tries, ahead, table, prefix, progress, 0, None);
+    let from = Reached { end: 0, seen: None };
+    explore_orders(job, tries, ahead, table, prefix, progress, from);
     improve_best(job, table, progress);
 }
 

@@ -13,7 +13,7 @@ ghost use Rattle.shift_program.specs.Programs.{operations, wrapped_test, IsLasti
 ghost use Rattle.shift_program.specs.RightPrograms.{AreRight};
 ghost use Rattle.shift_program.specs.Faults.{needed_for, IsFault};
 
-use crate::counting::{Need, count};
+use crate::counting::{Need, count_operations};
 use crate::laws::{faultless_programs_are_right, program_faults_are_exact};
 use crate::{Program, ProgramFault};
 use indexmap::IndexSet;
@@ -90,5 +90,5 @@ pub fn check_program(
         so,
         patterns: test.patterns,
     };
-    count(&need, &program.entries, &mut room.seen)
+    count_operations(&need, &program.entries, &mut room.seen)
 }

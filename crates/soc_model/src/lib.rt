@@ -1,4 +1,7 @@
 //! A chip for test after the ITC'02 SOC Test Benchmarks: its modules in order of first mention, and their tests.
+//!
+//! A chip has no two modules of one number, and its sizes are within limits once they are checked. Lengths are in cells, powers
+//! in the unit of the file. It stands on no other crate of this repository.
 #![tactic(auto)]
 
 ghost use Rattle.std.specs.Prelude.{◌≡◌, ◌++◌, ◌∷◌, [], false, OnOk, OnErr, IfErr};

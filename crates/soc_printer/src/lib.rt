@@ -1,4 +1,6 @@
 //! Prints a chip as the text that `soc_reader` reads.
+//!
+//! What is printed of a sound chip is read back as that chip. The only error is out of memory.
 #![tactic(auto)]
 
 ghost use Rattle.std.specs.Prelude.{◌≡◌, ◌∷◌, [], ◌++◌, decimal, map, OnOk, IfOk};

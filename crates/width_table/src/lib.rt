@@ -2,6 +2,9 @@
 //! widths of TR-ARCHITECT, Goel and Marinissen 2002). A wider bus may leave wires unused, so no time grows with the width.
 //!
 //! Times are in cycles, widths in wires; modules go by their places in the chip, from 0.
+//!
+//! Each time is the sum of the least times of both modes up to the width, by the designs of `wrapper_design`. The only error is
+//! out of memory.
 #![tactic(auto)]
 
 ghost use Rattle.std.specs.Prelude.{◌≡◌, ℕ, ◌+◌, ◌^◌, ◌<◌, ◌≤◌, length, slice_get, Some, IsTrue, IfOk, IfSome, true, false};

@@ -136,10 +136,16 @@ fn fill_widths(table: &ChipTimes<'_>, widths: &mut Widths)
     widths.total = fill_slices(table, &mut widths.intervals, &mut widths.areas);
 }
 
+/// A chip and the wires of its limits.
+#[derive(Clone, Copy, Drop)]
+struct WiredChip<'a> {
+    soc: &'a Soc,
+    wires: u64,
+}
+
 /// The check over rooms that are long enough.
 fn check_in(
-    soc: &Soc,
-    wires: u64,
+    chip: &WiredChip<'_>,
     tree: &Tree,
     times: &mut [u64],
     own: &mut [u64],
@@ -147,26 +153,27 @@ fn check_in(
     marks: &mut [usize],
     turns: &mut [Turn],
 ) -> Result<(), TreeFault>
-    requires sound { IsSoundChip (soc_value soc.now) }
-    requires some_wire { 1 ≤ wires }
-    requires few_wires { wires ≤ 256 }
+    requires sound { IsSoundChip (soc_value chip.now.soc.now) }
+    requires some_wire { 1 ≤ chip.now.wires }
+    requires few_wires { chip.now.wires ≤ 256 }
     requires tree { IsOneTree (map node_value tree.now.nodes.items) }
-    requires times { length times.old ≡ length (soc_value soc.now).modules * 256 }
-    requires own { length own.old ≡ length (soc_value soc.now).modules }
-    requires intervals { length widths.old.intervals.items ≡ length (soc_value soc.now).modules }
-    requires areas { length widths.old.areas.items ≡ length (soc_value soc.now).modules }
-    requires marks { length marks.old ≡ length (soc_value soc.now).modules }
+    requires times { length times.old ≡ length (soc_value chip.now.soc.now).modules * 256 }
+    requires own { length own.old ≡ length (soc_value chip.now.soc.now).modules }
+    requires intervals { length widths.old.intervals.items ≡ length (soc_value chip.now.soc.now).modules }
+    requires areas { length widths.old.areas.items ≡ length (soc_value chip.now.soc.now).modules }
+    requires marks { length marks.old ≡ length (soc_value chip.now.soc.now).modules }
     requires turns { length tree.now.nodes.items ≤ length turns.old }
     ensures checked { (t : WidthTree) → nodes_of t ≡ map node_value tree.now.nodes.items →
-        IsChecked (soc_value soc.now) wires tree.now.claimed (cases_of (soc_value soc.now) (root_case (soc_value soc.now) wires) t) result }
+        IsChecked (soc_value chip.now.soc.now) chip.now.wires tree.now.claimed
+        (cases_of (soc_value chip.now.soc.now) (root_case (soc_value chip.now.soc.now) chip.now.wires) t) result }
     ensures intervals { length widths.new.intervals.items ≡ length widths.old.intervals.items }
     ensures areas { length widths.new.areas.items ≡ length widths.old.areas.items }
 {
-    fill_times(soc, wires, times);
-    fill_own_times(soc, wires, own);
+    fill_times(chip.soc, chip.wires, times);
+    fill_own_times(chip.soc, chip.wires, own);
     let table = ChipTimes {
-        soc,
-        wires,
+        soc: chip.soc,
+        wires: chip.wires,
         times,
         own,
     };
@@ -198,9 +205,12 @@ pub fn check_tree(
 {
     accepted_trees_are_bounds();
     accepted_trees_have_no_fault();
-    check_in(
+    let chip = WiredChip {
         soc,
-        limits.wires,
+        wires: limits.wires,
+    };
+    check_in(
+        &chip,
         tree,
         &mut room.times,
         &mut room.own,

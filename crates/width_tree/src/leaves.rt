@@ -129,7 +129,7 @@ fn find_apart(table: &ChipTimes<'_>, intervals: &[Interval], a: u64, b: u64) -> 
 }
 
 /// What is found at a node in its case. `stamp` is greater than all marks, and serves once.
-pub fn find(
+pub fn find_shown(
     table: &ChipTimes<'_>,
     widths: &Widths,
     node: &Node,

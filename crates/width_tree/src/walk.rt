@@ -9,9 +9,9 @@ ghost use Rattle.width_tree.specs.Tables.{chip_of, IsTable};
 ghost use Rattle.width_tree.specs.Findings.{AreWidths, AreOlder, IsFinding};
 ghost use Rattle.width_tree.specs.Walks.{turn_at, case_later, IsTurn, Awaits, Begins, GoesOn, IsJudged};
 
-use crate::areas::{Widths, least_area, put};
+use crate::areas::{Widths, least_area, put_interval};
 use crate::intervals::Interval;
-use crate::leaves::{Finding, find};
+use crate::leaves::{Finding, find_shown};
 use crate::tables::ChipTimes;
 use crate::{Node, Tree, TreeFault};
 use soc_model::place_of;
@@ -31,7 +31,7 @@ pub struct Turn {
 }
 
 /// The answer to what was found at the node at a place.
-fn judge(claimed: u64, place: usize, finding: Finding) -> Result<(), TreeFault>
+fn judge_node(claimed: u64, place: usize, finding: Finding) -> Result<(), TreeFault>
     ensures { (soc : SocValue) (w : ℕ) (c : Case) (n : NodeValue) → IsFinding soc w c n finding →
         IsJudged soc w claimed place (in_case c n) result }
 {
@@ -88,7 +88,7 @@ fn begin_split(
         area,
         second: false,
     };
-    put(
+    put_interval(
         widths,
         place,
         narrow,
@@ -113,7 +113,7 @@ fn begin_second(table: &ChipTimes<'_>, widths: &mut Widths, turns: &mut [Turn], 
         high: turn.old.high,
     };
     turns[last].second = true;
-    put(
+    put_interval(
         widths,
         turn.place,
         wide,
@@ -147,7 +147,7 @@ fn next_branch(
             begin_second(table, widths, turns, depth - 1);
             return depth;
         }
-        put(widths, turn.place, turn.old, turn.area);
+        put_interval(widths, turn.place, turn.old, turn.area);
         depth -= 1;
     }
     depth
@@ -182,28 +182,34 @@ fn go_on(
     next_branch(table, widths, turns, depth)
 }
 
-/// Checks the node at a place and goes on behind it. The answer is how many splits are under way then.
+/// What a node is judged by: the claim of its tree, in cycles, and its place in it.
+#[derive(Clone, Copy, Drop)]
+struct NodePlace {
+    claimed: u64,
+    place: usize,
+}
+
+/// Checks a node and goes on behind it. The answer is how many splits are under way then.
 fn check_node(
     table: &ChipTimes<'_>,
-    claimed: u64,
+    by: NodePlace,
     node: &Node,
-    place: usize,
     widths: &mut Widths,
     marks: &mut [usize],
     turns: &mut [Turn],
     depth: usize,
 ) -> Result<usize, TreeFault>
     requires table { IsTable table.now }
-    requires small { place + 2 < 2 ^ 64 }
+    requires small { by.place + 2 < 2 ^ 64 }
     requires widths { AreWidths table.now.wires (length (chip_of table.now).modules) table.now.times.now widths.old }
     requires marks { length marks.old ≡ length (chip_of table.now).modules }
-    requires older { AreOlder (place + 1) marks.old }
+    requires older { AreOlder (by.place + 1) marks.old }
     requires room { depth < length turns.old }
     requires begins { (left : List NodeCase) × Begins (chip_of table.now) table.now.wires table.now.times.now turns.old depth
         widths.old.intervals.items (in_case widths.old.intervals.items (node_value node.now) ∷ left) }
-    ensures judged { IsJudged (chip_of table.now) table.now.wires claimed place
+    ensures judged { IsJudged (chip_of table.now) table.now.wires by.claimed by.place
         (in_case widths.old.intervals.items (node_value node.now)) result }
-    ensures older { AreOlder (place + 2) marks.new }
+    ensures older { AreOlder (by.place + 2) marks.new }
     ensures widths { AreWidths table.now.wires (length (chip_of table.now).modules) table.now.times.now widths.new }
     ensures few { IfOk result (λ next. next ≤ depth + 1) }
     ensures goes_on { (left : List NodeCase) → Begins (chip_of table.now) table.now.wires table.now.times.now turns.old depth
@@ -211,8 +217,8 @@ fn check_node(
         IfOk result (λ next. GoesOn (chip_of table.now) table.now.wires table.now.times.now turns.new next
         widths.new.intervals.items left) }
 {
-    let finding = find(table, widths, node, place + 1, marks);
-    match judge(claimed, place, finding) {
+    let finding = find_shown(table, widths, node, by.place + 1, marks);
+    match judge_node(by.claimed, by.place, finding) {
         Ok(()) => Ok(go_on(table, node, widths, turns, depth)),
         Err(fault) => Err(fault),
     }
@@ -240,16 +246,11 @@ pub fn check_nodes(
     let mut depth = 0;
     for place in 0..tree.nodes.len() {
         let node = &tree.nodes[place];
-        match check_node(
-            table,
-            tree.claimed,
-            node,
+        let by = NodePlace {
+            claimed: tree.claimed,
             place,
-            widths,
-            marks,
-            turns,
-            depth,
-        ) {
+        };
+        match check_node(table, by, node, widths, marks, turns, depth) {
             Ok(next) => depth = next,
             Err(fault) => return Err(fault),
         }

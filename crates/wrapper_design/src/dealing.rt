@@ -58,7 +58,14 @@ fn put_scans(
 }
 
 /// Fills chains in order with input cells up to `si` and output cells up to `so`.
-fn fill(loads: &[u64], chains: &mut [ChainPlan], mut ins: u64, si: u64, mut outs: u64, so: u64)
+fn fill_chains(
+    loads: &[u64],
+    chains: &mut [ChainPlan],
+    mut ins: u64,
+    si: u64,
+    mut outs: u64,
+    so: u64,
+)
     requires as_many { length loads.now ≡ length chains.old }
     requires below_si { All (λ n. n ≤ si) loads.now }
     requires below_so { All (λ n. n ≤ so) loads.now }
@@ -117,12 +124,12 @@ fn put_cells(
     let width = loads.len() as u64;
     let si = level(longest, ins, flops, width);
     let so = level(longest, outs, flops, width);
-    fill(loads, chains, ins, si, outs, so);
+    fill_chains(loads, chains, ins, si, outs, so);
     Ok(())
 }
 
 /// The chains of the design for scan chains in their order.
-pub fn build(
+pub fn build_chains(
     alloc: Global,
     order: &[ScanChain],
     flops: u64,

@@ -2,6 +2,8 @@
 //! design of Iyengar, Chakrabarty and Marinissen 2002; the order, the ties and the filling are this program's own).
 //!
 //! Widths are in wires, one chain a wire; lengths are in cells.
+//!
+//! The wrapper is proper for `plan_model`, and its chains are by the definition. The only error is out of memory.
 #![tactic(auto)]
 
 ghost use Rattle.std.specs.Prelude.{◌≡◌, ◌^◌, ◌≤◌, length, map, IfOk};
@@ -17,7 +19,7 @@ mod loads;
 mod order;
 mod path_lengths;
 
-use dealing::build;
+use dealing::build_chains;
 use order::{flops_of, longest_first};
 use outside::NoMemory;
 pub use path_lengths::PathLengths;

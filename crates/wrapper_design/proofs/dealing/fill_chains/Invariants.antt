@@ -3,7 +3,7 @@ use Rattle.plan_model.specs.declared.ChainPlan.{ChainPlan}
 use Rattle.plan_model.specs.Views.{chain_value}
 use Rattle.wrapper_design.specs.Design.{scan_length, filled}
 use Rattle.wrapper_design.proofs.Chains.{scans_of}
-use Rattle.wrapper_design.proofs.dealing.fill.Given as goal
+use Rattle.wrapper_design.proofs.dealing.fill_chains.Given as goal
 
 abbrev pub invariant-loop-place : goal.invariant-loop-place
 invariant-loop-place l = record {

@@ -1,7 +1,7 @@
 use Rattle.std.proofs.Common.{◌≡◌, ℕ, List, sym, subst}
 use Rattle.resource_table.specs.Jobs.{job_value}
 use Rattle.schedule_search.specs.Exchanges.{NoExchangeHelps}
-use Rattle.schedule_search.proofs.exchanges.improve.Goals as goal
+use Rattle.schedule_search.proofs.exchanges.improve_order.Goals as goal
 
 pub returns-in-None-clause-none_helps : goal.returns-in-None-clause-none_helps
 returns-in-None-clause-none_helps g c =

@@ -1,6 +1,6 @@
 use Rattle.std.proofs.Common.{refl, rules}
 use Rattle.bound_certificate.proofs.Links.{link_next}
-use Rattle.bound_certificate.proofs.nodes.link.Goals as goal
+use Rattle.bound_certificate.proofs.nodes.link_nodes.Goals as goal
 
 pub loop-place-preserved : goal.loop-place-preserved
 loop-place-preserved c =

@@ -2,7 +2,7 @@ use Rattle.std.proofs.Common.{ap}
 use Rattle.width_tree.specs.Trees.{node_value}
 use Rattle.width_tree.specs.Tables.{chip_of}
 use Rattle.width_tree.proofs.WidthFacts.{bus_found}
-use Rattle.width_tree.proofs.leaves.find.Goals as goal
+use Rattle.width_tree.proofs.leaves.find_shown.Goals as goal
 
 pub returns-in-Bus-clause-finding : goal.returns-in-Bus-clause-finding
 returns-in-Bus-clause-finding c =

@@ -4,7 +4,7 @@ use Rattle.std.proofs.lemmas.Option.{slice_get-get_or}
 use Rattle.shift_program.specs.declared.Entry.TheVariants as entry
 use Rattle.shift_program.proofs.Counts.{captured-le}
 use Rattle.shift_program.proofs.Passing.{fault_at, clear_at, counted_at, seen_at, fault_end, none_end}
-use Rattle.shift_program.proofs.counting.count.Goals as goal
+use Rattle.shift_program.proofs.counting.count_operations.Goals as goal
 
 pub returns-in-Some-clause-fault : goal.returns-in-Some-clause-fault
 returns-in-Some-clause-fault c =
@@ -12,8 +12,8 @@ returns-in-Some-clause-fault c =
     fault_at c.args.need.now c.loop-entry.passed _ c.args.entries.now c.loop-entry.entry-index c.loop-entry.place (get_or c.args.entries.now c.loop-entry.entry-index (entry.Rest 0)) c.in-Some.fault
     i.place i.seen i.counted i.clear (slice_get-get_or c.args.entries.now c.loop-entry.entry-index (entry.Rest 0) c.loop-entry-test.true) c.in-Some.ensures
 
-pub note-requires-clause-space : goal.note-requires-clause-space
-note-requires-clause-space c =
+pub note_capture-requires-clause-space : goal.note_capture-requires-clause-space
+note_capture-requires-clause-space c =
     let i = c.loop-entry.invariant in
     let few = captured-le (take c.loop-entry.entry-index c.args.entries.now) in
     let taken = length-take-le c.loop-entry.entry-index c.args.entries.now (omega (arith, c.loop-entry-test.true)) in
@@ -28,11 +28,11 @@ loop-entry-preserved c =
     record {
       place = omega (arith, i.place);
       counted = counted_at c.args.entries.now c.loop-entry.entry-index (c.loop-entry.entry-index + 1) e c.loop-entry.passed c.more-passed.result next at i.counted c.more-passed.ensures.next;
-      seen = seen_at c.args.entries.now c.loop-entry.entry-index (c.loop-entry.entry-index + 1) e _ _ next at i.seen c.note.ensures.filled;
+      seen = seen_at c.args.entries.now c.loop-entry.entry-index (c.loop-entry.entry-index + 1) e _ _ next at i.seen c.note_capture.ensures.filled;
       clear = clear_at c.args.need.now c.loop-entry.passed _ c.args.entries.now c.loop-entry.entry-index c.loop-entry.place (c.loop-entry.entry-index + 1) e next i.place i.seen i.counted i.clear at c.in_default.ensures;
       operations = omega (arith, c.more-passed.ensures.operations, i.operations);
       shifts = omega (arith, c.more-passed.ensures.shifts, i.shifts);
-      space = omega (arith, i.space, c.note.ensures.space_left);
+      space = omega (arith, i.space, c.note_capture.ensures.space_left);
     }
 
 pub returns-in-Some-end_fault-clause-fault : goal.returns-in-Some-end_fault-clause-fault

@@ -1,7 +1,7 @@
 use Rattle.std.proofs.Common.{ℕ, ◌<◌, map, length, arith, refl, get_or}
 use Rattle.wrapper_design.specs.Design.{filled}
 use Rattle.wrapper_design.proofs.Chains.{scans_of, fill_step, fill_end, load_at, drop_next}
-use Rattle.wrapper_design.proofs.dealing.fill.Goals as goal
+use Rattle.wrapper_design.proofs.dealing.fill_chains.Goals as goal
 
 pub loop-place-preserved : goal.loop-place-preserved
 loop-place-preserved c =

@@ -2,7 +2,7 @@ use Rattle.std.proofs.Common.{◌≡◌, ◌≤◌, length}
 use Rattle.resource_table.specs.Jobs.{job_value}
 use Rattle.schedule_search.specs.Orders.{IsTopological}
 use Rattle.schedule_search.specs.OrderCycles.{Takes}
-use Rattle.schedule_search.proofs.exchanges.improve.Given as goal
+use Rattle.schedule_search.proofs.exchanges.improve_order.Given as goal
 
 abbrev pub invariant-exchanges : goal.invariant-exchanges
 invariant-exchanges g l = record {

@@ -3,7 +3,7 @@ use Rattle.indexmap.specs.IndexSet.{keys, spare}
 use Rattle.shift_program.specs.Faults.{captured}
 use Rattle.shift_program.specs.Counting.{needed_by, AreCounted}
 use Rattle.shift_program.proofs.Counts.{IsClear}
-use Rattle.shift_program.proofs.counting.count.Given as goal
+use Rattle.shift_program.proofs.counting.count_operations.Given as goal
 
 abbrev pub invariant-loop-entry : goal.invariant-loop-entry
 invariant-loop-entry l = record {

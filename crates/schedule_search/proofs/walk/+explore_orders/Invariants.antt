@@ -4,16 +4,16 @@ use Rattle.schedule_search.specs.Prefixes.{followers, IsAt, IsOut}
 use Rattle.schedule_search.specs.Taken.{IsTurn}
 use Rattle.schedule_search.specs.Progress.{stand_of, IsBest, NoneBefore, Explored}
 use Rattle.schedule_search.proofs.Walking.{tried}
-use Rattle.schedule_search.proofs.walk.+explore.Given as goal
+use Rattle.schedule_search.proofs.walk.+explore_orders.Given as goal
 
-abbrev pub decreases-explore : goal.decreases-explore
-decreases-explore g l = (length (job_value l.job.now).tests - length l.prefix.now.tests.items) * 2 + 1
+abbrev pub decreases-explore_orders : goal.decreases-explore_orders
+decreases-explore_orders g l = (length (job_value l.job.now).tests - length l.prefix.now.tests.items) * 2 + 1
 
 abbrev pub decreases-go_on : goal.decreases-go_on
 decreases-go_on g l = (length (job_value l.job.now).tests - length l.prefix.now.tests.items) * 2
 
-abbrev pub invariant-explore-loop-place : goal.invariant-explore-loop-place
-invariant-explore-loop-place g l = record {
+abbrev pub invariant-explore_orders-loop-place : goal.invariant-explore_orders-loop-place
+invariant-explore_orders-loop-place g l = record {
   table : l.table ≡ l.fn.table;
   few : l.place ≤ length (followers (job_value l.job) l.fn.prefix.tests.items);
   out : l.place < length (followers (job_value l.job) l.fn.prefix.tests.items) → IsOut (job_value l.job) l.fn.prefix.tests.items l.taken.test l.prefix;
@@ -27,5 +27,5 @@ invariant-explore-loop-place g l = record {
   explored : Explored (job_value l.job) l.tries.budget (tried (job_value l.job) (length (job_value l.job).tests - length l.fn.prefix.tests.items - 1) l.fn.prefix.tests.items l.place) (stand_of l.fn.progress) (stand_of l.progress);
 }
 
-abbrev pub decreases-explore-loop-place : goal.decreases-explore-loop-place
-decreases-explore-loop-place g l = length (followers (job_value l.job) l.fn.prefix.tests.items) - l.place
+abbrev pub decreases-explore_orders-loop-place : goal.decreases-explore_orders-loop-place
+decreases-explore_orders-loop-place g l = length (followers (job_value l.job) l.fn.prefix.tests.items) - l.place

@@ -2,8 +2,8 @@ use Rattle.std.proofs.Common.{arith, ℕ, ◌++◌, ◌≡◌, ◌<◌, ◌≤�
 use Rattle.bus_model.specs.Buses.{bus_value, no_bus}
 use Rattle.bus_model.proofs.Views.{value_at, value_length}
 use Rattle.arch_settle.proofs.Joins.{IsShifted, shifted_below, shifted_above, join_value, get_or-remove}
-use Rattle.arch_settle.proofs.merging.join.Goals as goal
-use Rattle.arch_settle.proofs.merging.join.Goals.{then-into-from, else-into-from}
+use Rattle.arch_settle.proofs.merging.join_buses.Goals as goal
+use Rattle.arch_settle.proofs.merging.join_buses.Goals.{then-into-from, else-into-from}
 
 pub returns-clause-value : goal.returns-clause-value
 returns-clause-value c =

@@ -5,7 +5,7 @@ use Rattle.soc_model.specs.Chips.{module_value}
 use Rattle.plan_model.specs.Rules.{uses_mode}
 use Rattle.plan_checker.proofs.Breaking.{of_none, of_one, breaks_one}
 use Rattle.plan_checker.proofs.Pairing.{paired, not_paired, not_is_true, not_is_false}
-use Rattle.plan_checker.proofs.wrappers.lacks.Goals as goal
+use Rattle.plan_checker.proofs.wrappers.lacks_wrapper.Goals as goal
 
 pub returns-then-not-uses_mode-clause-kept : goal.returns-then-not-uses_mode-clause-kept
 returns-then-not-uses_mode-clause-kept c = λ _.
