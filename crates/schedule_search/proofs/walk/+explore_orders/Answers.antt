@@ -69,8 +69,8 @@ explore_orders-returns-then-is_over-clause-explored g t c =
     explored_left c.args.table.now (job_value c.args.job.now) c.args.tries.now.budget (length (job_value c.args.job.now).tests - length path) path c.args.from.end c.args.progress.now c.enter_prefix.new.progress
     c.requires.job c.requires.sound c.requires.placed (c.is_over.ensures.late c.if-is_over.true) (c.enter_prefix.ensures.entered c.if-not-enter_prefix.false).1 c.requires.opened c.requires.going c.requires.none_before
 
-pub explore-take_out-taken-requires-clause-within : goal.explore_orders-take_out-taken-requires-clause-within
-explore-take_out-taken-requires-clause-within g t c =
+pub explore_orders-take_out-taken-requires-clause-within : goal.explore_orders-take_out-taken-requires-clause-within
+explore_orders-take_out-taken-requires-clause-within g t c =
     let job = job_value c.args.job.now in
     let path : List ℕ = c.args.prefix.now.tests.items in
     let some : 0 < length c.args.prefix.now.rest.items = subst (λ (n : ℕ). 0 < n) c.args.prefix.now.rest.ok.0 (some_left c.args.prefix.now.rest.len c.is_empty.result c.is_empty.ensures c.if-is_empty.false) in
@@ -141,8 +141,8 @@ explore_orders-returns-then-progress-clause-explored g t c =
     let some : 0 < length job.tests - length path = omega (arith, within', few_follow job path, c.requires.at.left) in
     walk_stopped job c.args.tries.now.budget (length job.tests - length path) path (place + 1) (stand_of c.args.progress.now) (stand_of c.go_on.new.progress) some c.if-progress.true done
 
-pub explore-pass-taken-requires : goal.explore_orders-pass-taken-requires
-explore-pass-taken-requires g t c =
+pub explore_orders-pass-taken-requires : goal.explore_orders-pass-taken-requires
+explore_orders-pass-taken-requires g t c =
     let job = job_value c.args.job.now in
     let path : List ℕ = c.args.prefix.now.tests.items in
     let inv = c.loop-place.invariant in
