@@ -260,7 +260,8 @@ pub idle_costs : (g : Basis) (weights : WeightsValue) (wires : Bool) (rank : Opt
 idle_costs g weights wires rank width i l room is idle at =
     let cycles = packed_time l.core l.test width in
     let uses : test_cost (chip_of g) (limits_of g) (lists_of g) weights rank width l
-    ≡ slice_index room.sums.items i * cycles + sum_by (beside_use g.lists (is_rank rank) i cycles) room.beside.items + sum_by (drawn_use (limits_of g) l cycles) room.power.items = is.made.uses (is_rank rank) i cycles l at in
+    ≡ slice_index room.sums.items i * cycles + sum_by (beside_use g.lists (is_rank rank) i cycles) room.beside.items + sum_by (drawn_use (limits_of g) l cycles) room.power.items =
+    sym (is.same (λ list. use_of (chip_of g) (limits_of g) (is_rank rank) list cycles l)) ∙ is.made.uses (is_rank rank) i cycles l at in
     let none : slice_index room.sums.items i * cycles + sum_by (beside_use g.lists (is_rank rank) i cycles) room.beside.items + sum_by (drawn_use (limits_of g) l cycles) room.power.items ≡ 0 = rw (idle.sum, idle.beside, idle.power) (omega arith) in
     either (is_over wires l.test.tam) (test_cost (chip_of g) (limits_of g) (lists_of g) weights rank width l) (uses ∙ none)
   where
