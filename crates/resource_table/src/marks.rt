@@ -7,7 +7,7 @@ ghost use Rattle.std.specs.List.Sorted.{IsNonDecreasingBy, IsPartitionPoint};
 ghost use Rattle.resource_table.specs.declared.power.Draw.{Draw};
 ghost use Rattle.resource_table.specs.declared.points.Point.{Point};
 ghost use Rattle.resource_table.specs.Resources.{marks_from};
-ghost use Rattle.resource_table.specs.Profiles.{no_point, uses_at, all_uses, ArePoints, AreMarked};
+ghost use Rattle.resource_table.specs.Profiles.{no_point, uses_at, all_uses, ArePoints, AreMarked, HaveMarkMore};
 
 use crate::points::{
     Point, drop_unused, load_before, places_before_near, put_point, stands_at, use_less, use_more,
@@ -49,7 +49,7 @@ fn put_mark(points: &mut Vec<Point>, place: usize, cycle: u64) -> usize
     requires fits { all_uses points.old.items + 1 < 2 ^ 64 }
     requires place { place ≤ length points.old.items }
     requires parts { IsPartitionPoint (λ (p : Point). p.cycle < cycle) (λ (p : Point). cycle ≤ p.cycle) points.old.items place }
-    ensures points { (held : List Draw) (cycles : List ℕ) → AreMarked held cycles → ArePoints held cycles points.old.items → ArePoints held (cycle ∷ cycles) points.new.items }
+    ensures points { HaveMarkMore cycle points.old.items points.new.items }
     ensures capacity { vec_capacity points.new ≡ vec_capacity points.old }
 {
     if add_standing_mark(points, place, cycle) {
@@ -67,7 +67,7 @@ fn add_mark(points: &mut Vec<Point>, near: usize, cycle: u64) -> usize
     requires room { length points.old.items < vec_capacity points.old }
     requires fits { all_uses points.old.items + 1 < 2 ^ 64 }
     requires ordered { IsNonDecreasingBy (λ (p : Point). p.cycle) points.old.items }
-    ensures points { (held : List Draw) (cycles : List ℕ) → AreMarked held cycles → ArePoints held cycles points.old.items → ArePoints held (cycle ∷ cycles) points.new.items }
+    ensures points { HaveMarkMore cycle points.old.items points.new.items }
     ensures capacity { vec_capacity points.new ≡ vec_capacity points.old }
 {
     let place = places_before_near(points, near, cycle);

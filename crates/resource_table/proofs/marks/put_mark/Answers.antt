@@ -1,4 +1,4 @@
-use Rattle.std.proofs.Common.{◌≡◌, ◌∙◌, ◌<◌, ◌≤◌, ◌∷◌, ℕ, List, length, arith, sym, ap, subst}
+use Rattle.std.proofs.Common.{◌≡◌, ◌∙◌, ◌≤◌, ◌∷◌, ℕ, List, length, arith, sym, ap, subst}
 use Rattle.std.specs.List.{insert}
 use Rattle.resource_table.specs.declared.points.Point.{Point}
 use Rattle.resource_table.specs.Resources.{load_of}
