@@ -40,7 +40,7 @@ linked_by before nodes ids same differ each = record { listed = λ j p n at c. l
         let s : StandsFor ids before e.1.0 e.1.1 = stands_for ids before e.1.0 e.1.1 (at_contains pairs e.0 e.1 e.2) in
         let m = node_at nodes ids p s.first same (ap (slice_get ids) (sym e.4) ∙ s.first_at) in
         let later : n.id ≡ s.second = some_is n.id s.second (sym (id_at nodes ids j n same at) ∙ ap (slice_get ids) (sym e.3) ∙ s.second_at) in
-        (m.0, m.1, subst (λ (q : TestId × TestId). Contains before q) (ap (λ (v : TestId). pair_of v s.second) (sym m.2) ∙ ap (λ (v : TestId). pair_of (m.0).id v) (sym later)) s.is_before)
+        (m.0, m.1, subst (λ (q : TestId × TestId). Contains before q) (ap (λ (v : TestId). pair_of v s.second) (sym m.2) ∙ ap (λ (v : TestId). pair_of (m.0).id v) (sym later)) s.precedes)
 
     all : (i j : ℕ) (m n : NodeValue) → slice_get nodes i ≡ Some m → slice_get nodes j ≡ Some n → Contains before (pair_of m.id n.id) → Contains n.before i
     all i j m n at there c =

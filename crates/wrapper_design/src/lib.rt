@@ -72,5 +72,5 @@ fn chains_of(
     let flops = flops_of(lengths);
     let ins = module.inputs + module.bidirs;
     let outs = module.outputs + module.bidirs;
-    build(alloc, &order, flops, ins, outs, width)
+    build_chains(alloc, &order, flops, ins, outs, width)
 }
