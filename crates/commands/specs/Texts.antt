@@ -1,5 +1,5 @@
 -- The lines that programs over files have in common.
-use Rattle.std.specs.Prelude.{ℕ, ◌++◌, List, [], ◌∷◌, Bool, false, not, ◌&&◌, nat_eq, nat_lt, Option, None, Some, codes, decimal, if◌then◌else◌}
+use Rattle.std.specs.Prelude.{ℕ, ◌++◌, List, [], ◌∷◌, Bool, false, not, ◌&&◌, nat_eq, codes, decimal, if◌then◌else◌}
 use Rattle.std.specs.List.{list_all, flat_map}
 use Rattle.outside.specs.Decimal.{dotted_numbers}
 use Rattle.soc_model.specs.declared.TestId.{TestId}
