@@ -35,7 +35,7 @@ fn write_line(line: &mut Vec<u8>, tries: u64, cycles: u64) -> Result<(), NoMemor
 /// Tells the tries and the best cycles so far: a front of their line, or nothing where there is no room for it. Where that
 /// fails, nothing comes of it.
 #[tactic(auto, using(crate::proofs::Telling::all_is_front))]
-fn tell<T: Sink>(told: &mut T, line: &mut Vec<u8>, tries: u64, cycles: u64)
+fn report_tries<T: Sink>(told: &mut T, line: &mut Vec<u8>, tries: u64, cycles: u64)
     ensures faults { T.faults told.old ≤ T.faults told.new }
     ensures told { MayAdd (told_line tries cycles) (T.written told.old) (T.written told.new) }
 {
@@ -71,6 +71,6 @@ pub(crate) fn run_told<T: Sink>(
         let now = part.min(left);
         search.run(now);
         left -= now;
-        tell(told, line, tries - left, search.cycles());
+        report_tries(told, line, tries - left, search.cycles());
     }
 }

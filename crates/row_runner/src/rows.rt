@@ -7,7 +7,7 @@ use crate::report::RowReport;
 use crate::runs::run_of_command;
 use outside::{Loaded, NoMemory, RealShelf, Shelf, copied};
 use row_calls::{
-    Line, Rig, cycles_of_steps, is_text, line_of, part, printed_again, session_of_plan,
+    Rig, RowLine, cycles_of_steps, is_text, line_of, part, printed_again, session_of_plan,
     under_the_plan,
 };
 use std::rt::Files;
@@ -63,22 +63,22 @@ fn said_of_line<R: Files + AllocGlobal>(
     rt: &R,
     rig: &mut Rig,
     report: &mut RowReport,
-    line: Line<'_>,
+    line: RowLine<'_>,
 ) -> Result<Option<Vec<u8>>, NoMemory> {
     match line {
-        Line::Blank => {}
-        Line::Hold { name, text } => rig.hold(name, text)?,
-        Line::More { name, copies, text } => rig.hold_more(name, copies, text)?,
-        Line::Data { name, file } => {
+        RowLine::Blank => {}
+        RowLine::Hold { name, text } => rig.hold(name, text)?,
+        RowLine::More { name, copies, text } => rig.hold_more(name, copies, text)?,
+        RowLine::Data { name, file } => {
             if !hold_data(rt, rig, name, file)? {
                 return Ok(Some(copied(rt.alloc(), b"cannot be read")?));
             }
         }
-        Line::Keep { name, begin, end } => keep_lines(rig, name, begin, end)?,
-        Line::Loads { failing } => rig.renew_shelf(failing)?,
-        Line::Puts { shape } => rig.set_output(shape)?,
-        Line::Tells { shape } => rig.set_second_output(shape)?,
-        Line::Row {
+        RowLine::Keep { name, begin, end } => keep_lines(rig, name, begin, end)?,
+        RowLine::Loads { failing } => rig.renew_shelf(failing)?,
+        RowLine::Puts { shape } => rig.set_output(shape)?,
+        RowLine::Tells { shape } => rig.set_second_output(shape)?,
+        RowLine::Row {
             kind,
             words,
             wanted,
