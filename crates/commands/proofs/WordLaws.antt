@@ -6,9 +6,9 @@ use Rattle.outside.specs.Decimal.{number_of}
 use Rattle.outside.proofs.DecimalLemmas.{number_of-decimal}
 use Rattle.soc_model.specs.declared.TheConstants.{NUMBER_WORD_MOST}
 use Rattle.plan_model.specs.declared.TheConstants.{WIRES_MOST}
-use Rattle.commands.specs.declared.TheConstants.{TRIES_MOST}
+use Rattle.commands.specs.declared.TheConstants.{NODES_MOST, TRIES_MOST}
 use Rattle.commands.specs.declared.Command.{Command}
-use Rattle.commands.specs.Commands.{CommandValue, command_value, Print, Widths, Plan, Check, Chart, Vectors, Sample, Locate, Tree, Split, Shift, Improve, Picture, Simulate, Bound, IsInRange, EachHasWords, command_of, widths_of, vectors_of, sample_of, split_of, improve_of, simulate_of, with_one, with_two, with_three, with_four, with_five}
+use Rattle.commands.specs.Commands.{CommandValue, command_value, Print, Widths, Plan, Check, Chart, Vectors, Sample, Locate, Tree, Split, Shift, Improve, Picture, Simulate, Bound, Prove, IsInRange, EachHasWords, command_of, widths_of, vectors_of, sample_of, split_of, improve_of, simulate_of, prove_of, with_one, with_two, with_three, with_four, with_five}
 
 word : (n : ℕ) → n ≤ NUMBER_WORD_MOST → number_of (decimal n) NUMBER_WORD_MOST ≡ Some n
 word n small = number_of-decimal n NUMBER_WORD_MOST (omega arith) small
@@ -18,6 +18,9 @@ widths_in_range soc wires some = rw (le-leb 1 wires some) refl
 
 split_in_range : (soc limits : List ℕ) (most : ℕ) → 1 ≤ most → split_of soc limits (Some most) ≡ Some (Split soc limits most)
 split_in_range soc limits most some = rw (le-leb 1 most some) refl
+
+prove_in_range : (soc limits plan : List ℕ) (nodes : ℕ) → 1 ≤ nodes → prove_of soc limits plan (Some nodes) ≡ Some (Prove soc limits plan nodes)
+prove_in_range soc limits plan nodes some = rw (le-leb 1 nodes some) refl
 
 pub each_has_words : EachHasWords
 unfolding command_of with_one with_two with_three with_four with_five
@@ -37,6 +40,7 @@ each_has_words (Improve soc limits plan tries seed) range =
 each_has_words (Picture soc limits plan) range = refl
 each_has_words (Simulate soc limits plan seed) range = ap (simulate_of soc limits plan) (word seed range)
 each_has_words (Bound soc limits proof) range = refl
+each_has_words (Prove soc limits plan nodes) range = ap (prove_of soc limits plan) (number_of-decimal nodes NODES_MOST (omega arith) range.1) ∙ prove_in_range soc limits plan nodes range.0
 
 -- the numbers of a command that was parsed are in their ranges
 pub in_range : (result : Option Command) (asked : Option CommandValue) → option_map command_value result ≡ asked → IfSome result (λ c. IsInRange (command_value c)) → IfSome asked IsInRange

@@ -4,7 +4,7 @@ use Rattle.std.specs.Cmp.Lexicographic.{pointwise}
 use Rattle.outside.specs.Decimal.{number_of}
 use Rattle.soc_model.specs.declared.TheConstants.{NUMBER_WORD_MOST}
 use Rattle.plan_model.specs.declared.TheConstants.{WIRES_MOST}
-use Rattle.commands.specs.declared.TheConstants.{TRIES_MOST}
+use Rattle.commands.specs.declared.TheConstants.{NODES_MOST, TRIES_MOST}
 use Rattle.commands.specs.declared.Command.{Command}
 use Rattle.commands.specs.declared.Command.TheVariants as command
 
@@ -25,6 +25,7 @@ pub data CommandValue : Type 0 where
   Picture : (soc limits plan : List ℕ) → CommandValue
   Simulate : (soc limits plan : List ℕ) → (seed : ℕ) → CommandValue
   Bound : (soc limits proof : List ℕ) → CommandValue
+  Prove : (soc limits plan : List ℕ) → (nodes : ℕ) → CommandValue
 
 abbrev pub command_value : Command → CommandValue
 command_value (command.Print soc) = Print soc.now
@@ -42,6 +43,7 @@ command_value (command.Improve soc limits plan tries seed) = Improve soc.now lim
 command_value (command.Picture soc limits plan) = Picture soc.now limits.now plan.now
 command_value (command.Simulate soc limits plan seed) = Simulate soc.now limits.now plan.now seed
 command_value (command.Bound soc limits proof) = Bound soc.now limits.now proof.now
+command_value (command.Prove soc limits plan nodes) = Prove soc.now limits.now plan.now nodes
 
 -- the numbers of a command are in their ranges
 abbrev pub IsInRange : CommandValue → Type 0
@@ -60,6 +62,7 @@ IsInRange (Improve soc limits plan tries seed) = (tries ≤ TRIES_MOST) × (seed
 IsInRange (Picture soc limits plan) = Unit {0}
 IsInRange (Simulate soc limits plan seed) = seed ≤ NUMBER_WORD_MOST
 IsInRange (Bound soc limits proof) = Unit {0}
+IsInRange (Prove soc limits plan nodes) = (1 ≤ nodes) × (nodes ≤ NODES_MOST)
 
 -- ---- from words to a command
 
@@ -95,6 +98,11 @@ abbrev pub simulate_of : (soc limits plan : List ℕ) → Option ℕ → Option 
 simulate_of soc limits plan None = None
 simulate_of soc limits plan (Some seed) = Some (Simulate soc limits plan seed)
 
+-- `prove` with a number of nodes, where it is from 1 to the most
+abbrev pub prove_of : (soc limits plan : List ℕ) → Option ℕ → Option CommandValue
+prove_of soc limits plan None = None
+prove_of soc limits plan (Some nodes) = if nat_le 1 nodes then Some (Prove soc limits plan nodes) else None
+
 -- the command of a word with one more word
 unfoldable pub with_one : (word soc : List ℕ) → Option CommandValue
 with_one word soc = if pointwise nat_eq word (codes "print") then Some (Print soc) else None
@@ -125,6 +133,7 @@ with_four word soc limits plan last =
     else if pointwise nat_eq word (codes "simulate") then simulate_of soc limits plan (number_of last NUMBER_WORD_MOST)
     else if pointwise nat_eq word (codes "locate") then Some (Locate soc limits plan last)
     else if pointwise nat_eq word (codes "shift") then Some (Shift soc limits plan last)
+    else if pointwise nat_eq word (codes "prove") then prove_of soc limits plan (number_of last NODES_MOST)
     else None
 
 -- with five more words
@@ -135,7 +144,7 @@ with_five word soc limits plan tries seed =
 -- `print SOC`, `widths SOC WIRES`, `plan SOC LIMITS`, `check SOC LIMITS PLAN`, `chart SOC LIMITS PLAN`,
 -- `vectors SOC LIMITS PLAN SEED`, `sample N SEED`, `locate SOC LIMITS PLAN LOG`, `tree SOC LIMITS TREE`, `split SOC LIMITS MOST`,
 -- `shift SOC LIMITS PLAN PROGRAM`, `improve SOC LIMITS PLAN TRIES SEED`, `picture SOC LIMITS PLAN`,
--- `simulate SOC LIMITS PLAN SEED` and `bound SOC LIMITS PROOF`; no other words are a command
+-- `simulate SOC LIMITS PLAN SEED`, `bound SOC LIMITS PROOF` and `prove SOC LIMITS PLAN NODES`; no other words are a command
 unfoldable pub command_of : List (List ℕ) → Option CommandValue
 command_of (word ∷ soc ∷ []) = with_one word soc
 command_of (word ∷ first ∷ last ∷ []) = with_two word first last
@@ -163,6 +172,7 @@ words_of (Improve soc limits plan tries seed) = codes "improve" ∷ soc ∷ limi
 words_of (Picture soc limits plan) = codes "picture" ∷ soc ∷ limits ∷ plan ∷ []
 words_of (Simulate soc limits plan seed) = codes "simulate" ∷ soc ∷ limits ∷ plan ∷ decimal seed ∷ []
 words_of (Bound soc limits proof) = codes "bound" ∷ soc ∷ limits ∷ proof ∷ []
+words_of (Prove soc limits plan nodes) = codes "prove" ∷ soc ∷ limits ∷ plan ∷ decimal nodes ∷ []
 
 -- Each command has words that ask for it.
 abbrev pub EachHasWords : Type 0

@@ -29,6 +29,9 @@ pub const PLAN_FILE_MOST: u64 = 33_554_432;
 /// The most tries of `improve`.
 pub const TRIES_MOST: u64 = 10_000_000;
 
+/// The most nodes of a proof that `prove` makes.
+pub const NODES_MOST: u64 = 1_000_000;
+
 /// A command, with the names of its files and its numbers in the order of its words.
 #[derive(Clone, Copy)]
 pub enum Command<'a> {
@@ -122,6 +125,13 @@ pub enum Command<'a> {
         soc: &'a str,
         limits: &'a str,
         proof: &'a str,
+    },
+    /// A proof by cases on buses of at most so many nodes, which claims no more than the cycles of a plan that is accepted.
+    Prove {
+        soc: &'a str,
+        limits: &'a str,
+        plan: &'a str,
+        nodes: u64,
     },
 }
 

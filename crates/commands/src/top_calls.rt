@@ -19,6 +19,8 @@ pub enum TopCall {
     Simulate,
     /// That of `bound`.
     Bound,
+    /// That of `prove`.
+    Prove,
 }
 
 /// The top call that takes these words, by the command that they are.
@@ -30,6 +32,7 @@ pub fn top_call(words: &[String]) -> TopCall
         Some(Command::Picture { .. }) => TopCall::Picture,
         Some(Command::Simulate { .. }) => TopCall::Simulate,
         Some(Command::Bound { .. }) => TopCall::Bound,
+        Some(Command::Prove { .. }) => TopCall::Prove,
         Some(
             Command::Print { .. }
             | Command::Widths { .. }

@@ -3,10 +3,10 @@ ghost use Rattle.std.specs.Prelude.{◌≡◌, ◌≤◌, map, string_bytes, opt
 ghost use Rattle.outside.specs.Decimal.{number_of};
 ghost use Rattle.soc_model.specs.declared.TheConstants.{NUMBER_WORD_MOST};
 ghost use Rattle.plan_model.specs.declared.TheConstants.{WIRES_MOST};
-ghost use Rattle.commands.specs.Commands.{EachHasWords, IsInRange, command_of as asked_command, command_value, improve_of, sample_of, split_of, widths_of, with_five, with_four, with_one, with_three, with_two};
-ghost use Rattle.commands.specs.declared.TheConstants.{TRIES_MOST};
+ghost use Rattle.commands.specs.Commands.{EachHasWords, IsInRange, command_of as asked_command, command_value, improve_of, prove_of, sample_of, split_of, widths_of, with_five, with_four, with_one, with_three, with_two};
+ghost use Rattle.commands.specs.declared.TheConstants.{NODES_MOST, TRIES_MOST};
 
-use crate::{Command, TRIES_MOST};
+use crate::{Command, NODES_MOST, TRIES_MOST};
 use outside::number;
 use plan_model::WIRES_MOST;
 use soc_model::NUMBER_WORD_MOST;
@@ -88,6 +88,23 @@ fn improve<'a>(
         plan,
         tries,
         seed,
+    })
+}
+
+/// `prove` with a word for the nodes, where that is a number from 1 to 1,000,000.
+fn prove<'a>(soc: &'a str, limits: &'a str, plan: &'a str, nodes: &str) -> Option<Command<'a>>
+    ensures value { option_map command_value result ≡ prove_of soc.now limits.now plan.now (number_of nodes.now NODES_MOST) }
+    ensures range { IfSome result (λ c. IsInRange (command_value c)) }
+{
+    let nodes = number(nodes.as_bytes(), NODES_MOST)?;
+    if nodes < 1 {
+        return None;
+    }
+    Some(Command::Prove {
+        soc,
+        limits,
+        plan,
+        nodes,
     })
 }
 
@@ -216,6 +233,9 @@ fn four<'a>(
             plan,
             program: last,
         });
+    }
+    if word == "prove" {
+        return prove(soc, limits, plan, last);
     }
     None
 }

@@ -1,5 +1,6 @@
 //! Runs of the top calls over files in memory.
 use bound_checker::check_bound;
+use bound_prover::prove_bound;
 use commands::{Status, TopCall, top_call};
 use outside::{NoMemory, Shelf, Sink, extend, push, push_number};
 use plan_improver::improve;
@@ -43,6 +44,7 @@ pub fn call<H: Shelf, K: Sink, T: Sink>(
         TopCall::Picture => draw(alloc, words, shelf, out),
         TopCall::Simulate => simulate(alloc, words, shelf, out),
         TopCall::Bound => check_bound(alloc, words, shelf, out),
+        TopCall::Prove => prove_bound(alloc, words, shelf, out, told),
         TopCall::Soctest => soctest(alloc, words, shelf, out),
     }
 }

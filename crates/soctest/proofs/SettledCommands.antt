@@ -15,7 +15,7 @@ use Rattle.commands.specs.Procedures.{Procedure, Unless, asked, done_with}
 use Rattle.commands.specs.Settled.{IsSettled, FilesSayOneThing}
 use Rattle.commands.proofs.Settled.{done_once, left_open}
 use Rattle.commands.proofs.Completeness.{settled_chip, settled_both, settled_all}
-use Rattle.commands.specs.Commands.{CommandValue, Print, Widths, Plan, Check, Chart, Vectors, Sample, Locate, Tree, Split, Shift, Improve, Picture, Simulate, Bound}
+use Rattle.commands.specs.Commands.{CommandValue, Print, Widths, Plan, Check, Chart, Vectors, Sample, Locate, Tree, Split, Shift, Improve, Picture, Simulate, Bound, Prove}
 use Rattle.soctest.specs.Texts.{accepted_line}
 use Rattle.soctest.specs.WidthsText.{widths_text}
 use Rattle.soctest.specs.Samples.{sample_limits, sample_text}
@@ -55,6 +55,7 @@ settled laws (Improve soc limits plan tries seed) = tt
 settled laws (Picture soc limits plan) = tt
 settled laws (Simulate soc limits plan seed) = tt
 settled laws (Bound soc limits proof) = tt
+settled laws (Prove soc limits plan nodes) = tt
 
 -- and so has what any words ask for
 pub settled_asked : Laws → (command : Option CommandValue) → IsSettled (fixes_text command) (asked procedure_of command)

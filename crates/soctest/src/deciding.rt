@@ -347,7 +347,8 @@ pub fn decide<H: Shelf>(alloc: Global, words: &[String], shelf: &mut H) -> Endin
             Command::Improve { .. }
             | Command::Picture { .. }
             | Command::Simulate { .. }
-            | Command::Bound { .. },
+            | Command::Bound { .. }
+            | Command::Prove { .. },
         )
         | None => Ending::Decided(bad_words(alloc)),
     }

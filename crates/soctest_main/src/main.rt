@@ -3,6 +3,7 @@
 #![tactic(auto)]
 
 use bound_checker::check_bound;
+use bound_prover::prove_bound;
 use commands::{Status, TopCall, top_call, words_after_name};
 use outside::{RealShelf, RealSink};
 use plan_improver::improve;
@@ -24,6 +25,10 @@ fn run(rt: &HostRuntime, words: &[String]) -> Status {
         TopCall::Picture => draw(alloc, words, &mut shelf, &mut out),
         TopCall::Simulate => simulate(alloc, words, &mut shelf, &mut out),
         TopCall::Bound => check_bound(alloc, words, &mut shelf, &mut out),
+        TopCall::Prove => {
+            let mut progress = RealSink::new(rt.stderr());
+            prove_bound(alloc, words, &mut shelf, &mut out, &mut progress)
+        }
         TopCall::Soctest => soctest(alloc, words, &mut shelf, &mut out),
     }
 }

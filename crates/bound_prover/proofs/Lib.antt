@@ -1,0 +1,4 @@
+pub mod Answering
+pub mod Nothing
+pub mod Printing
+pub mod Reports

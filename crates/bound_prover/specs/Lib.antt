@@ -1,0 +1,4 @@
+pub mod Headlines
+pub mod Reports
+pub mod Proved
+pub mod Requests

@@ -1,0 +1,76 @@
+//! The text of a proof for a chip under limits, from a search that promises nothing.
+ghost use Rattle.std.specs.Prelude.{◌≡◌, ◌<◌, ◌≤◌, IfOk};
+ghost use Rattle.soc_model.specs.Chips.{soc_value};
+ghost use Rattle.soc_model.specs.SoundChips.{IsSoundChip};
+ghost use Rattle.plan_model.specs.SoundLimits.{IsSoundLimits};
+ghost use Rattle.plan_model.specs.Views.{limits_value};
+ghost use Rattle.bound_prover.specs.declared.progress.TheConstants.{REPORTED_FROM};
+ghost use Rattle.bound_prover.specs.Proved.{IsProofText};
+ghost use Rattle.bound_prover.specs.Reports.{MayReport};
+
+use crate::accepting::{accepted_text, nothing_text};
+use crate::progress::{line_room, run_reported};
+use bus_proofs::Proof;
+use outside::{NoMemory, Sink};
+use plan_model::Limits;
+use proof_search::Search;
+use soc_model::Soc;
+use std::alloc::Global;
+
+/// The proof that a search of so many nodes finds that no good plan takes fewer than so many cycles, or than as many as it can
+/// show. Nothing is known of it.
+fn searched<T: Sink>(
+    alloc: Global,
+    soc: &Soc,
+    limits: &Limits,
+    cycles: u64,
+    nodes: u64,
+    progress: &mut T,
+) -> Result<Proof, NoMemory>
+    requires chip { IsSoundChip (soc_value soc.now) }
+    requires limits { IsSoundLimits (soc_value soc.now) (limits_value limits.now) }
+    ensures faults_never_fall { T.faults progress.old ≤ T.faults progress.new }
+    ensures quiet { nodes < REPORTED_FROM → progress.new ≡ progress.old }
+    ensures reported { MayReport nodes (T.written progress.old) (T.written progress.new) }
+{
+    let mut line = line_room(alloc)?;
+    let mut search = Search::new(alloc, soc, limits, cycles, nodes)?;
+    run_reported(&mut search, nodes, &mut line, progress);
+    let proof = search.proof(alloc);
+    // dropped by a call: the end of the scope would drop each of its parts, and be proved for each
+    drop(search);
+    proof
+}
+
+/// The text of a proof by cases on buses of at most so many nodes: it is accepted for the chip under the limits, and claims at
+/// most so many cycles, as many as a search could show. Where it could show nothing, or where the cycles are 0, it is the proof that
+/// claims nothing. From 10,000 nodes on each tenth of them that was made is reported to `progress`, with the claim so far; a
+/// `progress` that fails changes nothing else. `NoMemory` where there is none.
+pub fn proved<T: Sink>(
+    alloc: Global,
+    soc: &Soc,
+    limits: &Limits,
+    cycles: u64,
+    nodes: u64,
+    progress: &mut T,
+) -> Result<Vec<u8>, NoMemory>
+    requires chip { IsSoundChip (soc_value soc.now) }
+    requires limits { IsSoundLimits (soc_value soc.now) (limits_value limits.now) }
+    requires some { 1 ≤ nodes }
+    ensures text { IfOk result (λ text. IsProofText (soc_value soc.now) (limits_value limits.now) cycles nodes text.items) }
+    ensures faults_never_fall { T.faults progress.old ≤ T.faults progress.new }
+    ensures quiet { nodes < REPORTED_FROM → progress.new ≡ progress.old }
+    ensures reported { MayReport nodes (T.written progress.old) (T.written progress.new) }
+{
+    if cycles == 0 {
+        return nothing_text(alloc);
+    }
+    let found = searched(alloc, soc, limits, cycles, nodes, progress)?;
+    let accepted = accepted_text(alloc, soc, limits, &found, cycles, nodes);
+    // dropped by a call, as the search is
+    drop(found);
+    match accepted? {
+        Some(text) => Ok(text),
+        None => nothing_text(alloc),
+    }
+}
