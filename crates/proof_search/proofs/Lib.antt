@@ -1,1 +1,1 @@
-mod Works
+mod HasRows

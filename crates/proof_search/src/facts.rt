@@ -198,7 +198,6 @@ fn push_times(
 }
 
 /// Adds a live test of the module at a place.
-#[tactic(auto, using(crate::proofs::Works::live_work))]
 fn push_test(
     facts: &mut Facts,
     origin: Origin<'_>,

@@ -236,6 +236,13 @@ impl Tree {
         node
     }
 
+    /// Gives the weights of a leaf so many digits in the text. The length of the text stays as it was counted.
+    pub fn set_digits(&mut self, node: usize, weighing: &Weighing, digits: u32) {
+        let mut knot = self.knot_at(node);
+        knot.digits = Digits::of(weighing, digits);
+        put(&mut self.knots, node, knot);
+    }
+
     fn push_weights(&mut self, weighing: &Weighing) {
         let count = whole_count(&weighing.ranks);
         self.push(weighing.wire);

@@ -8,10 +8,13 @@ use crate::tables::item_or;
 use outside::{NoMemory, push};
 use std::alloc::Global;
 
+/// Uses in the table, at most, where it is of more lists than one.
+const USES_MOST: usize = 1 << 22;
+
 /// What tests use of the lists of power, which are the first lists.
 #[derive(Drop)]
 pub(crate) struct Powers {
-    /// How many of the lists these are.
+    /// How many of the lists these are: others aren't weighed.
     pub count: usize,
     tests: usize,
     wires: usize,
@@ -44,16 +47,20 @@ fn used(facts: &Facts, near: u64, test: usize, time: u64, last: Used) -> Used {
 }
 
 impl Powers {
-    /// The uses of lists, all of power. `NoMemory` where there is none.
+    /// The uses of lists, all of power: of the first ones, where the table would be too long for all. `NoMemory` where there is
+    /// none.
     pub fn new(alloc: Global, facts: &Facts, lists: &Lists) -> Result<Powers, NoMemory> {
+        let rows = facts.tests.saturating_mul(facts.wires);
+        let most = USES_MOST.checked_div(rows).unwrap_or(0).max(1);
+        let count = lists.count.min(most);
         let mut powers = Powers {
-            count: lists.count,
+            count,
             tests: facts.tests,
             wires: facts.wires,
             uses: Vec::new(alloc),
             shares: Vec::new(alloc),
         };
-        for list in 0..lists.count {
+        for list in 0..count {
             powers.push_list(facts, lists.number_of(list))?;
         }
         Ok(powers)
