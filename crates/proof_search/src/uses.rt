@@ -33,7 +33,7 @@ struct Used {
 }
 
 /// The use of a list by a test of so many cycles, which is the last one where that took as many.
-fn used(facts: &Facts, near: u64, test: usize, time: u64, last: Used) -> Used {
+fn use_of(facts: &Facts, near: u64, test: usize, time: u64, last: Used) -> Used {
     if time == last.time {
         return last;
     }
@@ -81,7 +81,7 @@ impl Powers {
         };
         for place in 0..facts.wires {
             let time = facts.time_at(test, place.saturating_add(1));
-            last = used(facts, near, test, time, last);
+            last = use_of(facts, near, test, time, last);
             push(&mut self.uses, last.cycles)?;
             push(&mut self.shares, last.share)?;
         }

@@ -258,14 +258,7 @@ impl Values {
 
     /// The greatest claim from `low` on, at which the weights hold, and below `end`, at which they don't where it is above
     /// `low`: the slots only get fewer as the claim falls.
-    fn between(
-        &self,
-        chip: &Chip,
-        spans: &Spans,
-        weights: &Weighing,
-        low: u64,
-        end: u64,
-    ) -> u64 {
+    fn between(&self, chip: &Chip, spans: &Spans, weights: &Weighing, low: u64, end: u64) -> u64 {
         let mut low = low;
         let mut end = end;
         for _ in 0..64 {
