@@ -112,7 +112,11 @@ impl Answers {
         let wires = pick.width.saturating_sub(range.low) as u64;
         let bus = prices.resources.of_rank(range.rank);
         add_part(&mut self.used, bus, share);
-        add_part(&mut self.used, prices.resources.rest, share.wrapping_mul(wires));
+        add_part(
+            &mut self.used,
+            prices.resources.rest,
+            share.wrapping_mul(wires),
+        );
         self.note_slot(&prices.chip.facts, module, pick.width, range.rank);
     }
 

@@ -224,19 +224,19 @@ impl Case {
     }
 
     /// Says that a module is on none of some ranks.
-    fn not_on(&mut self, module: usize, ranks: &[u32]) {
+    fn not_on(&mut self, module: usize, ranks: &[usize]) {
         for at in 0..ranks.len() {
-            self.forbid(module, ranks[at] as usize);
+            self.forbid(module, ranks[at]);
         }
     }
 
     /// Becomes the first or the second case of a division by the place of a module: on the first of some ranks, which are
     /// twins, or on none of them.
-    pub fn place(&mut self, module: usize, ranks: &[u32], second: bool) {
+    pub fn place(&mut self, module: usize, ranks: &[usize], second: bool) {
         if second {
             self.not_on(module, ranks);
         } else {
-            self.only_on(module, item_or(ranks, 0, 0) as usize);
+            self.only_on(module, item_or(ranks, 0, 0));
         }
     }
 }

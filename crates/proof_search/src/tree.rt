@@ -98,11 +98,12 @@ pub(crate) fn whole_count(ranks: &[u64]) -> usize {
 }
 
 impl Digits {
-    /// So many digits for the greatest weight.
+    /// So many digits for the greatest weight; as it is, where it has no more.
     fn of(weighing: &Weighing, digits: u32) -> Digits {
+        let most = weighing.greatest().max(1);
         Digits {
-            most: weighing.greatest().max(1),
-            whole: nines(digits),
+            most,
+            whole: nines(digits).min(most),
         }
     }
 
@@ -316,25 +317,27 @@ impl Tree {
         self.divide(node, Rule::Wide { rank, width }, length, first, second);
     }
 
-    /// Divides a leaf by whether a wired module is on a rank, which has these twins.
+    /// Adds the twins of a rank, which is the first of some ranks, to the pool.
+    fn push_twins(&mut self, ranks: &[usize]) {
+        for at in 1..ranks.len() {
+            self.push(item_or(ranks, at, 0) as u64);
+        }
+    }
+
+    /// Divides a leaf by whether a wired module is on the first of some ranks, the twins of which are the others.
     pub fn divide_place(
         &mut self,
         names: Names<'_>,
         node: usize,
-        on: (usize, usize),
-        twins: &[usize],
+        module: usize,
+        ranks: &[usize],
         first: usize,
         second: usize,
     ) {
-        let (module, rank) = on;
         let start = self.pooled;
-        let count = twins.len();
-        if start.saturating_add(count) > self.pool.len() {
-            return;
-        }
-        for at in 0..count {
-            self.push(item_or(twins, at, 0) as u64);
-        }
+        let rank = item_or(ranks, 0, 0);
+        let count = ranks.len().saturating_sub(1);
+        self.push_twins(ranks);
         let number = item_or(&names.facts.number, module, 0);
         let length = place_length(number, rank as u64, count as u64);
         let rule = Rule::Place {
