@@ -3,12 +3,17 @@ use Rattle.std.specs.Prelude.{◌≡◌, ℕ, ◌+◌, ◌<◌, length}
 use Rattle.std.specs.List.{All}
 use Rattle.arch_search.specs.declared.problem.Problem.{Problem}
 use Rattle.arch_search.specs.declared.times.Row.{Row}
+use Rattle.arch_search.specs.declared.times.Column.{Column}
 use Rattle.arch_search.specs.declared.times.Ranking.{Ranking}
 use Rattle.arch_search.specs.declared.times.Times.{Times}
 
 -- the cycles of a module on up to so many wires
 abbrev pub IsRow : ℕ → Row → Type 0
 IsRow wires r = length r.cycles.items ≡ wires + 1
+
+-- the cycles of so many modules
+abbrev pub IsColumn : ℕ → Column → Type 0
+IsColumn modules c = length c.cycles.items ≡ modules
 
 -- an order of some of so many modules
 abbrev pub IsRanking : ℕ → Ranking → Type 0
@@ -17,6 +22,8 @@ IsRanking modules r = All (λ m. m < modules) r.modules.items
 -- the cycles of each module on each width, with an order of the modules for each width
 pub record AreTimes (t : Times) : Type 0 where
   pub rows : All (IsRow t.wires) t.rows.items
+  pub as_many_columns : length t.columns.items ≡ t.wires + 1
+  pub columns : All (IsColumn (length t.rows.items)) t.columns.items
   pub as_many_rankings : length t.rankings.items ≡ t.wires + 1
   pub rankings : All (IsRanking (length t.rows.items)) t.rankings.items
 

@@ -15,12 +15,30 @@ pub struct Buses {
     pub loads: Vec<u64>,
 }
 
+/// The cycles of a module where it is counted, else none.
+fn counted(is_counted: bool, cycles: u64) -> u64 {
+    if is_counted { cycles } else { 0 }
+}
+
 impl Buses {
     /// The first slot without wires.
     pub(crate) fn unused(&self) -> Option<usize>
         ensures { IfSome result (λ slot. slot < length self.now.widths.items) }
     {
         self.widths.iter().position(|width| *width == 0)
+    }
+
+    /// How many slots there are up to the last one with wires.
+    pub(crate) fn used(&self) -> usize
+        ensures { result ≤ length self.now.widths.items }
+    {
+        let mut used = 0;
+        for slot in 0..self.widths.len() {
+            if self.widths[slot] > 0 {
+                used = slot + 1;
+            }
+        }
+        used
     }
 
     /// The first slot whose load is greater than so many cycles.
@@ -132,11 +150,10 @@ impl Buses {
         requires times { AreTimesOn self.now times.now }
         requires width { width ≤ length self.now.widths.items }
     {
+        let cycles = times.column(width);
         let mut sum: u64 = 0;
         for module in 0..self.slots.len() {
-            if self.slots[module] == slot {
-                sum = sum.saturating_add(times.on(module, width));
-            }
+            sum = sum.saturating_add(counted(self.slots[module] == slot, cycles[module]));
         }
         sum
     }

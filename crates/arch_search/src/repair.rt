@@ -55,12 +55,12 @@ fn giver(less: &[u64], but: usize, cap: u64) -> Option<usize>
     ensures { IfSome result (λ slot. slot < length less.now) }
 {
     let mut found = None;
-    let mut least = cap;
+    let mut limit = cap.saturating_add(1);
     for slot in 0..less.len() {
         let load = less[slot];
-        if slot != but && (load < least || (found.is_none() && load == cap)) {
+        if load < limit && slot != but {
             found = Some(slot);
-            least = load;
+            limit = load;
         }
     }
     found
@@ -99,12 +99,13 @@ pub(crate) fn fits(times: &Times, buses: &mut Buses, less: &mut Vec<u64>, cap: u
     if buses.first_over(cap).is_none() {
         return true;
     }
+    let used = buses.used();
     fill_less(times, buses, less);
     for _wire in 0..buses.widths.len() {
         let Some(full) = buses.first_over(cap) else {
             return true;
         };
-        let Some(from) = giver(less, full, cap) else {
+        let Some(from) = giver(&less[..used], full, cap) else {
             return false;
         };
         pass_wire(times, buses, less, from, full);

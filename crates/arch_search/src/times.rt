@@ -3,7 +3,7 @@ ghost use Rattle.std.specs.Prelude.{◌≡◌, ℕ, ◌+◌, ◌<◌, ◌≤◌,
 ghost use Rattle.std.specs.List.{All};
 ghost use Rattle.resource_table.specs.Jobs.{JobValue};
 ghost use Rattle.arch_search.specs.Problems.{IsProblem};
-ghost use Rattle.arch_search.specs.Times.{IsRow, IsRanking, AreTimes, AreTimesOf};
+ghost use Rattle.arch_search.specs.Times.{IsRow, IsColumn, IsRanking, AreTimes, AreTimesOf};
 
 use crate::problem::Problem;
 use crate::scheduling::zeros;
@@ -16,6 +16,13 @@ use std::alloc::Global;
 pub struct Row {
     /// Its tests over the wires take so many cycles together on a bus of so many wires, from none on. On none it can't be
     /// tested, which stands as the greatest number.
+    pub cycles: Vec<u64>,
+}
+
+/// The cycles of all modules on one width.
+#[derive(Drop)]
+pub struct Column {
+    /// For each module its cycles there.
     pub cycles: Vec<u64>,
 }
 
@@ -33,6 +40,8 @@ pub struct Times {
     pub wires: usize,
     /// For each module its cycles.
     pub rows: Vec<Row>,
+    /// The same once more, for each width, from none on, so that a sum over the modules goes through one list.
+    pub columns: Vec<Column>,
     /// For each width, from none on, the modules, those of the most cycles first.
     pub rankings: Vec<Ranking>,
 }
@@ -45,6 +54,15 @@ impl Times {
         requires within { width ≤ self.now.wires }
     {
         self.rows[module].cycles[width as usize]
+    }
+
+    /// The cycles of all modules on a bus of so many wires.
+    pub(crate) fn column(&self, width: u64) -> &[u64]
+        requires times { AreTimes self.now }
+        requires within { width ≤ self.now.wires }
+        ensures { length result.now ≡ length self.now.rows.items }
+    {
+        &self.columns[width as usize].cycles
     }
 
     /// The modules, those of the most cycles on so many wires first.
@@ -119,6 +137,41 @@ fn rows_of(alloc: Global, problem: &Problem) -> Result<Vec<Row>, NoMemory>
     Ok(rows)
 }
 
+/// The cycles of the modules on a width.
+fn column_of(
+    alloc: Global,
+    problem: &Problem,
+    rows: &[Row],
+    width: usize,
+) -> Result<Column, NoMemory>
+    requires rows { All (IsRow problem.now.wires) rows.now }
+    requires long { length rows.now ≡ length problem.now.modules.items }
+    requires width { width ≤ problem.now.wires }
+    ensures { IfOk result (IsColumn (length problem.now.modules.items)) }
+{
+    let mut cycles = zeros(alloc, problem.modules.len())?;
+    for module in 0..cycles.len() {
+        cycles[module] = rows[module].cycles[width];
+    }
+    Ok(Column { cycles })
+}
+
+/// For each width the cycles of the modules.
+fn columns_of(alloc: Global, problem: &Problem, rows: &[Row]) -> Result<Vec<Column>, NoMemory>
+    requires few_wires { problem.now.wires ≤ 256 }
+    requires rows { All (IsRow problem.now.wires) rows.now }
+    requires long { length rows.now ≡ length problem.now.modules.items }
+    ensures long { IfOk result (λ columns. length columns.items ≡ problem.now.wires + 1) }
+    ensures columns { IfOk result (λ columns. All (IsColumn (length problem.now.modules.items)) columns.items) }
+{
+    let mut columns = Vec::new(alloc);
+    for width in 0..problem.wires + 1 {
+        let column = column_of(alloc, problem, rows, width)?;
+        push(&mut columns, column)?;
+    }
+    Ok(columns)
+}
+
 /// What the modules are sorted by for a width: the fewer, the more cycles they take.
 fn ranks(alloc: Global, problem: &Problem, rows: &[Row], width: usize) -> Result<Vec<u64>, NoMemory>
     requires rows { All (IsRow problem.now.wires) rows.now }
@@ -172,10 +225,12 @@ pub(crate) fn times_of(alloc: Global, problem: &Problem) -> Result<Times, NoMemo
     ensures { IfOk result (AreTimesOf problem.now) }
 {
     let rows = rows_of(alloc, problem)?;
+    let columns = columns_of(alloc, problem, &rows)?;
     let rankings = rankings_of(alloc, problem, &rows)?;
     Ok(Times {
         wires: problem.wires,
         rows,
+        columns,
         rankings,
     })
 }

@@ -10,7 +10,7 @@ use Rattle.bus_model.specs.Buses.{BusValue, bus_at, no_bus, bus_time_of, places_
 use Rattle.bus_model.specs.Start.{with_place}
 use Rattle.bus_model.proofs.Greatest.{cost_of-append}
 use Rattle.arch_settle.specs.Neighbours.{moved, split_off, reduced}
-use Rattle.arch_settle.specs.declared.moving.Weights.{Weights}
+use Rattle.arch_settle.specs.declared.moving.MoveWeights.{MoveWeights}
 use Rattle.std.proofs.lemmas.Grind.{get_or_default_zero}
 use Rattle.arch_settle.specs.Moves.{AreWeights, greatest_of}
 
@@ -105,7 +105,7 @@ pub kept_time : (table : TableValue) (arch : List BusValue) (times : List ℕ) (
 kept_time table arch times i time e h read = read ∙ (ap (λ xs. get_or xs i time) e ∙ get_or-map (bus_time_of table) arch i no_bus time h)
 
 -- the time that was kept for a width
-pub kept_row : (table : TableValue) (arch : List BusValue) (weights : Weights) (width time : ℕ) → AreWeights table arch weights → 1 ≤ width → width ≤ (bus_at arch weights.bus).width → time ≡ get_or weights.row.items (width - 1) time → time ≡ places_time table width (bus_at arch weights.bus).places
+pub kept_row : (table : TableValue) (arch : List BusValue) (weights : MoveWeights) (width time : ℕ) → AreWeights table arch weights → 1 ≤ width → width ≤ (bus_at arch weights.bus).width → time ≡ get_or weights.row.items (width - 1) time → time ≡ places_time table width (bus_at arch weights.bus).places
 kept_row table arch weights width time are some within read =
     let n = are.widths in
     let h : width - 1 < length weights.row.items = omega arith in

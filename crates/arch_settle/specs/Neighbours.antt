@@ -40,11 +40,13 @@ reduced bus k u = record { width = bus.width - u; places = remove bus.places k }
 
 -- the k-th module of bus b moves to the end of bus c
 unfoldable pub moved : List BusValue → ℕ → ℕ → ℕ → List BusValue
-moved arch b k c = slice_set (slice_set arch b (reduced (bus_at arch b) k 0)) c (with_place (bus_at arch c) (slice_index (bus_at arch b).places k))
+moved arch b k c =
+    slice_set (slice_set arch b (reduced (bus_at arch b) k 0)) c (with_place (bus_at arch c) (slice_index (bus_at arch b).places k))
 
 -- the k-th module of bus b moves to a new last bus, which takes u of its wires
 unfoldable pub split_off : List BusValue → ℕ → ℕ → ℕ → List BusValue
-split_off arch b k u = slice_set arch b (reduced (bus_at arch b) k u) ++ record { width = u; places = slice_index (bus_at arch b).places k ∷ [] } ∷ []
+split_off arch b k u =
+    slice_set arch b (reduced (bus_at arch b) k u) ++ record { width = u; places = slice_index (bus_at arch b).places k ∷ [] } ∷ []
 
 -- the k-th module of bus b moves to each other bus, and then to a new bus of each smaller width
 abbrev pub moves : List BusValue → ℕ → ℕ → List (List BusValue)

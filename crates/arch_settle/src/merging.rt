@@ -9,7 +9,12 @@ use outside::{NoMemory, extend};
 use width_table::WidthTable;
 
 /// Merges a bus into another and spreads the smaller of their widths.
-pub fn merge(table: &WidthTable, arch: &mut Arch, from: usize, into: usize) -> Result<(), NoMemory>
+pub fn merge_buses(
+    table: &WidthTable,
+    arch: &mut Arch,
+    from: usize,
+    into: usize,
+) -> Result<(), NoMemory>
     requires sound { IsSoundArch table.now (arch_value arch.old) }
     requires from { from < length (arch_value arch.old) }
     requires into { into < length (arch_value arch.old) }
@@ -17,14 +22,14 @@ pub fn merge(table: &WidthTable, arch: &mut Arch, from: usize, into: usize) -> R
     ensures value { OnOk result (arch_value arch.new ≡ merged table.now (arch_value arch.old) from into) }
     ensures sound { OnOk result (IsSoundArch table.now (arch_value arch.new)) }
 {
-    let smaller = join(arch, from, into)?;
+    let smaller = join_buses(arch, from, into)?;
     spread(table, arch, smaller);
     Ok(())
 }
 
 /// Puts the modules of a bus after those of another, which takes the greater width, and removes the bus. Answers the
 /// smaller width, the wires that are free by then.
-fn join(arch: &mut Arch, from: usize, into: usize) -> Result<u64, NoMemory>
+fn join_buses(arch: &mut Arch, from: usize, into: usize) -> Result<u64, NoMemory>
     requires from { from < length (arch_value arch.old) }
     requires into { into < length (arch_value arch.old) }
     requires differ { from ≢ into }

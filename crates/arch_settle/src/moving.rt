@@ -23,7 +23,7 @@ pub(crate) enum Move {
 
 /// What the moves from a bus are weighed by, all times in cycles.
 #[derive(Drop)]
-pub(crate) struct Weights {
+pub(crate) struct MoveWeights {
     /// The bus that a module is to leave.
     pub bus: usize,
     /// The greatest time of the other buses.
@@ -96,7 +96,8 @@ fn times_by_width(
 /// For each bus the greatest of the times but for that bus and another.
 fn times_besides(alloc: Global, times: &[u64], bus: usize) -> Result<Vec<u64>, NoMemory>
     ensures count { IfOk result (λ besides. length besides.items ≡ length times.now) }
-    ensures times { IfOk result (λ besides. (c : ℕ) → c < length times.now → slice_index besides.items c ≡ greatest_of (slice_set (slice_set times.now bus 0) c 0)) }
+    ensures times { IfOk result (λ besides. (c : ℕ) → c < length times.now →
+        slice_index besides.items c ≡ greatest_of (slice_set (slice_set times.now bus 0) c 0)) }
 {
     let mut besides = Vec::new(alloc);
     for other in 0..times.len() {
@@ -111,7 +112,7 @@ pub(crate) fn weights_of(
     table: &WidthTable,
     arch: &Arch,
     bus: usize,
-) -> Result<Weights, NoMemory>
+) -> Result<MoveWeights, NoMemory>
     requires sound { IsSoundArch table.now (arch_value arch.now) }
     requires bus { bus < length (arch_value arch.now) }
     ensures bus { IfOk result (λ weights. weights.bus ≡ bus) }
@@ -121,7 +122,7 @@ pub(crate) fn weights_of(
     let besides = times_besides(alloc, times.as_slice(), bus)?;
     let from = &arch.buses[bus];
     let row = times_by_width(alloc, table, from.places.as_slice(), from.width)?;
-    Ok(Weights {
+    Ok(MoveWeights {
         bus,
         others: greatest_besides(times.as_slice(), bus, bus),
         times,
@@ -155,7 +156,7 @@ fn width_of(arch: &Arch, bus: usize) -> u64
 pub(crate) fn cost_to(
     table: &WidthTable,
     arch: &Arch,
-    weights: &Weights,
+    weights: &MoveWeights,
     nth: usize,
     bus: usize,
 ) -> u64
@@ -180,7 +181,7 @@ pub(crate) fn cost_to(
 pub(crate) fn cost_alone(
     table: &WidthTable,
     arch: &Arch,
-    weights: &Weights,
+    weights: &MoveWeights,
     nth: usize,
     width: u64,
 ) -> u64
@@ -217,12 +218,21 @@ fn better(best: Best, cost: u64, choice: Move) -> Best
 }
 
 /// The best move once those of a module to the other buses are looked at too.
-fn with_buses(table: &WidthTable, arch: &Arch, weights: &Weights, nth: usize, best: Best) -> Best
+fn with_buses(
+    table: &WidthTable,
+    arch: &Arch,
+    weights: &MoveWeights,
+    nth: usize,
+    best: Best,
+) -> Best
     requires sound { IsSoundArch table.now (arch_value arch.now) }
     requires weights { AreWeights table.now (arch_value arch.now) weights.now }
     requires nth { nth < length (bus_at (arch_value arch.now) weights.now.bus).places }
-    requires best { IsBestMove table.now (arch_value arch.now) weights.now.bus (flat_map (moves (arch_value arch.now) weights.now.bus) (range_with_len 0 nth)) best }
-    ensures { IsBestMove table.now (arch_value arch.now) weights.now.bus (flat_map (moves (arch_value arch.now) weights.now.bus) (range_with_len 0 nth) ++ map (moved (arch_value arch.now) weights.now.bus nth) (others (length (arch_value arch.now)) weights.now.bus)) result }
+    requires best { IsBestMove table.now (arch_value arch.now) weights.now.bus
+        (flat_map (moves (arch_value arch.now) weights.now.bus) (range_with_len 0 nth)) best }
+    ensures { IsBestMove table.now (arch_value arch.now) weights.now.bus
+        (flat_map (moves (arch_value arch.now) weights.now.bus) (range_with_len 0 nth)
+        ++ map (moved (arch_value arch.now) weights.now.bus nth) (others (length (arch_value arch.now)) weights.now.bus)) result }
 {
     let mut best = best;
     for bus in 0..arch.buses.len() {
@@ -236,12 +246,21 @@ fn with_buses(table: &WidthTable, arch: &Arch, weights: &Weights, nth: usize, be
 }
 
 /// The best move once those of a module to new buses are looked at too.
-fn with_widths(table: &WidthTable, arch: &Arch, weights: &Weights, nth: usize, best: Best) -> Best
+fn with_widths(
+    table: &WidthTable,
+    arch: &Arch,
+    weights: &MoveWeights,
+    nth: usize,
+    best: Best,
+) -> Best
     requires sound { IsSoundArch table.now (arch_value arch.now) }
     requires weights { AreWeights table.now (arch_value arch.now) weights.now }
     requires nth { nth < length (bus_at (arch_value arch.now) weights.now.bus).places }
-    requires best { IsBestMove table.now (arch_value arch.now) weights.now.bus (flat_map (moves (arch_value arch.now) weights.now.bus) (range_with_len 0 nth) ++ map (moved (arch_value arch.now) weights.now.bus nth) (others (length (arch_value arch.now)) weights.now.bus)) best }
-    ensures { IsBestMove table.now (arch_value arch.now) weights.now.bus (flat_map (moves (arch_value arch.now) weights.now.bus) (range_with_len 0 (nth + 1))) result }
+    requires best { IsBestMove table.now (arch_value arch.now) weights.now.bus
+        (flat_map (moves (arch_value arch.now) weights.now.bus) (range_with_len 0 nth)
+        ++ map (moved (arch_value arch.now) weights.now.bus nth) (others (length (arch_value arch.now)) weights.now.bus)) best }
+    ensures { IsBestMove table.now (arch_value arch.now) weights.now.bus
+        (flat_map (moves (arch_value arch.now) weights.now.bus) (range_with_len 0 (nth + 1))) result }
 {
     let mut best = best;
     for width in 1..width_of(arch, weights.bus) {
@@ -260,7 +279,9 @@ pub(crate) fn best_move(
 ) -> Result<Option<Move>, NoMemory>
     requires sound { IsSoundArch table.now (arch_value arch.now) }
     requires bus { bus < length (arch_value arch.now) }
-    ensures { IfOk result (λ choice. MatchOption choice (IsAtRest table.now (all_moves (arch_value arch.now) bus) (arch_value arch.now)) (λ move. IsMoveFrom (arch_value arch.now) bus move × IsStep table.now (all_moves (arch_value arch.now) bus) (arch_value arch.now) (moved_by (arch_value arch.now) bus move))) }
+    ensures { IfOk result (λ choice. MatchOption choice (IsAtRest table.now (all_moves (arch_value arch.now) bus) (arch_value arch.now))
+        (λ move. IsMoveFrom (arch_value arch.now) bus move × IsStep table.now (all_moves (arch_value arch.now) bus) (arch_value arch.now)
+        (moved_by (arch_value arch.now) bus move))) }
 {
     let weights = weights_of(alloc, table, arch, bus)?;
     let mut best = Best {

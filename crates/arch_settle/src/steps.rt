@@ -5,7 +5,7 @@ ghost use Rattle.bus_model.specs.Sound.{IsSoundArch};
 ghost use Rattle.arch_settle.specs.Neighbours.{merged, merges, bottom_up_of, top_down_of};
 ghost use Rattle.arch_settle.specs.Settling.{IsStep, IsAtRest, IsTaken, Rests};
 
-use crate::merging::merge;
+use crate::merging::merge_buses;
 use crate::weighing::{loads_of, merged_cost};
 use bus_model::{Arch, bottleneck, cost, quickest};
 use outside::NoMemory;
@@ -21,7 +21,10 @@ pub(crate) fn best_merge(
 ) -> Result<Option<usize>, NoMemory>
     requires sound { IsSoundArch table.now (arch_value arch.now) }
     requires from { from < length (arch_value arch.now) }
-    ensures { IfOk result (λ choice. MatchOption choice (IsAtRest table.now (merges table.now from (arch_value arch.now)) (arch_value arch.now)) (λ into. ((into < length (arch_value arch.now)) × (from ≢ into)) × IsStep table.now (merges table.now from (arch_value arch.now)) (arch_value arch.now) (merged table.now (arch_value arch.now) from into))) }
+    ensures { IfOk result (λ choice. MatchOption choice (IsAtRest table.now (merges table.now from (arch_value arch.now))
+        (arch_value arch.now)) (λ into. ((into < length (arch_value arch.now)) × (from ≢ into))
+        × IsStep table.now (merges table.now from (arch_value arch.now)) (arch_value arch.now)
+        (merged table.now (arch_value arch.now) from into))) }
 {
     let loads = loads_of(alloc, table, arch)?;
     let mut room = Vec::with_capacity(alloc, loads.len())?;
@@ -49,13 +52,14 @@ fn merge_best(
 ) -> Result<bool, NoMemory>
     requires sound { IsSoundArch table.now (arch_value arch.old) }
     requires from { from < length (arch_value arch.old) }
-    ensures taken { IfOk result (λ taken. IsTaken table.now (merges table.now from (arch_value arch.old)) (arch_value arch.old) (arch_value arch.new) taken) }
+    ensures taken { IfOk result (λ taken. IsTaken table.now (merges table.now from (arch_value arch.old)) (arch_value arch.old)
+        (arch_value arch.new) taken) }
     ensures sound { OnOk result (IsSoundArch table.now (arch_value arch.new)) }
 {
     match best_merge(alloc, table, arch, from)? {
         None => Ok(false),
         Some(into) => {
-            merge(table, arch, from, into)?;
+            merge_buses(table, arch, from, into)?;
             Ok(true)
         }
     }
@@ -64,7 +68,8 @@ fn merge_best(
 /// The bottom-up step, where it costs less. Tells whether it was taken.
 fn step_up(alloc: Global, table: &WidthTable, arch: &mut Arch) -> Result<bool, NoMemory>
     requires sound { IsSoundArch table.now (arch_value arch.old) }
-    ensures taken { IfOk result (λ taken. IsTaken table.now (bottom_up_of table.now (arch_value arch.old)) (arch_value arch.old) (arch_value arch.new) taken) }
+    ensures taken { IfOk result (λ taken. IsTaken table.now (bottom_up_of table.now (arch_value arch.old)) (arch_value arch.old)
+        (arch_value arch.new) taken) }
     ensures sound { OnOk result (IsSoundArch table.now (arch_value arch.new)) }
 {
     if arch.buses.is_empty() {
@@ -77,7 +82,8 @@ fn step_up(alloc: Global, table: &WidthTable, arch: &mut Arch) -> Result<bool, N
 /// The top-down step, where it costs less. Tells whether it was taken.
 fn step_down(alloc: Global, table: &WidthTable, arch: &mut Arch) -> Result<bool, NoMemory>
     requires sound { IsSoundArch table.now (arch_value arch.old) }
-    ensures taken { IfOk result (λ taken. IsTaken table.now (top_down_of table.now (arch_value arch.old)) (arch_value arch.old) (arch_value arch.new) taken) }
+    ensures taken { IfOk result (λ taken. IsTaken table.now (top_down_of table.now (arch_value arch.old)) (arch_value arch.old)
+        (arch_value arch.new) taken) }
     ensures sound { OnOk result (IsSoundArch table.now (arch_value arch.new)) }
 {
     match bottleneck(table, arch) {
@@ -91,7 +97,8 @@ fn step_down(alloc: Global, table: &WidthTable, arch: &mut Arch) -> Result<bool,
 pub fn bottom_up(alloc: Global, table: &WidthTable, arch: Arch) -> Result<Arch, NoMemory>
     requires { IsSoundArch table.now (arch_value arch) }
     ensures rests { IfOk result (λ rested. Rests table.now (bottom_up_of table.now) (arch_value arch) (arch_value rested)) }
-    ensures only { IfOk result (λ rested. (other : List BusValue) → Rests table.now (bottom_up_of table.now) (arch_value arch) other → other ≡ arch_value rested) }
+    ensures only { IfOk result (λ rested. (other : List BusValue) → Rests table.now (bottom_up_of table.now) (arch_value arch) other →
+        other ≡ arch_value rested) }
     ensures sound { IfOk result (λ rested. IsSoundArch table.now (arch_value rested)) }
 {
     let mut arch = arch;
@@ -104,7 +111,8 @@ pub fn bottom_up(alloc: Global, table: &WidthTable, arch: Arch) -> Result<Arch, 
 pub fn top_down(alloc: Global, table: &WidthTable, arch: Arch) -> Result<Arch, NoMemory>
     requires { IsSoundArch table.now (arch_value arch) }
     ensures rests { IfOk result (λ rested. Rests table.now (top_down_of table.now) (arch_value arch) (arch_value rested)) }
-    ensures only { IfOk result (λ rested. (other : List BusValue) → Rests table.now (top_down_of table.now) (arch_value arch) other → other ≡ arch_value rested) }
+    ensures only { IfOk result (λ rested. (other : List BusValue) → Rests table.now (top_down_of table.now) (arch_value arch) other →
+        other ≡ arch_value rested) }
     ensures sound { IfOk result (λ rested. IsSoundArch table.now (arch_value rested)) }
 {
     let mut arch = arch;

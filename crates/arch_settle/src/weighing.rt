@@ -13,21 +13,21 @@ use width_table::WidthTable;
 
 /// Whose modules a bus of a candidate has: those of one bus, by its place, or of the two that are merged.
 #[derive(Clone, Copy)]
-pub(crate) enum Held {
+pub(crate) enum BusModules {
     One(usize),
     Both,
 }
 
 /// A bus of a candidate: whose modules it has, its width in wires and its time in cycles.
 #[derive(Clone, Copy)]
-pub(crate) struct Load {
-    pub held: Held,
+pub(crate) struct WeighedBus {
+    pub held: BusModules,
     pub width: u64,
     pub time: u64,
 }
 
 /// The first load of greatest time.
-fn slowest(loads: &[Load]) -> usize
+fn slowest(loads: &[WeighedBus]) -> usize
     requires { 0 < length loads.now }
     ensures { IsFirstMaxByKey (λ load. load.time) loads.now (length loads.now) result }
 {
@@ -63,7 +63,7 @@ fn held_time(
     arch: &Arch,
     from: usize,
     into: usize,
-    held: Held,
+    held: BusModules,
     width: u64,
 ) -> u64
     requires sound { IsSoundArch table.now (arch_value arch.now) }
@@ -75,13 +75,19 @@ fn held_time(
     ensures { result ≡ places_time table.now width (held_places (arch_value arch.now) from into held) }
 {
     match held {
-        Held::One(bus) => time_on(table, arch, bus, width),
-        Held::Both => time_on(table, arch, into, width) + time_on(table, arch, from, width),
+        BusModules::One(bus) => time_on(table, arch, bus, width),
+        BusModules::Both => time_on(table, arch, into, width) + time_on(table, arch, from, width),
     }
 }
 
 /// Gives the slowest load one wire more.
-fn widen_slowest(table: &WidthTable, arch: &Arch, from: usize, into: usize, loads: &mut Vec<Load>)
+fn widen_slowest(
+    table: &WidthTable,
+    arch: &Arch,
+    from: usize,
+    into: usize,
+    loads: &mut Vec<WeighedBus>,
+)
     requires sound { IsSoundArch table.now (arch_value arch.now) }
     requires from { from < length (arch_value arch.now) }
     requires into { into < length (arch_value arch.now) }
@@ -89,11 +95,13 @@ fn widen_slowest(table: &WidthTable, arch: &Arch, from: usize, into: usize, load
     requires some { 0 < vec_len loads.old }
     requires fits { IsSoundArch table.now (loads_value (arch_value arch.now) from into loads.old.items) }
     requires free { wires_used (loads_value (arch_value arch.now) from into loads.old.items) + 1 ≤ table.now.wires }
-    ensures value { loads_value (arch_value arch.now) from into loads.new.items ≡ spread_of table.now 1 (loads_value (arch_value arch.now) from into loads.old.items) }
+    ensures value { loads_value (arch_value arch.now) from into loads.new.items
+        ≡ spread_of table.now 1 (loads_value (arch_value arch.now) from into loads.old.items) }
     ensures loads { AreLoads table.now (arch_value arch.now) from into loads.new.items }
     ensures count { vec_len loads.new ≡ vec_len loads.old }
     ensures sound { IsSoundArch table.now (loads_value (arch_value arch.now) from into loads.new.items) }
-    ensures used { wires_used (loads_value (arch_value arch.now) from into loads.new.items) ≡ wires_used (loads_value (arch_value arch.now) from into loads.old.items) + 1 }
+    ensures used { wires_used (loads_value (arch_value arch.now) from into loads.new.items)
+        ≡ wires_used (loads_value (arch_value arch.now) from into loads.old.items) + 1 }
 {
     // the call tells what every table keeps
     let _wires = table.wires();
@@ -101,7 +109,7 @@ fn widen_slowest(table: &WidthTable, arch: &Arch, from: usize, into: usize, load
     let load = loads[at];
     let width = load.width + 1;
     let time = held_time(table, arch, from, into, load.held, width);
-    loads[at] = Load {
+    loads[at] = WeighedBus {
         held: load.held,
         width,
         time,
@@ -114,7 +122,7 @@ fn spread_cost(
     arch: &Arch,
     from: usize,
     into: usize,
-    loads: &mut Vec<Load>,
+    loads: &mut Vec<WeighedBus>,
     wires: u64,
 ) -> u64
     requires sound { IsSoundArch table.now (arch_value arch.now) }
@@ -138,15 +146,15 @@ pub(crate) fn loads_of(
     alloc: Global,
     table: &WidthTable,
     arch: &Arch,
-) -> Result<Vec<Load>, NoMemory>
+) -> Result<Vec<WeighedBus>, NoMemory>
     requires sound { IsSoundArch table.now (arch_value arch.now) }
     ensures value { IfOk result (λ loads. (from into : ℕ) → loads_value (arch_value arch.now) from into loads.items ≡ arch_value arch.now) }
     ensures loads { IfOk result (λ loads. (from into : ℕ) → AreLoads table.now (arch_value arch.now) from into loads.items) }
 {
     let mut loads = Vec::new(alloc);
     for (at, bus) in arch.buses.iter().enumerate() {
-        let load = Load {
-            held: Held::One(at),
+        let load = WeighedBus {
+            held: BusModules::One(at),
             width: bus.width,
             time: bus_time(table, bus),
         };
@@ -162,8 +170,8 @@ pub(crate) fn merged_cost(
     arch: &Arch,
     from: usize,
     into: usize,
-    loads: &[Load],
-    room: &mut Vec<Load>,
+    loads: &[WeighedBus],
+    room: &mut Vec<WeighedBus>,
 ) -> Result<u64, NoMemory>
     requires sound { IsSoundArch table.now (arch_value arch.now) }
     requires from { from < length (arch_value arch.now) }
@@ -176,11 +184,11 @@ pub(crate) fn merged_cost(
     let own = arch.buses[into].width;
     let further = arch.buses[from].width;
     let width = own.max(further);
-    let time = held_time(table, arch, from, into, Held::Both, width);
+    let time = held_time(table, arch, from, into, BusModules::Both, width);
     room.clear();
     extend(room, loads)?;
-    room[into] = Load {
-        held: Held::Both,
+    room[into] = WeighedBus {
+        held: BusModules::Both,
         width,
         time,
     };

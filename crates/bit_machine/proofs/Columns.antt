@@ -1,11 +1,11 @@
 -- Bytes in the columns of lines.
 use Rattle.std.proofs.Common.{◌≡◌, ◌≢◌, ℕ, zero, suc, ◌+◌, ◌-◌, ◌*◌, ◌%◌, ◌≤◌, ◌<◌, ◌⊎◌, Bool, Some, List, length, set, refl, ap, sym, subst, ◌∙◌, arith, inl, inr}
-use Rattle.std.specs.Prelude.{slice_get}
+use Rattle.std.specs.Prelude.{slice_get, slice_index}
 use Rattle.std.proofs.Math.Nat.{mul-le-mul_right}
 use Rattle.std.proofs.lemmas.List.{length-set}
 use Rattle.std.proofs.lemmas.Nat.{mod-mul-add}
-use Rattle.std.proofs.lemmas.Bool.{cases_eq}
-use Rattle.bit_machine.specs.Numbers.{bit_at_place}
+use Rattle.std.proofs.lemmas.Bool.{cases_eq, lt-ltb}
+use Rattle.bit_machine.specs.Numbers.{bit_at_place, line_bit}
 use Rattle.bit_machine.specs.Packed.{is_set}
 use Rattle.bit_machine.specs.declared.made.Line.{Line}
 use Rattle.bit_machine.specs.Vectors.{digit, byte_at, ArePutAcross, ArePutDown, AreOtherRowsKept, IsBlank, IsElsewhere}
@@ -91,6 +91,48 @@ pub reversed_bit : (line : Line) (numbers : List ℕ) (word last count below b :
 reversed_bit line numbers word last count below b bit h back is made bits =
     let place : last - (count - 1) + (count - 1 - below) ≡ last - below = omega arith in
     made ∙ ap digit (is ∙ bits (count - 1 - below) (omega arith) ∙ ap (bit_at_place line numbers) place)
+
+-- one line more above those that were put
+pub up_more : (wires row n column b : ℕ) (f g : ℕ → ℕ) (old now new : List ℕ) → column < 2 * wires + 2 → b ≡ g 0 → ((i : ℕ) → i < n → f i ≡ g (i + 1)) → ArePutDown wires (row + 1) n column f old now →
+    ArePutDown wires row 1 column (λ i. b) now new → ArePutDown wires row (n + 1) column g old new
+up_more wires row n column b f g old now new h is same before one = record {
+  long = one.long ∙ before.long;
+  put = here;
+  others = λ r c h' elsewhere. one.others r c h' (first r c elsewhere) ∙ before.others r c h' (rest r c elsewhere);
+}
+  where
+    here : (i : ℕ) → i < n + 1 → byte_at new wires (row + i) column ≡ Some (g i)
+    here zero less = one.put zero (omega arith) ∙ ap Some is
+    here (suc i) less =
+        let place : row + suc i ≡ row + 1 + i = omega arith in
+        let next : i + 1 ≡ suc i = omega arith in
+        let kept : byte_at new wires (row + suc i) column ≡ byte_at now wires (row + suc i) column = one.others (row + suc i) column h (inr (inr (omega arith))) in
+        let there : byte_at now wires (row + suc i) column ≡ Some (f i) = rw place (before.put i (omega arith)) in
+        kept ∙ there ∙ ap Some (same i (omega arith) ∙ ap g next)
+
+    first : (r c : ℕ) → IsElsewhere row (n + 1) column r c → IsElsewhere row 1 column r c
+    first r c (inl other) = inl other
+    first r c (inr (inl above)) = inr (inl above)
+    first r c (inr (inr under)) = inr (inr (omega (arith, under)))
+
+    rest : (r c : ℕ) → IsElsewhere row (n + 1) column r c → IsElsewhere (row + 1) n column r c
+    rest r c (inl other) = inl other
+    rest r c (inr (inl above)) = inr (inl (omega (arith, above)))
+    rest r c (inr (inr under)) = inr (inr (omega (arith, under)))
+
+-- the same bytes below one another, said another way
+pub same_down : (wires row row' n column : ℕ) (f g : ℕ → ℕ) (old new : List ℕ) → row ≡ row' → ((i : ℕ) → i < n → f i ≡ g i) → ArePutDown wires row n column f old new → ArePutDown wires row' n column g old new
+same_down wires row row' n column f g old new at same put =
+    subst (λ (r : ℕ). ArePutDown wires r n column g old new) at
+    (record { long = put.long; put = λ i h. put.put i h ∙ ap Some (same i h); others = λ r c h e. put.others r c h e })
+
+-- a bit of a walk that is put so many lines above the last one
+pub walked_bit : (line : Line) (numbers : List ℕ) (last count place b : ℕ) (bit : Bool) → place < count → count ≤ last + 1 → last < length numbers → b ≡ digit bit →
+    bit ≡ line_bit line (slice_index numbers (last - (count - 1) + place)) → b ≡ digit (bit_at_place line numbers (last - (count - (place + 1) + 0)))
+walked_bit line numbers last count place b bit h back within made is =
+    let there : last - (count - 1) + place ≡ last - (count - (place + 1) + 0) = omega arith in
+    let inside : last - (count - (place + 1) + 0) < length numbers = omega arith in
+    made ∙ ap digit (is ∙ ap (λ n. line_bit line (slice_index numbers n)) there ∙ rw (lt-ltb (last - (count - (place + 1) + 0)) (length numbers) inside) refl)
 
 -- ---- beside one another
 

@@ -1,4 +1,5 @@
-//! One live test of a chip under test.
+//! One live test of a chip under test. A page is a part of a pattern's stimulus: for each chain the bits of the 64 cells from one
+//! on, in a word.
 ghost use Rattle.std.specs.Prelude.{◌≡◌, ℕ, ◌-◌, ◌%◌, ◌<◌, true, false, Some, [], length, drop, get_or, set, slice_get, slice_index};
 ghost use Rattle.plan_model.specs.Plans.{PlannedTest};
 ghost use Rattle.plan_model.specs.Moments.{moment_behind};

@@ -16,14 +16,14 @@ pub struct Place {
 }
 
 /// `0` or `1`.
-fn digit(bit: bool) -> u8
+pub fn digit(bit: bool) -> u8
     ensures { result ≡ bit_digit bit }
 {
     if bit { b'1' } else { b'0' }
 }
 
 /// Writes a byte into a column, so many lines below a place.
-fn put_byte(text: &mut [u8], at: Place, below: usize, byte: u8)
+pub fn put_byte(text: &mut [u8], at: Place, below: usize, byte: u8)
     requires narrow { at.wires ≤ 256 }
     requires column { at.column < 2 * at.wires + 2 }
     requires row { (at.row + (below + 1)) * (2 * at.wires + 2) ≤ length text.old }
@@ -71,7 +71,8 @@ pub fn put_blanks(text: &mut [u8], wires: usize, count: usize)
     }
 }
 
-/// Writes made bits into a column, one a line: that of the number at a place, and then those of the numbers before it.
+/// Writes made bits into a column, one a line: that of the number at a place, and then those of the numbers before it. Where there is no
+/// number at a place, its bit is 0.
 pub fn put_bits(
     text: &mut [u8],
     at: Place,
@@ -90,6 +91,10 @@ pub fn put_bits(
     ensures { ArePutDown at.wires at.row count at.column (λ i. bit_digit (bit_at_place line.now numbers.now (last - i))) text.old text.new }
 {
     if count == 0 {
+        return;
+    }
+    if last < numbers.len() {
+        numbers.put_back(line, last, count, text, at);
         return;
     }
     let word = numbers.bits(line, last - (count - 1), count);

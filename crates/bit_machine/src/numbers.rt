@@ -1,10 +1,12 @@
 //! The numbers of the bits that the cells of a chain load or answer, as stretches of numbers one after another.
-ghost use Rattle.std.specs.Prelude.{◌≡◌, ℕ, ◌+◌, ◌^◌, ◌<◌, ◌≤◌, ◌∷◌, List, false, drop, length, slice_index};
+ghost use Rattle.std.specs.Prelude.{◌≡◌, ℕ, ◌+◌, ◌-◌, ◌*◌, ◌^◌, ◌<◌, ◌≤◌, ◌∷◌, List, false, drop, length, slice_index};
 ghost use Rattle.std.specs.List.{All};
 ghost use Rattle.bit_machine.specs.Numbers.{all_numbers, bit_at_place, line_bit, IsWalk, HasNext, IsFull, IsLineWord};
 ghost use Rattle.bit_machine.specs.Packed.{is_set};
+ghost use Rattle.bit_machine.specs.Vectors.{digit as bit_digit, ArePutDown};
 
 use crate::bits::{WORD_BITS, with_bit};
+use crate::lines::{Place, digit, put_byte};
 use crate::made::{Line, bit_of};
 use std::marker::Model;
 
@@ -124,6 +126,28 @@ fn word_of(runs: &[Run], line: &Line, first: usize, count: usize) -> u64
     word
 }
 
+/// Writes the made bits of so many numbers as digits into a column, one a line: that of the number at the place `last`, and then those
+/// of the numbers before it.
+fn put_back(runs: &[Run], line: &Line, last: usize, count: usize, text: &mut [u8], at: Place)
+    requires first { line.now.first < 997 }
+    requires step { line.now.step < 997 }
+    requires full { All IsFull runs.now }
+    requires some { 1 ≤ count }
+    requires back { count ≤ last + 1 }
+    requires within { last < length (all_numbers runs.now) }
+    requires narrow { at.wires ≤ 256 }
+    requires column { at.column < 2 * at.wires + 2 }
+    requires rows { (at.row + count) * (2 * at.wires + 2) ≤ length text.old }
+    ensures { ArePutDown at.wires at.row count at.column (λ i. bit_digit (bit_at_place line.now (all_numbers runs.now) (last - i))) text.old text.new }
+{
+    let first = last - (count - 1);
+    let mut walk = walk_from(runs, line, first as u64);
+    for place in 0..count {
+        let bit = step(runs, line, &mut walk);
+        put_byte(text, at, count - 1 - place, digit(bit));
+    }
+}
+
 /// The numbers of all runs together.
 fn count_of(runs: &[Run]) -> usize
     requires { length (all_numbers runs.now) < 2 ^ 63 }
@@ -174,5 +198,21 @@ impl Numbers {
             return 0;
         }
         word_of(&self.runs, line, first, (self.count - first).min(count))
+    }
+
+    /// Writes the made bits of so many numbers as digits into a column, one a line: that of the number at the place `last`, and then
+    /// those of the numbers before it.
+    pub fn put_back(&self, line: &Line, last: usize, count: usize, text: &mut [u8], at: Place)
+        requires first { line.now.first < 997 }
+        requires step { line.now.step < 997 }
+        requires some { 1 ≤ count }
+        requires back { count ≤ last + 1 }
+        requires within { last < length self.now }
+        requires narrow { at.wires ≤ 256 }
+        requires column { at.column < 2 * at.wires + 2 }
+        requires rows { (at.row + count) * (2 * at.wires + 2) ≤ length text.old }
+        ensures { ArePutDown at.wires at.row count at.column (λ i. bit_digit (bit_at_place line.now self.now (last - i))) text.old text.new }
+    {
+        put_back(&self.runs, line, last, count, text, at);
     }
 }

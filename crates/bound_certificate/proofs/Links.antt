@@ -12,7 +12,7 @@ use Rattle.live_tests.specs.Names.{AllDiffer, places_of}
 use Rattle.live_tests.specs.Neighbours.{before as tests_before, tests_of}
 use Rattle.live_tests.proofs.Precedences.{StandsFor, stands_for, place_there, test_there, pair_there}
 use Rattle.live_tests.proofs.Sides.{sides_from, sides_have}
-use Rattle.bound_certificate.specs.declared.nodes.Node.{Node}
+use Rattle.bound_certificate.specs.declared.nodes.PrecedenceNode.{PrecedenceNode}
 use Rattle.bound_certificate.specs.Nodes.{NodeValue, node_value, node_values, ids_of, fixed_parts, before_at, tests_at, AreLinked}
 
 some_is : {X : Type 0} (x y : X) → Some x ≡ Some y → x ≡ y
@@ -65,30 +65,30 @@ pub ids_same : (nodes others : List NodeValue) → fixed_parts nodes ≡ fixed_p
 ids_same nodes others same = ids_fixed nodes ∙ ap (λ (ps : List (TestId × ℕ)). map (λ (p : TestId × ℕ). p.0) ps) same ∙ sym (ids_fixed others)
 
 -- the tests before a node
-pub before_is : (nodes : List Node) (j : ℕ) (n : NodeValue) → slice_get (node_values nodes) j ≡ Some n → (j < length nodes) × (n.before ≡ before_at nodes j)
+pub before_is : (nodes : List PrecedenceNode) (j : ℕ) (n : NodeValue) → slice_get (node_values nodes) j ≡ Some n → (j < length nodes) × (n.before ≡ before_at nodes j)
 before_is [] j n at = absurd cc
 before_is (x ∷ nodes) zero n at = let same : node_value x ≡ n = cc in (omega arith, ap (λ (v : NodeValue). v.before) (sym same))
 before_is (x ∷ nodes) (suc j) n at = let r = before_is nodes j n at in (omega (arith, r.0), r.1)
 
-set_fixed : (nodes : List Node) (k : ℕ) (here new : Node) → k < length nodes → here ≡ get_or nodes k here → new.id ≡ here.id → new.time ≡ here.time → fixed_parts (node_values (slice_set nodes k new)) ≡ fixed_parts (node_values nodes)
+set_fixed : (nodes : List PrecedenceNode) (k : ℕ) (here new : PrecedenceNode) → k < length nodes → here ≡ get_or nodes k here → new.id ≡ here.id → new.time ≡ here.time → fixed_parts (node_values (slice_set nodes k new)) ≡ fixed_parts (node_values nodes)
 set_fixed [] k here new within is id time = absurd (omega (arith, within))
 set_fixed (n ∷ nodes) zero here new within is id time =
-    ap (λ (p : TestId × ℕ). p ∷ fixed_parts (node_values nodes)) (ap (λ (i : TestId). the_part i new.time) (id ∙ ap (λ (m : Node). m.id) is) ∙ ap (the_part n.id) (time ∙ ap (λ (m : Node). m.time) is))
+    ap (λ (p : TestId × ℕ). p ∷ fixed_parts (node_values nodes)) (ap (λ (i : TestId). the_part i new.time) (id ∙ ap (λ (m : PrecedenceNode). m.id) is) ∙ ap (the_part n.id) (time ∙ ap (λ (m : PrecedenceNode). m.time) is))
   where
     the_part : TestId → ℕ → TestId × ℕ
     the_part id time = (id, time)
 set_fixed (n ∷ nodes) (suc k) here new within is id time = ap (λ (ps : List (TestId × ℕ)). (n.id, n.time) ∷ ps) (set_fixed nodes k here new (omega (arith, within)) is id time)
 
 -- there are as many
-pub same_count : (nodes others : List Node) → fixed_parts (node_values nodes) ≡ fixed_parts (node_values others) → length nodes ≡ length others
+pub same_count : (nodes others : List PrecedenceNode) → fixed_parts (node_values nodes) ≡ fixed_parts (node_values others) → length nodes ≡ length others
 same_count nodes others same = sym (count nodes) ∙ ap length same ∙ count others
   where
-    count : (nodes : List Node) → length (fixed_parts (node_values nodes)) ≡ length nodes
+    count : (nodes : List PrecedenceNode) → length (fixed_parts (node_values nodes)) ≡ length nodes
     count [] = refl
     count (n ∷ nodes) = ap suc (count nodes)
 
 -- what the loop has done before a place
-pub record AreLinkedTo (start nodes : List Node) (first lists : List Neighbours) (place : ℕ) : Type 0 where
+pub record AreLinkedTo (start nodes : List PrecedenceNode) (first lists : List Neighbours) (place : ℕ) : Type 0 where
   pub fixed : fixed_parts (node_values nodes) ≡ fixed_parts (node_values start)
   pub many : length nodes ≡ length start
   pub long : length lists ≡ length start
@@ -96,7 +96,7 @@ pub record AreLinkedTo (start nodes : List Node) (first lists : List Neighbours)
   pub left : (i : ℕ) → place ≤ i → tests_at lists i ≡ tests_at first i
 
 -- the lists at one place more are exchanged
-pub link_next : (start nodes : List Node) (first lists : List Neighbours) (k : ℕ) (here new : Node) (list other : Neighbours) → AreLinkedTo start nodes first lists k → k < length start → here ≡ get_or nodes k here → list ≡ get_or lists k list
+pub link_next : (start nodes : List PrecedenceNode) (first lists : List Neighbours) (k : ℕ) (here new : PrecedenceNode) (list other : Neighbours) → AreLinkedTo start nodes first lists k → k < length start → here ≡ get_or nodes k here → list ≡ get_or lists k list
     → new.id ≡ here.id → new.time ≡ here.time → new.before.items ≡ list.tests.items → AreLinkedTo start (slice_set nodes k new) first (slice_set lists k other) (k + 1)
 link_next start nodes first lists k here new list other old within here_is list_is id time moved = record {
   fixed = set_fixed nodes k here new near here_is id time ∙ old.fixed;
@@ -112,10 +112,10 @@ link_next start nodes first lists k here new list other old within here_is list_
     done : (i : ℕ) → i < k + 1 → (i ≡ k) ⊎ (i ≡ k → ⊥) → before_at (slice_set nodes k new) i ≡ tests_at first i
     done i less (inl same) =
         let there : tests_of list ≡ tests_at lists k = ap tests_of list_is ∙ sym (get_or-map tests_of lists k list [] (omega (arith, within, old.long))) in
-        ap (λ l. get_or l i []) (map-set (λ (n : Node). n.before.items) nodes k new)
-        ∙ ap (λ n. get_or (slice_set (map (λ (n : Node). n.before.items) nodes) k new.before.items) n []) same
-        ∙ get_or-set_same (map (λ (n : Node). n.before.items) nodes) k new.before.items [] (omega (arith, near, length-map nodes (λ (n : Node). n.before.items)))
+        ap (λ l. get_or l i []) (map-set (λ (n : PrecedenceNode). n.before.items) nodes k new)
+        ∙ ap (λ n. get_or (slice_set (map (λ (n : PrecedenceNode). n.before.items) nodes) k new.before.items) n []) same
+        ∙ get_or-set_same (map (λ (n : PrecedenceNode). n.before.items) nodes) k new.before.items [] (omega (arith, near, length-map nodes (λ (n : PrecedenceNode). n.before.items)))
         ∙ moved ∙ there ∙ old.left k (omega arith) ∙ ap (tests_at first) (sym same)
     done i less (inr apart) =
-        ap (λ l. get_or l i []) (map-set (λ (n : Node). n.before.items) nodes k new)
-        ∙ get_or-set_other (map (λ (n : Node). n.before.items) nodes) k i new.before.items [] apart ∙ old.done i (omega (arith, less, apart))
+        ap (λ l. get_or l i []) (map-set (λ (n : PrecedenceNode). n.before.items) nodes k new)
+        ∙ get_or-set_other (map (λ (n : PrecedenceNode). n.before.items) nodes) k i new.before.items [] apart ∙ old.done i (omega (arith, less, apart))

@@ -24,7 +24,7 @@ use Rattle.bound_rules.specs.Sizes.{sizes_of, least_chain, IsFitting}
 use Rattle.bound_rules.proofs.Works.{time_by-le, tam_time_is, self_time_is}
 use Rattle.bound_rules.proofs.Modules.{fitting_sizes, time_by_sizes, work_by_sizes, module_size-le_work}
 use Rattle.bound_rules.proofs.SoundWork.{live_work-le_live}
-use Rattle.bound_certificate.specs.declared.nodes.Node.{Node}
+use Rattle.bound_certificate.specs.declared.nodes.PrecedenceNode.{PrecedenceNode}
 use Rattle.bound_certificate.specs.Nodes.{NodeValue, node_value, node_values, ids_of, fixed_parts, node_in, nodes_in, live_nodes, AreLinked, AreNodes}
 use Rattle.live_tests.proofs.LiveIds.{ids_differ}
 use Rattle.bound_certificate.proofs.Links.{ids_same}
@@ -120,17 +120,17 @@ nodes_found soc limits nodes sound some same linked = record {
 }
 
 -- there are as many nodes as live tests
-pub node_count : (soc : SocValue) (w : ℕ) (nodes : List Node) → node_values nodes ≡ live_nodes soc w → length nodes ≡ length (live_ids soc)
+pub node_count : (soc : SocValue) (w : ℕ) (nodes : List PrecedenceNode) → node_values nodes ≡ live_nodes soc w → length nodes ≡ length (live_ids soc)
 node_count soc w nodes are =
     sym (length-map nodes node_value) ∙ sym (length-map (node_values nodes) (λ (n : NodeValue). n.id)) ∙ ap (λ (ns : List NodeValue). length (ids_of ns)) are ∙ ap length (live_ids_are soc w)
 
 -- ---- the nodes of a module, one by one
 
 -- a node that was made for a test
-pub node_made : (w : ℕ) (m : ModuleValue) (t : Test) (n : Node) → n.id ≡ record { «module» = m.number; test = t.number } → n.time ≡ lower_time m t w → n.before.items ≡ [] → node_value n ≡ node_in w m t
+pub node_made : (w : ℕ) (m : ModuleValue) (t : Test) (n : PrecedenceNode) → n.id ≡ record { «module» = m.number; test = t.number } → n.time ≡ lower_time m t w → n.before.items ≡ [] → node_value n ≡ node_in w m t
 node_made w m t n id time before = rw (id, time, before) refl
 
-taken : (w : ℕ) (m : ModuleValue) (old : List NodeValue) (nodes new : List Node) (tests : List Test) (i : ℕ) (d : Test) (n : Node) → i < length tests → is_live (get_or tests i d) ≡ true → node_value n ≡ node_in w m (get_or tests i d) → new ≡ nodes ++ n ∷ []
+taken : (w : ℕ) (m : ModuleValue) (old : List NodeValue) (nodes new : List PrecedenceNode) (tests : List Test) (i : ℕ) (d : Test) (n : PrecedenceNode) → i < length tests → is_live (get_or tests i d) ≡ true → node_value n ≡ node_in w m (get_or tests i d) → new ≡ nodes ++ n ∷ []
     → node_values nodes ≡ old ++ map (node_in w m) (filter is_live (take i tests)) → node_values new ≡ old ++ map (node_in w m) (filter is_live (take (i + 1) tests))
 taken w m old nodes new tests i d n within live made pushed before =
     let here : map (node_in w m) (filter is_live (get_or tests i d ∷ [])) ≡ node_value n ∷ [] = rw live (ap (λ v. v ∷ []) (sym made)) in
@@ -139,7 +139,7 @@ taken w m old nodes new tests i d n within live made pushed before =
     ∙ map-append (node_in w m) (filter is_live (take i tests)) (filter is_live (get_or tests i d ∷ [])) ∙ ap (λ l. map (node_in w m) (filter is_live (take i tests)) ++ l) here in
     ap node_values pushed ∙ map-append node_value nodes (n ∷ []) ∙ ap (λ l. l ++ node_value n ∷ []) before ∙ append_assoc old (map (node_in w m) (filter is_live (take i tests))) (node_value n ∷ []) ∙ ap (λ l. old ++ l) (sym more)
 
-left : (w : ℕ) (m : ModuleValue) (old : List NodeValue) (nodes : List Node) (tests : List Test) (i : ℕ) (d : Test) → i < length tests → is_live (get_or tests i d) ≡ false
+left : (w : ℕ) (m : ModuleValue) (old : List NodeValue) (nodes : List PrecedenceNode) (tests : List Test) (i : ℕ) (d : Test) → i < length tests → is_live (get_or tests i d) ≡ false
     → node_values nodes ≡ old ++ map (node_in w m) (filter is_live (take i tests)) → node_values nodes ≡ old ++ map (node_in w m) (filter is_live (take (i + 1) tests))
 left w m old nodes tests i d within idle before =
     let here : filter is_live (get_or tests i d ∷ []) ≡ [] = rw idle refl in
@@ -148,14 +148,14 @@ left w m old nodes tests i d within idle before =
     before ∙ ap (λ l. old ++ map (node_in w m) l) (sym more)
 
 -- a live test has its node behind the others
-pub node_taken : (w : ℕ) (m : ModuleValue) (old : List NodeValue) (nodes new : List Node) (items tests : List Test) (i : ℕ) (d : Test) (n : Node) → items ≡ tests → i < length items → is_live (get_or items i d) ≡ true → node_value n ≡ node_in w m (get_or items i d) → new ≡ nodes ++ n ∷ []
+pub node_taken : (w : ℕ) (m : ModuleValue) (old : List NodeValue) (nodes new : List PrecedenceNode) (items tests : List Test) (i : ℕ) (d : Test) (n : PrecedenceNode) → items ≡ tests → i < length items → is_live (get_or items i d) ≡ true → node_value n ≡ node_in w m (get_or items i d) → new ≡ nodes ++ n ∷ []
     → node_values nodes ≡ old ++ map (node_in w m) (filter is_live (take i tests)) → node_values new ≡ old ++ map (node_in w m) (filter is_live (take (i + 1) tests))
 node_taken w m old nodes new items tests i d n same within live made pushed before =
     subst (λ (l : List Test). node_values new ≡ old ++ map (node_in w m) (filter is_live (take (i + 1) l))) same
     (taken w m old nodes new items i d n within live made pushed (subst (λ (l : List Test). node_values nodes ≡ old ++ map (node_in w m) (filter is_live (take i l))) (sym same) before))
 
 -- any other test has none
-pub node_left : (w : ℕ) (m : ModuleValue) (old : List NodeValue) (nodes : List Node) (items tests : List Test) (i : ℕ) (d : Test) → items ≡ tests → i < length items → is_live (get_or items i d) ≡ false
+pub node_left : (w : ℕ) (m : ModuleValue) (old : List NodeValue) (nodes : List PrecedenceNode) (items tests : List Test) (i : ℕ) (d : Test) → items ≡ tests → i < length items → is_live (get_or items i d) ≡ false
     → node_values nodes ≡ old ++ map (node_in w m) (filter is_live (take i tests)) → node_values nodes ≡ old ++ map (node_in w m) (filter is_live (take (i + 1) tests))
 node_left w m old nodes items tests i d same within idle before =
     subst (λ (l : List Test). node_values nodes ≡ old ++ map (node_in w m) (filter is_live (take (i + 1) l))) same

@@ -14,7 +14,7 @@ use Rattle.plan_model.specs.Plans.{LimitsValue}
 use Rattle.plan_model.specs.Rules.{live_ids}
 use Rattle.plan_model.specs.SoundLimits.{IsAcyclic}
 use Rattle.plan_model.proofs.Lists.{from_append, at_contains}
-use Rattle.bound_certificate.specs.declared.nodes.Node.{Node}
+use Rattle.bound_certificate.specs.declared.nodes.PrecedenceNode.{PrecedenceNode}
 use Rattle.bound_certificate.specs.declared.sums.Sum.{Sum}
 use Rattle.bound_certificate.specs.declared.sums.Sum.TheVariants.{Unknown, Begun, Known}
 use Rattle.bound_certificate.specs.Nodes.{NodeValue, node_value, node_values, AreNodes}
@@ -157,7 +157,7 @@ found nodes old now test sum within goes has = record {
 -- ---- the call for a test before
 
 -- the node at a place
-pub node_here : (nodes : List Node) (i : ℕ) (n : Node) → i < length nodes → n ≡ get_or nodes i n → slice_get (node_values nodes) i ≡ Some (node_value n)
+pub node_here : (nodes : List PrecedenceNode) (i : ℕ) (n : PrecedenceNode) → i < length nodes → n ≡ get_or nodes i n → slice_get (node_values nodes) i ≡ Some (node_value n)
 node_here nodes i n within is =
     let at : slice_get nodes i ≡ Some n = slice_get-get_or nodes i n within ∙ ap Some (sym is) in
     slice_get-map node_value nodes i ∙ rw at refl
@@ -224,7 +224,7 @@ most_small soc limits nodes are acyclic few j n most at m =
     omega (arith, sum_small soc limits nodes are acyclic n.id (most + n.time) s, product)
 
 -- what the loop over the tests before one has found, at its end
-pub loop_ends : (nodes : List Node) (old : List Sum) (test : ℕ) (first second : Node) (items : List ℕ) (k most time : ℕ) → test < length nodes → test < length old → first ≡ get_or nodes test first → second ≡ get_or nodes test second → items ≡ (get_or nodes test first).before.items → time ≡ (get_or nodes test second).time → length items ≤ k
+pub loop_ends : (nodes : List PrecedenceNode) (old : List Sum) (test : ℕ) (first second : PrecedenceNode) (items : List ℕ) (k most time : ℕ) → test < length nodes → test < length old → first ≡ get_or nodes test first → second ≡ get_or nodes test second → items ≡ (get_or nodes test first).before.items → time ≡ (get_or nodes test second).time → length items ≤ k
     → ((soc : SocValue) (limits : LimitsValue) → AreNodes soc limits (node_values nodes) → AreRight soc limits (node_values nodes) (slice_set old test Begun) → IsMost soc limits (node_values nodes) (take k items) most)
     → (soc : SocValue) (limits : LimitsValue) → AreNodes soc limits (node_values nodes) → AreRight soc limits (node_values nodes) old → (n : NodeValue) → slice_get (node_values nodes) test ≡ Some n → IsMost soc limits (node_values nodes) n.before most × (time ≡ n.time)
 loop_ends nodes old test first second items k most time within old_within first_is second_is items_are time_is whole invariant soc limits are right n at =
@@ -232,9 +232,9 @@ loop_ends nodes old test first second items k most time within old_within first_
     let two = node_here nodes test second within second_is in
     let a : node_value first ≡ n = some_is (node_value first) n (sym one ∙ at) in
     let b : node_value second ≡ n = some_is (node_value second) n (sym two ∙ at) in
-    let places : take k items ≡ n.before = take_all k items whole ∙ items_are ∙ ap (λ (m : Node). m.before.items) (sym first_is) ∙ ap (λ (m : NodeValue). m.before) a in (
+    let places : take k items ≡ n.before = take_all k items whole ∙ items_are ∙ ap (λ (m : PrecedenceNode). m.before.items) (sym first_is) ∙ ap (λ (m : NodeValue). m.before) a in (
       subst (λ (l : List ℕ). IsMost soc limits (node_values nodes) l most) places (invariant soc limits are (begun_right soc limits (node_values nodes) old test old_within right)),
-      time_is ∙ ap (λ (m : Node). m.time) (sym second_is) ∙ ap (λ (m : NodeValue). m.time) b,
+      time_is ∙ ap (λ (m : PrecedenceNode). m.time) (sym second_is) ∙ ap (λ (m : NodeValue). m.time) b,
     )
   where
     some_is : (x y : NodeValue) → Some x ≡ Some y → x ≡ y

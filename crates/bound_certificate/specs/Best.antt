@@ -33,7 +33,8 @@ module_why soc place = if has_live_at soc place then OfModule (number_at soc pla
 
 -- a module that has a live test, and so has its parent
 abbrev pub pair_why : SocValue → ℕ → List WhyValue
-pair_why soc place = if has_live_at soc place && passes (has_live_at soc) (parent_place soc.modules place) then OfPair (number_at soc place) ∷ [] else []
+pair_why soc place =
+    if has_live_at soc place && passes (has_live_at soc) (parent_place soc.modules place) then OfPair (number_at soc place) ∷ [] else []
 
 -- the printed precedence chain, where there is one
 abbrev pub chain_why : Option (List TestId) → List WhyValue
@@ -46,7 +47,8 @@ power_why None = []
 power_why (Some most) = OfPower ∷ []
 
 abbrev pub candidates : SocValue → LimitsValue → Option (List TestId) → List WhyValue
-candidates soc limits chain = flat_map (module_why soc) (places soc) ++ flat_map (pair_why soc) (places soc) ++ chain_why chain ++ OfArea ∷ power_why limits.power
+candidates soc limits chain =
+    flat_map (module_why soc) (places soc) ++ flat_map (pair_why soc) (places soc) ++ chain_why chain ++ OfArea ∷ power_why limits.power
 
 -- a later candidate wins where its value is greater
 abbrev pub better : (WhyValue → ℕ) → Option WhyValue → WhyValue → Option WhyValue
@@ -82,7 +84,8 @@ pub record IsFirstGreatest (soc : SocValue) (limits : LimitsValue) (P : TestId �
   pub taken : P id
   pub s : ℕ
   pub sum : IsGreatestSum soc limits id s
-  pub first : (m : ℕ) (other : TestId) (t : ℕ) → slice_get (live_ids soc) m ≡ Some other → P other → IsGreatestSum soc limits other t → (t < s) ⊎ ((t ≡ s) × (place ≤ m))
+  pub first : (m : ℕ) (other : TestId) (t : ℕ) → slice_get (live_ids soc) m ≡ Some other → P other → IsGreatestSum soc limits other t →
+      (t < s) ⊎ ((t ≡ s) × (place ≤ m))
 
 -- a precedence sets the later test behind this one
 abbrev pub IsBefore : LimitsValue → (later earlier : TestId) → Type 0
@@ -100,7 +103,8 @@ GoesBack soc limits id (a ∷ back) = IsFirstGreatest soc limits (IsBefore limit
 -- the printed chain; there is none exactly where no live test has a live test before it
 abbrev pub IsPrintedChain : SocValue → LimitsValue → Option (List TestId) → Type 0
 IsPrintedChain soc limits None = (id : TestId) → Contains (live_ids soc) id → HasBefore soc limits id → ⊥
-IsPrintedChain soc limits (Some ids) = (last : TestId) × (back : List TestId) × (ids ≡ reverse (last ∷ back)) × IsFirstGreatest soc limits (HasBefore soc limits) last × GoesBack soc limits last back
+IsPrintedChain soc limits (Some ids) = (last : TestId) × (back : List TestId) × (ids ≡ reverse (last ∷ back))
+    × IsFirstGreatest soc limits (HasBefore soc limits) last × GoesBack soc limits last back
 
 -- the sum of a list that is there, or 0
 abbrev pub chain_sum : SocValue → (w : ℕ) → Option (List TestId) → ℕ
@@ -109,7 +113,8 @@ chain_sum soc w (Some ids) = sum_by (lower_of_id soc w) ids
 
 -- no list of two tests or more that keeps the rule of precedence chains has a greater sum
 abbrev pub IsGreatestChain : SocValue → LimitsValue → Option (List TestId) → Type 0
-IsGreatestChain soc limits chain = (ids : List TestId) → Each (IsChainItem soc limits) ids → 2 ≤ length ids → sum_by (lower_of_id soc limits.wires) ids ≤ chain_sum soc limits.wires chain
+IsGreatestChain soc limits chain = (ids : List TestId) → Each (IsChainItem soc limits) ids → 2 ≤ length ids →
+    sum_by (lower_of_id soc limits.wires) ids ≤ chain_sum soc limits.wires chain
 
 -- ---- the forced list that is tried
 
@@ -132,7 +137,8 @@ up_to (Some n) xs = take n xs
 
 -- their longest part from the front on that keeps the list rule
 abbrev pub IsForcedPart : SocValue → LimitsValue → ℕ → List ℕ → Type 0
-IsForcedPart soc limits b ms = (place : Option ℕ) × IsBreachPlace (IsForcedItem soc limits.wires b) (by_need soc limits.wires b) place × (ms ≡ up_to place (by_need soc limits.wires b))
+IsForcedPart soc limits b ms = (place : Option ℕ) × IsBreachPlace (IsForcedItem soc limits.wires b) (by_need soc limits.wires b) place
+    × (ms ≡ up_to place (by_need soc limits.wires b))
 
 -- ---- the bound
 
@@ -143,10 +149,12 @@ winning soc limits chain = claimed_by (certificate_value soc limits) (winner (ce
 -- the forced list, where the winner is less than the cycles and the value of the list isn't; else the winner
 abbrev pub forced_or : SocValue → LimitsValue → (cycles : ℕ) → List ℕ → BoundValue → BoundValue
 forced_or soc limits cycles ms best =
-    if nat_lt best.cycles cycles && nat_le cycles (certificate_value soc limits (OfForced ms)) then record { cycles = cycles; why = OfForced ms } else best
+    if nat_lt best.cycles cycles && nat_le cycles (certificate_value soc limits (OfForced ms))
+    then record { cycles = cycles; why = OfForced ms } else best
 
 -- the planner's bound with this chain among the candidates
-pub record IsBestWith (soc : SocValue) (limits : LimitsValue) (cycles : ℕ) (chain : Option (List TestId)) (bound : BoundValue) : Type 0 where
+pub record IsBestWith (soc : SocValue) (limits : LimitsValue) (cycles : ℕ) (chain : Option (List TestId))
+    (bound : BoundValue) : Type 0 where
   pub forced : List ℕ
   pub part : (winning soc limits chain).cycles < cycles → IsForcedPart soc limits cycles forced
   pub is : bound ≡ forced_or soc limits cycles forced (winning soc limits chain)

@@ -10,7 +10,7 @@ use Rattle.plan_model.specs.Rules.{live_ids}
 use Rattle.plan_model.specs.Certificates.{lower_of_id}
 use Rattle.live_tests.specs.declared.neighbours.Neighbours.{Neighbours}
 use Rattle.live_tests.specs.Neighbours.{tests_of}
-use Rattle.bound_certificate.specs.declared.nodes.Node.{Node}
+use Rattle.bound_certificate.specs.declared.nodes.PrecedenceNode.{PrecedenceNode}
 
 -- a live test with its lower time, and the places of those that precede it
 pub record NodeValue : Type 0 where
@@ -18,10 +18,10 @@ pub record NodeValue : Type 0 where
   pub time : ℕ
   pub before : List ℕ
 
-abbrev pub node_value : Node → NodeValue
+abbrev pub node_value : PrecedenceNode → NodeValue
 node_value n = record { id = n.id; time = n.time; before = n.before.items }
 
-abbrev pub node_values : List Node → List NodeValue
+abbrev pub node_values : List PrecedenceNode → List NodeValue
 node_values nodes = map node_value nodes
 
 abbrev pub ids_of : List NodeValue → List TestId
@@ -47,8 +47,8 @@ live_nodes soc wires = flat_map (nodes_in wires) soc.modules
 -- ---- precedences
 
 -- the places of the tests before the node at a place
-abbrev pub before_at : List Node → ℕ → List ℕ
-before_at nodes i = slice_index_or (map (λ (n : Node). n.before.items) nodes) i []
+abbrev pub before_at : List PrecedenceNode → ℕ → List ℕ
+before_at nodes i = slice_index_or (map (λ (n : PrecedenceNode). n.before.items) nodes) i []
 
 -- the list at a place
 abbrev pub tests_at : List Neighbours → ℕ → List ℕ
@@ -56,8 +56,10 @@ tests_at lists i = slice_index_or (map tests_of lists) i []
 
 -- the nodes have exactly these precedences
 pub record AreLinked (before : List (TestId × TestId)) (nodes : List NodeValue) : Type 0 where
-  pub listed : (j p : ℕ) (n : NodeValue) → slice_get nodes j ≡ Some n → Contains n.before p → (m : NodeValue) × (slice_get nodes p ≡ Some m) × Contains before (m.id, n.id)
-  pub all : (i j : ℕ) (m n : NodeValue) → slice_get nodes i ≡ Some m → slice_get nodes j ≡ Some n → Contains before (m.id, n.id) → Contains n.before i
+  pub listed : (j p : ℕ) (n : NodeValue) → slice_get nodes j ≡ Some n → Contains n.before p →
+      (m : NodeValue) × (slice_get nodes p ≡ Some m) × Contains before (m.id, n.id)
+  pub all : (i j : ℕ) (m n : NodeValue) → slice_get nodes i ≡ Some m → slice_get nodes j ≡ Some n → Contains before (m.id, n.id) →
+      Contains n.before i
 
 -- the live tests of the chip with their lower times and precedences
 pub record AreNodes (soc : SocValue) (limits : LimitsValue) (nodes : List NodeValue) : Type 0 where

@@ -22,7 +22,8 @@ pub record GoOn (nodes : List NodeValue) (old new : List Sum) : Type 0 where
   pub long : length new ≡ length old
   pub unknown : (i : ℕ) → slice_get new i ≡ Some Unknown → slice_get old i ≡ Some Unknown
   pub begun : (i : ℕ) → slice_get new i ≡ Some Begun → slice_get old i ≡ Some Begun
-  pub right : (soc : SocValue) (limits : LimitsValue) → AreNodes soc limits nodes → AreRight soc limits nodes old → AreRight soc limits nodes new
+  pub right : (soc : SocValue) (limits : LimitsValue) → AreNodes soc limits nodes → AreRight soc limits nodes old →
+      AreRight soc limits nodes new
 
 -- the tests of an acyclic chip
 pub record AreAcyclic (nodes : List NodeValue) : Type 0 where

@@ -20,7 +20,8 @@ seen best = option_map (λ (b : ℕ × Why). why_value b.1) best
 
 -- the number beside it is its value and a bound, and it keeps its list rule
 abbrev pub HasValue : SocValue → LimitsValue → Option (ℕ × Why) → Type 0
-HasValue soc limits best = IfSome best (λ (b : ℕ × Why). (b.0 ≡ certificate_value soc limits (why_value b.1)) × IsBound soc limits b.0 × KeepsList soc limits b.0 (why_value b.1))
+HasValue soc limits best = IfSome best (λ (b : ℕ × Why). (b.0 ≡ certificate_value soc limits (why_value b.1)) × IsBound soc limits b.0
+    × KeepsList soc limits b.0 (why_value b.1))
 
 -- the tests of a list, where there is one
 abbrev pub names_of : Option (Vec TestId Global) → Option (List TestId)

@@ -44,7 +44,8 @@ fn best_with(
     requires resolved { IsResolved (soc_value soc.now) limits.now resolved.now }
     requires chain { IfSome chain (λ v. Each (IsChainItem (soc_value soc.now) (limits_value limits.now)) v.items) }
     requires good { (n : ℕ) → IsBound (soc_value soc.now) (limits_value limits.now) n → n ≤ cycles }
-    ensures best { IfOk result (λ bound. IsBestWith (soc_value soc.now) (limits_value limits.now) cycles (names_of chain) (bound_value bound)) }
+    ensures best { IfOk result (λ bound. IsBestWith (soc_value soc.now) (limits_value limits.now) cycles (names_of chain)
+        (bound_value bound)) }
     ensures accepted { IfOk result (λ bound. IsAccepted (soc_value soc.now) (limits_value limits.now) (bound_value bound)) }
     ensures few { IfOk result (λ bound. bound.cycles ≤ cycles) }
 {

@@ -22,7 +22,7 @@ use plan_model::{Limits, Why};
 use soc_model::{Module, Soc, TestId, live, module_at};
 
 /// What one more candidate makes of the best so far; among equals the earlier one stays.
-fn consider(best: Option<(u128, Why)>, shown: u128, why: Why) -> Option<(u128, Why)>
+fn better_known(best: Option<(u128, Why)>, shown: u128, why: Why) -> Option<(u128, Why)>
     ensures { result ≡ considered best shown why }
 {
     match best {
@@ -56,7 +56,8 @@ fn has_live_test(soc: &Soc, place: usize) -> bool
 fn has_live_family(soc: &Soc, place: usize, parent: Option<usize>) -> bool
     requires place { place < length (soc_value soc.now).modules }
     requires parent { parent ≡ parent_place (soc_value soc.now).modules place }
-    ensures { result ≡ (has_live_at (soc_value soc.now) place && passes (has_live_at (soc_value soc.now)) (parent_place (soc_value soc.now).modules place)) }
+    ensures { result ≡ (has_live_at (soc_value soc.now) place
+        && passes (has_live_at (soc_value soc.now)) (parent_place (soc_value soc.now).modules place)) }
 {
     if !has_live_test(soc, place) {
         return false;
@@ -78,7 +79,8 @@ fn consider_module(
     requires limits { IsSoundLimits (soc_value soc.now) (limits_value limits.now) }
     requires place { place < length (soc_value soc.now).modules }
     requires value { HasValue (soc_value soc.now) (limits_value limits.now) best }
-    ensures seen { seen result ≡ fold (better (certificate_value (soc_value soc.now) (limits_value limits.now))) (seen best) (module_why (soc_value soc.now) place) }
+    ensures seen { seen result ≡ fold (better (certificate_value (soc_value soc.now) (limits_value limits.now))) (seen best)
+        (module_why (soc_value soc.now) place) }
     ensures value { HasValue (soc_value soc.now) (limits_value limits.now) result }
 {
     if !has_live_test(soc, place) {
@@ -86,7 +88,7 @@ fn consider_module(
     }
     let module = module_at(soc, place).number;
     let shown = u128::from(module_bound(soc, place, limits.wires));
-    consider(best, shown, Why::Module { module })
+    better_known(best, shown, Why::Module { module })
 }
 
 /// The candidates of the modules.
@@ -94,7 +96,8 @@ fn consider_modules(soc: &Soc, limits: &Limits, best: Option<(u128, Why)>) -> Op
     requires sound { IsSoundChip (soc_value soc.now) }
     requires limits { IsSoundLimits (soc_value soc.now) (limits_value limits.now) }
     requires value { HasValue (soc_value soc.now) (limits_value limits.now) best }
-    ensures seen { seen result ≡ fold (better (certificate_value (soc_value soc.now) (limits_value limits.now))) (seen best) (flat_map (module_why (soc_value soc.now)) (places (soc_value soc.now))) }
+    ensures seen { seen result ≡ fold (better (certificate_value (soc_value soc.now) (limits_value limits.now))) (seen best)
+        (flat_map (module_why (soc_value soc.now)) (places (soc_value soc.now))) }
     ensures value { HasValue (soc_value soc.now) (limits_value limits.now) result }
 {
     let mut best = best;
@@ -117,7 +120,8 @@ fn consider_pair(
     requires place { place < length (soc_value soc.now).modules }
     requires parent { parent ≡ parent_place (soc_value soc.now).modules place }
     requires value { HasValue (soc_value soc.now) (limits_value limits.now) best }
-    ensures seen { seen result ≡ fold (better (certificate_value (soc_value soc.now) (limits_value limits.now))) (seen best) (pair_why (soc_value soc.now) place) }
+    ensures seen { seen result ≡ fold (better (certificate_value (soc_value soc.now) (limits_value limits.now))) (seen best)
+        (pair_why (soc_value soc.now) place) }
     ensures value { HasValue (soc_value soc.now) (limits_value limits.now) result }
 {
     if !has_live_family(soc, place, parent) {
@@ -126,7 +130,7 @@ fn consider_pair(
     let module = module_at(soc, place).number;
     match pair_bound_with(soc, place, parent, limits.wires) {
         None => best,
-        Some(shown) => consider(best, u128::from(shown), Why::Pair { module }),
+        Some(shown) => better_known(best, u128::from(shown), Why::Pair { module }),
     }
 }
 
@@ -141,7 +145,8 @@ fn consider_pairs(
     requires limits { IsSoundLimits (soc_value soc.now) (limits_value limits.now) }
     requires parents { AreParentPlaces (soc_value soc.now) parents.now }
     requires value { HasValue (soc_value soc.now) (limits_value limits.now) best }
-    ensures seen { seen result ≡ fold (better (certificate_value (soc_value soc.now) (limits_value limits.now))) (seen best) (flat_map (pair_why (soc_value soc.now)) (places (soc_value soc.now))) }
+    ensures seen { seen result ≡ fold (better (certificate_value (soc_value soc.now) (limits_value limits.now))) (seen best)
+        (flat_map (pair_why (soc_value soc.now)) (places (soc_value soc.now))) }
     ensures value { HasValue (soc_value soc.now) (limits_value limits.now) result }
 {
     let mut best = best;
@@ -159,7 +164,7 @@ fn consider_area(soc: &Soc, limits: &Limits, best: Option<(u128, Why)>) -> Optio
     ensures seen { seen result ≡ better (certificate_value (soc_value soc.now) (limits_value limits.now)) (seen best) OfArea }
     ensures value { HasValue (soc_value soc.now) (limits_value limits.now) result }
 {
-    consider(best, u128::from(area_bound(soc, limits.wires)), Why::Area)
+    better_known(best, u128::from(area_bound(soc, limits.wires)), Why::Area)
 }
 
 /// The candidate Power, where the limits have a power.
@@ -173,14 +178,15 @@ fn consider_power(
     requires limits { IsSoundLimits (soc_value soc.now) (limits_value limits.now) }
     requires places { AreProfilePlaces places.now limits.now.profiles.items }
     requires value { HasValue (soc_value soc.now) (limits_value limits.now) best }
-    ensures seen { seen result ≡ fold (better (certificate_value (soc_value soc.now) (limits_value limits.now))) (seen best) (power_why limits.now.power) }
+    ensures seen { seen result ≡ fold (better (certificate_value (soc_value soc.now) (limits_value limits.now))) (seen best)
+        (power_why limits.now.power) }
     ensures value { HasValue (soc_value soc.now) (limits_value limits.now) result }
 {
     match limits.power {
         None => best,
         Some(_) => {
             let shown = u128::from(power_bound_with(soc, limits, places));
-            consider(best, shown, Why::Power)
+            better_known(best, shown, Why::Power)
         }
     }
 }
@@ -196,14 +202,15 @@ fn consider_chain(
     requires limits { IsSoundLimits (soc_value soc.now) (limits_value limits.now) }
     requires chain { IfSome chain (λ v. Each (IsChainItem (soc_value soc.now) (limits_value limits.now)) v.items) }
     requires value { HasValue (soc_value soc.now) (limits_value limits.now) best }
-    ensures seen { seen result ≡ fold (better (certificate_value (soc_value soc.now) (limits_value limits.now))) (seen best) (chain_why (names_of chain)) }
+    ensures seen { seen result ≡ fold (better (certificate_value (soc_value soc.now) (limits_value limits.now))) (seen best)
+        (chain_why (names_of chain)) }
     ensures value { HasValue (soc_value soc.now) (limits_value limits.now) result }
 {
     match chain {
         None => best,
         Some(tests) => {
             let shown = chain_bound(soc, &tests, limits.wires);
-            consider(best, shown, Why::Chain { tests })
+            better_known(best, shown, Why::Chain { tests })
         }
     }
 }
@@ -219,7 +226,8 @@ pub fn winner_of(
     requires limits { IsSoundLimits (soc_value soc.now) (limits_value limits.now) }
     requires resolved { IsResolved (soc_value soc.now) limits.now resolved.now }
     requires chain { IfSome chain (λ v. Each (IsChainItem (soc_value soc.now) (limits_value limits.now)) v.items) }
-    ensures seen { seen result ≡ winner (certificate_value (soc_value soc.now) (limits_value limits.now)) (candidates (soc_value soc.now) (limits_value limits.now) (names_of chain)) }
+    ensures seen { seen result ≡ winner (certificate_value (soc_value soc.now) (limits_value limits.now))
+        (candidates (soc_value soc.now) (limits_value limits.now) (names_of chain)) }
     ensures value { HasValue (soc_value soc.now) (limits_value limits.now) result }
 {
     let best = consider_modules(soc, limits, None);

@@ -1,23 +1,23 @@
 //! The precedence chain that the planner's bound weighs among its candidates. Tests go by their places among the live
 //! tests of the chip, in its order; sums are in cycles.
 ghost use Rattle.std.specs.Prelude.{◌≡◌, ◌<◌, List, ◌∷◌, length, reverse, slice_get, IfOk, IfSome, Some};
-ghost use Rattle.std.specs.List.{All, Contains, flat_map};
+ghost use Rattle.std.specs.List.{All, Contains};
 ghost use Rattle.soc_model.specs.declared.TestId.{TestId as TheTestId};
 ghost use Rattle.soc_model.specs.Chips.{SocValue, soc_value};
 ghost use Rattle.soc_model.specs.SoundChips.{IsSoundChip};
 ghost use Rattle.plan_model.specs.Plans.{LimitsValue};
-ghost use Rattle.plan_model.specs.Rules.{Each, live_ids};
+ghost use Rattle.plan_model.specs.Rules.{Each};
 ghost use Rattle.plan_model.specs.SoundLimits.{IsSoundLimits};
 ghost use Rattle.plan_model.specs.Views.{limits_value};
 ghost use Rattle.plan_model.specs.Certificates.{IsChainItem};
-ghost use Rattle.live_tests.specs.Names.{places_of};
+ghost use Rattle.live_tests.specs.Names.{precedences as precedences_of};
 ghost use Rattle.bound_certificate.specs.Best.{GoesBack, IsPrintedChain, IsGreatestChain};
 ghost use Rattle.bound_certificate.specs.Nodes.{NodeValue, node_values, AreNodes};
 ghost use Rattle.bound_certificate.specs.Sums.{AreSums};
 ghost use Rattle.bound_certificate.specs.Chains.{IsBest, better_place, HasEarlier, SumsFall};
 ghost use Rattle.bound_certificate.specs.Winners.{names_of};
 
-use crate::nodes::{Node, nodes_of};
+use crate::nodes::{PrecedenceNode, nodes_of};
 use crate::sums::greatest_sums;
 use outside::{NoMemory, push};
 use plan_model::Limits;
@@ -55,7 +55,7 @@ fn best_of(sums: &[u128], places: &[usize]) -> Option<usize>
 }
 
 /// Of the tests that others precede the first of greatest sum. None comes exactly where there are none.
-fn last_test(nodes: &[Node], sums: &[u128]) -> Option<usize>
+fn last_test(nodes: &[PrecedenceNode], sums: &[u128]) -> Option<usize>
     requires { length sums.now ≡ length nodes.now }
     ensures best { IsBest sums.now (HasEarlier (node_values nodes.now)) result }
     ensures within { IfSome result (λ b. b < length sums.now) }
@@ -73,14 +73,15 @@ fn last_test(nodes: &[Node], sums: &[u128]) -> Option<usize>
 /// The chain that ends in a test: from each test back to the one of greatest sum before it.
 fn chain_to(
     alloc: Global,
-    nodes: &[Node],
+    nodes: &[PrecedenceNode],
     sums: &[u128],
     last: usize,
 ) -> Result<Vec<TestId>, NoMemory>
     requires within { last < length nodes.now }
     requires long { length sums.now ≡ length nodes.now }
     requires fall { SumsFall (node_values nodes.now) sums.now }
-    ensures { IfOk result (λ chain. (soc : SocValue) (limits : LimitsValue) (n : NodeValue) → AreNodes soc limits (node_values nodes.now) → AreSums soc limits (node_values nodes.now) sums.now → slice_get (node_values nodes.now) last ≡ Some n →
+    ensures { IfOk result (λ chain. (soc : SocValue) (limits : LimitsValue) (n : NodeValue) → AreNodes soc limits (node_values nodes.now) →
+        AreSums soc limits (node_values nodes.now) sums.now → slice_get (node_values nodes.now) last ≡ Some n →
         (back : List TheTestId) × (chain.items ≡ reverse (n.id ∷ back)) × GoesBack soc limits n.id back) }
 {
     let mut chain = Vec::new(alloc);
@@ -96,10 +97,15 @@ fn chain_to(
 
 /// The chain that ends in the first test of greatest sum among those that others precede. None comes exactly where there
 /// are none.
-fn best_chain(alloc: Global, nodes: &[Node], sums: &[u128]) -> Result<Option<Vec<TestId>>, NoMemory>
+fn best_chain(
+    alloc: Global,
+    nodes: &[PrecedenceNode],
+    sums: &[u128],
+) -> Result<Option<Vec<TestId>>, NoMemory>
     requires long { length sums.now ≡ length nodes.now }
     requires fall { SumsFall (node_values nodes.now) sums.now }
-    ensures { IfOk result (λ chain. (soc : SocValue) (limits : LimitsValue) → AreNodes soc limits (node_values nodes.now) → AreSums soc limits (node_values nodes.now) sums.now → IsPrintedChain soc limits (names_of chain)) }
+    ensures { IfOk result (λ chain. (soc : SocValue) (limits : LimitsValue) → AreNodes soc limits (node_values nodes.now) →
+        AreSums soc limits (node_values nodes.now) sums.now → IsPrintedChain soc limits (names_of chain)) }
 {
     let Some(last) = last_test(nodes, sums) else {
         return Ok(None);
@@ -121,9 +127,10 @@ pub fn printed_chain(
 ) -> Result<Option<Vec<TestId>>, NoMemory>
     requires sound { IsSoundChip (soc_value soc.now) }
     requires limits { IsSoundLimits (soc_value soc.now) (limits_value limits.now) }
-    requires precedences { precedences.now ≡ flat_map (places_of (live_ids (soc_value soc.now))) (limits_value limits.now).before }
+    requires precedences { precedences.now ≡ precedences_of (soc_value soc.now) (limits_value limits.now) }
     ensures printed { IfOk result (λ chain. IsPrintedChain (soc_value soc.now) (limits_value limits.now) (names_of chain)) }
-    ensures keeps { IfOk result (λ chain. IfSome chain (λ tests. Each (IsChainItem (soc_value soc.now) (limits_value limits.now)) tests.items)) }
+    ensures keeps { IfOk result (λ chain. IfSome chain (λ tests.
+        Each (IsChainItem (soc_value soc.now) (limits_value limits.now)) tests.items)) }
     ensures greatest { IfOk result (λ chain. IsGreatestChain (soc_value soc.now) (limits_value limits.now) (names_of chain)) }
 {
     let nodes = nodes_of(alloc, soc, limits, precedences)?;

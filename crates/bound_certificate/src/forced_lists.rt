@@ -24,7 +24,8 @@ use soc_model::{Soc, has_tam_test, module_at, place_of};
 /// this number.
 fn tam_place(soc: &Soc, number: u64) -> Option<usize>
     requires { IsSoundChip (soc_value soc.now) }
-    ensures some { IfSome result (λ place. (module_place (soc_value soc.now) number ≡ Some place) × (place < length (soc_value soc.now).modules)) }
+    ensures some { IfSome result (λ place. (module_place (soc_value soc.now) number ≡ Some place)
+        × (place < length (soc_value soc.now).modules)) }
     ensures exact { is_some result ≡ passes (has_tam_at (soc_value soc.now)) (module_place (soc_value soc.now) number) }
 {
     match place_of(soc, number) {
@@ -56,7 +57,8 @@ fn tam_time_of(soc: &Soc, number: u64, wires: u64) -> u64
 pub fn forced_sum(soc: &Soc, modules: &[u64], wires: u64) -> u128
     requires sound { IsSoundChip (soc_value soc.now) }
     requires some_wire { 1 ≤ wires }
-    ensures { result ≡ sum_by (λ m. on (module_place (soc_value soc.now) m) (λ place. lower_tam_time (soc_value soc.now) place wires)) modules.now }
+    ensures { result ≡ sum_by (λ m. on (module_place (soc_value soc.now) m) (λ place. lower_tam_time (soc_value soc.now) place wires))
+        modules.now }
 {
     let mut sum = 0u128;
     for number in modules {
@@ -82,9 +84,12 @@ fn take_entry(
     requires room { length marks.old ≡ MODULES_MOST }
     requires least { least ≤ limits.now.wires + 1 }
     requires so_far { IsForcedSoFar (soc_value soc.now) limits.now.wires claimed (take place modules.now) marks.old least }
-    ensures kept { IfSome result (λ next. (m : ℕ) → slice_get modules.now place ≡ Some m → IsForcedItem (soc_value soc.now) limits.now.wires claimed (take place modules.now) m × IsForcedSoFar (soc_value soc.now) limits.now.wires claimed (take (place + 1) modules.now) marks.new next) }
+    ensures kept { IfSome result (λ next. (m : ℕ) → slice_get modules.now place ≡ Some m →
+        IsForcedItem (soc_value soc.now) limits.now.wires claimed (take place modules.now) m
+        × IsForcedSoFar (soc_value soc.now) limits.now.wires claimed (take (place + 1) modules.now) marks.new next) }
     ensures few { IfSome result (λ next. next ≤ limits.now.wires + 1) }
-    ensures breach { IfNone result ((m : ℕ) → slice_get modules.now place ≡ Some m → IsForcedItem (soc_value soc.now) limits.now.wires claimed (take place modules.now) m → ⊥) }
+    ensures breach { IfNone result ((m : ℕ) → slice_get modules.now place ≡ Some m →
+        IsForcedItem (soc_value soc.now) limits.now.wires claimed (take place modules.now) m → ⊥) }
 {
     match tam_place(soc, modules[place]) {
         None => None,

@@ -81,7 +81,7 @@ fn forced_order(
 }
 
 /// The list up to a place, or all of it.
-fn cut(mut order: Vec<u64>, place: Option<usize>) -> Vec<u64>
+fn cut_order(mut order: Vec<u64>, place: Option<usize>) -> Vec<u64>
     ensures { result.items ≡ up_to place order.items }
 {
     if let Some(end) = place {
@@ -104,5 +104,5 @@ pub fn forced_part(
     let order = forced_order(alloc, soc, limits, claimed)?;
     let mut marks = Vec::from_elem(alloc, false, MODULES_MOST as usize)?;
     let place = forced_breach(soc, limits, claimed, &order, &mut marks);
-    Ok(cut(order, place))
+    Ok(cut_order(order, place))
 }

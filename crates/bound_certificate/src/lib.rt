@@ -1,6 +1,10 @@
 //! Certificates of lower bounds on the cycles of a chip's plans: their check, and the planner's bound.
 //!
 //! Claims and values are in cycles; a certificate's modules and tests go by their numbers.
+//!
+//! A certificate is accepted exactly where its definition says so, and then its claim bounds every good plan; the planner's bound
+//! is accepted and at least every elementary value. The sums are those of `bound_rules`. Errors are a certificate's fault and out
+//! of memory.
 #![tactic(auto)]
 
 ghost use Rattle.std.specs.Prelude.{◌≡◌, ◌+◌, ◌<◌, ◌≤◌, Ok, Err, IfErr, OnOk, length, nat_lt, if◌then◌else◌, vec_len};
@@ -172,7 +176,8 @@ pub fn check_bound(
     requires sound { IsSoundChip (soc_value soc.now) }
     requires limits { IsSoundLimits (soc_value soc.now) (limits_value limits.now) }
     ensures accepted { OnOk result (IsAccepted (soc_value soc.now) (limits_value limits.now) (bound_value bound.now)) }
-    ensures fault { IfErr result (λ f. IsCertificateFault (soc_value soc.now) (limits_value limits.now) (bound_value bound.now) (certificate_fault f)) }
+    ensures fault { IfErr result (λ f. IsCertificateFault (soc_value soc.now) (limits_value limits.now) (bound_value bound.now)
+        (certificate_fault f)) }
     ensures exact { IsAccepted (soc_value soc.now) (limits_value limits.now) (bound_value bound.now) → result ≡ Ok tt }
     ensures bound { OnOk result (IsBound (soc_value soc.now) (limits_value limits.now) bound.now.cycles) }
 {

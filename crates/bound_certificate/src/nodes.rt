@@ -1,11 +1,9 @@
 //! The live tests of a chip as the nodes of a graph, with their precedences as its edges.
 ghost use Rattle.std.specs.Prelude.{◌≡◌, ℕ, ◌<◌, ◌≤◌, ◌++◌, length, IfOk, OnOk};
-ghost use Rattle.std.specs.List.{flat_map};
 ghost use Rattle.soc_model.specs.Chips.{soc_value, module_value};
 ghost use Rattle.soc_model.specs.SoundChips.{IsSoundChip};
-ghost use Rattle.plan_model.specs.Rules.{live_ids};
 ghost use Rattle.plan_model.specs.Views.{limits_value};
-ghost use Rattle.live_tests.specs.Names.{places_of};
+ghost use Rattle.live_tests.specs.Names.{precedences as precedences_of};
 ghost use Rattle.bound_rules.specs.Sizes.{IsMeasurable};
 ghost use Rattle.bound_certificate.specs.Nodes.{node_values, fixed_parts, before_at, tests_at, nodes_in, live_nodes as nodes_of_tests, AreNodes};
 
@@ -19,7 +17,7 @@ use std::mem;
 
 /// A live test among its precedences.
 #[derive(Drop)]
-pub struct Node {
+pub struct PrecedenceNode {
     /// The test.
     pub id: TestId,
     /// The cycles that it takes at least on all wires.
@@ -31,7 +29,7 @@ pub struct Node {
 /// Adds the live tests of a module, without precedences.
 fn push_live(
     alloc: Global,
-    nodes: &mut Vec<Node>,
+    nodes: &mut Vec<PrecedenceNode>,
     module: &Module,
     wires: u64,
 ) -> Result<(), NoMemory>
@@ -42,7 +40,7 @@ fn push_live(
     let lower = LowerTimes::new(module);
     for test in &module.tests {
         if live(test) {
-            let node = Node {
+            let node = PrecedenceNode {
                 id: TestId {
                     module: module.number,
                     test: test.number,
@@ -57,7 +55,7 @@ fn push_live(
 }
 
 /// The live tests in the order of the chip, without precedences.
-fn live_nodes(alloc: Global, soc: &Soc, wires: u64) -> Result<Vec<Node>, NoMemory>
+fn live_nodes(alloc: Global, soc: &Soc, wires: u64) -> Result<Vec<PrecedenceNode>, NoMemory>
     requires wires { 1 ≤ wires }
     requires sound { IsSoundChip (soc_value soc.now) }
     ensures { IfOk result (λ nodes. node_values nodes.items ≡ nodes_of_tests (soc_value soc.now) wires) }
@@ -70,7 +68,7 @@ fn live_nodes(alloc: Global, soc: &Soc, wires: u64) -> Result<Vec<Node>, NoMemor
 }
 
 /// Gives each node the tests before it, which stand in these lists.
-fn link(nodes: &mut Vec<Node>, lists: &mut Vec<Neighbours>)
+fn link_nodes(nodes: &mut Vec<PrecedenceNode>, lists: &mut Vec<Neighbours>)
     requires { length lists.old.items ≡ length nodes.old.items }
     ensures fixed { fixed_parts (node_values nodes.new.items) ≡ fixed_parts (node_values nodes.old.items) }
     ensures before { (i : ℕ) → i < length nodes.old.items → before_at nodes.new.items i ≡ tests_at lists.old.items i }
@@ -86,14 +84,14 @@ pub fn nodes_of(
     soc: &Soc,
     limits: &Limits,
     precedences: &[(usize, usize)],
-) -> Result<Vec<Node>, NoMemory>
+) -> Result<Vec<PrecedenceNode>, NoMemory>
     requires sound { IsSoundChip (soc_value soc.now) }
     requires wires { 1 ≤ limits.now.wires }
-    requires precedences { precedences.now ≡ flat_map (places_of (live_ids (soc_value soc.now))) (limits_value limits.now).before }
+    requires precedences { precedences.now ≡ precedences_of (soc_value soc.now) (limits_value limits.now) }
     ensures { IfOk result (λ nodes. AreNodes (soc_value soc.now) (limits_value limits.now) (node_values nodes.items)) }
 {
     let mut nodes = live_nodes(alloc, soc, limits.wires)?;
     let mut before = all_before(alloc, nodes.len(), precedences)?;
-    link(&mut nodes, &mut before);
+    link_nodes(&mut nodes, &mut before);
     Ok(nodes)
 }

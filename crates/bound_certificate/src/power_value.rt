@@ -22,7 +22,8 @@ use soc_model::{Soc, TESTS_MOST, TestId};
 fn put_place(places: &mut IndexMap<TestId, usize>, id: TestId, place: usize)
     requires room { 0 < spare places.old }
     requires new { lookup (same_test id) places.old.entries ≡ None }
-    ensures put { (other : TheTestId) → lookup (same_test other) places.new.entries ≡ (if same_test id other then Some place else lookup (same_test other) places.old.entries) }
+    ensures put { (other : TheTestId) → lookup (same_test other) places.new.entries
+        ≡ (if same_test id other then Some place else lookup (same_test other) places.old.entries) }
     ensures count { index_map_len places.new ≡ index_map_len places.old + 1 }
     ensures room { spare places.old ≤ spare places.new + 1 }
 {

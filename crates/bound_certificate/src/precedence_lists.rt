@@ -22,7 +22,7 @@ use plan_model::Limits;
 use soc_model::{Soc, TESTS_MOST, TestId};
 
 /// Whether a precedence sets the second test behind the first.
-fn precedes(before: &[(TestId, TestId)], first: TestId, second: TestId) -> bool
+fn is_before(before: &[(TestId, TestId)], first: TestId, second: TestId) -> bool
     ensures { IsTrue result ↔ Contains before.now (first, second) }
 {
     for (a, b) in before {
@@ -139,14 +139,15 @@ fn stands_behind(before: &[(TestId, TestId)], tests: &[TestId], place: usize, pa
     requires later { 1 ≤ place }
     requires within { place < length tests.now }
     requires stated { AreStated before.now tests.now pairs.now }
-    ensures { (a b : TestId) → slice_get tests.now (place - 1) ≡ Some a → slice_get tests.now place ≡ Some b → IsTrue result ↔ Contains before.now (a, b) }
+    ensures { (a b : TestId) → slice_get tests.now (place - 1) ≡ Some a → slice_get tests.now place ≡ Some b →
+        IsTrue result ↔ Contains before.now (a, b) }
 {
     let first = tests[place - 1];
     let second = tests[place];
     if place <= TESTS_MOST as usize {
         is_stated(pairs, first, second)
     } else {
-        precedes(before, first, second)
+        is_before(before, first, second)
     }
 }
 
@@ -156,7 +157,9 @@ fn keeps_chain(soc: &Soc, limits: &Limits, tests: &[TestId], place: usize, pairs
     requires limits { IsSoundLimits (soc_value soc.now) (limits_value limits.now) }
     requires place { place < length tests.now }
     requires stated { AreStated limits.now.before.items tests.now pairs.now }
-    ensures { (id : TestId) → slice_get tests.now place ≡ Some id → MatchBool result (IsChainItem (soc_value soc.now) (limits_value limits.now) (take place tests.now) id) (IsChainItem (soc_value soc.now) (limits_value limits.now) (take place tests.now) id → ⊥) }
+    ensures { (id : TestId) → slice_get tests.now place ≡ Some id →
+        MatchBool result (IsChainItem (soc_value soc.now) (limits_value limits.now) (take place tests.now) id)
+        (IsChainItem (soc_value soc.now) (limits_value limits.now) (take place tests.now) id → ⊥) }
 {
     if live_time(soc, tests[place], limits.wires).is_none() {
         return false;

@@ -7,7 +7,7 @@ ghost use Rattle.bound_certificate.specs.declared.sums.Sum.TheVariants.{Unknown}
 ghost use Rattle.bound_certificate.specs.Nodes.{node_values, AreNodes};
 ghost use Rattle.bound_certificate.specs.Sums.{HasSum, AreRight, GoOn, AreAcyclic, IsUnderWay, AreSums};
 
-use crate::nodes::Node;
+use crate::nodes::PrecedenceNode;
 use outside::{NoMemory, push};
 use std::alloc::Global;
 
@@ -25,13 +25,14 @@ enum Sum {
 /// The greatest sum of a test: its own lower time, and the greatest of the sums of the tests before it. All sums that are
 /// found on the way are noted, so that each is sought once. A call goes one test back, so that no more are open than the
 /// chip has live tests.
-fn greatest_sum(nodes: &[Node], sums: &mut Vec<Sum>, test: usize) -> u128
+fn greatest_sum(nodes: &[PrecedenceNode], sums: &mut Vec<Sum>, test: usize) -> u128
     requires within { test < length nodes.now }
     requires few { length nodes.now < 2 ^ 64 }
     requires long { length sums.old.items ≡ length nodes.now }
     requires under_way { IsUnderWay (node_values nodes.now) sums.old.items test }
     ensures goes_on { GoOn (node_values nodes.now) sums.old.items sums.new.items }
-    ensures sum { (soc : SocValue) (limits : LimitsValue) → AreNodes soc limits (node_values nodes.now) → AreRight soc limits (node_values nodes.now) sums.old.items → HasSum soc limits (node_values nodes.now) test result }
+    ensures sum { (soc : SocValue) (limits : LimitsValue) → AreNodes soc limits (node_values nodes.now) →
+        AreRight soc limits (node_values nodes.now) sums.old.items → HasSum soc limits (node_values nodes.now) test result }
 {
     match sums[test] {
         Sum::Known { sum } => return sum,
@@ -61,9 +62,10 @@ fn unknown_sums(alloc: Global, count: usize) -> Result<Vec<Sum>, NoMemory>
 }
 
 /// The greatest sums of all tests.
-pub fn greatest_sums(alloc: Global, nodes: &[Node]) -> Result<Vec<u128>, NoMemory>
+pub fn greatest_sums(alloc: Global, nodes: &[PrecedenceNode]) -> Result<Vec<u128>, NoMemory>
     requires { AreAcyclic (node_values nodes.now) }
-    ensures { IfOk result (λ sums. (soc : SocValue) (limits : LimitsValue) → AreNodes soc limits (node_values nodes.now) → AreSums soc limits (node_values nodes.now) sums.items) }
+    ensures { IfOk result (λ sums. (soc : SocValue) (limits : LimitsValue) → AreNodes soc limits (node_values nodes.now) →
+        AreSums soc limits (node_values nodes.now) sums.items) }
 {
     let mut known = unknown_sums(alloc, nodes.len())?;
     let mut sums = Vec::new(alloc);

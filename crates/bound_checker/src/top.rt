@@ -39,7 +39,7 @@ pub fn check_bound<H: Shelf, K: Sink>(
     ensures bad_words { SaysBadWords (K.written out.old) result (K.written out.new) }
     ensures untouched { (IsCommand (asked procedure_of (command_of (map string_bytes words.now))) → ⊥) → shelf.new ≡ shelf.old }
 
-    // Where the files give an answer and nothing fails, it comes, but for want of memory.
+    // Where the files give an answer and nothing fails, it comes, unless memory runs out.
     ensures complete { Complete true (asked procedure_of (command_of (map string_bytes words.now))) (H.held shelf.old) (Rose (H.faults shelf.old) (H.faults shelf.new)) (Rose (K.faults out.old) (K.faults out.new)) (K.written out.old) result (K.written out.new) }
     ensures finishes { Finishes (asked procedure_of (command_of (map string_bytes words.now))) (H.held shelf.old) (Rose (H.faults shelf.old) (H.faults shelf.new)) (Rose (K.faults out.old) (K.faults out.new)) result }
 

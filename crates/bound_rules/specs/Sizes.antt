@@ -11,7 +11,13 @@ use Rattle.plan_model.specs.Bounds.{quotient_up}
 use Rattle.bound_rules.specs.declared.sizes.Sizes.{Sizes}
 
 abbrev pub sizes_of : ModuleValue → Sizes
-sizes_of m = record { setup = m.setup; inputs = m.inputs + m.bidirs; outputs = m.outputs + m.bidirs; longest = greatest m.chains; flops = sum m.chains }
+sizes_of m = record {
+  setup = m.setup;
+  inputs = m.inputs + m.bidirs;
+  outputs = m.outputs + m.bidirs;
+  longest = greatest m.chains;
+  flops = sum m.chains;
+}
 
 -- the least length of the longest chain, with so many cells at its end
 abbrev pub least_chain : Sizes → Bool → (ends w : ℕ) → ℕ
@@ -19,7 +25,8 @@ least_chain s scan ends w = if scan then max s.longest (quotient_up (ends + s.fl
 
 -- the lower time by the sizes of the module
 unfoldable pub time_by : Sizes → ℕ → Test → ℕ
-time_by s w t = if t.tam then length (ops_of s.setup (least_chain s t.scan s.inputs w) (least_chain s t.scan s.outputs w) t.patterns) else t.patterns
+time_by s w t =
+    if t.tam then length (ops_of s.setup (least_chain s t.scan s.inputs w) (least_chain s t.scan s.outputs w) t.patterns) else t.patterns
 
 -- a test's part of the work of a chip
 unfoldable pub work_by : Sizes → Test → ℕ

@@ -10,7 +10,8 @@ ghost use Rattle.plan_model.specs.SoundLimits.{IsSoundLimits, Grow};
 ghost use Rattle.plan_model.specs.Bounds.{sum_below, least_energy, power_bound};
 ghost use Rattle.bound_rules.specs.Sizes.{works_by, IsFitting};
 ghost use Rattle.bound_rules.specs.Energy.{powers_of, energies};
-ghost use Rattle.bound_rules.specs.ProfilePlaces.{FindProfiles, HasPlaces};
+ghost use Rattle.bound_rules.specs.ProfilePlaces.{HasPlaces};
+ghost use Rattle.plan_model.specs.ProfilePlaces.{FindProfiles};
 
 use crate::quotient_up;
 use crate::sizes::Sizes;

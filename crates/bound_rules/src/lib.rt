@@ -1,6 +1,8 @@
 //! Lower bounds on the cycles of every good plan of a chip, by sums over its tests.
 //!
 //! Lower times are in cycles, widths in wires, lengths of chains in cells. Nothing here takes memory.
+//!
+//! Each sum is by its definition in `plan_model`, and no good plan ends before it. There are no errors.
 #![tactic(auto)]
 
 ghost use Rattle.std.specs.Prelude.{◌≡◌, ◌*◌, ◌^◌, ◌<◌, ◌≤◌, true, false, Some, List, length, option_map, IfSome, IsTrue};
@@ -46,8 +48,10 @@ pub fn lower_time(module: &Module, test: &Test, width: u64) -> u64
     requires work { test_work (module_value «module».now) test.now ≤ 10 ^ 18 }
     ensures time { result ≡ lower_time (module_value «module».now) test.now width }
     ensures small { result ≤ 10 ^ 18 }
-    ensures over_wires { (chains : List ChainValue) → test.now.tam ≡ true → 1 ≤ length chains → length chains ≤ width → IsProper (module_value «module».now) test.now.scan chains →
-        result ≤ length (operations_of (module_value «module».now) test.now (chain_cells (module_value «module».now) test.now.scan chains)) }
+    ensures over_wires { (chains : List ChainValue) → test.now.tam ≡ true → 1 ≤ length chains → length chains ≤ width →
+        IsProper (module_value «module».now) test.now.scan chains →
+        result ≤ length (operations_of (module_value «module».now) test.now
+        (chain_cells (module_value «module».now) test.now.scan chains)) }
     ensures self_tests { test.now.tam ≡ false → result ≡ test.now.patterns }
 {
     Sizes::of(module).time(test, width)
@@ -72,7 +76,8 @@ pub fn pair_bound(soc: &Soc, place: usize, wires: u64) -> Option<u64>
     requires sound { IsSoundChip (soc_value soc.now) }
     requires place { place < length (soc_value soc.now).modules }
     requires some_wire { 1 ≤ wires }
-    ensures sum { result ≡ option_map (λ parent. pair_bound (soc_value soc.now) wires parent place) (parent_place (soc_value soc.now).modules place) }
+    ensures sum { result ≡ option_map (λ parent. pair_bound (soc_value soc.now) wires parent place)
+        (parent_place (soc_value soc.now).modules place) }
     ensures small { IfSome result (λ n. n ≤ 2 * 10 ^ 18) }
     ensures bound { IfSome result (λ n. (limits : LimitsValue) → limits.wires ≡ wires → IsBound (soc_value soc.now) limits n) }
 {
@@ -85,7 +90,8 @@ pub fn pair_bound_with(soc: &Soc, place: usize, parent: Option<usize>, wires: u6
     requires place { place < length (soc_value soc.now).modules }
     requires parent { parent ≡ parent_place (soc_value soc.now).modules place }
     requires some_wire { 1 ≤ wires }
-    ensures sum { result ≡ option_map (λ parent. pair_bound (soc_value soc.now) wires parent place) (parent_place (soc_value soc.now).modules place) }
+    ensures sum { result ≡ option_map (λ parent. pair_bound (soc_value soc.now) wires parent place)
+        (parent_place (soc_value soc.now).modules place) }
     ensures small { IfSome result (λ n. n ≤ 2 * 10 ^ 18) }
     ensures bound { IfSome result (λ n. (limits : LimitsValue) → limits.wires ≡ wires → IsBound (soc_value soc.now) limits n) }
 {

@@ -44,7 +44,8 @@ pub fn chain_bound(soc: &Soc, tests: &[TestId], wires: u64) -> u128
     requires sound { IsSoundChip (soc_value soc.now) }
     requires some_wire { 1 ≤ wires }
     ensures sum { result ≡ sum_by (lower_of_id (soc_value soc.now) wires) tests.now }
-    ensures bound { (limits : LimitsValue) → limits.wires ≡ wires → Each (IsChainItem (soc_value soc.now) limits) tests.now → IsBound (soc_value soc.now) limits result }
+    ensures bound { (limits : LimitsValue) → limits.wires ≡ wires → Each (IsChainItem (soc_value soc.now) limits) tests.now →
+        IsBound (soc_value soc.now) limits result }
 {
     let mut sum = 0u128;
     for id in tests {

@@ -81,7 +81,8 @@ fn module_area(soc: &Soc, place: usize) -> u64
 /// The least areas of all modules together.
 fn total_area(soc: &Soc) -> u64
     requires { IsSoundChip (soc_value soc.now) }
-    ensures sum { (wires : ℕ) → 1 ≤ wires → result ≡ sum_below (module_area (soc_value soc.now) wires) (length (soc_value soc.now).modules) }
+    ensures sum { (wires : ℕ) → 1 ≤ wires → result ≡ sum_below (module_area (soc_value soc.now) wires)
+        (length (soc_value soc.now).modules) }
     ensures small { result ≤ 10 ^ 18 }
 {
     let mut sum = 0;

@@ -1,5 +1,8 @@
 //! Test access architectures of fixed buses: their times and cost, the spreading of free wires, and the start solution
 //! (after the start solution of TR-ARCHITECT, Goel and Marinissen 2002, for fixed buses in place of TestRails).
+//!
+//! Each is by its definition, and an architecture that is sound for the table stays so. Times are in cycles, widths in wires, and
+//! modules go by their places in the chip; the times are those of `width_table`. The only error is out of memory.
 #![tactic(auto)]
 
 mod costs;

@@ -103,7 +103,7 @@ fn crowded_start(alloc: Global, table: &WidthTable, order: &[usize]) -> Result<A
 /// The start solution (after TR-ARCHITECT, Goel and Marinissen 2002). The modules with a live test over the wires are
 /// taken by their times on one wire, longest first, ties by place. Where there are at most as many as wires, each gets a
 /// bus of one wire and the wires left are spread. Otherwise the first ones get a bus of one wire each, and each further
-/// one goes to the end of the first bus of least time. Without such modules there is no bus. Errs for want of memory
+/// one goes to the end of the first bus of least time. Without such modules there is no bus. Errs where memory runs out
 /// alone.
 pub fn start_solution(alloc: Global, table: &WidthTable) -> Result<Arch, NoMemory>
     ensures start { IfOk result (λ arch. IsStart table.now (arch_value arch)) }

@@ -133,59 +133,82 @@ width_tried f soc claim place r w a b from x y =
     (last_or soc claim place r w) (wider soc claim place r w)
     (λ s is. record { width = w; from = from; below = omega arith; slot_is = is.0; short = is.1 })
 
--- this width takes as long as the one before it, and costs no less
-pub width_same : (f : Slot → ℕ) (soc : SocValue) (claim place : ℕ) (r : WidthRange) (w : ℕ) (o : Option ℕ) → r.first < w → packed_tam_time soc place (w - 1) ≡ packed_tam_time soc place w →
-    f (range_slot r (w - 1)) ≤ f (range_slot r w) → IsLeastOf f (IsOfRange soc claim place r w) o → IsLeastOf f (IsOfRange soc claim place r (w + 1)) o
-width_same f soc claim place r w o from same more x = go o x
+-- from this width on those below another one take as long, and cost no less
+same_up_to : (f : Slot → ℕ) (soc : SocValue) (claim place : ℕ) (r : WidthRange) (w end : ℕ) (o : Option ℕ) → r.first ≤ w → w < end →
+    ((v : ℕ) → w ≤ v → v < end → f (range_slot r w) ≤ f (range_slot r v)) → ((v : ℕ) → w ≤ v → v < end → packed_tam_time soc place v ≡ packed_tam_time soc place w) →
+    IsLeastOf f (IsOfRange soc claim place r (w + 1)) o → IsLeastOf f (IsOfRange soc claim place r end) o
+same_up_to f soc claim place r w end o from less more same x = go o x
   where
-    before : (s : Slot) → s ≡ range_slot r w → is_short soc claim place s ≡ true → IsOfRange soc claim place r w (range_slot r (w - 1))
-    before s is short = record {
-      width = w - 1;
-      from = omega (arith, from);
-      below = omega (arith, from);
-      slot_is = refl;
-      short = rw same (sym (ap (is_short soc claim place) is) ∙ short);
+    within : (s : Slot) → IsOfRange soc claim place r (w + 1) s → IsOfRange soc claim place r end s
+    within s is = record {
+      width = is.width;
+      from = is.from;
+      below = omega (arith, is.below, less);
+      slot_is = is.slot_is;
+      short = is.short;
     }
 
-    go : (o : Option ℕ) → IsLeastOf f (IsOfRange soc claim place r w) o → IsLeastOf f (IsOfRange soc claim place r (w + 1)) o
-    go None x = λ s is. elim (last_or soc claim place r w s is) [
+    first : (s : Slot) (is : IsOfRange soc claim place r end s) → w ≤ is.width → IsOfRange soc claim place r (w + 1) (range_slot r w)
+    first s is past = record {
+      width = w;
+      from = from;
+      below = omega arith;
+      slot_is = refl;
+      short = rw (← same is.width past is.below) (sym (ap (is_short soc claim place) is.slot_is) ∙ is.short);
+    }
+
+    below_or : (s : Slot) (is : IsOfRange soc claim place r end s) → IsOfRange soc claim place r (w + 1) s ⊎ (w ≤ is.width)
+    below_or s is = elim (cases_lt is.width (w + 1)) [
+      | inl low ↦ inl record {
+        width = is.width;
+        from = is.from;
+        below = low;
+        slot_is = is.slot_is;
+        short = is.short;
+      }
+      | inr high ↦ inr (omega (arith, high))
+    ]
+
+    go : (o : Option ℕ) → IsLeastOf f (IsOfRange soc claim place r (w + 1)) o → IsLeastOf f (IsOfRange soc claim place r end) o
+    go None x = λ s is. elim (below_or s is) [
       | inl l ↦ x s l
-      | inr one ↦ x (range_slot r (w - 1)) (before s one.0 one.1)
+      | inr past ↦ x (range_slot r w) (first s is past)
     ]
     go (Some n) x = record {
       bus = x.bus;
-      is = wider soc claim place r w x.bus x.is;
+      is = within x.bus x.is;
       cost_is = x.cost_is;
-      least = λ s is. elim (last_or soc claim place r w s is) [
+      least = λ s is. elim (below_or s is) [
         | inl l ↦ x.least s l
-        | inr one ↦
-            let low : n ≤ f (range_slot r (w - 1)) = x.least (range_slot r (w - 1)) (before s one.0 one.1) in
-            let here : f s ≡ f (range_slot r w) = ap f one.0 in
-            omega (arith, low, here, more)
+        | inr past ↦
+            let low : n ≤ f (range_slot r w) = x.least (range_slot r w) (first s is past) in
+            let here : f s ≡ f (range_slot r is.width) = ap f is.slot_is in
+            omega (arith, low, here, more is.width past is.below)
       ];
     }
 
+-- the next width with another time is gone on to
+pub range_jump : (f : Slot → ℕ) (soc : SocValue) (claim place : ℕ) (r : WidthRange) (w n : ℕ) (a b : Option ℕ) → r.first ≤ w → w < n → w ≤ r.high →
+    ((v : ℕ) → w ≤ v → v < n → f (range_slot r w) ≤ f (range_slot r v)) → ((v : ℕ) → w ≤ v → v < n → packed_tam_time soc place v ≡ packed_tam_time soc place w) →
+    IsLeastOf f (IsOfRange soc claim place r (min w (r.high + 1))) a → IsCostOf f soc claim place (range_slot r w) b → IsLeastOf f (IsOfRange soc claim place r (min n (r.high + 1))) (lesser a b)
+range_jump f soc claim place r w n a b from less in_range more same x y =
+    let now : min w (r.high + 1) ≡ w = omega (arith, in_range) in
+    let x' : IsLeastOf f (IsOfRange soc claim place r w) a = subst (λ k. IsLeastOf f (IsOfRange soc claim place r k) a) now x in
+    same_up_to f soc claim place r w (min n (r.high + 1)) (lesser a b) from (omega (arith, less, in_range)) (λ v past below. more v past (omega (arith, below))) (λ v past below. same v past (omega (arith, below)))
+    (width_tried f soc claim place r w a b from x' y)
+
 -- at no lesser rate
-pub width_costs : WiderSlotsCostNoLess → (g : Basis) (weights : WeightsValue) (place : ℕ) (r : WidthRange) (w : ℕ) → 1 ≤ r.first → r.first < w →
-    packed_tam_time (chip_of g) place (w - 1) ≡ packed_tam_time (chip_of g) place w → costs_at g weights place (range_slot r (w - 1)) ≤ costs_at g weights place (range_slot r w)
-width_costs law g weights place r w some more same =
-    let less : w - 1 - r.low ≤ w - r.low = omega arith in
-    let product : r.wire * (w - 1 - r.low) ≤ r.wire * (w - r.low) = mul-le-mul_left r.wire less in
-    law (chip_of g) (limits_of g) (lists_of g) weights place r.rank (w - 1) w (r.base + r.wire * (w - 1 - r.low)) (r.base + r.wire * (w - r.low))
-    (omega (arith, some, more)) (omega arith) same (omega (arith, product))
+pub jump_costs : WiderSlotsCostNoLess → (g : Basis) (weights : WeightsValue) (place : ℕ) (r : WidthRange) (w v : ℕ) → 1 ≤ w → w ≤ v →
+    packed_tam_time (chip_of g) place w ≡ packed_tam_time (chip_of g) place v → costs_at g weights place (range_slot r w) ≤ costs_at g weights place (range_slot r v)
+jump_costs law g weights place r w v some more same =
+    let less : w - r.low ≤ v - r.low = omega (arith, more) in
+    let product : r.wire * (w - r.low) ≤ r.wire * (v - r.low) = mul-le-mul_left r.wire less in
+    law (chip_of g) (limits_of g) (lists_of g) weights place r.rank w v (r.base + r.wire * (w - r.low)) (r.base + r.wire * (v - r.low))
+    some more same (omega (arith, product))
 
 -- all widths of the range are tried
 pub range_done : (f : Slot → ℕ) (soc : SocValue) (claim place : ℕ) (r : WidthRange) (w : ℕ) (o : Option ℕ) → r.high + 1 ≤ w → IsLeastOf f (IsOfRange soc claim place r (min w (r.high + 1))) o → IsLeastOf f (IsOfRange soc claim place r (r.high + 1)) o
 range_done f soc claim place r w o all x = let e : min w (r.high + 1) ≡ r.high + 1 = omega (arith, all) in subst (λ n. IsLeastOf f (IsOfRange soc claim place r n) o) e x
-
--- one more is
-pub range_more : (f : Slot → ℕ) (soc : SocValue) (claim place : ℕ) (r : WidthRange) (w : ℕ) (a b : Option ℕ) → w < r.high + 1 →
-    (IsLeastOf f (IsOfRange soc claim place r w) a → IsLeastOf f (IsOfRange soc claim place r (w + 1)) b) →
-    IsLeastOf f (IsOfRange soc claim place r (min w (r.high + 1))) a → IsLeastOf f (IsOfRange soc claim place r (min (w + 1) (r.high + 1))) b
-range_more f soc claim place r w a b less step x =
-    let now : min w (r.high + 1) ≡ w = omega (arith, less) in
-    let next : w + 1 ≡ min (w + 1) (r.high + 1) = omega (arith, less) in
-    subst (λ n. IsLeastOf f (IsOfRange soc claim place r n) b) next (step (subst (λ n. IsLeastOf f (IsOfRange soc claim place r n) a) now x))
 
 -- the lesser is no greater than both
 pub lesser_small : (a b : Option ℕ) (k : ℕ) → IfSome a (λ n. n ≤ k) → IfSome b (λ n. n ≤ k) → IfSome (lesser a b) (λ n. n ≤ k)

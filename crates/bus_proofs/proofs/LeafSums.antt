@@ -23,7 +23,7 @@ use Rattle.bus_proofs.specs.Bounds.{AreKept}
 use Rattle.bus_proofs.specs.ListTables.{KeepFirst, role_of, role_at}
 use Rattle.bus_proofs.specs.Leaves.{weighed}
 use Rattle.bus_proofs.specs.Bases.{IsBasis, AllKept, chip_of, limits_of, lists_of}
-use Rattle.bus_proofs.specs.LeafCosts.{AreUses, IsMade, IsWeighed, USES_COST_MOST, beside_use, drawn_use, in_weight, is_aside, weighed_by}
+use Rattle.bus_proofs.specs.LeafCosts.{AreTotals, AreUses, IsMade, all_weights, by_places, IsWeighed, USES_COST_MOST, beside_use, drawn_use, in_weight, is_aside, weighed_by}
 use Rattle.bus_proofs.proofs.CountedSteps.{power_use-le}
 use Rattle.bus_proofs.proofs.CrowdSizes.{room-le}
 
@@ -61,30 +61,25 @@ pub record Adds (g : Basis) (n y : ℕ) (list : ListValue) (old new : Weighed) :
   pub adds : (at : ℕ → Bool) (i cycles : ℕ) (l : LiveTest) → slice_get (live_tests (chip_of g)) i ≡ Some l →
       room_use g at i cycles l new ≡ room_use g at i cycles l old + y * use_of (chip_of g) (limits_of g) at list cycles l
 
-pub made_next : (g : Basis) (os : List (ℕ × ℕ)) (n y : ℕ) (list : ListValue) (old new : Weighed) → y ≤ 10 ^ 9 → room_of list ≤ 4096 → Adds g n y list old new → IsMade g os old → IsMade g (os ++ (n, y) ∷ []) new
-made_next g os n y list old new small few adds made =
+pub made_next : (g : Basis) (os : List (ℕ × ℕ)) (n y : ℕ) (list : ListValue) (old new : Weighed) → room_of list ≤ 4096 → Adds g n y list old new → IsMade g os old → IsMade g (os ++ (n, y) ∷ []) new
+made_next g os n y list old new few adds made =
     let more : length (os ++ (n, y) ∷ []) ≡ length os + 1 = length-append os ((n, y) ∷ []) in
-    let k : ℕ = length os in
-    let product : y * room_of list ≤ 10 ^ 9 * 4096 = times-le y (room_of list) (10 ^ 9) 4096 small few in
+    let heavier : all_weights (os ++ (n, y) ∷ []) ≡ all_weights os + y = sum_by_push (λ (o : ℕ × ℕ). o.1) os (n, y) in
+    let product : y * room_of list ≤ y * 4096 = mul-le-mul_left y few in
+    let split : (all_weights os + y) * 4096 ≡ all_weights os * 4096 + y * 4096 = add-mul (all_weights os) y 4096 in
     let long : length new.sums.items ≡ length (live_tests (chip_of g)) = adds.long ∙ made.long in
     record {
       long = long;
       uses = λ at i cycles l there. weighed_push (lists_of g) os n y list (λ list. use_of (chip_of g) (limits_of g) at list cycles l) adds.at
           ∙ ap (λ v. v + y * use_of (chip_of g) (limits_of g) at list cycles l) (made.uses at i cycles l there) ∙ sym (adds.adds at i cycles l there);
-      low = λ i within. rw more (omega (arith, made.low i (omega (arith, adds.long)), adds.low i (omega (arith, adds.long)), small));
+      low = λ i within. rw heavier (omega (arith, made.low i (omega (arith, adds.long)), adds.low i (omega (arith, adds.long))));
       beside = rw more (omega (arith, adds.beside, made.beside));
       listed = adds.listed made.listed;
       power = rw more (omega (arith, adds.power, made.power));
       near = adds.near made.near;
       rooms = adds.rooms ∙ ap (λ v. v + y * room_of list) made.rooms ∙ sym (weighed_push (lists_of g) os n y list room_of adds.at);
-      few_rooms = rw more (omega (arith, adds.rooms, made.few_rooms, product));
+      few_rooms = rw heavier (omega (arith, adds.rooms, made.few_rooms, product, split));
     }
-  where
-    times-le : (a b m n : ℕ) → a ≤ m → b ≤ n → a * b ≤ m * n
-    times-le a b m n h h' =
-        let x : a * b ≤ a * n = mul-le-mul_left a h' in
-        let y : a * n ≤ m * n = mul-le-mul_right n h in
-        omega arith
 
 -- ---- what each kind adds
 
@@ -146,6 +141,23 @@ power_more g y near old new at i cycles l beside power sums =
     ap (sum_by (drawn_use (limits_of g) l cycles)) power ∙ sum_by_push (drawn_use (limits_of g) l cycles) old.power.items (near, y) in
     rw (beside, pushed, sums) (omega arith)
 
+-- a list without weight
+pub made_idle : (g : Basis) (os : List (ℕ × ℕ)) (n : ℕ) (list : ListValue) (room : Weighed) → slice_get (lists_of g) n ≡ Some list → IsMade g os room → IsMade g (os ++ (n, 0) ∷ []) room
+made_idle g os n list room at made =
+    let more : length (os ++ (n, 0) ∷ []) ≡ length os + 1 = length-append os ((n, 0) ∷ []) in
+    let heavier : all_weights (os ++ (n, 0) ∷ []) ≡ all_weights os + 0 = sum_by_push (λ (o : ℕ × ℕ). o.1) os (n, 0) in
+    record {
+      long = made.long;
+      uses = λ at' i cycles l there. omega (arith, weighed_push (lists_of g) os n 0 list (λ list. use_of (chip_of g) (limits_of g) at' list cycles l) at, made.uses at' i cycles l there);
+      low = λ i within. rw heavier (omega (arith, made.low i within));
+      beside = rw more (omega (arith, made.beside));
+      listed = made.listed;
+      power = rw more (omega (arith, made.power));
+      near = made.near;
+      rooms = omega (arith, made.rooms, weighed_push (lists_of g) os n 0 list room_of at);
+      few_rooms = rw heavier (omega (arith, made.few_rooms));
+    }
+
 -- ---- nothing yet
 
 pub made_none : (g : Basis) (room : Weighed) → length room.sums.items ≡ length (live_tests (chip_of g)) → ((i : ℕ) → slice_index room.sums.items i ≡ 0) → room.beside.items ≡ [] → room.power.items ≡ [] → room.rooms ≡ 0 → IsMade g [] room
@@ -205,7 +217,7 @@ pub record Parts (g : Basis) (at : ℕ → Bool) (i cycles : ℕ) (l : LiveTest)
 
 pub parts : (g : Basis) (weights : WeightsValue) (at : ℕ → Bool) (i cycles : ℕ) (l : LiveTest) (room : Weighed) → IsWeighed g weights room → slice_get (live_tests (chip_of g)) i ≡ Some l → cycles ≤ 10 ^ 18 → Parts g at i cycles l room
 parts g weights at i cycles l room weighed there few =
-    let total = weighed.made.uses at i cycles l there in
+    let total = sym (weighed.same (λ list. use_of (chip_of g) (limits_of g) at list cycles l)) ∙ weighed.made.uses at i cycles l there in
     let less = uses-le g weights at cycles l weighed.uses in
     let wide : 2 ^ 24 * 10 ^ 9 * cycles ≤ 2 ^ 24 * 10 ^ 9 * 10 ^ 18 = mul-le-mul_left (2 ^ 24 * 10 ^ 9) few in
     let all : room_use g at i cycles l room ≤ USES_COST_MOST = omega (arith, total, less, wide) in
@@ -214,10 +226,10 @@ parts g weights at i cycles l room weighed there few =
 -- ---- the room with one list more, by its kind
 
 -- one of power
-pub made_power : (g : Basis) (os : List (ℕ × ℕ)) (n y near : ℕ) (old new : Weighed) → IsBasis g → AllKept g → y ≤ 10 ^ 9 → slice_get (lists_of g) n ≡ Some (OfPower near) →
+pub made_power : (g : Basis) (os : List (ℕ × ℕ)) (n y near : ℕ) (old new : Weighed) → IsBasis g → AllKept g → slice_get (lists_of g) n ≡ Some (OfPower near) →
     new.sums.items ≡ old.sums.items → new.beside.items ≡ old.beside.items → new.power.items ≡ old.power.items ++ (near, y) ∷ [] → new.rooms ≡ old.rooms + y * 1 → IsMade g os old → IsMade g (os ++ (n, y) ∷ []) new
-made_power g os n y near old new is all small listed sums beside power rooms made =
-    made_next g os n y (OfPower near) old new small (room-le (chip_of g) (limits_of g) (OfPower near) is.sound (kept_list g n (OfPower near) is all listed)) (record {
+made_power g os n y near old new is all listed sums beside power rooms made =
+    made_next g os n y (OfPower near) old new (room-le (chip_of g) (limits_of g) (OfPower near) is.sound (kept_list g n (OfPower near) is all listed)) (record {
       at = listed;
       long = ap length sums;
       low = λ i within. rw sums (omega arith);
@@ -236,12 +248,12 @@ in_weight-le Beside y = omega arith
 in_weight-le Drawing y = omega arith
 
 -- one that tests may be beside
-pub made_turns_on : (g : Basis) (os : List (ℕ × ℕ)) (n y rank : ℕ) (tests : List TestId) (old new : Weighed) → IsBasis g → AllKept g → y ≤ 10 ^ 9 → slice_get (lists_of g) n ≡ Some (OfTurnsOn rank tests) →
+pub made_turns_on : (g : Basis) (os : List (ℕ × ℕ)) (n y rank : ℕ) (tests : List TestId) (old new : Weighed) → IsBasis g → AllKept g → slice_get (lists_of g) n ≡ Some (OfTurnsOn rank tests) →
     length new.sums.items ≡ length old.sums.items →
     ((i : ℕ) → i < length old.sums.items → slice_index new.sums.items i ≡ slice_index old.sums.items i + in_weight (role_at g.lists n i) y) →
     new.beside.items ≡ old.beside.items ++ (record { rank = rank; list = n; weight = y }) ∷ [] → new.power.items ≡ old.power.items → new.rooms ≡ old.rooms + y * 1 → IsMade g os old → IsMade g (os ++ (n, y) ∷ []) new
-made_turns_on g os n y rank tests old new is all small listed long sums beside power rooms made =
-    made_next g os n y (OfTurnsOn rank tests) old new small (room-le (chip_of g) (limits_of g) (OfTurnsOn rank tests) is.sound (kept_list g n (OfTurnsOn rank tests) is all listed)) (record {
+made_turns_on g os n y rank tests old new is all listed long sums beside power rooms made =
+    made_next g os n y (OfTurnsOn rank tests) old new (room-le (chip_of g) (limits_of g) (OfTurnsOn rank tests) is.sound (kept_list g n (OfTurnsOn rank tests) is all listed)) (record {
       at = listed;
       long = long;
       low = λ i within. omega (arith, sums i within, in_weight-le (role_at g.lists n i) y);
@@ -258,12 +270,12 @@ abbrev pub IsPlain : ListValue → List TestId → Type 0
 IsPlain list tests = (soc : SocValue) (limits : LimitsValue) (at : ℕ → Bool) (cycles : ℕ) (l : LiveTest) →
     (role_of soc limits list l ≡ (if is_among tests l then In else Out)) × (use_of soc limits at list cycles l ≡ (if is_among tests l then cycles else 0))
 
-pub made_in : (g : Basis) (os : List (ℕ × ℕ)) (n y : ℕ) (list : ListValue) (tests : List TestId) (old new : Weighed) → IsBasis g → AllKept g → y ≤ 10 ^ 9 → slice_get (lists_of g) n ≡ Some list → IsPlain list tests →
+pub made_in : (g : Basis) (os : List (ℕ × ℕ)) (n y : ℕ) (list : ListValue) (tests : List TestId) (old new : Weighed) → IsBasis g → AllKept g → slice_get (lists_of g) n ≡ Some list → IsPlain list tests →
     length new.sums.items ≡ length old.sums.items →
     ((i : ℕ) → i < length old.sums.items → slice_index new.sums.items i ≡ slice_index old.sums.items i + in_weight (role_at g.lists n i) y) →
     new.beside.items ≡ old.beside.items → new.power.items ≡ old.power.items → new.rooms ≡ old.rooms + y * room_of list → IsMade g os old → IsMade g (os ++ (n, y) ∷ []) new
-made_in g os n y list tests old new is all small listed plain long sums beside power rooms made =
-    made_next g os n y list old new small (room-le (chip_of g) (limits_of g) list is.sound (kept_list g n list is all listed)) (record {
+made_in g os n y list tests old new is all listed plain long sums beside power rooms made =
+    made_next g os n y list old new (room-le (chip_of g) (limits_of g) list is.sound (kept_list g n list is all listed)) (record {
       at = listed;
       long = long;
       low = λ i within. omega (arith, sums i within, in_weight-le (role_at g.lists n i) y);

@@ -1,6 +1,6 @@
 -- What the live tests of a chip cost at the weights of a leaf, over lists and over tests.
 use Rattle.std.proofs.Common.{◌≡◌, ◌≢◌, ℕ, zero, suc, ◌+◌, ◌-◌, ◌*◌, ◌^◌, ◌≤◌, ◌<◌, Bool, true, false, Option, Some, None, List, [], ◌∷◌, ◌++◌, length, get_or, take, drop, refl, sym, ap, subst, ◌∙◌, arith, append_assoc, drop-cons, mul-le-mul_left}
-use Rattle.std.specs.Prelude.{if◌then◌else◌, ◌&&◌, not, slice_get, nat_eq}
+use Rattle.std.specs.Prelude.{if◌then◌else◌, ◌&&◌, not, slice_get, slice_index, nat_eq}
 use Rattle.std.specs.List.{sum_by}
 use Rattle.std.proofs.lemmas.Bool.{eq-eqb, ne_eqb}
 use Rattle.std.proofs.lemmas.List.{drop_all, length-append, length-drop}
@@ -32,7 +32,8 @@ use Rattle.bus_proofs.specs.declared.test_table.TestTable.{TestTable}
 use Rattle.bus_proofs.specs.declared.test_table.TestPlace.{TestPlace}
 use Rattle.bus_proofs.specs.TestTables.{IsTestAt, IsTestTable, tests_before}
 use Rattle.bus_proofs.specs.Bases.{IsBasis, chip_of, limits_of, lists_of}
-use Rattle.bus_proofs.specs.LeafCosts.{AreUses, USES_COST_MOST, is_over, kind_cost, test_cost, weighed_by}
+use Rattle.bus_proofs.specs.declared.leaf_costs.Weighed.{Weighed}
+use Rattle.bus_proofs.specs.LeafCosts.{AreUses, IsIdle, IsWeighed, USES_COST_MOST, beside_use, drawn_use, is_over, kind_cost, test_cost, weighed_by}
 use Rattle.bus_proofs.proofs.Weighed.{weighed-add}
 use Rattle.bus_proofs.proofs.LeafSums.{uses-le}
 
@@ -252,6 +253,21 @@ pub kind_not : (g : Basis) (weights : WeightsValue) (wires : Bool) (rank : Optio
 kind_not g weights wires rank width l own test over =
     let over' : is_over wires l.test.tam ≡ false = ap (λ (t : Test). is_over wires t.tam) test ∙ over in
     rw over' refl
+
+-- a test that uses nothing costs nothing
+pub idle_costs : (g : Basis) (weights : WeightsValue) (wires : Bool) (rank : Option ℕ) (width i : ℕ) (l : LiveTest) (room : Weighed) → IsWeighed g weights room → IsIdle room i → slice_get (live_tests (chip_of g)) i ≡ Some l →
+    0 ≡ kind_cost g weights wires rank width l
+idle_costs g weights wires rank width i l room is idle at =
+    let cycles = packed_time l.core l.test width in
+    let uses : test_cost (chip_of g) (limits_of g) (lists_of g) weights rank width l
+    ≡ slice_index room.sums.items i * cycles + sum_by (beside_use g.lists (is_rank rank) i cycles) room.beside.items + sum_by (drawn_use (limits_of g) l cycles) room.power.items =
+    sym (is.same (λ list. use_of (chip_of g) (limits_of g) (is_rank rank) list cycles l)) ∙ is.made.uses (is_rank rank) i cycles l at in
+    let none : slice_index room.sums.items i * cycles + sum_by (beside_use g.lists (is_rank rank) i cycles) room.beside.items + sum_by (drawn_use (limits_of g) l cycles) room.power.items ≡ 0 = rw (idle.sum, idle.beside, idle.power) (omega arith) in
+    either (is_over wires l.test.tam) (test_cost (chip_of g) (limits_of g) (lists_of g) weights rank width l) (uses ∙ none)
+  where
+    either : (b : Bool) (n : ℕ) → n ≡ 0 → 0 ≡ (if b then n else 0)
+    either true n e = sym e
+    either false n e = refl
 
 -- ---- where the tests of a module begin
 

@@ -40,3 +40,4 @@ pub mod WalkSteps
 pub mod ProofChecks
 pub mod Tams
 pub mod ListRows
+pub mod Totals

@@ -119,6 +119,11 @@ both_step (m ∷ marks) [] i (suc n) is less within = absurd (omega arith)
 both_step (m ∷ marks) (o ∷ others) zero (suc n) is less within = let none : n ≡ 0 = omega (arith, is) in rw none refl
 both_step (m ∷ marks) (o ∷ others) (suc i) (suc n) is less within = ap (λ (l : List Bool). (m && o) ∷ l) (both_step marks others i n (omega (arith, is)) (omega arith) (omega arith))
 
+pub both_long : (marks others : List Bool) → length (both_marked marks others) ≡ length marks
+both_long marks [] = refl
+both_long [] (o ∷ others) = refl
+both_long (m ∷ marks) (o ∷ others) = ap suc (both_long marks others)
+
 pub both_more : (old others now : List Bool) (i : ℕ) (z : Bool) → i < length old → i < length others → now ≡ both_marked old (take i others) → z ≡ (bit_at now i && bit_at others i) → set now i z ≡ both_marked old (take (i + 1) others)
 both_more old others now i z less within is z_is =
     ap (λ (b : Bool). set now i b) z_is ∙ ap (λ (l : List Bool). set l i (bit_at l i && bit_at others i)) is ∙ both_step old others i (i + 1) refl less within

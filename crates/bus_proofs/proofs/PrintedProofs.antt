@@ -93,7 +93,7 @@ weights_written w old x v new is_x is_v is_new =
     ∙ append_assoc old (32 ∷ decimal w.wire) (spaced_numbers w.ranks ++ uses)
     ∙ ap (λ l. old ++ ((32 ∷ decimal w.wire) ++ l)) (sym (spaced_append w.ranks (flat_map use_tokens w.lists)))
 
--- the same, where the last piece may not be written for want of memory
+-- the same, where the last piece may not be written where memory runs out
 pub weights_written_if : {E : Type 0} (w : WeightsValue) (old x v new : List ℕ) (result : Result (Unit {0}) E) → x ≡ old ++ (32 ∷ decimal w.wire) → v ≡ x ++ spaced_numbers w.ranks → OnOk result (new ≡ v ++ spaced spelling (flat_map use_tokens w.lists)) → OnOk result (new ≡ old ++ spaced spelling (weight_tokens w))
 weights_written_if w old x v new (Ok done) is_x is_v is_new = weights_written w old x v new is_x is_v is_new
 weights_written_if w old x v new (Err fault) is_x is_v is_new = tt

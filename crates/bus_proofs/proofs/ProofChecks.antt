@@ -98,17 +98,9 @@ few_modules soc size = go (nat_lt MODULES_MOST (length soc.modules)) refl (size 
     go true is e = absurd (some e)
     go false is e = ltb-false MODULES_MOST (length soc.modules) is
 
--- space for more lists is space for fewer
-fewer_uses : (g : Basis) (most uses : ℕ) (leaf : LeafRoom) → uses ≤ most → HasLeafSpace g most leaf → HasLeafSpace g uses leaf
-fewer_uses g most uses leaf less space = record {
-  long = space.long;
-  beside = omega (arith, less, space.beside);
-  power = omega (arith, less, space.power);
-}
-
 pub new_room : (g : Basis) (soc : SocValue) (limits : LimitsValue) (p : ProofValue) (room : CaseRoom) (leaf : LeafRoom) (turns : List Turn) (uses : ℕ) → IsBasis g →
     chip_of g ≡ soc → limits_of g ≡ limits → proof_of g ≡ p → MayBeSaid p → HasCase room → IsCaseOf room root_case → room.modules ≡ length soc.modules → room.widths.wires ≡ limits.wires →
-    room.widths.most ≡ 256 → HasLeafSpace g uses leaf → uses ≤ 2 ^ 24 →
+    room.widths.most ≡ 256 → HasLeafSpace g leaf → uses ≤ 2 ^ 24 →
     ((place : ℕ) (w : WeightsValue) → slice_get p.nodes place ≡ Some (OfSum w) → length w.lists ≤ uses) → length p.nodes ≤ length turns → IsProofRoom g room leaf turns
 new_room g soc limits p room leaf turns uses basis chip_is limits_is proof_is said has root modules wires most space few each fit = record {
   basis_is = basis;
@@ -125,7 +117,7 @@ new_room g soc limits p room leaf turns uses basis chip_is limits_is proof_is sa
   root = root;
   leaves = λ place w at.
       let lists : length w.lists ≤ uses = each place w (ap (λ (q : ProofValue). slice_get q.nodes place) (sym proof_is) ∙ at) in
-      record { few = omega (arith, lists, few); space = fewer_uses g uses (length w.lists) leaf lists space };
+      record { few = omega (arith, lists, few); space = space };
   turns_fit = omega (arith, fit, ap (λ (q : ProofValue). length q.nodes) proof_is);
 }
 

@@ -30,6 +30,6 @@ IsLeafAnswer g c weights Broken = IsSum (lists_of g) c weights → ⊥
 IsLeafAnswer g c weights Holds = IsSum (lists_of g) c weights × LeafHolds (chip_of g) (limits_of g) (lists_of g) (claim_of g) c weights
 IsLeafAnswer g c weights (Shows shown) = IsShort g c weights shown
 
--- the room has space for leaves of so many lists
-abbrev pub HasLeafSpace : Basis → ℕ → LeafRoom → Type 0
-HasLeafSpace g uses room = HasSpaceFor g uses room.weighed
+-- the room has space for the leaves of the proof
+abbrev pub HasLeafSpace : Basis → LeafRoom → Type 0
+HasLeafSpace g room = HasSpaceFor g room.weighed

@@ -1,6 +1,6 @@
 -- What a leaf weighs, made ready for sums over tests.
-use Rattle.std.specs.Prelude.{◌≡◌, ℕ, ◌+◌, ◌*◌, ◌^◌, ◌<◌, ◌≤◌, ◌&&◌, Bool, true, false, not, Option, Some, List, length, slice_get, slice_index, vec_capacity, if◌then◌else◌}
-use Rattle.std.specs.List.{All, sum_by}
+use Rattle.std.specs.Prelude.{◌≡◌, ℕ, ◌+◌, ◌*◌, ◌^◌, ◌<◌, ◌≤◌, ◌&&◌, Bool, true, false, not, Option, Some, List, [], length, map, slice_get, slice_index, vec_capacity, if◌then◌else◌}
+use Rattle.std.specs.List.{All, range_with_len, sum_by}
 use Rattle.soc_model.specs.Chips.{SocValue, LiveTest, live_tests}
 use Rattle.plan_model.specs.Plans.{LimitsValue}
 use Rattle.plan_model.specs.Certificates.{on}
@@ -32,11 +32,25 @@ pub record AreUses (g : Basis) (weights : WeightsValue) : Type 0 where
   pub small : AreWeights weights
   pub few : length weights.lists ≤ 2 ^ 24
 
--- the room has space for a leaf of so many lists
-pub record HasSpaceFor (g : Basis) (uses : ℕ) (room : Weighed) : Type 0 where
+-- the room has space for the leaves of the proof
+pub record HasSpaceFor (g : Basis) (room : Weighed) : Type 0 where
   pub long : length room.sums.items ≡ length (live_tests (chip_of g))
-  pub beside : uses ≤ vec_capacity room.beside
-  pub power : uses ≤ vec_capacity room.power
+  pub totals : length room.totals.items ≡ length (lists_of g)
+  pub beside : length (lists_of g) ≤ vec_capacity room.beside
+  pub power : length (lists_of g) ≤ vec_capacity room.power
+
+-- what places and weights weigh together
+abbrev pub all_weights : List (ℕ × ℕ) → ℕ
+all_weights os = sum_by (λ (o : ℕ × ℕ). o.1) os
+
+-- the first so many places, each with its weight
+abbrev pub by_places : (totals : List ℕ) → (count : ℕ) → List (ℕ × ℕ)
+by_places totals count = map (λ place. (place, slice_index totals place)) (range_with_len 0 count)
+
+-- each place has the weights together that stand beside it, so that sums over either are the same
+abbrev pub AreTotals : List (ℕ × ℕ) → (totals : List ℕ) → Type 0
+AreTotals os totals = (f : ℕ → ℕ) →
+    sum_by (λ (o : ℕ × ℕ). o.1 * f o.0) (by_places totals (length totals)) ≡ sum_by (λ (o : ℕ × ℕ). o.1 * f o.0) os
 
 -- ---- what a test uses of the lists
 
@@ -80,20 +94,28 @@ UsesAre g os room = (at : ℕ → Bool) (i cycles : ℕ) (l : LiveTest) → slic
 pub record IsMade (g : Basis) (os : List (ℕ × ℕ)) (room : Weighed) : Type 0 where
   pub long : length room.sums.items ≡ length (live_tests (chip_of g))
   pub uses : UsesAre g os room
-  pub low : (i : ℕ) → i < length room.sums.items → slice_index room.sums.items i ≤ length os * 10 ^ 9
+  pub low : (i : ℕ) → i < length room.sums.items → slice_index room.sums.items i ≤ all_weights os
   pub beside : length room.beside.items ≤ length os
   pub listed : All (λ (b : BesideUse). b.list < length (lists_of g)) room.beside.items
   pub power : length room.power.items ≤ length os
   pub near : All (λ (p : ℕ × ℕ). IsNear (limits_of g) p.0) room.power.items
   pub rooms : room.rooms ≡ weighed_by (lists_of g) os room_of
-  pub few_rooms : room.rooms ≤ length os * (10 ^ 9 * 4096)
+  pub few_rooms : room.rooms ≤ all_weights os * 4096
 
--- what stands in the room when a leaf was made ready
+-- what stands in the room when a leaf was made ready: its lists, each at its weights together
 pub record IsWeighed (g : Basis) (weights : WeightsValue) (room : Weighed) : Type 0 where
   pub uses : AreUses g weights
-  pub made : IsMade g weights.lists room
+  pub os : List (ℕ × ℕ)
+  pub made : IsMade g os room
+  pub same : (f : ListValue → ℕ) → weighed_by (lists_of g) os f ≡ weighed (lists_of g) weights f
   pub rooms : room.rooms ≡ weighed (lists_of g) weights room_of
   pub few_rooms : room.rooms ≤ 2 ^ 24 * 10 ^ 9 * 4096
+
+-- the test at a place uses nothing: no list that it is in has a weight, and none that tests may be beside or draw of
+pub record IsIdle (room : Weighed) (i : ℕ) : Type 0 where
+  pub sum : slice_index room.sums.items i ≡ 0
+  pub beside : room.beside.items ≡ []
+  pub power : room.power.items ≡ []
 
 -- ---- what tests cost
 

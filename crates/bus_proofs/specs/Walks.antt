@@ -34,7 +34,7 @@ IsNodeAt g place n = slice_get (proof_of g).nodes place ≡ Some n
 -- the room has space for the lists of a leaf, and these are no more than may be
 pub record FitsLeaf (g : Basis) (leaf : LeafRoom) (weights : WeightsValue) : Type 0 where
   pub few : length weights.lists ≤ 2 ^ 24
-  pub space : HasLeafSpace g (length weights.lists) leaf
+  pub space : HasLeafSpace g leaf
 
 -- it has for each leaf of the proof
 abbrev pub FitsLeaves : Basis → LeafRoom → Type 0

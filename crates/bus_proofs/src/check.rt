@@ -98,7 +98,7 @@ impl<'a> ProofRoom<'a> {
         }
         let basis = Basis::new(alloc, soc, limits, proof)?;
         let case = CaseRoom::new(alloc, soc.modules.len(), limits.wires, RANKS_MOST)?;
-        let leaf = LeafRoom::new(alloc, &basis, uses)?;
+        let leaf = LeafRoom::new(alloc, &basis)?;
         let turns = Vec::from_elem(alloc, NO_TURN, proof.nodes.len())?;
         Ok(ProofRoom {
             basis,

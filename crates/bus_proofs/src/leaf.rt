@@ -38,12 +38,12 @@ pub(crate) struct LeafRoom {
 }
 
 impl LeafRoom {
-    /// Room for leaves of so many lists at most. `NoMemory` where there is none.
-    pub fn new(alloc: Global, basis: &Basis<'_>, uses: usize) -> Result<LeafRoom, NoMemory>
+    /// Room for the leaves of a proof. `NoMemory` where there is none.
+    pub fn new(alloc: Global, basis: &Basis<'_>) -> Result<LeafRoom, NoMemory>
         requires basis { IsBasis basis.now }
-        ensures { IfOk result (HasLeafSpace basis.now uses) }
+        ensures { IfOk result (HasLeafSpace basis.now) }
     {
-        let weighed = Weighed::new(alloc, basis, uses)?;
+        let weighed = Weighed::new(alloc, basis)?;
         Ok(LeafRoom { weighed })
     }
 }
@@ -126,9 +126,9 @@ pub(crate) fn check_leaf(
     requires known { (c : Case) × IsCaseOf case.now c }
     requires weights { AreWeights (weights_value weights.now) }
     requires few { length weights.now.lists.items ≤ 2 ^ 24 }
-    requires space { HasLeafSpace basis.now (length weights.now.lists.items) room.old }
+    requires space { HasLeafSpace basis.now room.old }
     ensures answer { (c : Case) → IsCaseOf case.now c → IsLeafAnswer basis.now c (weights_value weights.now) result }
-    ensures space { (uses : ℕ) → HasLeafSpace basis.now uses room.old → HasLeafSpace basis.now uses room.new }
+    ensures space { HasLeafSpace basis.now room.new }
 {
     let known = known_ranks(&case.widths);
     if known < weights.ranks.len() {

@@ -1,5 +1,5 @@
 //! What modules cost at the weights of a leaf: their times at the rates of buses, and their uses of lists.
-ghost use Rattle.std.specs.Prelude.{◌≡◌, ◌^◌, ◌*◌, ◌+◌, ◌/◌, ◌<◌, ◌≤◌, ℕ, Some, List, [], ◌∷◌, ◌++◌, IfOk, length, drop, position, slice_get, slice_index, vec_capacity};
+ghost use Rattle.std.specs.Prelude.{◌≡◌, ◌^◌, ◌*◌, ◌+◌, ◌/◌, ◌<◌, ◌≤◌, ℕ, true, Some, List, [], ◌∷◌, ◌++◌, IfOk, length, drop, position, slice_get, slice_index, vec_capacity};
 ghost use Rattle.std.specs.List.{All, sum_by};
 ghost use Rattle.soc_model.specs.Chips.{LiveTest, id_of, live_tests, module_value, same_test};
 ghost use Rattle.plan_model.specs.declared.Profile.{Profile};
@@ -12,7 +12,7 @@ ghost use Rattle.bus_proofs.specs.Lists.{IsNear, counted as the_counted, power_u
 ghost use Rattle.bus_proofs.specs.Leaves.{cost, is_rank as the_rank, self_use, slot, weighed};
 ghost use Rattle.bus_proofs.specs.ListTables.{role_at as the_role};
 ghost use Rattle.bus_proofs.specs.Bases.{IsBasis, AllKept, chip_of, limits_of, lists_of};
-ghost use Rattle.bus_proofs.specs.LeafCosts.{AreUses, IsMade, IsWeighed, HasSpaceFor, LEAF_COST_MOST, USES_COST_MOST, beside_use, drawn_use, in_weight, is_over as the_over, kind_cost as the_kind_cost};
+ghost use Rattle.bus_proofs.specs.LeafCosts.{AreTotals, AreUses, IsMade, all_weights, by_places, IsIdle, IsWeighed, HasSpaceFor, LEAF_COST_MOST, USES_COST_MOST, beside_use, drawn_use, in_weight, is_over as the_over, kind_cost as the_kind_cost};
 
 use crate::basis::Basis;
 use crate::list_table::{ListTable, Role};
@@ -43,6 +43,8 @@ pub(crate) struct BesideUse {
 pub(crate) struct Weighed {
     /// For each live test the weights of the lists that it is in, together.
     pub sums: Vec<u64>,
+    /// For each list of the proof its weights together.
+    pub totals: Vec<u64>,
     /// The lists that a test may be beside.
     pub beside: Vec<BesideUse>,
     /// The lists of power: how near, and the weight.
@@ -52,16 +54,19 @@ pub(crate) struct Weighed {
 }
 
 impl Weighed {
-    /// Room for leaves of so many lists at most. `NoMemory` where there is none.
-    pub fn new(alloc: Global, basis: &Basis<'_>, uses: usize) -> Result<Weighed, NoMemory>
+    /// Room for the leaves of a proof. `NoMemory` where there is none.
+    pub fn new(alloc: Global, basis: &Basis<'_>) -> Result<Weighed, NoMemory>
         requires basis { IsBasis basis.now }
-        ensures { IfOk result (HasSpaceFor basis.now uses) }
+        ensures { IfOk result (HasSpaceFor basis.now) }
     {
+        let lists = basis.proof.lists.len();
         let sums = Vec::from_elem(alloc, 0, basis.tests.tests.len())?;
-        let beside = Vec::with_capacity(alloc, uses)?;
-        let power = Vec::with_capacity(alloc, uses)?;
+        let totals = Vec::from_elem(alloc, 0, lists)?;
+        let beside = Vec::with_capacity(alloc, lists)?;
+        let power = Vec::with_capacity(alloc, lists)?;
         Ok(Weighed {
             sums,
+            totals,
             beside,
             power,
             rooms: 0,
@@ -97,8 +102,7 @@ fn add_in(table: &ListTable, list: usize, weight: u64, sums: &mut [u64])
     requires long { length table.now.roles.items ≡ table.now.kept * table.now.tests }
     requires list { list < table.now.kept }
     requires tests { length sums.old ≡ table.now.tests }
-    requires low { (i : ℕ) → i < length sums.old → slice_index sums.old i ≤ 2 ^ 24 * 10 ^ 9 }
-    requires weight { weight ≤ 10 ^ 9 }
+    requires low { (i : ℕ) → i < length sums.old → slice_index sums.old i + weight ≤ 2 ^ 24 * 10 ^ 9 }
     ensures long { length sums.new ≡ length sums.old }
     ensures sums { (i : ℕ) → i < length sums.old →
         slice_index sums.new i ≡ slice_index sums.old i + in_weight (the_role table.now list i) weight }
@@ -114,6 +118,7 @@ fn clear(room: &mut Weighed)
     ensures made { (basis : Basis) → length room.old.sums.items ≡ length (live_tests (chip_of basis)) → IsMade basis [] room.new }
     ensures beside { vec_capacity room.new.beside ≡ vec_capacity room.old.beside }
     ensures power { vec_capacity room.new.power ≡ vec_capacity room.old.power }
+    ensures totals { room.new.totals ≡ room.old.totals }
 {
     room.sums.fill(0);
     room.beside.clear();
@@ -126,13 +131,13 @@ fn weigh_list(basis: &Basis<'_>, list: usize, weight: u64, room: &mut Weighed)
     requires basis { IsBasis basis.now }
     requires kept { AllKept basis.now }
     requires list { list < length (lists_of basis.now) }
-    requires weight { weight ≤ 10 ^ 9 }
-    requires made { (os : List (ℕ × ℕ)) × IsMade basis.now os room.old × (length os < 2 ^ 24) }
+    requires made { (os : List (ℕ × ℕ)) × IsMade basis.now os room.old × (all_weights os + weight ≤ 2 ^ 24 * 10 ^ 9) }
     requires beside { length room.old.beside.items < vec_capacity room.old.beside }
     requires power { length room.old.power.items < vec_capacity room.old.power }
     ensures made { (os : List (ℕ × ℕ)) → IsMade basis.now os room.old → IsMade basis.now (os ++ (list, weight) ∷ []) room.new }
     ensures beside { vec_capacity room.new.beside ≡ vec_capacity room.old.beside }
     ensures power { vec_capacity room.new.power ≡ vec_capacity room.old.power }
+    ensures totals { room.new.totals ≡ room.old.totals }
 {
     let what = &basis.proof.lists[list];
     room.rooms += u128::from(weight) * u128::from(room_of(what));
@@ -157,19 +162,73 @@ fn weigh_list(basis: &Basis<'_>, list: usize, weight: u64, room: &mut Weighed)
     }
 }
 
-/// Makes ready what a leaf weighs.
+/// Adds up for each list the weights that stand beside its place.
+fn add_up(uses: &[(u64, u64)], totals: &mut [u64])
+    requires few { length uses.now ≤ 2 ^ 24 }
+    requires small { All (λ (o : ℕ × ℕ). o.1 ≤ 10 ^ 9) uses.now }
+    requires listed { All (λ (o : ℕ × ℕ). o.0 < length totals.old) uses.now }
+    requires none { AreTotals [] totals.old }
+    ensures long { length totals.new ≡ length totals.old }
+    ensures totals { AreTotals uses.now totals.new }
+{
+    for (list, weight) in uses {
+        totals[*list as usize] += *weight;
+    }
+}
+
+/// Adds a list at its weights together.
+fn weigh_total(basis: &Basis<'_>, list: usize, room: &mut Weighed)
+    requires basis { IsBasis basis.now }
+    requires kept { AllKept basis.now }
+    requires list { list < length (lists_of basis.now) }
+    requires long { length room.old.totals.items ≡ length (lists_of basis.now) }
+    requires made { (os : List (ℕ × ℕ)) × IsMade basis.now os room.old
+        × (all_weights os + slice_index room.old.totals.items list ≤ 2 ^ 24 * 10 ^ 9) }
+    requires beside { length room.old.beside.items < vec_capacity room.old.beside }
+    requires power { length room.old.power.items < vec_capacity room.old.power }
+    ensures made { (os : List (ℕ × ℕ)) → IsMade basis.now os room.old →
+        IsMade basis.now (os ++ (list, slice_index room.old.totals.items list) ∷ []) room.new }
+    ensures beside { vec_capacity room.new.beside ≡ vec_capacity room.old.beside }
+    ensures power { vec_capacity room.new.power ≡ vec_capacity room.old.power }
+    ensures totals { room.new.totals ≡ room.old.totals }
+{
+    let weight = room.totals[list];
+    if weight == 0 {
+        return;
+    }
+    weigh_list(basis, list, weight, room);
+}
+
+/// Adds all lists at their weights together.
+fn weigh_totals(basis: &Basis<'_>, room: &mut Weighed)
+    requires basis { IsBasis basis.now }
+    requires kept { AllKept basis.now }
+    requires space { HasSpaceFor basis.now room.old }
+    requires made { IsMade basis.now [] room.old }
+    requires few { all_weights (by_places room.old.totals.items (length (lists_of basis.now))) ≤ 2 ^ 24 * 10 ^ 9 }
+    ensures made { IsMade basis.now (by_places room.old.totals.items (length (lists_of basis.now))) room.new }
+    ensures beside { vec_capacity room.new.beside ≡ vec_capacity room.old.beside }
+    ensures power { vec_capacity room.new.power ≡ vec_capacity room.old.power }
+    ensures totals { room.new.totals ≡ room.old.totals }
+{
+    for list in 0..basis.proof.lists.len() {
+        weigh_total(basis, list, room);
+    }
+}
+
+/// Makes ready what a leaf weighs. However often it names a list, the list's tests are gone over once.
 pub(crate) fn weigh(basis: &Basis<'_>, weights: &Weights, room: &mut Weighed)
     requires basis { IsBasis basis.now }
     requires kept { AllKept basis.now }
     requires uses { AreUses basis.now (weights_value weights.now) }
-    requires space { HasSpaceFor basis.now (length weights.now.lists.items) room.old }
+    requires space { HasSpaceFor basis.now room.old }
     ensures weighed { IsWeighed basis.now (weights_value weights.now) room.new }
-    ensures space { (uses : ℕ) → HasSpaceFor basis.now uses room.old → HasSpaceFor basis.now uses room.new }
+    ensures space { HasSpaceFor basis.now room.new }
 {
+    room.totals.fill(0);
+    add_up(&weights.lists, &mut room.totals);
     clear(room);
-    for (list, weight) in &weights.lists {
-        weigh_list(basis, *list as usize, *weight, room);
-    }
+    weigh_totals(basis, room);
 }
 
 /// So many cycles of a power as it counts, together.
@@ -381,6 +440,20 @@ fn test_uses(
     inside + beside + drawn
 }
 
+/// Whether the live test at a place is in no list that has a weight, and none has one that is beside tests or of power.
+fn is_idle(room: &Weighed, test: usize) -> bool
+    requires { test < length room.now.sums.items }
+    ensures { result ≡ true → IsIdle room.now test }
+{
+    if room.sums[test] > 0 {
+        return false;
+    }
+    if !room.beside.is_empty() {
+        return false;
+    }
+    room.power.is_empty()
+}
+
 /// What the live test at a place costs where it is over the wires, or a self test, as is asked for.
 fn kind_cost(
     basis: &Basis<'_>,
@@ -400,6 +473,9 @@ fn kind_cost(
         slice_get (live_tests (chip_of basis.now)) test ≡ Some l →
         result ≡ the_kind_cost basis.now weights wires rank width l }
 {
+    if is_idle(room, test) {
+        return 0;
+    }
     let place = place_at(&basis.tests, test);
     let own = test_at(module_at(basis.soc, place.module), place.test);
     if is_over(wires, own.tam) {

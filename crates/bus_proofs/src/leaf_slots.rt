@@ -107,24 +107,6 @@ fn rest_range(case: &CaseRoom, weights: &Weights) -> WidthRange
     }
 }
 
-/// Whether a width isn't the first, and the tests of the module over the wires take as long on it as on the width before.
-fn is_as_before(basis: &Basis<'_>, place: usize, first: u64, width: u64) -> bool
-    requires basis { IsBasis basis.now }
-    requires place { place < length (chip_of basis.now).modules }
-    requires some_wire { 1 ≤ first }
-    requires width { first ≤ width }
-    requires few_wires { width ≤ (limits_of basis.now).wires }
-    ensures more { result ≡ true → first < width }
-    ensures same { result ≡ true → packed_tam_time (chip_of basis.now) place (width - 1) ≡ packed_tam_time (chip_of basis.now) place width }
-{
-    if width == first {
-        return false;
-    }
-    let before = basis.times.tam_time(place, width - 1);
-    let now = basis.times.tam_time(place, width);
-    before == now
-}
-
 /// Whether the tests of the module take fewer cycles than claimed on a bus of a width.
 fn is_short(basis: &Basis<'_>, place: usize, width: u64) -> bool
     requires basis { IsBasis basis.now }
@@ -177,41 +159,8 @@ fn cost_at(
     Some(module_cost(basis, weighed, place, range.rank, width, rate))
 }
 
-/// The least cost of a module on a range up to a width, from that on the widths before it. The width is tried where the tests take
-/// another time than on the width before.
-fn try_width(
-    basis: &Basis<'_>,
-    weighed: &Weighed,
-    place: usize,
-    range: WidthRange,
-    width: u64,
-    best: Option<u128>,
-) -> Option<u128>
-    requires basis { IsBasis basis.now }
-    requires kept { AllKept basis.now }
-    requires place { place < length (chip_of basis.now).modules }
-    requires some_wire { 1 ≤ range.first }
-    requires few_wires { range.high ≤ (limits_of basis.now).wires }
-    requires base { range.base ≤ WEIGHT_MOST }
-    requires wire { range.wire ≤ WEIGHT_MOST }
-    requires from { range.first ≤ width }
-    requires within { width ≤ range.high }
-    requires best { IfSome best (λ n. n ≤ LEAF_COST_MOST) }
-    requires weighed { (weights : WeightsValue) × IsWeighed basis.now weights weighed.now }
-    ensures least { (weights : WeightsValue) → IsWeighed basis.now weights weighed.now →
-        IsLeastOf (costs_at basis.now weights place) (IsOfRange (chip_of basis.now) (claim_of basis.now) place range width) best →
-        IsLeastOf (costs_at basis.now weights place) (IsOfRange (chip_of basis.now) (claim_of basis.now) place range (width + 1)) result }
-    ensures small { IfSome result (λ n. n ≤ LEAF_COST_MOST) }
-{
-    wider_slots_cost_no_less();
-    if is_as_before(basis, place, range.first, width) {
-        return best;
-    }
-    let next = cost_at(basis, weighed, place, range, width);
-    lesser(best, next)
-}
-
-/// The least cost of a module on a range.
+/// The least cost of a module on a range. Widths on which the tests take as long as on the width before aren't tried: they cost
+/// no less.
 fn least_in_range(
     basis: &Basis<'_>,
     weighed: &Weighed,
@@ -231,9 +180,13 @@ fn least_in_range(
         (IsOfRange (chip_of basis.now) (claim_of basis.now) place range (range.high + 1)) result }
     ensures small { IfSome result (λ n. n ≤ LEAF_COST_MOST) }
 {
+    wider_slots_cost_no_less();
     let mut best = None;
-    for width in range.first..range.high + 1 {
-        best = try_width(basis, weighed, place, range, width, best);
+    let mut width = range.first;
+    while width <= range.high {
+        let here = cost_at(basis, weighed, place, range, width);
+        best = lesser(best, here);
+        width = basis.times.next_width(place, width);
     }
     best
 }

@@ -114,19 +114,19 @@ fn mark_name(names: &LiveTests, among: &mut Vec<bool>, id: TestId) -> Option<usi
     Some(place)
 }
 
-/// Whether a place is marked both here and there.
-fn both_at(marks: &Vec<bool>, others: &[bool], place: usize) -> bool
-    requires here { place < length marks.now.items }
+/// Whether a place is marked both here and there. Both are read whatever they are, so that many places are gone over at once.
+fn both_at(marks: &[bool], others: &[bool], place: usize) -> bool
+    requires here { place < length marks.now }
     requires there { place < length others.now }
-    ensures { result ≡ (bit_at marks.now.items place && bit_at others.now place) }
+    ensures { result ≡ (bit_at marks.now place && bit_at others.now place) }
 {
-    marks[place] && others[place]
+    marks[place] & others[place]
 }
 
 /// Leaves those marks that others have too.
-fn keep_both(marks: &mut Vec<bool>, others: &[bool])
-    requires { length others.now ≡ length marks.old.items }
-    ensures { marks.new.items ≡ both_marked marks.old.items others.now }
+fn keep_both(marks: &mut [bool], others: &[bool])
+    requires { length others.now ≡ length marks.old }
+    ensures { marks.new ≡ both_marked marks.old others.now }
 {
     for place in 0..others.len() {
         marks[place] = both_at(marks, others, place);

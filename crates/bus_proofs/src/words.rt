@@ -79,7 +79,7 @@ fn push_use(weights: &mut Weights, list: u64, weight: u64) -> Result<(), Stop>
     Ok(())
 }
 
-/// Ends a step: puts the next part in place of this one. Each place that writes a part also lets go of whatever the old one may
+/// Ends a step: puts the next part in place of this one. Each place that writes a part also drops whatever the old one may
 /// own, and is proved for all of it, so one function writes.
 #[inline(always)]
 fn go_on(part: &mut Part, next: Part) -> Result<(), Stop>

@@ -46,4 +46,5 @@ start_row cycles tests s = row_if cycles (find (is_called s.0) tests)
 
 -- the whole text: all cycles, and a line for each start in the order of the plan
 abbrev pub chart_text : SocValue → PlanValue → List ℕ
-chart_text soc plan = codes "cycles " ++ (decimal plan.cycles ++ (codes "\n" ++ flat_map (start_row plan.cycles (placed_tests soc plan)) plan.starts))
+chart_text soc plan =
+    codes "cycles " ++ (decimal plan.cycles ++ (codes "\n" ++ flat_map (start_row plan.cycles (placed_tests soc plan)) plan.starts))

@@ -1,4 +1,6 @@
 //! Draws the schedule of a plan as text.
+//!
+//! The text is by its definition, a bar for each live test of a good plan, from `live_tests`. The only error is out of memory.
 #![tactic(auto)]
 
 ghost use Rattle.std.specs.Prelude.{◌≡◌, ◌++◌, ◌∷◌, [], ◌<◌, decimal, OnOk, IfOk};
@@ -19,7 +21,7 @@ use std::alloc::Global;
 const BAR: u64 = 48;
 
 /// Whether character `i` of a bar lies in the cycles of a test.
-fn marks(start: u64, end: u64, cycles: u64, i: u64) -> bool
+fn is_marked(start: u64, end: u64, cycles: u64, i: u64) -> bool
     requires { i < 48 }
     ensures { result ≡ is_marked start end cycles i }
 {
@@ -34,7 +36,7 @@ fn push_mark(text: &mut Vec<u8>, start: u64, end: u64, cycles: u64, i: u64) -> R
     requires { i < 48 }
     ensures { OnOk result (text.new.items ≡ text.old.items ++ mark start end cycles i ∷ []) }
 {
-    if marks(start, end, cycles, i) {
+    if is_marked(start, end, cycles, i) {
         extend(text, b"#")
     } else {
         extend(text, b".")

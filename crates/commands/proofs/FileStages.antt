@@ -59,7 +59,7 @@ pub read_from : {V : Type 0} (file : FileKind) (Says : List ℕ → V → Type 0
 read_from file Says None name bytes value told within says = tt
 read_from file Says (Some files) name bytes value told within says = record { bytes = bytes; held_is = told; within = within; says = says }
 
--- a text that is the answer, or want of memory for it
+-- a text that is the answer, or out of memory for it
 pub done : (answer : List ℕ) (held : Option Files) (before after : ℕ) (verdict : Verdict) → Gives Done answer verdict → Follows (done_with answer) held before after verdict
 done answer None before after (Answered status text) d = (rw d.0 tt, tt)
 done answer (Some files) before after (Answered status text) d = (rw d.0 tt, d)
@@ -87,7 +87,7 @@ unless_line refusal line next held before after verdict is d = subst (λ r. Foll
   go held (CannotRead missed) d = absurd d
   go held OutOfMemory d = tt
 
--- an answer of any text that is allowed with Done, or want of memory for it
+-- an answer of any text that is allowed with Done, or out of memory for it
 pub may_be_done : (May : Status → List ℕ → Type 0) (made : Result (Vec ℕ) MemoryFault) (held : Option Files) (before after : ℕ) (verdict : Verdict) → IfOk made (λ text. May Done text.items) → GivesText Done made verdict → Follows (Answer May) held before after verdict
 may_be_done May (Err fault) held before after verdict may d = rw d tt
 may_be_done May (Ok text) held before after (CannotRead missed) may d = absurd d
@@ -95,7 +95,7 @@ may_be_done May (Ok text) held before after OutOfMemory may d = tt
 may_be_done May (Ok text) None before after (Answered status bytes) may d = (rw d.0 tt, tt)
 may_be_done May (Ok text) (Some files) before after (Answered status bytes) may d = (rw d.0 tt, rw (d.0, d.1) may)
 
--- a text that is allowed where nothing refuses it, or want of memory for it
+-- a text that is allowed where nothing refuses it, or out of memory for it
 pub gives_text : (refusal : Option (List ℕ)) (May : List ℕ → Type 0) (made : Result (Vec ℕ) MemoryFault) (verdict : Verdict) → refusal ≡ None → IfOk made (λ text. May text.items) → GivesText Done made verdict → GivesAny refusal May verdict
 gives_text refusal May made verdict none may d = subst (λ (r : Option (List ℕ)). GivesAny r May verdict) (sym none) (go made verdict may d)
   where
@@ -105,7 +105,7 @@ gives_text refusal May made verdict none may d = subst (λ (r : Option (List ℕ
     go (Ok text) OutOfMemory may d = tt
     go (Ok text) (Answered status bytes) may d = (d.0, rw d.1 may)
 
--- the line that refuses, or want of memory for it
+-- the line that refuses, or out of memory for it
 pub gives_line : (refusal : Option (List ℕ)) (line : List ℕ) (May : List ℕ → Type 0) (made : Result (Vec ℕ) MemoryFault) (verdict : Verdict) → refusal ≡ Some line → IfOk made (λ text. text.items ≡ line) → IfOk made (λ text. IsTrue (is_line text.items)) → GivesText Refused made verdict → GivesAny refusal May verdict
 gives_line refusal line May made verdict some is ends d = subst (λ (r : Option (List ℕ)). GivesAny r May verdict) (sym some) (go made verdict is ends d)
   where

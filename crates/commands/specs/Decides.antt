@@ -127,7 +127,7 @@ LoadsAll soc limits plan held before after (Err verdict) = Follows (with_all soc
 
 -- ---- a file of a command's own
 
--- The verdict on the bytes of such a file: the answer to what they say, or the line that refuses them, or want of memory.
+-- The verdict on the bytes of such a file: the answer to what they say, or the line that refuses them, or out of memory.
 abbrev pub AnswersBytes : {V : Type 0} → (Says : List ℕ → V → Type 0) → (Refused' : List ℕ → List ℕ → Type 0) → (answer : V → List ℕ) → List ℕ → Verdict → Type 0
 AnswersBytes {V} Says Refused' answer bytes (Answered status text) =
     ((status ≡ Done) × ((value : V) × Says bytes value × (text.items ≡ answer value)))

@@ -34,7 +34,7 @@ Writes (Answered status text) before after old end new = IsWritten status text.i
 Writes (CannotRead file) before after old end new = IsWritten ReadFault (unread_line file) before after old end new
 Writes OutOfMemory before after old end new = (end ≡ NoMemory) × (new ≡ old)
 
--- The line that refuses is written, or else the text, by the count of the output's faults; or nothing for want of memory.
+-- The line that refuses is written, or else the text, by the count of the output's faults; or nothing where memory runs out.
 abbrev pub WritesUnless : Option (List ℕ) → List ℕ → ℕ → ℕ → Option (List ℕ) → Status → Option (List ℕ) → Type 0
 WritesUnless None text before after old end new = ((end ≡ NoMemory) × (new ≡ old)) ⊎ IsWritten Done text before after old end new
 WritesUnless (Some line) text before after old end new = ((end ≡ NoMemory) × (new ≡ old)) ⊎ (IsTrue (is_line line) × IsWritten Refused line before after old end new)
@@ -74,7 +74,7 @@ IsCommand (Answer May) = Unit {0}
 IsCommand (Unless refusal next) = Unit {0}
 IsCommand (Read file Says Refuses name next) = Unit {0}
 
--- BadWords comes exactly where the words are no command, but for want of memory and a failed output.
+-- BadWords comes exactly where the words are no command, unless memory runs out or the output fails.
 abbrev pub EndsByWords : Procedure → Type 0 → Status → Type 0
 EndsByWords NoCommand sink_failed end = (end ≡ BadWords) ⊎ (end ≡ NoMemory) ⊎ ((end ≡ WriteFault) × sink_failed)
 EndsByWords steps sink_failed end = end ≢ BadWords
@@ -85,7 +85,7 @@ SaysBadWords old end new = end ≡ BadWords → Appended old bad_words_line new
 
 -- ---- when an answer comes
 
--- Where neither count of faults rose and the files give an answer, the call ends with its status, or for want of memory;
+-- Where neither count of faults rose and the files give an answer, the call ends with its status, or with that of out of memory;
 -- where the files fix the text of that answer (`fixed`), it is written.
 abbrev pub EndsAsWanted : Bool → Status → List ℕ → Option (List ℕ) → Status → Option (List ℕ) → Type 0
 EndsAsWanted fixed wanted text old end new = ((end ≡ wanted) × (IsTrue fixed → Appended old text new)) ⊎ (end ≡ NoMemory)
@@ -102,7 +102,7 @@ AreTaken (Unless None next) files = AreTaken next files
 AreTaken (Unless (Some line) next) files = ⊥
 AreTaken (Read {V} file Says Refuses name next) files = (value : V) × IsRead file Says (get files name) value × AreTaken (next value) files
 
--- Where neither count of faults rose and every file of the command is taken, the call ends with Done, or for want of memory.
+-- Where neither count of faults rose and every file of the command is taken, the call ends with Done, or out of memory.
 abbrev pub Finishes : Procedure → Option Files → Type 0 → Type 0 → Status → Type 0
 Finishes steps held shelf_failed sink_failed end =
     (files : Files) → held ≡ Some files → ¬ shelf_failed → ¬ sink_failed → AreTaken steps files → (end ≡ Done) ⊎ (end ≡ NoMemory)

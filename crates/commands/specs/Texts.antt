@@ -1,5 +1,5 @@
 -- The lines that programs over files have in common.
-use Rattle.std.specs.Prelude.{ℕ, ◌++◌, List, [], ◌∷◌, Bool, false, not, ◌&&◌, nat_eq, nat_lt, Option, None, Some, codes, decimal, if◌then◌else◌}
+use Rattle.std.specs.Prelude.{ℕ, ◌++◌, List, [], ◌∷◌, Bool, false, not, ◌&&◌, nat_eq, codes, decimal, if◌then◌else◌}
 use Rattle.std.specs.List.{list_all, flat_map}
 use Rattle.outside.specs.Decimal.{dotted_numbers}
 use Rattle.soc_model.specs.declared.TestId.{TestId}
@@ -144,7 +144,3 @@ fault_line fault = codes "refused plan " ++ fault_keyword fault ++ carried_text 
 -- a run of so many wire cycles, which is too long
 abbrev pub run_line : ℕ → List ℕ
 run_line cells = codes "refused run " ++ decimal cells ++ codes "\n"
-
--- a number that is more than the most
-abbrev pub beyond : (most n : ℕ) → Option ℕ
-beyond most n = if nat_lt most n then Some n else None

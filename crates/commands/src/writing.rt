@@ -19,7 +19,7 @@ fn write_text<K: Sink>(status: Status, text: &[u8], out: &mut K) -> Status
 
 /// Writes what a verdict says, once, and answers the status of the call. It takes no memory.
 ///
-/// Nothing is written for want of memory. Where the output fails, a prefix of the text is written, and the status is
+/// Nothing is written where memory runs out. Where the output fails, a prefix of the text is written, and the status is
 /// `WriteFault`.
 pub fn write_verdict<K: Sink>(verdict: Verdict, out: &mut K) -> Status
     ensures faults_never_fall { K.faults out.old ≤ K.faults out.new }

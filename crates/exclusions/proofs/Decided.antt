@@ -8,7 +8,8 @@ use Rattle.soc_model.proofs.Parents.{IsParent-from_place, place-from_IsParent}
 use Rattle.plan_model.specs.Plans.{LimitsValue}
 use Rattle.plan_model.specs.Rules.{live_ids}
 use Rattle.live_tests.proofs.Precedences.{pairs_within}
-use Rattle.exclusions.specs.Exclusions.{precedences, least_power, Reason, OneModule, IsParentOf, IsChildOf, ComesBefore, ComesAfter, TooMuchPower, Excludes, leads, is_place, is_passed, has_reason, both_pass, excludes}
+use Rattle.exclusions.specs.Exclusions.{least_power, Reason, OneModule, IsParentOf, IsChildOf, ComesBefore, ComesAfter, TooMuchPower, Excludes, leads, is_place, is_passed, has_reason, both_pass, excludes}
+use Rattle.live_tests.specs.Names.{precedences}
 use Rattle.exclusions.proofs.Paths.{AreBelow, path_from, path_found}
 
 pub below_count : (soc : SocValue) (limits : LimitsValue) → AreBelow (length (live_tests soc)) (precedences soc limits)

@@ -16,7 +16,8 @@ use Rattle.plan_model.proofs.Lists.{contains_at, at_contains, from_map}
 use Rattle.plan_model.proofs.PlannedTests.{Origin, origin}
 use Rattle.plan_model.proofs.Sums.{sum_by-filter, two-le-sum_by}
 use Rattle.live_tests.proofs.Precedences.{StandsFor, stands_for}
-use Rattle.exclusions.specs.Exclusions.{precedences, Leads, OnePair, PairFirst, least_power, Reason, OneModule, IsParentOf, IsChildOf, ComesBefore, ComesAfter, TooMuchPower, Excludes}
+use Rattle.exclusions.specs.Exclusions.{Leads, OnePair, PairFirst, least_power, Reason, OneModule, IsParentOf, IsChildOf, ComesBefore, ComesAfter, TooMuchPower, Excludes}
+use Rattle.live_tests.specs.Names.{precedences}
 
 -- ---- a planned test and its live test
 

@@ -11,7 +11,8 @@ use Rattle.plan_model.specs.Plans.{LimitsValue}
 use Rattle.live_tests.specs.declared.neighbours.Neighbours.{Neighbours}
 use Rattle.live_tests.specs.Neighbours.{tests_of, after, before}
 use Rattle.exclusions.specs.declared.facts.TestFacts.{TestFacts}
-use Rattle.exclusions.specs.Exclusions.{precedences, Leads, leads, is_passed, has_reason, both_pass, excludes}
+use Rattle.exclusions.specs.Exclusions.{Leads, leads, is_passed, has_reason, both_pass, excludes}
+use Rattle.live_tests.specs.Names.{precedences}
 use Rattle.exclusions.specs.Marks.{is_marked, next_of, AreAfter, AreBefore}
 use Rattle.exclusions.specs.Rows.{facts_of, all_facts, mark_of, are_kin}
 use Rattle.exclusions.proofs.Paths.{path_from, path_found}

@@ -1,15 +1,10 @@
 -- Live tests that exclude each other: no good plan has both under way at one cycle. They go by their places among the live tests.
 use Rattle.std.specs.Prelude.{◌≡◌, ◌≢◌, ℕ, zero, suc, ◌+◌, ◌<◌, ◌&&◌, ◌||◌, Bool, false, Option, Some, None, List, not, map, length, nat_eq, nat_lt, slice_get}
-use Rattle.std.specs.List.{flat_map, list_any, Contains}
+use Rattle.std.specs.List.{list_any, Contains}
 use Rattle.soc_model.specs.declared.TestId.{TestId}
 use Rattle.soc_model.specs.Chips.{SocValue, LiveTest, live_tests, id_of, same_test, IsParent, parent_place}
 use Rattle.plan_model.specs.Plans.{ProfileValue, LimitsValue, of_first, smallest}
-use Rattle.plan_model.specs.Rules.{live_ids}
-use Rattle.live_tests.specs.Names.{places_of}
-
--- the precedences of live tests, by their places
-abbrev pub precedences : SocValue → LimitsValue → List (ℕ × ℕ)
-precedences soc limits = flat_map (places_of (live_ids soc)) limits.before
+use Rattle.live_tests.specs.Names.{precedences}
 
 -- a path of one or more precedences leads from one test to another
 pub data Leads (pairs : List (ℕ × ℕ)) : ℕ → ℕ → Type 0 where

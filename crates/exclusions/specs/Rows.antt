@@ -5,7 +5,8 @@ use Rattle.soc_model.specs.Chips.{SocValue, LiveTest, live_tests, parent_place}
 use Rattle.plan_model.specs.Plans.{LimitsValue}
 use Rattle.exclusions.specs.declared.facts.TestFacts.{TestFacts}
 use Rattle.exclusions.specs.declared.rows.ExclusionRows.{ExclusionRows}
-use Rattle.exclusions.specs.Exclusions.{precedences, least_power_of, is_place, is_passed}
+use Rattle.exclusions.specs.Exclusions.{least_power_of, is_place, is_passed}
+use Rattle.live_tests.specs.Names.{precedences}
 use Rattle.exclusions.specs.Marks.{AreAfter, AreBefore}
 
 -- what exclusions ask of a test of a module, whose place, parent and number are these

@@ -10,7 +10,8 @@ use Rattle.fail_locate.specs.Spots.{IsNoSpot, IsShown, IsSpot}
 
 -- a good plan reads at most one response bit at a cycle on a wire
 abbrev pub SpotsAreOne : Type 0
-SpotsAreOne = (soc : SocValue) (plan : PlanValue) (cycle wire : ℕ) (a b : Spot) → IsGoodAlone soc plan → IsSpot soc plan cycle wire a → IsSpot soc plan cycle wire b → a ≡ b
+SpotsAreOne = (soc : SocValue) (plan : PlanValue) (cycle wire : ℕ) (a b : Spot) → IsGoodAlone soc plan → IsSpot soc plan cycle wire a →
+    IsSpot soc plan cycle wire b → a ≡ b
 
 -- What counting back finds at a cycle on a wire is what the run of the plan with a content reads there: a spot exactly where the
 -- run shows that bit, and none exactly where no bit of a response is read.
@@ -20,4 +21,5 @@ pub record FindsReads (soc : SocValue) (plan : PlanValue) (content : Content) (c
 
 -- so it is in every good plan, for every content, at each cycle on each wire
 abbrev pub SpotsAreReads : Type 0
-SpotsAreReads = (soc : SocValue) (limits : LimitsValue) (plan : PlanValue) (content : Content) (cycle wire : ℕ) → IsGood soc limits plan → FindsReads soc plan content cycle wire
+SpotsAreReads = (soc : SocValue) (limits : LimitsValue) (plan : PlanValue) (content : Content) (cycle wire : ℕ) → IsGood soc limits plan →
+    FindsReads soc plan content cycle wire

@@ -30,7 +30,8 @@ pub record IsSpot (soc : SocValue) (plan : PlanValue) (cycle wire : ℕ) (spot :
 -- In the run of the plan with a content the wire shows that bit of the content's response at the cycle.
 pub record IsShown (soc : SocValue) (plan : PlanValue) (content : Content) (cycle wire : ℕ) (spot : Spot) : Type 0 where
   pub spot_is : IsSpot soc plan cycle wire spot
-  pub bit : shown (planned soc plan) (state_at content (planned soc plan) cycle) cycle wire ≡ content.response spot.test spot.pattern (cell_value spot.cell)
+  pub bit : shown (planned soc plan) (state_at content (planned soc plan) cycle) cycle wire
+      ≡ content.response spot.test spot.pattern (cell_value spot.cell)
 
 -- at the cycle the wire shows no bit of a response
 abbrev pub IsNoSpot : SocValue → PlanValue → ℕ → ℕ → Type 0

@@ -53,7 +53,8 @@ fn flop_from_end(lengths: &[u64], scans: &[u64], shifts: u64) -> Option<Cell>
 fn read_from_end(lengths: &[u64], chain: &ChainPlan, outs_from: u64, shifts: u64) -> Option<Cell>
     requires listed { All (λ c. c < length lengths.now) chain.now.scans.items }
     requires fits { outs_from + chain.now.outs < 2 ^ 64 }
-    ensures { option_map cell_value result ≡ slice_get (reverse (flat_map (flops lengths.now) chain.now.scans.items ++ out_cells outs_from chain.now.outs)) shifts }
+    ensures { option_map cell_value result ≡ slice_get (reverse
+        (flat_map (flops lengths.now) chain.now.scans.items ++ out_cells outs_from chain.now.outs)) shifts }
 {
     if shifts < chain.outs {
         let number = outs_from + (chain.outs - 1 - shifts);
@@ -67,7 +68,8 @@ fn read_from_end(lengths: &[u64], chain: &ChainPlan, outs_from: u64, shifts: u64
 pub fn cell_shown(module: &Module, wrapper: &Wrapper, chain: usize, shifts: u64) -> Option<Cell>
     requires proper { IsProper (module_value «module».now) wrapper.now.scan (map chain_value wrapper.now.chains.items) }
     requires small { module_size (module_value «module».now) ≤ 10 ^ 18 }
-    ensures { IsFromEnd (cells_at (chain_cells (module_value «module».now) wrapper.now.scan (map chain_value wrapper.now.chains.items)) chain) shifts result }
+    ensures { IsFromEnd (cells_at (chain_cells (module_value «module».now) wrapper.now.scan (map chain_value wrapper.now.chains.items))
+        chain) shifts result }
 {
     if chain >= wrapper.chains.len() {
         return None;

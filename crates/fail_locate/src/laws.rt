@@ -40,7 +40,7 @@ pub fn spots_are_one()
     ensures { SpotsAreOne }
 {}
 
-/// The spot that counting back finds at a cycle on a wire, by which the lines of a log are told, is the response bit that the
+/// The spot that counting back finds at a cycle on a wire, by which the lines of a log are answered, is the response bit that the
 /// run of a good plan reads there, for every content: the test, the pattern and the cell exactly where the run shows that
 /// bit, and none exactly where it reads nothing.
 pub fn spots_are_reads()

@@ -1,5 +1,8 @@
 //! From a tester's fail log to the failing cells: what a log says, and which response bit of which test a tester reads at a
 //! cycle on a wire.
+//!
+//! A log is read exactly where it says one, and the bit that is answered is the one that the run of `plan_model` shows there, for
+//! every content. Errors are the line at which a log is refused, and out of memory.
 #![tactic(auto)]
 
 mod cells;

@@ -15,7 +15,7 @@ ghost use Rattle.fail_locate.specs.Spots.{IsNoSpot, IsSpot};
 ghost use Rattle.fail_locate.specs.Wired.{AreInOrder, IsWired};
 
 use crate::cells::cell_shown;
-use crate::wired::{Placing, WiredTest};
+use crate::wired::{ChipWithPlan, WiredTest};
 use crate::{Cell, Spot};
 use live_tests::first_wires;
 use outside::NoMemory;
@@ -73,7 +73,8 @@ fn has_come(test: &WiredTest, bus: usize, cycle: u64) -> bool
 fn come_by(tests: &[WiredTest], bus: usize, cycle: u64) -> usize
     requires { AreInOrder tests.now }
     ensures bound { result ≤ length tests.now }
-    ensures parts { IsPartitionPoint (λ (t : WiredTest). comes_by bus cycle t ≡ true) (λ (t : WiredTest). comes_by bus cycle t ≡ false) tests.now result }
+    ensures parts { IsPartitionPoint (λ (t : WiredTest). comes_by bus cycle t ≡ true)
+        (λ (t : WiredTest). comes_by bus cycle t ≡ false) tests.now result }
 {
     tests.partition_point(
         |test: &WiredTest| -> bool
@@ -113,10 +114,11 @@ fn turn_behind(test: &WiredTest, cycle: u64) -> Option<Turn>
 }
 
 /// The cell of a test that is read so many Shifts after a capture on the chain of a wire of its bus.
-fn cell_of(placing: &Placing<'_>, test: &WiredTest, chain: usize, shifts: u64) -> Option<Cell>
+fn cell_of(placing: &ChipWithPlan<'_>, test: &WiredTest, chain: usize, shifts: u64) -> Option<Cell>
     requires sound { IsSoundChip (soc_value placing.now.soc.now) }
     requires wired { (u : PlannedTest) × IsWired (soc_value placing.now.soc.now) (plan_value placing.now.plan.now) u test.now }
-    ensures { (u : PlannedTest) → IsWired (soc_value placing.now.soc.now) (plan_value placing.now.plan.now) u test.now → IsFromEnd (cells_at u.chains chain) shifts result }
+    ensures { (u : PlannedTest) → IsWired (soc_value placing.now.soc.now) (plan_value placing.now.plan.now) u test.now →
+        IsFromEnd (cells_at u.chains chain) shifts result }
 {
     let module = module_at(placing.soc, test.place);
     let wrapper = &placing.plan.wrappers[test.wrapper];
@@ -126,7 +128,7 @@ fn cell_of(placing: &Placing<'_>, test: &WiredTest, chain: usize, shifts: u64) -
 /// Finds which response bit of a plan a tester reads.
 #[derive(Drop)]
 pub struct Locator<'a> {
-    placing: Placing<'a>,
+    placing: ChipWithPlan<'a>,
     /// The first wire of each bus, and behind them the number of all wires.
     firsts: Vec<u64>,
     /// The tests over the wires, by bus, and on a bus by start.
@@ -153,7 +155,7 @@ impl<'a> Locator<'a> {
         requires good { IsGoodAlone (soc_value soc.now) (plan_value plan.now) }
         ensures { IfOk result (λ locator. locator ≡ record { soc = soc_value soc.now; plan = plan_value plan.now }) }
     {
-        let placing = Placing { soc, plan };
+        let placing = ChipWithPlan { soc, plan };
         let firsts = first_wires(alloc, plan)?;
         let tests = in_order(placing.tests(alloc)?);
         Ok(Locator {

@@ -36,7 +36,7 @@ fn with_fail(fails: Vec<(u64, u64)>, cycle: u64, wire: u64) -> Result<LogText, S
 }
 
 /// What is read with one more word.
-fn next(text: LogText, token: Token<Keyword>) -> Result<LogText, Stop>
+fn next_text(text: LogText, token: Token<Keyword>) -> Result<LogText, Stop>
     ensures { Makes state_of (after (state_of text) token) result }
 {
     match text {
@@ -102,7 +102,7 @@ impl Format for LogText {
     fn step(self, token: Token<Keyword>) -> Result<LogText, Stop>
         ensures { Makes state_of (after (state_of self) token) result }
     {
-        next(self, token)
+        next_text(self, token)
     }
 
     fn end(self) -> Result<Vec<(u64, u64)>, Stop> {

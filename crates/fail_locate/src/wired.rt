@@ -51,7 +51,8 @@ fn wired_in(chip: &PlannedChip<'_>, core: &Core<'_>, test: &Test, wrapper: ModeW
     requires tam { IsTrue test.now.tam }
     requires wrappers { AreModeWrappers chip.now.index.now (module_value core.now.«module».now) core.now.wrappers.now }
     requires wrapper { IsModeWrapper chip.now.index.now (module_value core.now.«module».now) test.now.scan wrapper }
-    ensures { IsWired (soc_value chip.now.soc.now) chip.now.index.now (planned_test chip.now.index.now core.now.place (module_value core.now.«module».now) test.now) result }
+    ensures { IsWired (soc_value chip.now.soc.now) chip.now.index.now
+        (planned_test chip.now.index.now core.now.place (module_value core.now.«module».now) test.now) result }
 {
     let placed = chip.test(core.place, core.module, core.wrappers, test);
     let phases = Phases {
@@ -80,7 +81,8 @@ fn wired(chip: &PlannedChip<'_>, core: &Core<'_>, test: &Test) -> WiredTest
     requires live { IsTrue (is_live test.now) }
     requires tam { IsTrue test.now.tam }
     requires wrappers { AreModeWrappers chip.now.index.now (module_value core.now.«module».now) core.now.wrappers.now }
-    ensures { IsWired (soc_value chip.now.soc.now) chip.now.index.now (planned_test chip.now.index.now core.now.place (module_value core.now.«module».now) test.now) result }
+    ensures { IsWired (soc_value chip.now.soc.now) chip.now.index.now
+        (planned_test chip.now.index.now core.now.place (module_value core.now.«module».now) test.now) result }
 {
     match core.wrappers.in_mode(test.scan) {
         Some(wrapper) => wired_in(chip, core, test, wrapper),
@@ -100,7 +102,9 @@ fn push_test(
     requires module_there { slice_get (soc_value chip.now.soc.now).modules core.now.place ≡ Some (module_value core.now.«module».now) }
     requires test_there { (k : ℕ) × (slice_get core.now.«module».now.tests.items k ≡ Some test.now) }
     requires wrappers { AreModeWrappers chip.now.index.now (module_value core.now.«module».now) core.now.wrappers.now }
-    ensures { (done : List PlannedTest) → AreWired (soc_value chip.now.soc.now) chip.now.index.now done tests.old.items → OnOk result (AreWired (soc_value chip.now.soc.now) chip.now.index.now (done ++ placed_tests chip.now.index.now core.now.place (module_value core.now.«module».now) (test.now ∷ [])) tests.new.items) }
+    ensures { (done : List PlannedTest) → AreWired (soc_value chip.now.soc.now) chip.now.index.now done tests.old.items →
+        OnOk result (AreWired (soc_value chip.now.soc.now) chip.now.index.now
+        (done ++ placed_tests chip.now.index.now core.now.place (module_value core.now.«module».now) (test.now ∷ [])) tests.new.items) }
 {
     if !over_wires(test) {
         return Ok(());
@@ -118,7 +122,9 @@ fn push_module(
     requires sound { IsSoundChip (soc_value chip.now.soc.now) }
     requires good { IsGoodAlone (soc_value chip.now.soc.now) chip.now.index.now }
     requires module_there { slice_get (soc_value chip.now.soc.now).modules place ≡ Some (module_value «module».now) }
-    ensures { (done : List PlannedTest) → AreWired (soc_value chip.now.soc.now) chip.now.index.now done tests.old.items → OnOk result (AreWired (soc_value chip.now.soc.now) chip.now.index.now (done ++ placed_tests chip.now.index.now place (module_value «module».now) «module».now.tests.items) tests.new.items) }
+    ensures { (done : List PlannedTest) → AreWired (soc_value chip.now.soc.now) chip.now.index.now done tests.old.items →
+        OnOk result (AreWired (soc_value chip.now.soc.now) chip.now.index.now
+        (done ++ placed_tests chip.now.index.now place (module_value «module».now) «module».now.tests.items) tests.new.items) }
 {
     let wrappers = ModeWrappers::new(chip.soc, chip.index, place, module);
     let core = Core {
@@ -136,7 +142,8 @@ fn push_module(
 fn wired_tests(alloc: Global, chip: &PlannedChip<'_>) -> Result<Vec<WiredTest>, NoMemory>
     requires sound { IsSoundChip (soc_value chip.now.soc.now) }
     requires good { IsGoodAlone (soc_value chip.now.soc.now) chip.now.index.now }
-    ensures { IfOk result (λ tests. AreWired (soc_value chip.now.soc.now) chip.now.index.now (planned (soc_value chip.now.soc.now) chip.now.index.now) tests.items) }
+    ensures { IfOk result (λ tests. AreWired (soc_value chip.now.soc.now) chip.now.index.now
+        (planned (soc_value chip.now.soc.now) chip.now.index.now) tests.items) }
 {
     let mut tests = Vec::new(alloc);
     for place in 0..chip.soc.modules.len() {
@@ -147,17 +154,18 @@ fn wired_tests(alloc: Global, chip: &PlannedChip<'_>) -> Result<Vec<WiredTest>, 
 
 /// A chip and a plan for it.
 #[derive(Clone, Copy, Drop)]
-pub struct Placing<'a> {
+pub struct ChipWithPlan<'a> {
     pub soc: &'a Soc,
     pub plan: &'a Plan,
 }
 
-impl<'a> Placing<'a> {
+impl<'a> ChipWithPlan<'a> {
     /// The tests over the wires, in the order of the chip.
     pub fn tests(&self, alloc: Global) -> Result<Vec<WiredTest>, NoMemory>
         requires sound { IsSoundChip (soc_value self.now.soc.now) }
         requires good { IsGoodAlone (soc_value self.now.soc.now) (plan_value self.now.plan.now) }
-        ensures { IfOk result (λ tests. AreWired (soc_value self.now.soc.now) (plan_value self.now.plan.now) (planned (soc_value self.now.soc.now) (plan_value self.now.plan.now)) tests.items) }
+        ensures { IfOk result (λ tests. AreWired (soc_value self.now.soc.now) (plan_value self.now.plan.now)
+            (planned (soc_value self.now.soc.now) (plan_value self.now.plan.now)) tests.items) }
     {
         let index = PlanIndex::new(alloc, self.plan)?;
         let chip = PlannedChip {

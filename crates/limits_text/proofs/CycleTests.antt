@@ -11,7 +11,8 @@ use Rattle.plan_model.specs.Rules.{live_ids}
 use Rattle.plan_model.specs.SoundLimits.{IsAcyclic}
 use Rattle.plan_model.proofs.Lists.{contains_at, at_contains}
 use Rattle.live_tests.proofs.Precedences.{place_among, place_there, pair_there, StandsFor, stands_for}
-use Rattle.limits_text.specs.Cycles.{precedences, IsWalk, IsFirstCycle, HasRank, AreAt}
+use Rattle.limits_text.specs.Cycles.{IsWalk, IsFirstCycle, HasRank, AreAt}
+use Rattle.live_tests.specs.Names.{precedences}
 use Rattle.limits_text.proofs.FirstCycles.{AreWithin}
 
 -- ---- ranks

@@ -22,12 +22,11 @@ use Rattle.plan_model.specs.Plans.{LimitsValue}
 use Rattle.plan_model.specs.Rules.{live_ids}
 use Rattle.plan_model.proofs.Lists.{from_map, contains_at}
 use Rattle.plan_model.specs.SoundLimits.{IsAcyclic}
-use Rattle.live_tests.specs.Names.{places_of, both_places}
+use Rattle.live_tests.specs.Names.{places_of, both_places, precedences}
 use Rattle.limits_text.specs.declared.places.Row.{Row}
 use Rattle.limits_text.specs.declared.items.Amount.{Amount}
 use Rattle.limits_text.specs.declared.items.Amount.TheVariants.{Wires, Power, Budget}
 use Rattle.limits_text.specs.Items.{Item, amount_item, before_item, profile_item}
-use Rattle.limits_text.specs.Cycles.{precedences}
 use Rattle.limits_text.proofs.CycleTests.{acyclic}
 use Rattle.limits_text.specs.Meaning.{limits_of, is_known, line_if, unknown_line, or_first, first_line}
 use Rattle.limits_text.specs.Places.{entry_of, row_of, entries_in, AreRows, named, pair_of, names_test, Notes, StopsAt}

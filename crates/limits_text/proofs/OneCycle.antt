@@ -7,7 +7,8 @@ use Rattle.soc_model.specs.declared.TestId.{TestId}
 use Rattle.soc_model.specs.Chips.{SocValue}
 use Rattle.plan_model.specs.Plans.{LimitsValue}
 use Rattle.plan_model.specs.Rules.{live_ids}
-use Rattle.limits_text.specs.Cycles.{IsTaken, take_away, IsFirstRemaining, IsForerunner, IsWalk, IsFirstCycle, IsCycleOf, HasRank, precedences}
+use Rattle.limits_text.specs.Cycles.{IsTaken, take_away, IsFirstRemaining, IsForerunner, IsWalk, IsFirstCycle, IsCycleOf, HasRank}
+use Rattle.live_tests.specs.Names.{precedences}
 use Rattle.limits_text.proofs.Complete.{some_same}
 
 -- ---- one walk

@@ -11,7 +11,8 @@ use Rattle.plan_model.specs.Rules.{live_ids}
 use Rattle.plan_model.specs.SoundLimits.{IsAcyclic}
 use Rattle.plan_model.proofs.Lists.{contains_at, at_contains}
 use Rattle.live_tests.proofs.Precedences.{pairs_within}
-use Rattle.limits_text.specs.Cycles.{precedences, IsFirstCycle, AreAt, IsCycleOf, HasRank}
+use Rattle.limits_text.specs.Cycles.{IsFirstCycle, AreAt, IsCycleOf, HasRank}
+use Rattle.live_tests.specs.Names.{precedences}
 use Rattle.limits_text.specs.Orders.{is_in, held, IsOrdered, IsTaking, least_before, Counts, ComesAgain, IsBack}
 use Rattle.limits_text.specs.Laws.{RanksOrCycles}
 use Rattle.limits_text.proofs.SoundText.{push_cases}

@@ -9,7 +9,8 @@ use Rattle.plan_model.specs.Plans.{LimitsValue}
 use Rattle.plan_model.specs.Rules.{live_ids}
 use Rattle.plan_model.proofs.Lists.{at_contains}
 use Rattle.live_tests.proofs.Precedences.{place_among, StandsFor, stands_for}
-use Rattle.limits_text.specs.Cycles.{precedences, IsFirstCycle, AreAt, GoesRound}
+use Rattle.limits_text.specs.Cycles.{IsFirstCycle, AreAt, GoesRound}
+use Rattle.live_tests.specs.Names.{precedences}
 use Rattle.limits_text.specs.Laws.{CyclesGoRound}
 use Rattle.limits_text.proofs.Complete.{some_same}
 

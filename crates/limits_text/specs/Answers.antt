@@ -78,7 +78,7 @@ IsReading bytes soc (unknown_line line) = NamesUnknown bytes soc line
 IsReading bytes soc (shown_cycle tests) = HasCycle bytes soc tests
 IsReading bytes soc (passing_power test power) = PassesPower bytes soc test power
 
--- what an answer says that the text is; want of memory says nothing
+-- what an answer says that the text is; out of memory says nothing
 abbrev pub reading_of : Result Limits LimFault → Option Reading
 reading_of (Ok limits) = Some (read_as (limits_value limits))
 reading_of (Err (fault.Text line)) = Some (refused_line line)

@@ -1,15 +1,11 @@
 -- Cycles of precedences. Live tests go by their places among the live tests, in the order of the chip.
 use Rattle.std.specs.Prelude.{◌≡◌, ℕ, ◌+◌, ◌-◌, ◌<◌, ◌≤◌, List, Some, map, length, slice_get}
-use Rattle.std.specs.List.{flat_map, Contains}
+use Rattle.std.specs.List.{Contains}
 use Rattle.soc_model.specs.declared.TestId.{TestId}
 use Rattle.soc_model.specs.Chips.{SocValue}
 use Rattle.plan_model.specs.Plans.{LimitsValue}
 use Rattle.plan_model.specs.Rules.{live_ids}
-use Rattle.live_tests.specs.Names.{places_of}
-
--- the precedences of live tests, by their places
-abbrev pub precedences : SocValue → LimitsValue → List (ℕ × ℕ)
-precedences soc limits = flat_map (places_of (live_ids soc)) limits.before
+use Rattle.live_tests.specs.Names.{precedences}
 
 -- A test is taken away once no test that remains precedes it: all that precede it were taken away.
 pub data IsTaken (pairs : List (ℕ × ℕ)) : ℕ → Type 0 where

@@ -7,7 +7,8 @@ ghost use Rattle.plan_model.specs.Rules.{live_ids};
 ghost use Rattle.plan_model.specs.SoundLimits.{IsAcyclic};
 ghost use Rattle.limits_text.specs.Places.{HasFirstCycle};
 ghost use Rattle.limits_text.specs.Views.{item_of};
-ghost use Rattle.limits_text.specs.Cycles.{AreAt, IsCycleOf, precedences as precedences_of};
+ghost use Rattle.limits_text.specs.Cycles.{AreAt, IsCycleOf};
+ghost use Rattle.live_tests.specs.Names.{precedences as precedences_of};
 
 use crate::LimFault;
 use crate::graph::first_cycle;

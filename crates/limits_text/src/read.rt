@@ -15,7 +15,7 @@ use plan_model::Limits;
 use soc_model::Soc;
 use std::alloc::Global;
 
-/// The items by themselves. The set of tests beside them is let go here, once, and not at each exit of the caller.
+/// The items by themselves. The set of tests beside them is dropped here, once, and not at each exit of the caller.
 fn list_of(items: Items) -> Vec<Item>
     ensures { result.items ≡ items.list.items }
 {

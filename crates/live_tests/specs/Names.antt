@@ -1,9 +1,11 @@
 -- The names of live tests, and precedences by the places of their tests.
 use Rattle.std.specs.Prelude.{◌≡◌, ℕ, Option, None, Some, List, [], ◌∷◌, map, position, slice_get}
-use Rattle.std.specs.List.{filter}
+use Rattle.std.specs.List.{filter, flat_map}
 use Rattle.soc_model.specs.declared.Test.{Test}
 use Rattle.soc_model.specs.declared.TestId.{TestId}
-use Rattle.soc_model.specs.Chips.{ModuleValue, is_live, same_test}
+use Rattle.soc_model.specs.Chips.{SocValue, ModuleValue, is_live, same_test}
+use Rattle.plan_model.specs.Plans.{LimitsValue}
+use Rattle.plan_model.specs.Rules.{live_ids}
 
 -- no item stands at two places
 abbrev pub AllDiffer : {X : Type 0} → List X → Type 0
@@ -26,3 +28,7 @@ both_places None b = []
 -- a precedence by the places of its tests, where both are among these
 abbrev pub places_of : List TestId → TestId × TestId → List (ℕ × ℕ)
 places_of ids p = both_places (position (same_test p.0) ids) (position (same_test p.1) ids)
+
+-- the precedences of live tests, by their places
+abbrev pub precedences : SocValue → LimitsValue → List (ℕ × ℕ)
+precedences soc limits = flat_map (places_of (live_ids soc)) limits.before

@@ -1,11 +1,10 @@
--- Profiles that are found by the names of their tests.
-use Rattle.std.specs.Prelude.{◌≡◌, ℕ, List, position}
-use Rattle.std.specs.Map.{lookup}
+-- The profiles of limits in a map by the names of their tests.
+use Rattle.std.specs.Prelude.{ℕ, List}
 use Rattle.indexmap.specs.IndexMap.{IndexMap}
 use Rattle.soc_model.specs.declared.TestId.{TestId}
-use Rattle.soc_model.specs.Chips.{same_test}
 use Rattle.plan_model.specs.declared.Profile.{Profile}
+use Rattle.plan_model.specs.ProfilePlaces.{FindProfiles}
 
--- by its test's name a profile is found at the place of the first one of that name
+-- the map finds the profiles
 abbrev pub AreProfilePlaces : {S : Type 0} → IndexMap TestId ℕ S → List Profile → Type 0
-AreProfilePlaces places profiles = (id : TestId) → lookup (same_test id) places.entries ≡ position (λ (p : Profile). same_test p.test id) profiles
+AreProfilePlaces places profiles = FindProfiles places.entries profiles

@@ -94,7 +94,7 @@ pub fn tests_placed(alloc: Global, soc: &Soc, plan: &Plan) -> Result<Vec<PlacedT
     let index = PlanIndex::new(alloc, plan)?;
     let planned = PlannedChip { soc, index: &index };
     let tests = planned.tests(alloc);
-    // let go by a call: the end of the scope would let go of each of its parts, and be proved for each
+    // dropped by a call: the end of the scope would drop each of its parts, and be proved for each
     drop(index);
     tests
 }

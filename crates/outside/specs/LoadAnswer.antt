@@ -1,4 +1,4 @@
--- How a load in memory ends that is not told to fail.
+-- How a load in memory ends that isn't made to fail.
 use Rattle.std.specs.Prelude.{◌≡◌, ◌≢◌, ℕ, List, Option, None, Some, length, MatchBool, nat_lt}
 use Rattle.outside.specs.declared.shelf.Loaded.{Loaded}
 use Rattle.outside.specs.declared.shelf.Loaded.TheVariants.{TooLong, Failed}

@@ -1,4 +1,4 @@
-//! Output in memory, of a fixed room, with puts that fail where they are told to.
+//! Output in memory, of a fixed room, with puts that fail where the caller wants them to.
 ghost use Rattle.std.specs.Prelude.{◌≡◌, ◌∷◌, ◌++◌, ◌<◌, ◌≤◌, [], OnOk, OnErr, IfOk, length, take, Some, ℕ};
 ghost use Rattle.std.specs.Bool.{OnTrue, OnFalse};
 ghost use Rattle.outside.specs.Held.{Rose, Appended};

@@ -43,10 +43,10 @@ impl<'a, R: Files> Shelf for RealShelf<'a, R> {
 
     ghost faults = { λ s. s };
 
-    /// Reads at most `limit + 1` bytes of the file. Want of memory is `NoMemory` and no fault; every other error is
+    /// Reads at most `limit + 1` bytes of the file. Out of memory is `NoMemory` and no fault; every other error is
     /// `Failed` and one fault more, up to the last value of the count.
     fn load(&mut self, name: &str, limit: u64, into: &mut Vec<u8>) -> Loaded
-        // The promises of every shelf, where nothing is told.
+        // The promises of every shelf, where it says nothing of its model.
         ensures faults_never_fall { self.old ≤ self.new }
         ensures within_limit { result ≡ Loaded.Whole → vec_len into.new ≤ limit }
         ensures longer_is_too_long { IsTooLong None name.now limit →

@@ -45,7 +45,7 @@ impl<W: Write + Drop> Sink for RealSink<W> {
     /// One write and one flush. An error of either, and a write of no byte of a piece that has some, is `Failed` and
     /// one fault more, up to the last value of the count.
     fn put(&mut self, piece: &[u8]) -> Put
-        // The promises of every sink, where nothing is told.
+        // The promises of every sink, where it says nothing of its model.
         ensures faults_never_fall { self.old ≤ self.new }
         ensures within_piece { (n : ℕ) → result ≡ Put.Taken n → n ≤ length piece.now }
         ensures progress { (n : ℕ) → result ≡ Put.Taken n → 0 < length piece.now → 0 < n }

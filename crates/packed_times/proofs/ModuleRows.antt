@@ -1,9 +1,9 @@
 -- The rows of a table of packed times.
 use Rattle.std.proofs.Common.{◌≡◌, ℕ, ◌+◌, ◌-◌, ◌≤◌, ◌<◌, ◌^◌, Bool, true, false, None, Some, List, [], ◌∷◌, ◌++◌, length, get_or, map, take, refl, ap, ◌∙◌, sym, subst, arith, inl, inr, ◌⊎◌}
-use Rattle.std.specs.Prelude.{slice_get, nat_eq, not, ◌&&◌, if◌then◌else◌}
+use Rattle.std.specs.Prelude.{slice_get, slice_index, nat_eq, not, ◌&&◌, if◌then◌else◌}
 use Rattle.std.specs.List.{sum, range_with_len}
 use Rattle.std.proofs.lemmas.Bool.{eq-eqb, ne_eqb}
-use Rattle.std.proofs.lemmas.List.{length-map, get_or-map, map-append, take_more}
+use Rattle.std.proofs.lemmas.List.{length-map, get_or-map, get_or_default, map-append, take_more}
 use Rattle.std.proofs.lemmas.List.FromFn.{length-map-range_with_len, get_or-range_with_len, length-range_with_len}
 use Rattle.std.proofs.lemmas.Option.{slice_get_cases, slice_get-get_or, slice_get-map, slice_get_within, get_or_from_slice_get}
 use Rattle.soc_model.specs.declared.Test.{Test}
@@ -19,7 +19,7 @@ use Rattle.bound_rules.proofs.SoundWork.{module_work-le}
 use Rattle.packed_times.specs.declared.table.ModuleTimes.{ModuleTimes}
 use Rattle.packed_times.specs.Packed.{packed, packed_time, packed_tam_time, self_test_time}
 use Rattle.packed_times.specs.Times.{is_self, tam_times_of, self_times_of, works_of, IsPackingOf}
-use Rattle.packed_times.specs.Tables.{TableValue, RowValue, row_value, row_of, IsTable}
+use Rattle.packed_times.specs.Tables.{TableValue, RowValue, row_value, row_of, IsTable, IsNextChange, HasChanges}
 use Rattle.packed_times.proofs.TestTimes.{tam_times-le, self_times-le}
 
 -- ---- sums over the live tests of one module
@@ -116,6 +116,48 @@ tam_is t place row h width n some few at = tam_in t place row h width n some few
 pub tam_small : (t : TableValue) (place : ℕ) (row : ModuleTimes) → IsSoundChip t.chip → HasRow t place row → (width n : ℕ) → 1 ≤ width → width ≤ t.wires → n ≡ get_or row.tam.items (width - 1) n → n ≤ 10 ^ 18
 tam_small t place row sound h width n some few at = omega (arith, tam_in t place row h width n some few at, tam_times-le h.m width h.m.tests some, works-le t.chip sound place h.m h.at)
 
+-- ---- the next width with another time
+
+pub changes_found : (t v : TableValue) (rows : List ModuleTimes) (place : ℕ) (row : ModuleTimes) → v ≡ t → IsTable v rows → row ≡ get_or rows place row → place < length t.chip.modules → HasChanges row
+changes_found t v rows place row same table at within =
+    let table' : IsTable t rows = subst (λ (v : TableValue). IsTable v rows) same table in
+    let long : length rows ≡ length t.chip.modules = sym (length-map rows row_value) ∙ ap length table'.rows_are ∙ length-map t.chip.modules (row_of t.wires) in
+    subst HasChanges (sym at) (table'.changes place row (omega (arith, within, long)))
+
+tam_at : (t : TableValue) (place : ℕ) (row : ModuleTimes) → HasRow t place row → (n : ℕ) → n < t.wires → slice_index row.tam.items n ≡ packed_tam_time t.chip place (n + 1)
+tam_at t place row h n few =
+    let long : length row.tam.items ≡ t.wires = tam_long t place row h in
+    let there : get_or row.tam.items n 0 ≡ get_or row.tam.items n (get_or row.tam.items n 0) = get_or_default row.tam.items n 0 (get_or row.tam.items n 0) (omega (arith, few, long)) in
+    tam_is t place row h (n + 1) (get_or row.tam.items n 0) (omega arith) (omega (arith, few)) (there ∙ ap (λ k. get_or row.tam.items k (get_or row.tam.items n 0)) (back n))
+  where
+    back : (n : ℕ) → n ≡ n + 1 - 1
+    back n = omega arith
+
+-- from one width up to the next with another time the time is the same, and there it isn't
+pub record IsNextWidth (t : TableValue) (place width next : ℕ) : Type 0 where
+  pub wider : width < next
+  pub within : next ≤ t.wires + 1
+  pub same : (w : ℕ) → width ≤ w → w < next → packed_tam_time t.chip place w ≡ packed_tam_time t.chip place width
+  pub other : next ≤ t.wires → packed_tam_time t.chip place next ≡ packed_tam_time t.chip place width → ⊥
+
+pub next_is : (t : TableValue) (place : ℕ) (row : ModuleTimes) → HasRow t place row → HasChanges row → (width n : ℕ) → 1 ≤ width → width ≤ t.wires → n ≡ get_or row.next.items (width - 1) n → IsNextWidth t place width (n + 1)
+next_is t place row h changes width n some few at =
+    let long : length row.tam.items ≡ t.wires = tam_long t place row h in
+    let found : slice_index row.next.items (width - 1) ≡ n = get_or_default row.next.items (width - 1) 0 n (omega (arith, changes.long, long, some, few)) ∙ sym at in
+    let is : IsNextChange row.tam.items (width - 1) n = subst (IsNextChange row.tam.items (width - 1)) found (changes.each (width - 1) (omega (arith, long, some, few))) in
+    let here : slice_index row.tam.items (width - 1) ≡ packed_tam_time t.chip place width = tam_at t place row h (width - 1) (omega (arith, some, few)) ∙ ap (packed_tam_time t.chip place) (before width some) in
+    record {
+      wider = omega (arith, is.after, some);
+      within = omega (arith, is.within, long);
+      same = λ w from to.
+          let some' : 1 ≤ w = omega (arith, some, from) in
+          let there : slice_index row.tam.items (w - 1) ≡ packed_tam_time t.chip place w = tam_at t place row h (w - 1) (omega (arith, some', to, is.within, long)) ∙ ap (packed_tam_time t.chip place) (before w some') in
+          sym there ∙ is.same (w - 1) (omega (arith, from, some)) (omega (arith, to, some')) ∙ here;
+      other = λ less e.
+          let there : slice_index row.tam.items n ≡ packed_tam_time t.chip place (n + 1) = tam_at t place row h n (omega (arith, less)) in
+          is.other (omega (arith, less, long)) (there ∙ e ∙ sym here);
+    }
+
 -- what a test of the module is packed to
 pub packing_is : (t : TableValue) (place : ℕ) (row : ModuleTimes) (m : ModuleValue) → HasRow t place row → slice_get t.chip.modules place ≡ Some m → (width n : ℕ) → 1 ≤ width → width ≤ t.wires → n ≡ get_or row.packed.items (width - 1) n →
     IsPackingOf m (record { width = width; packed = n; flops = row.flops })
@@ -130,6 +172,9 @@ packing_is t place row m h at width n some few is =
 
 pub sound_of : (t v : TableValue) (rows : List ModuleTimes) → v ≡ t → IsTable v rows → IsSoundChip t.chip
 sound_of t v rows same table = (subst (λ (v : TableValue). IsTable v rows) same table).sound
+
+pub wires_few : (t v : TableValue) (rows : List ModuleTimes) → v ≡ t → IsTable v rows → t.wires ≤ 256
+wires_few t v rows same table = (subst (λ (v : TableValue). IsTable v rows) same table).few_wires
 
 -- ---- how rows are made
 

@@ -39,7 +39,8 @@ packed_length m t ends w =
 -- the cycles that a test takes at least in a wrapper of at most `w` chains; a self test takes its patterns
 unfoldable pub packed_time : ModuleValue → Test → ℕ → ℕ
 packed_time m t w =
-    if t.tam then length (ops_of m.setup (packed_length m t (m.inputs + m.bidirs) w) (packed_length m t (m.outputs + m.bidirs) w) t.patterns) else t.patterns
+    if t.tam then length (ops_of m.setup (packed_length m t (m.inputs + m.bidirs) w)
+    (packed_length m t (m.outputs + m.bidirs) w) t.patterns) else t.patterns
 
 -- ---- of all live tests of the module at a place, together
 

@@ -1,4 +1,7 @@
 //! Packed times: what the live tests of a chip take at least, where no wrapper chain can have a part of a scan chain.
+//!
+//! They are at most a test's cycles in every proper wrapper of `plan_model` on as many wires, and never grow with the width.
+//! Times are in cycles, widths in wires. The only error is out of memory.
 #![tactic(auto)]
 
 mod laws;

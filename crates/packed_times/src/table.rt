@@ -1,11 +1,11 @@
 //! The packed times of all modules of a chip on each width, taken once.
-ghost use Rattle.std.specs.Prelude.{◌≡◌, ◌++◌, ◌^◌, ◌<◌, ◌≤◌, IfOk, IsTrue, Some, length, map, slice_get, sum};
-ghost use Rattle.std.specs.List.{range_with_len};
+ghost use Rattle.std.specs.Prelude.{◌≡◌, ◌+◌, ◌++◌, ◌^◌, ◌<◌, ◌≤◌, ℕ, IfOk, IsTrue, Some, length, map, slice_get, slice_index, sum};
+ghost use Rattle.std.specs.List.{All, range_with_len};
 ghost use Rattle.soc_model.specs.Chips.{ModuleValue, is_live, module_value, soc_value};
 ghost use Rattle.soc_model.specs.Sizes.{test_work};
 ghost use Rattle.soc_model.specs.SoundChips.{IsSoundChip};
 ghost use Rattle.packed_times.specs.Packed.{packed, packed_tam_time, packed_time, self_test_time};
-ghost use Rattle.packed_times.specs.Tables.{row_of, row_value};
+ghost use Rattle.packed_times.specs.Tables.{AreNextChanges, HasChanges, IsNextChange, row_of, row_value};
 ghost use Rattle.packed_times.specs.Times.{tam_times_of, works_of};
 
 use crate::lengths::{flops_of, packed_lengths};
@@ -22,6 +22,8 @@ struct ModuleTimes {
     packed: Vec<u64>,
     /// The cycles of the live tests over the wires, together.
     tam: Vec<u64>,
+    /// For each width the next one on which these take another time together.
+    next: Vec<u64>,
     /// The lengths of the scan chains together, in cells.
     flops: u64,
     /// The cycles of the live self tests, together.
@@ -59,7 +61,8 @@ fn tam_row(
     requires flops { flops ≡ sum «module».now.chains.items }
     requires lengths { lengths.now ≡ map (packed «module».now.chains.items) (range_with_len 1 (length lengths.now)) }
     ensures { IfOk result (λ row.
-        row.items ≡ map (λ w. tam_times_of (module_value «module».now) w «module».now.tests.items) (range_with_len 1 (length lengths.now))) }
+        row.items ≡ map (λ w. tam_times_of (module_value «module».now) w «module».now.tests.items)
+        (range_with_len 1 (length lengths.now))) }
 {
     let mut row = Vec::new(alloc);
     for place in 0..lengths.len() {
@@ -73,20 +76,49 @@ fn tam_row(
     Ok(row)
 }
 
+/// The next place behind this one at which another number stands, from those behind the places after it.
+fn next_change(numbers: &[u64], next: &[u64], place: usize) -> u64
+    requires there { place + 1 < length numbers.now }
+    requires long { length next.now ≡ length numbers.now }
+    requires after { IsNextChange numbers.now (place + 1) (slice_index next.now (place + 1)) }
+    ensures { IsNextChange numbers.now place result }
+{
+    if numbers[place] == numbers[place + 1] {
+        return next[place + 1];
+    }
+    place as u64 + 1
+}
+
+/// For each place of a list the next one at which another number stands; the length of the list where there is none.
+fn next_changes(alloc: Global, numbers: &[u64]) -> Result<Vec<u64>, NoMemory>
+    ensures { IfOk result (λ next. AreNextChanges numbers.now next.items) }
+{
+    let count = numbers.len();
+    let mut next = Vec::from_elem(alloc, count as u64, count)?;
+    for step in 1..count {
+        let place = count - 1 - step;
+        next[place] = next_change(numbers, &next, place);
+    }
+    Ok(next)
+}
+
 /// The packed times of a module on each of so many wires.
 fn module_times(alloc: Global, module: &Module, wires: u64) -> Result<ModuleTimes, NoMemory>
     requires work { works_of (module_value «module».now) «module».now.tests.items ≤ 10 ^ 18 }
     requires flops { sum «module».now.chains.items < 2 ^ 63 }
     requires wires { wires ≤ 256 }
-    ensures { IfOk result (λ times. row_value times ≡ row_of wires (module_value «module».now)) }
+    ensures row { IfOk result (λ times. row_value times ≡ row_of wires (module_value «module».now)) }
+    ensures changes { IfOk result HasChanges }
 {
     let flops = flops_of(&module.chains);
     let packed = packed_lengths(alloc, &module.chains, wires)?;
     let tam = tam_row(alloc, module, flops, &packed)?;
+    let next = next_changes(alloc, &tam)?;
     let own = self_time(module);
     Ok(ModuleTimes {
         packed,
         tam,
+        next,
         flops,
         own,
     })
@@ -96,7 +128,8 @@ fn module_times(alloc: Global, module: &Module, wires: u64) -> Result<ModuleTime
 fn all_rows(alloc: Global, soc: &Soc, wires: u64) -> Result<Vec<ModuleTimes>, NoMemory>
     requires sound { IsSoundChip (soc_value soc.now) }
     requires wires { wires ≤ 256 }
-    ensures { IfOk result (λ rows. map row_value rows.items ≡ map (row_of wires) (soc_value soc.now).modules) }
+    ensures rows { IfOk result (λ rows. map row_value rows.items ≡ map (row_of wires) (soc_value soc.now).modules) }
+    ensures changes { IfOk result (λ rows. All HasChanges rows.items) }
 {
     let mut rows = Vec::new(alloc);
     for place in 0..soc.modules.len() {
@@ -128,6 +161,21 @@ impl<'a> PackedTimes<'a> {
         ensures small { result ≤ 10 ^ 18 }
     {
         self.rows[place].tam[(width - 1) as usize]
+    }
+
+    /// The least width above this one on which the live tests over the wires of the module at a place take another time together;
+    /// a wire more than the table has where there is none.
+    pub fn next_width(&self, place: usize, width: u64) -> u64
+        requires place { place < length self.now.chip.modules }
+        requires some_wire { 1 ≤ width }
+        requires few_wires { width ≤ self.now.wires }
+        ensures wider { width < result }
+        ensures within { result ≤ self.now.wires + 1 }
+        ensures same { (w : ℕ) → width ≤ w → w < result → packed_tam_time self.now.chip place w ≡ packed_tam_time self.now.chip place width }
+        ensures other { result ≤ self.now.wires →
+            packed_tam_time self.now.chip place result ≡ packed_tam_time self.now.chip place width → ⊥ }
+    {
+        self.rows[place].next[(width - 1) as usize] + 1
     }
 
     /// The patterns of the live self tests of the module at a place, together: as many cycles as they take.

@@ -12,7 +12,8 @@ use Rattle.picture.specs.Panels.{outline_of}
 
 -- the sides of a rectangle, behind the name of its class
 unfoldable pub sides : Outline → List ℕ
-sides o = codes "' x='" ++ (decimal o.x ++ (codes "' y='" ++ (decimal o.y ++ (codes "' width='" ++ (decimal o.width ++ (codes "' height='" ++ (decimal o.height ++ codes "'>")))))))
+sides o = codes "' x='" ++ (decimal o.x ++ (codes "' y='" ++ (decimal o.y
+    ++ (codes "' width='" ++ (decimal o.width ++ (codes "' height='" ++ (decimal o.height ++ codes "'>")))))))
 
 -- where a label of a class begins
 unfoldable pub label_at : (class : List ℕ) → (x y : ℕ) → List ℕ
@@ -61,9 +62,12 @@ has_room o characters = nat_le (7 * characters) o.width && is_high o
 abbrev pub fill : (place : ℕ) → List ℕ
 fill place = (97 + place % 4) ∷ []
 
--- what a reader is told of a test: its module, with the name of that, and its number, the cycle at which it starts, and the first one after it
+-- what the picture says of a test: its module, with the name of that, and its number, the cycle at which it starts, and the first one
+-- after it
 unfoldable pub title_text : (name : List ℕ) → PlacedTest → List ℕ
-title_text name t = codes "<title>module " ++ (decimal t.id.module ++ (spaced_name name ++ (codes ", test " ++ (decimal t.id.test ++ (codes ": start " ++ (decimal t.start ++ (codes ", end " ++ (decimal t.end ++ codes "</title></rect>\n"))))))))
+title_text name t = codes "<title>module " ++ (decimal t.id.module
+    ++ (spaced_name name ++ (codes ", test " ++ (decimal t.id.test
+    ++ (codes ": start " ++ (decimal t.start ++ (codes ", end " ++ (decimal t.end ++ codes "</title></rect>\n"))))))))
 
 -- the rectangle of a test
 unfoldable pub box_text : Outline → (name : List ℕ) → PlacedTest → List ℕ
@@ -71,7 +75,8 @@ box_text o name t = codes "<rect class='" ++ (fill t.place ++ (sides o ++ title_
 
 -- its label
 unfoldable pub test_label : Outline → TestId → (name : List ℕ) → List ℕ
-test_label o id name = label_at (codes "m") (middle o.x o.width) (middle o.y o.height + 4) ++ (dotted_numbers id.module id.test ++ (spaced_name name ++ label_end))
+test_label o id name = label_at (codes "m") (middle o.x o.width) (middle o.y o.height + 4)
+    ++ (dotted_numbers id.module id.test ++ (spaced_name name ++ label_end))
 
 -- with the name of its module, or without, as there is room
 unfoldable pub label_text : Outline → TestId → (name : List ℕ) → List ℕ
@@ -89,14 +94,16 @@ test_text soc p d = named_test (outline_of p d.rectangle) (name_at soc d.test.pl
 
 -- the place of a bus, and how many wires it has
 unfoldable pub bus_label : (place wires : ℕ) → List ℕ
-bus_label place wires = codes "bus " ++ (decimal place ++ (codes ", " ++ (decimal wires ++ (if nat_eq wires 1 then codes " wire" else codes " wires"))))
+bus_label place wires =
+    codes "bus " ++ (decimal place ++ (codes ", " ++ (decimal wires ++ (if nat_eq wires 1 then codes " wire" else codes " wires"))))
 
 -- the frame of a bus, and beside it its label, where there is room
 unfoldable pub bus_frame : Outline → (place wires : ℕ) → List ℕ
 bus_frame o place wires = codes "<rect class='w" ++ (sides o ++ (codes "<title>" ++ (bus_label place wires ++ codes "</title></rect>\n")))
 
 unfoldable pub bus_name : Outline → (place wires : ℕ) → List ℕ
-bus_name o place wires = if is_high o then label_at (codes "e") 114 (middle o.y o.height + 4) ++ (bus_label place wires ++ label_end) else []
+bus_name o place wires =
+    if is_high o then label_at (codes "e") 114 (middle o.y o.height + 4) ++ (bus_label place wires ++ label_end) else []
 
 -- that of the bus at a place, over all cycles
 abbrev pub bus_text : Panel → (place : ℕ) → (wires : ℕ × ℕ) → List ℕ

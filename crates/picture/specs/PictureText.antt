@@ -32,7 +32,8 @@ head_text height =
 
 -- the frame of the wires
 unfoldable pub frame_text : Panel → List ℕ
-frame_text p = codes "<rect class='w' x='120' y='40' width='1000' height='" ++ (decimal p.height ++ (codes "'><title>wires " ++ (decimal p.rows ++ codes "</title></rect>\n")))
+frame_text p = codes "<rect class='w' x='120' y='40' width='1000' height='"
+    ++ (decimal p.height ++ (codes "'><title>wires " ++ (decimal p.rows ++ codes "</title></rect>\n")))
 
 -- ---- the wires and the lanes
 
@@ -57,7 +58,8 @@ step_text top cycles most s = codes "H" ++ (decimal (column s.0 cycles) ++ (code
 
 -- the steps of a load over so many cycles
 unfoldable pub load_text : (top cycles most : ℕ) → List (ℕ × ℕ) → List ℕ
-load_text top cycles most steps = codes "<path class='p' d='M120 " ++ (decimal (top + 100) ++ (flat_map (step_text top cycles most) steps ++ codes "'/>\n"))
+load_text top cycles most steps =
+    codes "<path class='p' d='M120 " ++ (decimal (top + 100) ++ (flat_map (step_text top cycles most) steps ++ codes "'/>\n"))
 
 -- the limit
 unfoldable pub limit_text : (top most : ℕ) → List ℕ
@@ -83,7 +85,8 @@ bound_text x bound = bound_side x ++ (codes "bound " ++ (decimal bound ++ label_
 -- that of the bound at a place, both down to the end of the picture
 unfoldable pub lines_at : (x cycles bound bottom : ℕ) → List ℕ
 lines_at x cycles bound bottom =
-    codes "<path class='l' d='M1120 16V" ++ (decimal bottom ++ (codes "M" ++ (decimal x ++ (codes " 32V" ++ (decimal bottom ++ (codes "'/>\n" ++
+    codes "<path class='l' d='M1120 16V" ++ (decimal bottom
+    ++ (codes "M" ++ (decimal x ++ (codes " 32V" ++ (decimal bottom ++ (codes "'/>\n" ++
     (label_at (codes "e") 1116 16 ++ (codes "cycles " ++ (decimal cycles ++ (label_end ++ bound_text x bound))))))))))
 
 abbrev pub lines_text : (cycles bound bottom : ℕ) → List ℕ

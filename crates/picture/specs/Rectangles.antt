@@ -45,7 +45,8 @@ drawn_test d = d.test
 
 -- the rectangle has the cycle in the row
 abbrev pub covers : (cycle row : ℕ) → Drawn → Bool
-covers cycle row d = (nat_le d.rectangle.start cycle && nat_lt cycle d.rectangle.end) && (nat_le d.rectangle.first row && nat_lt row d.rectangle.last)
+covers cycle row d = (nat_le d.rectangle.start cycle && nat_lt cycle d.rectangle.end)
+    && (nat_le d.rectangle.first row && nat_lt row d.rectangle.last)
 
 -- a test over the wires
 abbrev pub is_wired : PlacedTest → Bool
@@ -79,4 +80,5 @@ lane_ends ends (t ∷ ts) = lane_ends (with_end ends (free_lane ends t.start) t.
 -- each test in the first lane that is free at its start
 abbrev pub laned : (ends : List ℕ) → List PlacedTest → List Drawn
 laned ends [] = []
-laned ends (t ∷ ts) = drawn_over t (free_lane ends t.start) (free_lane ends t.start + 1) ∷ laned (with_end ends (free_lane ends t.start) t.end) ts
+laned ends (t ∷ ts) =
+    drawn_over t (free_lane ends t.start) (free_lane ends t.start + 1) ∷ laned (with_end ends (free_lane ends t.start) t.end) ts

@@ -8,8 +8,8 @@ use Rattle.picture.specs.Marks.{label_at, label_end}
 unfoldable pub leading_power : ℕ → ℕ
 leading_power n = 10 ^ (length (decimal n) - 1)
 
--- how many cycles are from one mark to the next: that power, a half of it, or a fifth, so that 4 to 9 marks come after the first one; 1 in a plan of
--- less than 10 cycles
+-- how many cycles are from one mark to the next: that power, a half of it, or a fifth, so that 4 to 9 marks come after the first one; 1 in
+-- a plan of less than 10 cycles
 abbrev pub step_within : (power cycles : ℕ) → ℕ
 step_within power cycles = max 1 (if nat_le (5 * power) cycles then power else if nat_le (2 * power) cycles then power / 2 else power / 5)
 
@@ -29,7 +29,8 @@ abbrev pub number_middle : (x cycle : ℕ) → ℕ
 number_middle x cycle = min x (1136 - 4 * length (decimal cycle))
 
 unfoldable pub mark_number : (cycles bottom cycle : ℕ) → List ℕ
-mark_number cycles bottom cycle = label_at (codes "m") (number_middle (column cycle cycles) cycle) (bottom + 14) ++ (decimal cycle ++ label_end)
+mark_number cycles bottom cycle =
+    label_at (codes "m") (number_middle (column cycle cycles) cycle) (bottom + 14) ++ (decimal cycle ++ label_end)
 
 -- the lines and then the numbers, with what they count
 unfoldable pub scale_by : (step cycles bottom : ℕ) → List ℕ

@@ -1,4 +1,7 @@
 //! Draws a plan as a picture: one SVG image, with the wires from top to bottom and the cycles from left to right.
+//!
+//! Its text is by its definition, and a wire is drawn at exactly the cycles at which the run of a good plan uses it. The tests
+//! are those of `live_tests`, what they draw that of `power_events`. The only error is out of memory.
 #![tactic(auto)]
 
 ghost use Rattle.std.specs.Prelude.{◌≡◌, ℕ, ◌+◌, ◌^◌, ◌≤◌, ◌++◌, List, Some, slice_get, IfOk, OnOk};
@@ -69,7 +72,8 @@ fn steps_below(
 ) -> Result<Vec<(u64, u64)>, NoMemory>
     requires steps { (i : ℕ) (t : the_placed) → slice_get tests.now i ≡ Some t → HasSteps (limits_value limits.now) t }
     requires within { (c : ℕ) → drawn_by (limits_value limits.now) tests.now c ≤ most }
-    ensures { (last : ℕ) → ((i : ℕ) (t : the_placed) → slice_get tests.now i ≡ Some t → t.end ≤ last) → IfOk result (λ steps. steps.items ≡ load_steps (drawn_by (limits_value limits.now) tests.now) last) }
+    ensures { (last : ℕ) → ((i : ℕ) (t : the_placed) → slice_get tests.now i ≡ Some t → t.end ≤ last) →
+        IfOk result (λ steps. steps.items ≡ load_steps (drawn_by (limits_value limits.now) tests.now) last) }
 {
     power_steps(alloc, limits, tests)
 }
@@ -82,7 +86,8 @@ fn steps_under(
 ) -> Result<Vec<(u64, u64)>, NoMemory>
     requires steps { (i : ℕ) (t : the_placed) → slice_get tests.now i ≡ Some t → HasSteps (limits_value limits.now) t }
     requires within { (most : ℕ) → limits.now.power ≡ Some most → (c : ℕ) → drawn_by (limits_value limits.now) tests.now c ≤ most }
-    ensures { (last most : ℕ) → ((i : ℕ) (t : the_placed) → slice_get tests.now i ≡ Some t → t.end ≤ last) → limits.now.power ≡ Some most → IfOk result (λ steps. steps.items ≡ load_steps (drawn_by (limits_value limits.now) tests.now) last) }
+    ensures { (last most : ℕ) → ((i : ℕ) (t : the_placed) → slice_get tests.now i ≡ Some t → t.end ≤ last) → limits.now.power ≡ Some most →
+        IfOk result (λ steps. steps.items ≡ load_steps (drawn_by (limits_value limits.now) tests.now) last) }
 {
     match limits.power {
         Some(most) => steps_below(alloc, limits, tests, most),
@@ -98,7 +103,8 @@ fn parts_with(
     placed: &[PlacedTest],
 ) -> Result<Parts, NoMemory>
     requires { (soc : SocValue) × AreTestsOf soc (limits_value limits.now) (plan_value plan.now) placed.now }
-    ensures { (soc : SocValue) → AreTestsOf soc (limits_value limits.now) (plan_value plan.now) placed.now → IfOk result (AreParts soc (limits_value limits.now) (plan_value plan.now)) }
+    ensures { (soc : SocValue) → AreTestsOf soc (limits_value limits.now) (plan_value plan.now) placed.now →
+        IfOk result (AreParts soc (limits_value limits.now) (plan_value plan.now)) }
 {
     good_without_limits();
     let firsts = first_wires(alloc, plan)?;
@@ -139,7 +145,8 @@ fn push_wires(
     firsts: &[u64],
     drawn: &[Drawn],
 ) -> Result<(), NoMemory>
-    ensures { (tests : List the_placed) → drawn.now ≡ the_wired (between firsts.now) tests → OnOk result (text.new.items ≡ text.old.items ++ wires_text (soc_value soc.now) panel.now (between firsts.now) tests) }
+    ensures { (tests : List the_placed) → drawn.now ≡ the_wired (between firsts.now) tests →
+        OnOk result (text.new.items ≡ text.old.items ++ wires_text (soc_value soc.now) panel.now (between firsts.now) tests) }
 {
     push_buses(text, panel, firsts)?;
     push_tests(text, soc, panel, drawn)
@@ -156,7 +163,9 @@ fn push_inner(
 ) -> Result<(), NoMemory>
     requires lanes { parts.now.lanes.top + parts.now.lanes.height ≤ 2 ^ 33 }
     requires small { parts.now.bottom ≤ 2 ^ 34 }
-    ensures { (limits : LimitsValue) (plan : PlanValue) → AreParts (soc_value soc.now) limits plan parts.now → power ≡ limits.power → cycles ≡ plan.cycles → bound ≡ plan.bound.cycles → OnOk result (text.new.items ≡ text.old.items ++ inner_text (soc_value soc.now) limits plan) }
+    ensures { (limits : LimitsValue) (plan : PlanValue) → AreParts (soc_value soc.now) limits plan parts.now → power ≡ limits.power →
+        cycles ≡ plan.cycles → bound ≡ plan.bound.cycles → OnOk result
+        (text.new.items ≡ text.old.items ++ inner_text (soc_value soc.now) limits plan) }
 {
     push_wires(text, soc, &parts.wires, &parts.firsts, &parts.wired)?;
     push_lanes(text, soc, &parts.lanes, &parts.laned)?;
@@ -168,7 +177,7 @@ fn push_inner(
 /// The picture of a good plan of a sound chip under sound limits, as SVG of 1,140 units from left to right. The wires stand below
 /// each other, with the frames of their buses, and beside each its place and how many wires it has; a rectangle for each test
 /// lies over the wires of its bus, from its start to its end, with its numbers and the name of its module in it where there is
-/// room, and told in full as its title. Below are the self tests, by their starts, each in the first lane that is free then;
+/// room, and written in full as its title. Below are the self tests, by their starts, each in the first lane that is free then;
 /// and, where power has a limit, the steps of what all tests draw, under the line of the limit. Thin lines stand at round
 /// cycles, with a scale of their numbers below all. Lines with numbers mark the last cycle and the bound. A plan of 0 cycles
 /// is the frame alone.

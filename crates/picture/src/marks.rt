@@ -149,7 +149,7 @@ fn push_fill(text: &mut Vec<u8>, place: usize) -> Result<(), NoMemory>
     push(text, b'a' + (place % 4) as u8)
 }
 
-/// Appends what a reader is told of a test of a module of that name.
+/// Appends what the picture says of a test of a module of that name.
 #[tactic(auto, unfolding(crate::specs::Marks::title_text))]
 fn push_title(text: &mut Vec<u8>, name: &[u8], test: &PlacedTest) -> Result<(), NoMemory>
     ensures { OnOk result (text.new.items ≡ text.old.items ++ title_text name.now test.now) }

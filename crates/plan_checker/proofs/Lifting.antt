@@ -13,7 +13,7 @@ use Rattle.plan_model.specs.Rules.{Clash as PlannedClash}
 use Rattle.plan_model.proofs.PlannedTests.{Origin, origin}
 use Rattle.plan_model.proofs.GoodPlansRunRight.{planned_place}
 use Rattle.live_tests.specs.declared.placed.PlacedTest.{PlacedTest}
-use Rattle.plan_checker.specs.declared.clashes.Found.{Found}
+use Rattle.plan_checker.specs.declared.clashes.ClashPlace.{ClashPlace}
 use Rattle.plan_checker.specs.declared.clashes.Apart.{Apart}
 use Rattle.plan_checker.specs.declared.clashes.Apart.TheVariants as apart
 use Rattle.live_tests.specs.Placed.{bus_over, placed_of, placed_tests}
@@ -71,7 +71,7 @@ not_before i j x y no' = elim (cases_order i x) [
   | inr other ↦ elim other [ inl less ↦ inl less | inr more ↦ absurd (no' (inl more)) ]
 ]
 
-pub least_clash : (r : PlacedTest → PlacedTest → Bool) (R : PlannedTest → PlannedTest → Type 0) (tests : List PlannedTest) → Agrees r R tests → (f : Found) → IsLeast r (map placed_of tests) (length (map placed_of tests)) 0 f →
+pub least_clash : (r : PlacedTest → PlacedTest → Bool) (R : PlannedTest → PlannedTest → Type 0) (tests : List PlannedTest) → Agrees r R tests → (f : ClashPlace) → IsLeast r (map placed_of tests) (length (map placed_of tests)) 0 f →
     (x y : PlacedTest) → slice_get (map placed_of tests) f.first ≡ Some x → slice_get (map placed_of tests) f.second ≡ Some y → IsFirstClash R tests x.id y.id f.cycle
 least_clash r R tests agrees f best x y at at' =
     let up : Up R tests f.first f.second f.cycle best.clash.a best.clash.b = clash_up r R tests agrees f.first f.second f.cycle best.clash in
@@ -134,7 +134,7 @@ parent_and_child soc plan parents are = record {
 
 -- ---- the stage of each rule
 
-pub stage_some : (a : Apart) (soc : SocValue) (limits : LimitsValue) (plan : PlanValue) (parents : List ℕ) → AreParents soc parents → (f : Found) → IsLeast (keeps_apart parents a) (placed_tests soc plan) (length (placed_tests soc plan)) 0 f →
+pub stage_some : (a : Apart) (soc : SocValue) (limits : LimitsValue) (plan : PlanValue) (parents : List ℕ) → AreParents soc parents → (f : ClashPlace) → IsLeast (keeps_apart parents a) (placed_tests soc plan) (length (placed_tests soc plan)) 0 f →
     (x y : PlacedTest) → slice_get (placed_tests soc plan) f.first ≡ Some x → slice_get (placed_tests soc plan) f.second ≡ Some y → Shows soc limits plan (fault_value (clash_fault a x.id y.id f.cycle)) × (fault_rank (fault_value (clash_fault a x.id y.id f.cycle)) ≡ rank_of (rule_for a))
 stage_some apart.OneBus soc limits plan parents are f best x y at at' = (least_clash (keeps_apart parents apart.OneBus) ShareBus (planned soc plan) (one_bus parents (planned soc plan)) f best x y at at', refl)
 stage_some apart.OneModule soc limits plan parents are f best x y at at' = (least_clash (keeps_apart parents apart.OneModule) ShareModule (planned soc plan) (one_module parents (planned soc plan)) f best x y at at', refl)

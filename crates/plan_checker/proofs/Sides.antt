@@ -4,7 +4,7 @@ use Rattle.std.specs.Prelude.{slice_get, slice_index}
 use Rattle.std.proofs.lemmas.Bool.{cases_lt, cases_order, eqb-true, eq-eqb, true≢false}
 use Rattle.live_tests.specs.declared.placed.PlacedTest.{PlacedTest}
 use Rattle.plan_checker.specs.declared.meetings.Begin.{Begin}
-use Rattle.plan_checker.specs.declared.meetings.Key.TheVariants as key
+use Rattle.plan_checker.specs.declared.meetings.EndKey.TheVariants as key
 use Rattle.plan_checker.specs.declared.clashes.Apart.TheVariants as apart
 use Rattle.plan_checker.specs.Clashes.{keeps_apart, same_slot, Clash, ParentsFirst, IsLeastCycle, IsFirstCycle}
 use Rattle.plan_checker.specs.Meetings.{notes_for, AreBegins, Meeting, IsFirstMeeting, earlier_of}

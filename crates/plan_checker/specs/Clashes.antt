@@ -5,7 +5,7 @@ use Rattle.plan_checker.specs.declared.PlanFault.{PlanFault}
 use Rattle.plan_checker.specs.declared.PlanFault.TheVariants as fault
 use Rattle.plan_model.specs.Rules.{Rule, Wires, Busy, Parents}
 use Rattle.live_tests.specs.declared.placed.PlacedTest.{PlacedTest}
-use Rattle.plan_checker.specs.declared.clashes.Found.{Found}
+use Rattle.plan_checker.specs.declared.clashes.ClashPlace.{ClashPlace}
 use Rattle.plan_checker.specs.declared.clashes.Apart.{Apart}
 use Rattle.plan_checker.specs.declared.clashes.Apart.TheVariants as apart
 
@@ -42,12 +42,12 @@ abbrev pub IsBefore : (i j i' j' : ℕ) → Type 0
 IsBefore i j i' j' = (i < i') ⊎ ((i ≡ i') × (j < j'))
 
 -- the least cycle, and the least pair there, of the pairs that stand before `i`, `j`
-pub record IsLeast (r : PlacedTest → PlacedTest → Bool) (placed : List PlacedTest) (i j : ℕ) (f : Found) : Type 0 where
+pub record IsLeast (r : PlacedTest → PlacedTest → Bool) (placed : List PlacedTest) (i j : ℕ) (f : ClashPlace) : Type 0 where
   pub clash : Clash r placed f.first f.second f.cycle
   pub least : (x y c : ℕ) → IsBefore x y i j → Clash r placed x y c → f.cycle ≤ c
   pub first : (x y : ℕ) → IsBefore x y f.first f.second → Clash r placed x y f.cycle → ⊥
 
-abbrev pub IsBest : (PlacedTest → PlacedTest → Bool) → List PlacedTest → ℕ → ℕ → Option Found → Type 0
+abbrev pub IsBest : (PlacedTest → PlacedTest → Bool) → List PlacedTest → ℕ → ℕ → Option ClashPlace → Type 0
 IsBest r placed i j None = (x y c : ℕ) → IsBefore x y i j → Clash r placed x y c → ⊥
 IsBest r placed i j (Some f) = IsLeast r placed i j f
 
@@ -63,7 +63,7 @@ pub record IsFirstPartner (r : PlacedTest → PlacedTest → Bool) (placed : Lis
   pub first : (k : ℕ) → k < j → Clash r placed i k c → ⊥
 
 -- the first pair at the cycle
-pub record IsFirstPair (r : PlacedTest → PlacedTest → Bool) (placed : List PlacedTest) (c : ℕ) (f : Found) : Type 0 where
+pub record IsFirstPair (r : PlacedTest → PlacedTest → Bool) (placed : List PlacedTest) (c : ℕ) (f : ClashPlace) : Type 0 where
   pub cycle_is : f.cycle ≡ c
   pub clash : Clash r placed f.first f.second c
   pub first : (x y : ℕ) → IsBefore x y f.first f.second → Clash r placed x y c → ⊥
@@ -86,7 +86,8 @@ rule_for apart.ParentAndChild = Parents
 
 -- a test of a parent stands before each test of the child
 abbrev pub ParentsFirst : List ℕ → List PlacedTest → Type 0
-ParentsFirst parents placed = (i j : ℕ) (a b : PlacedTest) → slice_get placed i ≡ Some a → slice_get placed j ≡ Some b → a.place ≡ slice_index parents b.place → i < j
+ParentsFirst parents placed =
+    (i j : ℕ) (a b : PlacedTest) → slice_get placed i ≡ Some a → slice_get placed j ≡ Some b → a.place ≡ slice_index parents b.place → i < j
 
 abbrev pub PlacesWithin : ℕ → List PlacedTest → Type 0
 PlacesWithin n placed = (i : ℕ) (j : PlacedTest) → slice_get placed i ≡ Some j → j.place < n

@@ -15,11 +15,13 @@ IsUnlisted numbers count marks earlier x = (p : ℕ) → slice_get numbers p ≡
 
 -- the modules that a bus lists have its mark, the others keep theirs
 abbrev pub AreMarked : List ℕ → List ℕ → ℕ → List ℕ → List ℕ → Type 0
-AreMarked numbers old bus listed marks = (p n : ℕ) → slice_get numbers p ≡ Some n → slice_get marks p ≡ Some (if list_any (nat_eq n) listed then bus else slice_index old p)
+AreMarked numbers old bus listed marks =
+    (p n : ℕ) → slice_get numbers p ≡ Some n → slice_get marks p ≡ Some (if list_any (nat_eq n) listed then bus else slice_index old p)
 
 -- the marks once these buses of all of them have been listed
 abbrev pub AreMarkedTo : List ℕ → ℕ → List BusValue → List ℕ → Type 0
-AreMarkedTo numbers count buses marks = (p n : ℕ) → slice_get numbers p ≡ Some n → slice_get marks p ≡ Some (if list_any (nat_eq n) (flat_map (λ (b : BusValue). b.modules) buses) then bus_place n 0 buses else count)
+AreMarkedTo numbers count buses marks = (p n : ℕ) → slice_get numbers p ≡ Some n →
+    slice_get marks p ≡ Some (if list_any (nat_eq n) (flat_map (λ (b : BusValue). b.modules) buses) then bus_place n 0 buses else count)
 
 -- the mark of each module is the place of its bus
 abbrev pub AreBusesBy : List ℕ → List BusValue → List ℕ → Type 0
@@ -32,7 +34,8 @@ IsFirstUnplaced soc plan (Some number) = (n : ℕ) × (m : ModuleValue) × IsFir
 
 -- the wrapper has a chain and no more chains than its bus has wires
 abbrev pub OnWires : List BusValue → WrapperValue → Type 0
-OnWires buses w = (1 ≤ length w.chains) × (length w.chains ≤ slice_index (map (λ (b : BusValue). b.width) buses) (bus_place w.«module» 0 buses))
+OnWires buses w =
+    (1 ≤ length w.chains) × (length w.chains ≤ slice_index (map (λ (b : BusValue). b.width) buses) (bus_place w.«module» 0 buses))
 
 abbrev pub IsWired : List BusValue → WrapperValue → Bool → Type 0
 IsWired buses w true = OnWires buses w

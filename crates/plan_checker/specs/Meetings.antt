@@ -3,18 +3,18 @@ use Rattle.std.specs.Prelude.{◌≡◌, ℕ, ◌<◌, ◌≤◌, ◌&&◌, Bool
 use Rattle.std.specs.List.Sorted.{IsNonDecreasingBy}
 use Rattle.live_tests.specs.declared.placed.PlacedTest.{PlacedTest}
 use Rattle.plan_checker.specs.declared.meetings.Begin.{Begin}
-use Rattle.plan_checker.specs.declared.meetings.Key.{Key}
-use Rattle.plan_checker.specs.declared.meetings.Key.TheVariants as key
+use Rattle.plan_checker.specs.declared.meetings.EndKey.{EndKey}
+use Rattle.plan_checker.specs.declared.meetings.EndKey.TheVariants as key
 use Rattle.plan_checker.specs.Clashes.{BothAt, same_slot}
 
 -- the number by which a test is found
-abbrev pub slot : List ℕ → Key → PlacedTest → Option ℕ
+abbrev pub slot : List ℕ → EndKey → PlacedTest → Option ℕ
 slot parents key.Bus j = j.bus
 slot parents key.Place j = Some j.place
 slot parents key.Parent j = Some (slice_index parents j.place)
 
 -- whether the first test's end is noted where the second one asks
-abbrev pub notes_for : List ℕ → Key → Key → PlacedTest → PlacedTest → Bool
+abbrev pub notes_for : List ℕ → EndKey → EndKey → PlacedTest → PlacedTest → Bool
 notes_for parents noted asked a b = same_slot (slot parents noted a) (slot parents asked b)
 
 -- every number by which a test is found is a place among the ends

@@ -6,7 +6,8 @@ use Rattle.live_tests.specs.declared.placed.PlacedTest.{PlacedTest}
 
 -- the first has ended as the second starts
 abbrev pub AreInOrder : List PlacedTest → List (TestId × TestId) → TestId × TestId → Type 0
-AreInOrder placed earlier p = (i j : ℕ) (a b : PlacedTest) → slice_get placed i ≡ Some a → slice_get placed j ≡ Some b → a.id ≡ p.0 → b.id ≡ p.1 → a.end ≤ b.start
+AreInOrder placed earlier p =
+    (i j : ℕ) (a b : PlacedTest) → slice_get placed i ≡ Some a → slice_get placed j ≡ Some b → a.id ≡ p.0 → b.id ≡ p.1 → a.end ≤ b.start
 
 abbrev pub last_end : List PlacedTest → ℕ
 last_end placed = greatest (map (λ (j : PlacedTest). j.end) placed)

@@ -8,13 +8,14 @@ use Rattle.plan_model.specs.Views.{plan_value}
 use Rattle.plan_model.specs.Rules.{Each, HasStart, HasWrapper, HasProperCells, live_ids, used_pairs, pair_of}
 use Rattle.soc_model.specs.SoundChips.{IsSoundChip}
 use Rattle.indexmap.specs.IndexSet.{keys}
-use Rattle.plan_checker.specs.declared.placed.Placing.{Placing}
+use Rattle.plan_checker.specs.declared.placed.PlanLookups.{PlanLookups}
 use Rattle.plan_checker.specs.Listed.{AreBuses, StartEarly}
 use Rattle.plan_checker.specs.Starting.{AreStarts}
 
 -- the chip and the plan, the names of the live tests, the starts at their places, the pairs of a module and a mode in the
 -- order of the wrappers, and the buses
-pub record IsPlacedBy (soc : Soc) (plan : Plan) (names : List TestId) (starts : List ℕ) (pairs : List (ℕ × Bool)) (buses : List ℕ) : Type 0 where
+pub record IsPlacedBy (soc : Soc) (plan : Plan) (names : List TestId) (starts : List ℕ) (pairs : List (ℕ × Bool))
+    (buses : List ℕ) : Type 0 where
   pub sound : IsSoundChip (soc_value soc)
   pub wrapped : Each (HasWrapper (plan_value plan)) (used_pairs (soc_value soc))
   pub proper : Each (HasProperCells (soc_value soc)) (plan_value plan).wrappers
@@ -26,5 +27,5 @@ pub record IsPlacedBy (soc : Soc) (plan : Plan) (names : List TestId) (starts : 
   pub buses_are : AreBuses (soc_value soc) (plan_value plan) buses
 
 -- the same of what the code has
-abbrev pub IsPlacing : Placing → Type 0
+abbrev pub IsPlacing : PlanLookups → Type 0
 IsPlacing from = IsPlacedBy from.soc.now from.plan.now (keys from.names.now) from.starts.now (keys from.wrappers.now) from.buses.now

@@ -5,11 +5,12 @@ use Rattle.plan_model.specs.Plans.{LimitsValue}
 use Rattle.plan_model.specs.Views.{limits_value}
 use Rattle.live_tests.specs.declared.placed.PlacedTest.{PlacedTest}
 use Rattle.power_events.specs.Events.{profile_place, steps_of, HasSteps}
-use Rattle.plan_checker.specs.declared.power.Load.{Load}
+use Rattle.plan_checker.specs.declared.power.ProfiledTests.{ProfiledTests}
 
 -- for each test the place of its profile
 abbrev pub AreProfiles : LimitsValue → List PlacedTest → List ℕ → Type 0
-AreProfiles limits placed places = (i : ℕ) (j : PlacedTest) → slice_get placed i ≡ Some j → slice_get places i ≡ Some (profile_place limits j.id)
+AreProfiles limits placed places =
+    (i : ℕ) (j : PlacedTest) → slice_get placed i ≡ Some j → slice_get places i ≡ Some (profile_place limits j.id)
 
 -- few steps with growing begins, and powers that leave room for sums
 pub record HasSmallSteps (limits : LimitsValue) (j : PlacedTest) : Type 0 where
@@ -25,5 +26,5 @@ pub record IsLoad (limits : LimitsValue) (placed : List PlacedTest) (profiles : 
   pub limit : most ≤ 10 ^ 9
 
 -- the same of the load that the code has
-abbrev pub IsSoundLoad : Load → Type 0
+abbrev pub IsSoundLoad : ProfiledTests → Type 0
 IsSoundLoad load = IsLoad (limits_value load.limits.now) load.placed.now load.profiles.now load.most

@@ -91,10 +91,13 @@ impl Model for Scratch {
       tests = length s.rooms.placed.tests.items;
     } };
 
-    ghost invariant = { λ s. (length s.rooms.placed.parents.items ≡ length s.rooms.marks.items) × (length s.rooms.placed.profiles.items ≡ length s.rooms.placed.tests.items)
-        × (length s.rooms.placed.begins.items ≡ length s.rooms.placed.tests.items) × (length s.rooms.placed.ends.items ≡ length s.rooms.marks.items + WIRES_MOST + 1)
+    ghost invariant = { λ s. (length s.rooms.placed.parents.items ≡ length s.rooms.marks.items)
+        × (length s.rooms.placed.profiles.items ≡ length s.rooms.placed.tests.items)
+        × (length s.rooms.placed.begins.items ≡ length s.rooms.placed.tests.items)
+        × (length s.rooms.placed.ends.items ≡ length s.rooms.marks.items + WIRES_MOST + 1)
         × (length s.rooms.placed.tests.items * EVENTS_EACH ≤ vec_capacity s.rooms.placed.events)
-        × (length s.rooms.starts.items ≡ length s.rooms.placed.tests.items) × (length s.rooms.placed.tests.items ≤ length (keys s.rooms.names) + spare s.rooms.names) };
+        × (length s.rooms.starts.items ≡ length s.rooms.placed.tests.items)
+        × (length s.rooms.placed.tests.items ≤ length (keys s.rooms.names) + spare s.rooms.names) };
 }
 
 /// The number of live tests of a list.
@@ -196,7 +199,8 @@ pub fn check_plan(
     ensures ok { OnOk result (IsFaultless (soc_value soc.now) (limits_value limits.now) (plan_value plan.now)) }
     ensures fault { IfErr result (λ f. IsFault (soc_value soc.now) (limits_value limits.now) (plan_value plan.now) (fault_value f)) }
     ensures exact { IsFaultless (soc_value soc.now) (limits_value limits.now) (plan_value plan.now) → IsOk result }
-    ensures right { OnOk result ((content : Content) → IsRight (soc_value soc.now) (limits_value limits.now) (plan_value plan.now) content) }
+    ensures right { OnOk result ((content : Content) → IsRight (soc_value soc.now) (limits_value limits.now)
+        (plan_value plan.now) content) }
     ensures bound { OnOk result (IsBound (soc_value soc.now) (limits_value limits.now) (plan_value plan.now).bound.cycles) }
     ensures room { HasRoom (soc_value soc.now) room.new }
     ensures serves { (chip : SocValue) → HasRoom chip room.old → HasRoom chip room.new }
@@ -224,12 +228,13 @@ pub fn first_fault(
     requires limits { IsSoundLimits (soc_value soc.now) (limits_value limits.now) }
     requires early { All (λ (s : TestId × ℕ). s.1 ≤ START_MOST) plan.now.starts.items }
     ensures none { IfOk result (λ found. found ≡ None → IsFaultless (soc_value soc.now) (limits_value limits.now) (plan_value plan.now)) }
-    ensures fault { IfOk result (λ found. IfSome found (λ f. IsFault (soc_value soc.now) (limits_value limits.now) (plan_value plan.now) (fault_value f))) }
+    ensures fault { IfOk result (λ found. IfSome found (λ f.
+        IsFault (soc_value soc.now) (limits_value limits.now) (plan_value plan.now) (fault_value f))) }
     ensures exact { IfOk result (λ found. IsFaultless (soc_value soc.now) (limits_value limits.now) (plan_value plan.now) → found ≡ None) }
 {
     let mut room = Scratch::new(alloc, soc, plan)?;
     let checked = check_plan(soc, limits, plan, &mut room);
-    // let go by a call: an arm below would let go of each of its parts, and be proved for each
+    // dropped by a call: an arm below would drop each of its parts, and be proved for each
     drop(room);
     match checked {
         Ok(()) => Ok(None),

@@ -11,7 +11,7 @@ ghost use Rattle.live_tests.specs.Placed.{placed_tests};
 ghost use Rattle.plan_checker.specs.Stages.{IsStage};
 
 use crate::PlanFault;
-use crate::meetings::{Begin, Key, earlier, first_meeting};
+use crate::meetings::{Begin, EndKey, earlier, first_meeting};
 use live_tests::PlacedTest;
 use soc_model::TestId;
 
@@ -25,7 +25,7 @@ pub enum Apart {
 
 /// Two places in the list of placed tests and a cycle.
 #[derive(Clone, Copy, Drop)]
-pub struct Found {
+pub struct ClashPlace {
     pub first: usize,
     pub second: usize,
     pub cycle: u64,
@@ -105,14 +105,19 @@ fn first_partner(
 }
 
 /// The least pair of tests that meet at the cycle, though the rule keeps them apart.
-fn first_pair(parents: &[usize], apart: Apart, placed: &[PlacedTest], cycle: u64) -> Option<Found>
+fn first_pair(
+    parents: &[usize],
+    apart: Apart,
+    placed: &[PlacedTest],
+    cycle: u64,
+) -> Option<ClashPlace>
     requires { PlacesWithin (length parents.now) placed.now }
     ensures found { IfSome result (λ f. IsFirstPair (keeps_apart parents.now apart) placed.now cycle f) }
     ensures none { IfNone result ((i : ℕ) → HasNoPartner (keeps_apart parents.now apart) placed.now i cycle) }
 {
     for first in 0..placed.len() {
         if let Some(second) = first_partner(parents, apart, placed, first, cycle) {
-            return Some(Found {
+            return Some(ClashPlace {
                 first,
                 second,
                 cycle,
@@ -134,18 +139,32 @@ fn least_cycle(
     ensures { IsFirstCycle (keeps_apart parents.now apart) placed.now result }
 {
     match apart {
-        Apart::OneBus => first_meeting(parents, placed, begins, Key::Bus, Key::Bus, ends),
-        Apart::OneModule => first_meeting(parents, placed, begins, Key::Place, Key::Place, ends),
+        Apart::OneBus => first_meeting(parents, placed, begins, EndKey::Bus, EndKey::Bus, ends),
+        Apart::OneModule => first_meeting(
+            parents,
+            placed,
+            begins,
+            EndKey::Place,
+            EndKey::Place,
+            ends,
+        ),
         Apart::ParentAndChild => {
             let parent_first = first_meeting(
                 parents,
                 placed,
                 begins,
-                Key::Place,
-                Key::Parent,
+                EndKey::Place,
+                EndKey::Parent,
                 ends,
             );
-            let child_first = first_meeting(parents, placed, begins, Key::Parent, Key::Place, ends);
+            let child_first = first_meeting(
+                parents,
+                placed,
+                begins,
+                EndKey::Parent,
+                EndKey::Place,
+                ends,
+            );
             earlier(parent_first, child_first)
         }
     }
@@ -158,7 +177,7 @@ pub(crate) fn first_clash(
     placed: &[PlacedTest],
     begins: &[Begin],
     ends: &mut [u64],
-) -> Option<Found>
+) -> Option<ClashPlace>
     requires { IsLayout parents.now placed.now begins.now (length ends.old) }
     ensures { IsBest (keeps_apart parents.now apart) placed.now (length placed.now) 0 result }
 {
@@ -188,7 +207,8 @@ pub(crate) fn check_apart(
     ends: &mut [u64],
 ) -> Option<PlanFault>
     requires { IsLayout parents.now placed.now begins.now (length ends.old) }
-    ensures { (soc : SocValue) (limits : LimitsValue) (plan : PlanValue) → placed.now ≡ placed_tests soc plan → AreParents soc parents.now → IsStage soc limits plan (rule_for apart) result }
+    ensures { (soc : SocValue) (limits : LimitsValue) (plan : PlanValue) → placed.now ≡ placed_tests soc plan → AreParents soc parents.now →
+        IsStage soc limits plan (rule_for apart) result }
 {
     match first_clash(parents, apart, placed, begins, ends) {
         Some(found) => Some(fault_of(

@@ -75,7 +75,8 @@ fn cells_fit(soc: &Soc, wrapper: &Wrapper) -> bool
 /// The wrappers against the cells of their modules.
 fn check_wrapped(soc: &Soc, wrappers: &[Wrapper]) -> Option<PlanFault>
     requires { IsSoundChip (soc_value soc.now) }
-    ensures { (limits : LimitsValue) (plan : PlanValue) → map wrapper_value wrappers.now ≡ plan.wrappers → IsStage (soc_value soc.now) limits plan Proper result }
+    ensures { (limits : LimitsValue) (plan : PlanValue) → map wrapper_value wrappers.now ≡ plan.wrappers →
+        IsStage (soc_value soc.now) limits plan Proper result }
 {
     for wrapper in wrappers {
         if !cells_fit(soc, wrapper) {

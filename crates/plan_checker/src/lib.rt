@@ -1,4 +1,7 @@
 //! Checks a plan: the first rule of good plans that it breaks, and what shows that first.
+//!
+//! A plan passes exactly where it keeps the rules of `plan_model` and its certificate is accepted (`bound_certificate`); else its
+//! one fault is answered. Errors are that fault and out of memory.
 #![tactic(auto)]
 
 mod check;

@@ -43,7 +43,8 @@ pub(crate) fn check_before(
 ) -> Option<PlanFault>
     requires named { keys names.now ≡ names_of placed.now }
     requires apart { AllDiffer (names_of placed.now) }
-    ensures { (soc : SocValue) (limits : LimitsValue) (plan : PlanValue) → placed.now ≡ placed_tests soc plan → before.now ≡ limits.before → IsStage soc limits plan Precedences result }
+    ensures { (soc : SocValue) (limits : LimitsValue) (plan : PlanValue) → placed.now ≡ placed_tests soc plan → before.now ≡ limits.before →
+        IsStage soc limits plan Precedences result }
 {
     for (a, b) in before {
         if !in_order(placed, names, *a, *b) {
@@ -66,7 +67,8 @@ fn latest(placed: &[PlacedTest]) -> u64
 
 /// The cycles that a plan says it takes against its tests.
 pub(crate) fn check_cycles(cycles: u64, placed: &[PlacedTest]) -> Option<PlanFault>
-    ensures { (soc : SocValue) (limits : LimitsValue) (plan : PlanValue) → placed.now ≡ placed_tests soc plan → cycles ≡ plan.cycles → IsStage soc limits plan Cycles result }
+    ensures { (soc : SocValue) (limits : LimitsValue) (plan : PlanValue) → placed.now ≡ placed_tests soc plan → cycles ≡ plan.cycles →
+        IsStage soc limits plan Cycles result }
 {
     let right = latest(placed);
     if cycles == right {

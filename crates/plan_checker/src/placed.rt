@@ -31,7 +31,7 @@ pub(crate) const NO_TEST: PlacedTest = PlacedTest {
 
 /// What the plan and the rooms that were filled from it say of a module.
 #[derive(Clone, Copy, Drop)]
-pub(crate) struct Placing<'a> {
+pub(crate) struct PlanLookups<'a> {
     pub(crate) soc: &'a Soc,
     pub(crate) plan: &'a Plan,
     pub(crate) names: &'a IndexSet<TestId>,
@@ -41,7 +41,7 @@ pub(crate) struct Placing<'a> {
 }
 
 /// The module's wrappers, each walked once.
-fn mode_wrappers(from: &Placing<'_>, place: usize, module: &Module) -> ModeWrappers
+fn mode_wrappers(from: &PlanLookups<'_>, place: usize, module: &Module) -> ModeWrappers
     requires placing { IsPlacing from.now }
     requires there { slice_get (soc_value from.now.soc.now).modules place ≡ Some (module_value «module».now) }
     ensures { AreModeWrappers (plan_value from.now.plan.now) (module_value «module».now) result }
@@ -75,7 +75,7 @@ fn start_at(starts: &[u64], place: usize) -> u64
 }
 
 /// The start of a live test.
-fn start_of(from: &Placing<'_>, id: TestId) -> u64
+fn start_of(from: &PlanLookups<'_>, id: TestId) -> u64
     requires placing { IsPlacing from.now }
     requires live { Contains (live_ids (soc_value from.now.soc.now)) id }
     ensures start { result ≡ of_first (λ (s : TestId × ℕ). same_test s.0 id) (λ s. s.1) 0 from.now.plan.now.starts.items }
@@ -89,7 +89,7 @@ fn start_of(from: &Placing<'_>, id: TestId) -> u64
 
 /// A live test of the module as the plan places it.
 fn placed_of(
-    from: &Placing<'_>,
+    from: &PlanLookups<'_>,
     place: usize,
     module: &Module,
     wrappers: &ModeWrappers,
@@ -114,7 +114,7 @@ fn placed_of(
 
 /// Writes the live tests of the module at a place from `done` on, and answers the place behind them.
 fn fill_module(
-    from: &Placing<'_>,
+    from: &PlanLookups<'_>,
     place: usize,
     module: &Module,
     placed: &mut [PlacedTest],
@@ -122,9 +122,12 @@ fn fill_module(
 ) -> usize
     requires placing { IsPlacing from.now }
     requires there { slice_get (soc_value from.now.soc.now).modules place ≡ Some (module_value «module».now) }
-    requires room { done + length (placed_in (plan_value from.now.plan.now) place (module_value «module».now) «module».now.tests.items) ≤ length placed.old }
-    ensures filled { take result placed.new ≡ take done placed.old ++ placed_in (plan_value from.now.plan.now) place (module_value «module».now) «module».now.tests.items }
-    ensures count { result ≡ done + length (placed_in (plan_value from.now.plan.now) place (module_value «module».now) «module».now.tests.items) }
+    requires room { done + length (placed_in (plan_value from.now.plan.now) place (module_value «module».now) «module».now.tests.items)
+        ≤ length placed.old }
+    ensures filled { take result placed.new ≡ take done placed.old
+        ++ placed_in (plan_value from.now.plan.now) place (module_value «module».now) «module».now.tests.items }
+    ensures count { result ≡ done + length (placed_in (plan_value from.now.plan.now) place
+        (module_value «module».now) «module».now.tests.items) }
 {
     let wrappers = mode_wrappers(from, place, module);
     let mut next = done;
@@ -139,7 +142,7 @@ fn fill_module(
 }
 
 /// Writes all live tests.
-pub(crate) fn fill_tests(from: &Placing<'_>, placed: &mut [PlacedTest])
+pub(crate) fn fill_tests(from: &PlanLookups<'_>, placed: &mut [PlacedTest])
     requires placing { IsPlacing from.now }
     requires room { length placed.old ≡ length (placed_tests (soc_value from.now.soc.now) (plan_value from.now.plan.now)) }
     ensures { placed.new ≡ placed_tests (soc_value from.now.soc.now) (plan_value from.now.plan.now) }

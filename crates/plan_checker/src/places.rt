@@ -50,7 +50,7 @@ fn list_bus(soc: &Soc, listed: &[u64], bus: usize, count: usize, marks: &mut [us
 }
 
 /// Writes one number at each place.
-pub(crate) fn clear(marks: &mut [usize], count: usize)
+pub(crate) fn clear_marks(marks: &mut [usize], count: usize)
     ensures { (p : ℕ) → p < length marks.old → slice_get marks.new p ≡ Some count }
 {
     for mark in marks.iter_mut() {
@@ -64,11 +64,12 @@ fn listed_twice(soc: &Soc, buses: &[Bus], marks: &mut [usize]) -> Option<u64>
     requires known { EachOf (Contains (numbers (soc_value soc.now))) (flat_map (λ (b : BusValue). b.modules) (map bus_value buses.now)) }
     requires room { length marks.old ≡ length (numbers (soc_value soc.now)) }
     ensures new { IfNone result (Each IsNew (flat_map (λ (b : BusValue). b.modules) (map bus_value buses.now))) }
-    ensures first { IfSome result (λ m. (n : ℕ) × IsFirstBreach IsNew (flat_map (λ (b : BusValue). b.modules) (map bus_value buses.now)) n m) }
+    ensures first { IfSome result (λ m. (n : ℕ) × IsFirstBreach IsNew
+        (flat_map (λ (b : BusValue). b.modules) (map bus_value buses.now)) n m) }
     ensures marked { IfNone result (AreBusesBy (numbers (soc_value soc.now)) (map bus_value buses.now) marks.new) }
 {
     let count = buses.len();
-    clear(marks, count);
+    clear_marks(marks, count);
     for (place, bus) in buses.iter().enumerate() {
         let double = list_bus(soc, &bus.modules, place, count, marks);
         if double.is_some() {
@@ -81,7 +82,8 @@ fn listed_twice(soc: &Soc, buses: &[Bus], marks: &mut [usize]) -> Option<u64>
 /// The first module with a test over the wires that is on no bus.
 fn unplaced(soc: &Soc, marks: &[usize], count: usize) -> Option<u64>
     requires { length marks.now ≡ length (soc_value soc.now).modules }
-    ensures { (plan : PlanValue) → AreBusesBy (numbers (soc_value soc.now)) plan.buses marks.now → count ≡ length plan.buses → IsFirstUnplaced (soc_value soc.now) plan result }
+    ensures { (plan : PlanValue) → AreBusesBy (numbers (soc_value soc.now)) plan.buses marks.now → count ≡ length plan.buses →
+        IsFirstUnplaced (soc_value soc.now) plan result }
 {
     for (place, bus) in marks.iter().enumerate() {
         if *bus < count {

@@ -19,7 +19,7 @@ ghost use Rattle.plan_checker.specs.Stages.{IsStage};
 use crate::PlanFault;
 use crate::events::{EVENTS_EACH, Excess, first_excess};
 use crate::named::{place_named, test_at};
-use crate::places::clear;
+use crate::places::clear_marks;
 use indexmap::IndexSet;
 use live_tests::PlacedTest;
 use plan_model::{Limits, Profile};
@@ -28,7 +28,7 @@ use soc_model::TestId;
 
 /// The placed tests of a plan, and for each the place of its profile in the limits.
 #[derive(Clone, Copy, Drop)]
-pub(crate) struct Load<'a> {
+pub(crate) struct ProfiledTests<'a> {
     pub(crate) limits: &'a Limits,
     pub(crate) placed: &'a [PlacedTest],
     pub(crate) profiles: &'a [usize],
@@ -57,7 +57,7 @@ pub(crate) fn fill_profiles(
     ensures { AreProfiles (limits_value limits.now) placed.now profiles.new }
 {
     let count = profile_count(&limits.profiles);
-    clear(profiles, count);
+    clear_marks(profiles, count);
     for at in (0..count).rev() {
         match place_named(names, limits.profiles[at].test) {
             Some(place) => write_place(profiles, place, at),
@@ -74,20 +74,22 @@ fn profile_count(profiles: &[Profile]) -> usize
 }
 
 /// The place of the profile of the test at a place.
-fn profile_of(load: &Load<'_>, place: usize) -> usize
+fn profile_of(load: &ProfiledTests<'_>, place: usize) -> usize
     requires load { IsSoundLoad load.now }
     requires within { place < length load.now.placed.now }
-    ensures { (j : PlacedTest) → slice_get load.now.placed.now place ≡ Some j → result ≡ profile_place (limits_value load.now.limits.now) j.id }
+    ensures { (j : PlacedTest) → slice_get load.now.placed.now place ≡ Some j →
+        result ≡ profile_place (limits_value load.now.limits.now) j.id }
 {
     load.profiles[place]
 }
 
 /// Puts the events of the test at a place last.
-fn put_test(load: &Load<'_>, place: usize, events: &mut Vec<Event>)
+fn put_test(load: &ProfiledTests<'_>, place: usize, events: &mut Vec<Event>)
     requires load { IsSoundLoad load.now }
     requires within { place < length load.now.placed.now }
     requires space { length events.old.items + EVENTS_EACH ≤ vec_capacity events.old }
-    ensures put { (j : PlacedTest) → slice_get load.now.placed.now place ≡ Some j → events.new.items ≡ events.old.items ++ test_events (limits_value load.now.limits.now) j }
+    ensures put { (j : PlacedTest) → slice_get load.now.placed.now place ≡ Some j →
+        events.new.items ≡ events.old.items ++ test_events (limits_value load.now.limits.now) j }
     ensures room { vec_capacity events.old ≤ vec_capacity events.new }
 {
     let test = test_at(load.placed, place);
@@ -105,7 +107,7 @@ fn put_test(load: &Load<'_>, place: usize, events: &mut Vec<Event>)
 }
 
 /// Writes the events of all placed tests.
-fn fill_events(load: &Load<'_>, events: &mut Vec<Event>)
+fn fill_events(load: &ProfiledTests<'_>, events: &mut Vec<Event>)
     requires load { IsSoundLoad load.now }
     requires space { length load.now.placed.now * EVENTS_EACH ≤ vec_capacity events.old }
     ensures filled { events.new.items ≡ all_events (limits_value load.now.limits.now) load.now.placed.now }
@@ -118,7 +120,7 @@ fn fill_events(load: &Load<'_>, events: &mut Vec<Event>)
 }
 
 /// The first cycle at which the tests draw more than the limit, and what they draw then.
-fn first_over(load: &Load<'_>, events: &mut Vec<Event>) -> Option<Excess>
+fn first_over(load: &ProfiledTests<'_>, events: &mut Vec<Event>) -> Option<Excess>
     requires load { IsSoundLoad load.now }
     requires space { length load.now.placed.now * EVENTS_EACH ≤ vec_capacity events.old }
     ensures first { IsFirstOver (drawn_by (limits_value load.now.limits.now) load.now.placed.now) load.now.most result }
@@ -138,13 +140,14 @@ pub(crate) fn check_power(
 ) -> Option<PlanFault>
     requires load { (most : ℕ) → limits.now.power ≡ Some most → IsLoad (limits_value limits.now) placed.now profiles.now most }
     requires space { length placed.now * EVENTS_EACH ≤ vec_capacity events.old }
-    ensures stage { (soc : SocValue) (plan : PlanValue) → placed.now ≡ placed_tests soc plan → IsStage soc (limits_value limits.now) plan Power result }
+    ensures stage { (soc : SocValue) (plan : PlanValue) → placed.now ≡ placed_tests soc plan →
+        IsStage soc (limits_value limits.now) plan Power result }
     ensures room { vec_capacity events.old ≤ vec_capacity events.new }
 {
     match limits.power {
         None => None,
         Some(most) => {
-            let load = Load {
+            let load = ProfiledTests {
                 limits,
                 placed,
                 profiles,

@@ -35,7 +35,7 @@ use crate::events::EVENTS_EACH;
 use crate::known::{check_cells, check_known};
 use crate::meetings::{Begin, fill_begins};
 use crate::order::{check_before, check_cycles};
-use crate::placed::{Placing, fill_tests};
+use crate::placed::{PlanLookups, fill_tests};
 use crate::places::check_places;
 use crate::power::{check_power, fill_profiles};
 use crate::starts::check_starts;
@@ -71,7 +71,8 @@ fn check_meetings(
     ends: &mut [u64],
 ) -> Option<PlanFault>
     requires { IsLayout parents.now placed.now begins.now (length ends.old) }
-    ensures { (soc : SocValue) (limits : LimitsValue) (plan : PlanValue) → placed.now ≡ placed_tests soc plan → AreParents soc parents.now → KeptTo soc limits plan 7 → IsVerdict soc limits plan 10 result }
+    ensures { (soc : SocValue) (limits : LimitsValue) (plan : PlanValue) → placed.now ≡ placed_tests soc plan → AreParents soc parents.now →
+        KeptTo soc limits plan 7 → IsVerdict soc limits plan 10 result }
 {
     match check_apart(parents, Apart::OneBus, placed, begins, ends) {
         Some(fault) => Some(fault),
@@ -129,7 +130,9 @@ fn check_ends(
     requires apart { AllDiffer (names_of placed.now) }
     requires load { (most : ℕ) → limits.now.power ≡ Some most → IsLoad (limits_value limits.now) placed.now profiles.now most }
     requires space { length placed.now * EVENTS_EACH ≤ vec_capacity events.old }
-    ensures verdict { (soc : SocValue) → placed.now ≡ placed_tests soc (plan_value plan.now) → KeptTo soc (limits_value limits.now) (plan_value plan.now) 10 → IsVerdict soc (limits_value limits.now) (plan_value plan.now) 13 result }
+    ensures verdict { (soc : SocValue) → placed.now ≡ placed_tests soc (plan_value plan.now) →
+        KeptTo soc (limits_value limits.now) (plan_value plan.now) 10 →
+        IsVerdict soc (limits_value limits.now) (plan_value plan.now) 13 result }
     ensures room { vec_capacity events.old ≤ vec_capacity events.new }
 {
     match check_before(&limits.before, placed, names) {
@@ -142,7 +145,11 @@ fn check_ends(
 }
 
 /// The tests as the plan places them, once its buses, wrappers and starts have passed.
-fn check_placed(limits: &Limits, from: &Placing<'_>, rooms: &mut PlacedRooms) -> Option<PlanFault>
+fn check_placed(
+    limits: &Limits,
+    from: &PlanLookups<'_>,
+    rooms: &mut PlacedRooms,
+) -> Option<PlanFault>
     requires placing { IsPlacing from.now }
     requires kept { KeptTo (soc_value from.now.soc.now) (limits_value limits.now) (plan_value from.now.plan.now) 7 }
     requires limits { IsSoundLimits (soc_value from.now.soc.now) (limits_value limits.now) }
@@ -199,7 +206,8 @@ pub(crate) fn check_rules(
     requires events_fit { length rooms.old.placed.tests.items * EVENTS_EACH ≤ vec_capacity rooms.old.placed.events }
     ensures good { IfNone result (IsGood (soc_value soc.now) (limits_value limits.now) (plan_value plan.now)) }
     ensures fault { IfSome result (λ f. IsFault (soc_value soc.now) (limits_value limits.now) (plan_value plan.now) (fault_value f)) }
-    ensures pairs_left { length (keys rooms.old.wrappers) + spare rooms.old.wrappers ≤ length (keys rooms.new.wrappers) + spare rooms.new.wrappers }
+    ensures pairs_left { length (keys rooms.old.wrappers) + spare rooms.old.wrappers
+        ≤ length (keys rooms.new.wrappers) + spare rooms.new.wrappers }
     ensures names_left { length (keys rooms.old.names) + spare rooms.old.names ≤ length (keys rooms.new.names) + spare rooms.new.names }
     ensures starts_long { length rooms.new.starts.items ≡ length rooms.old.starts.items }
     ensures events_left { length rooms.old.placed.tests.items * EVENTS_EACH ≤ vec_capacity rooms.new.placed.events }
@@ -221,7 +229,7 @@ pub(crate) fn check_rules(
         ) {
             Some(fault) => Some(fault),
             None => {
-                let from = Placing {
+                let from = PlanLookups {
                     soc,
                     plan,
                     names: &rooms.names,

@@ -100,7 +100,8 @@ fn take_wrappers(
     requires space { length (used_pairs (soc_value soc.now)) ≤ spare room.old }
     ensures kept { IfNone result (Each (IsFitting (soc_value soc.now) (plan_value plan.now)) (map wrapper_value wrappers.now)) }
     ensures filled { IfNone result (keys room.new ≡ map pair_of (map wrapper_value wrappers.now)) }
-    ensures first { IfSome result (λ p. (n : ℕ) × (w : WrapperValue) × IsFirstBreach (IsFitting (soc_value soc.now) (plan_value plan.now)) (map wrapper_value wrappers.now) n w × (p ≡ pair_of w)) }
+    ensures first { IfSome result (λ p. (n : ℕ) × (w : WrapperValue)
+        × IsFirstBreach (IsFitting (soc_value soc.now) (plan_value plan.now)) (map wrapper_value wrappers.now) n w × (p ≡ pair_of w)) }
     ensures space_left { spare room.old ≤ length (keys room.new) + spare room.new }
 {
     for wrapper in wrappers {
@@ -119,8 +120,9 @@ fn take_wrappers(
 }
 
 /// Whether the module uses the mode and the room has no wrapper for it.
-fn lacks(module: &Module, scan: bool, room: &IndexSet<(u64, bool)>) -> bool
-    ensures broken { IsTrue result → Breaks (Contains (keys room.now)) (mode_pair scan (module_value «module».now)) («module».now.number, scan) }
+fn lacks_wrapper(module: &Module, scan: bool, room: &IndexSet<(u64, bool)>) -> bool
+    ensures broken { IsTrue result → Breaks (Contains (keys room.now)) (mode_pair scan (module_value «module».now))
+        («module».now.number, scan) }
     ensures kept { result ≡ false → EachOf (Contains (keys room.now)) (mode_pair scan (module_value «module».now)) }
 {
     if !uses_mode(module, scan) {
@@ -131,13 +133,15 @@ fn lacks(module: &Module, scan: bool, room: &IndexSet<(u64, bool)>) -> bool
 
 /// The first pair of the module that has no wrapper in the room, scan before terminals.
 fn unwrapped_in(module: &Module, room: &IndexSet<(u64, bool)>) -> Option<(u64, bool)>
-    ensures all { IfNone result (EachOf (Contains (keys room.now)) (mode_pair true (module_value «module».now) ++ mode_pair false (module_value «module».now))) }
-    ensures first { IfSome result (λ p. Breaks (Contains (keys room.now)) (mode_pair true (module_value «module».now) ++ mode_pair false (module_value «module».now)) p) }
+    ensures all { IfNone result (EachOf (Contains (keys room.now))
+        (mode_pair true (module_value «module».now) ++ mode_pair false (module_value «module».now))) }
+    ensures first { IfSome result (λ p. Breaks (Contains (keys room.now))
+        (mode_pair true (module_value «module».now) ++ mode_pair false (module_value «module».now)) p) }
 {
-    if lacks(module, true, room) {
+    if lacks_wrapper(module, true, room) {
         return Some((module.number, true));
     }
-    if lacks(module, false, room) {
+    if lacks_wrapper(module, false, room) {
         return Some((module.number, false));
     }
     None

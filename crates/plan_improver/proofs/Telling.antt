@@ -1,4 +1,4 @@
--- What is told of a search.
+-- What is reported of a search.
 use Rattle.std.proofs.Common.{◌≡◌, ℕ, ◌-◌, List, Option, length, min, sym, subst, arith}
 use Rattle.std.proofs.Math.Seq.{take-length}
 use Rattle.outside.specs.Held.{Appended, AppendedFront}

@@ -34,4 +34,5 @@ pub record Improves (soc limits plan : List ℕ) (tries : ℕ) (files : Files) (
 -- so where the call ends with Done, and the shelf tells what it holds
 abbrev pub Headline : Option CommandValue → Option Files → Option (List ℕ) → Status → Option (List ℕ) → Type 0
 Headline command held old end new =
-    (files : Files) (soc limits plan : List ℕ) (tries seed : ℕ) → held ≡ Some files → command ≡ Some (Improve soc limits plan tries seed) → end ≡ Done → Improves soc limits plan tries files old new
+    (files : Files) (soc limits plan : List ℕ) (tries seed : ℕ) → held ≡ Some files → command ≡ Some (Improve soc limits plan tries seed) →
+    end ≡ Done → Improves soc limits plan tries files old new

@@ -1,4 +1,4 @@
--- What is told of a search, line by line.
+-- What is reported of a search, line by line.
 use Rattle.std.specs.Prelude.{◌≡◌, ℕ, ◌-◌, ◌⊎◌, ◌++◌, List, Option, Some, codes, decimal, min}
 use Rattle.std.specs.Int.{div_ceil}
 use Rattle.outside.specs.Held.{AppendedFront}
@@ -18,7 +18,7 @@ pub data TellsDownTo (tries part : ℕ) (first : Option (List ℕ)) : ℕ → Op
   tells : (left cycles : ℕ) (before now : Option (List ℕ)) → TellsDownTo tries part first left before →
       MayAdd (told_line (tries - (left - min part left)) cycles) before now → TellsDownTo tries part first (left - min part left) now
 
--- each tenth of the tries is told, or nothing
+-- each tenth of the tries is reported, or nothing
 abbrev pub MayTell : (tries : ℕ) → (old new : Option (List ℕ)) → Type 0
 MayTell tries old new = (new ≡ old) ⊎ TellsDownTo tries (div_ceil tries 10) old 0 new
 

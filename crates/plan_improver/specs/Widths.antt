@@ -12,4 +12,5 @@ HasWidth table buses m = (1 ≤ bus_width buses m.number) × (bus_width buses m.
 
 -- so is that of each of the first modules
 abbrev pub HaveWidthsBelow : TableValue → List BusValue → ℕ → Type 0
-HaveWidthsBelow table buses n = (place : ℕ) (m : ModuleValue) → place < n → slice_get table.soc.modules place ≡ Some m → IsTrue (has_tam m) → HasWidth table buses m
+HaveWidthsBelow table buses n =
+    (place : ℕ) (m : ModuleValue) → place < n → slice_get table.soc.modules place ≡ Some m → IsTrue (has_tam m) → HasWidth table buses m

@@ -64,7 +64,8 @@ fn starts_of(alloc: Global, found: &Found<'_>) -> Result<Vec<(TestId, u64)>, NoM
 fn has_width(soc: &Soc, table: &WidthTable, buses: &[Bus], place: usize) -> bool
     requires chip { table.now.soc ≡ soc_value soc.now }
     requires there { place < length (soc_value soc.now).modules }
-    ensures { result ≡ true → HaveWidthsBelow table.now (map bus_value buses.now) place → HaveWidthsBelow table.now (map bus_value buses.now) (place + 1) }
+    ensures { result ≡ true → HaveWidthsBelow table.now (map bus_value buses.now) place →
+        HaveWidthsBelow table.now (map bus_value buses.now) (place + 1) }
 {
     if !table.has_tam_test(place) {
         return true;

@@ -39,7 +39,8 @@ fn text_of<T: Sink>(
     requires limits { IsSoundLimits (soc_value all.soc) (limits_value all.limits) }
     requires live { IfSome all.live (λ tests. tests ≡ live_ids (soc_value all.soc)) }
     requires given { IsFaultless (soc_value all.soc) (limits_value all.limits) (plan_value all.plan) }
-    ensures text { IfOk result (λ text. (value : PlanValue) × IsImproved (soc_value all.soc) (limits_value all.limits) tries (plan_value all.plan) value × (text.items ≡ plan_text value)) }
+    ensures text { IfOk result (λ text. (value : PlanValue)
+        × IsImproved (soc_value all.soc) (limits_value all.limits) tries (plan_value all.plan) value × (text.items ≡ plan_text value)) }
     ensures faults_never_fall { T.faults told.old ≤ T.faults told.new }
     ensures quiet { tries < TOLD_FROM → told.new ≡ told.old }
     ensures told { MayTell tries (T.written told.old) (T.written told.new) }
@@ -61,26 +62,33 @@ fn text_of<T: Sink>(
     print_plan(alloc, &better)
 }
 
+/// How many tries a search makes, and the seed of what it draws.
+#[derive(Clone, Copy)]
+struct Drawing {
+    tries: u64,
+    seed: u64,
+}
+
 /// `improve SOC LIMITS PLAN TRIES SEED`: a plan of no more cycles than one that is accepted.
 fn decide_improve<H: Shelf, T: Sink>(
     alloc: Global,
     soc: &str,
     limits: &str,
     plan: &str,
-    tries: u64,
-    seed: u64,
+    by: Drawing,
     shelf: &mut H,
     told: &mut T,
 ) -> Verdict
     ensures held_stays { H.held shelf.new ≡ H.held shelf.old }
     ensures faults_never_fall { H.faults shelf.old ≤ H.faults shelf.new }
     ensures told_faults_never_fall { T.faults told.old ≤ T.faults told.new }
-    ensures follows { Follows (procedure_of (Improve soc.now limits.now plan.now tries seed)) (H.held shelf.old) (H.faults shelf.old) (H.faults shelf.new) result }
-    ensures quiet { tries < TOLD_FROM → told.new ≡ told.old }
-    ensures told { MayTell tries (T.written told.old) (T.written told.new) }
+    ensures follows { Follows (procedure_of (Improve soc.now limits.now plan.now by.tries by.seed)) (H.held shelf.old) (H.faults shelf.old)
+        (H.faults shelf.new) result }
+    ensures quiet { by.tries < TOLD_FROM → told.new ≡ told.old }
+    ensures told { MayTell by.tries (T.written told.old) (T.written told.new) }
 {
     match load_all(alloc, soc, limits, plan, shelf) {
-        Ok(all) => answered_with(Status::Done, text_of(alloc, all, tries, seed, told)),
+        Ok(all) => answered_with(Status::Done, text_of(alloc, all, by.tries, by.seed, told)),
         Err(verdict) => verdict,
     }
 }
@@ -95,7 +103,8 @@ pub(crate) fn decide<H: Shelf, T: Sink>(
     ensures held_stays { H.held shelf.new ≡ H.held shelf.old }
     ensures faults_never_fall { H.faults shelf.old ≤ H.faults shelf.new }
     ensures told_faults_never_fall { T.faults told.old ≤ T.faults told.new }
-    ensures decides { Decides (asked procedure_of (asked_command (map string_bytes words.now))) (H.held shelf.old) (H.faults shelf.old) (H.faults shelf.new) result }
+    ensures decides { Decides (asked procedure_of (asked_command (map string_bytes words.now))) (H.held shelf.old) (H.faults shelf.old)
+        (H.faults shelf.new) result }
     ensures untouched { (IsCommand (asked procedure_of (asked_command (map string_bytes words.now))) → ⊥) → shelf.new ≡ shelf.old }
     ensures quiet { IsQuiet (asked_command (map string_bytes words.now)) → told.new ≡ told.old }
     ensures told { MayTellOf (asked_command (map string_bytes words.now)) (T.written told.old) (T.written told.new) }
@@ -109,7 +118,10 @@ pub(crate) fn decide<H: Shelf, T: Sink>(
                 tries,
                 seed,
             },
-        ) => decide_improve(alloc, soc, limits, plan, tries, seed, shelf, told),
+        ) => {
+            let by = Drawing { tries, seed };
+            decide_improve(alloc, soc, limits, plan, by, shelf, told)
+        }
         _ => bad_words(alloc),
     }
 }

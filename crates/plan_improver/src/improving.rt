@@ -25,7 +25,7 @@ use bound_certificate::best_bound_with;
 use live_tests::Resolved;
 use outside::{NoMemory, Sink};
 use plan_model::{Bound, Limits, Plan, good_plans_run_right};
-use planner::{JobParts, job_with};
+use planner::{JobSource, job_with};
 use resource_table::Job;
 use soc_model::Soc;
 use std::alloc::Global;
@@ -52,8 +52,10 @@ fn greater_bound(
     requires resolved { IsResolved (soc_value known.now.soc.now) known.now.limits.now known.now.resolved.now }
     requires good { (n : ℕ) → IsBound (soc_value known.now.soc.now) (limits_value known.now.limits.now) n → n ≤ cycles }
     requires accepted { IsAccepted (soc_value known.now.soc.now) (limits_value known.now.limits.now) (bound_value given) }
-    ensures greater { IfOk result (λ bound. IsGreaterBound (soc_value known.now.soc.now) (limits_value known.now.limits.now) cycles (bound_value given) (bound_value bound)) }
-    ensures accepted { IfOk result (λ bound. IsAccepted (soc_value known.now.soc.now) (limits_value known.now.limits.now) (bound_value bound)) }
+    ensures greater { IfOk result (λ bound. IsGreaterBound (soc_value known.now.soc.now) (limits_value known.now.limits.now) cycles
+        (bound_value given) (bound_value bound)) }
+    ensures accepted { IfOk result (λ bound. IsAccepted (soc_value known.now.soc.now) (limits_value known.now.limits.now)
+        (bound_value bound)) }
     ensures at_least { IfOk result (λ bound. given.cycles ≤ bound.cycles) }
 {
     let best = best_bound_with(alloc, known.soc, known.limits, known.resolved, cycles)?;
@@ -75,7 +77,8 @@ fn with_greater_bound(
     requires resolved { IsResolved (soc_value known.now.soc.now) known.now.limits.now known.now.resolved.now }
     requires good { IsGood (soc_value known.now.soc.now) (limits_value known.now.limits.now) (plan_value plan) }
     requires accepted { IsAccepted (soc_value known.now.soc.now) (limits_value known.now.limits.now) (bound_value given) }
-    ensures { IfOk result (λ new. IsRaised (soc_value known.now.soc.now) (limits_value known.now.limits.now) (plan_value plan) (bound_value given) (plan_value new)) }
+    ensures { IfOk result (λ new. IsRaised (soc_value known.now.soc.now) (limits_value known.now.limits.now) (plan_value plan)
+        (bound_value given) (plan_value new)) }
 {
     let Plan {
         buses,
@@ -103,7 +106,7 @@ fn job_of_plan(alloc: Global, known: &Known<'_>, given: &Plan) -> Result<Job, No
     ensures sound { IfOk result (λ job. IsSoundJob (job_value job)) }
     ensures tests { IfOk result (λ job. length (job_value job).tests ≡ length (live_tests (soc_value known.now.soc.now))) }
 {
-    let parts = JobParts {
+    let parts = JobSource {
         soc: known.soc,
         limits: known.limits,
         buses: &given.buses,
@@ -156,7 +159,8 @@ fn searched_on<T: Sink>(
     requires limits { IsSoundLimits (soc_value known.now.soc.now) (limits_value known.now.limits.now) }
     requires resolved { IsResolved (soc_value known.now.soc.now) known.now.limits.now known.now.resolved.now }
     requires grounds { AreGrounds (soc_value known.now.soc.now) grounds.now }
-    ensures good { IfOk result (λ plan. IfSome plan (λ p. IsGood (soc_value known.now.soc.now) (limits_value known.now.limits.now) (plan_value p))) }
+    ensures good { IfOk result (λ plan. IfSome plan (λ p. IsGood (soc_value known.now.soc.now) (limits_value known.now.limits.now)
+        (plan_value p))) }
     ensures small_starts { IfOk result (λ plan. IfSome plan (λ p. AreSmallStarts (plan_value p).starts)) }
     ensures fewer { IfOk result (λ plan. IfSome plan (λ p. p.cycles < given.now.cycles)) }
     ensures faults_never_fall { T.faults told.old ≤ T.faults told.new }
@@ -176,7 +180,7 @@ fn searched_on<T: Sink>(
         &search.found(),
         given.cycles,
     );
-    // let go by a call: the end of the scope would let go of each of its parts, and be proved for each
+    // dropped by a call: the end of the scope would drop each of its parts, and be proved for each
     drop(search);
     plan
 }
@@ -194,7 +198,8 @@ fn searched<T: Sink>(
     requires limits { IsSoundLimits (soc_value known.now.soc.now) (limits_value known.now.limits.now) }
     requires resolved { IsResolved (soc_value known.now.soc.now) known.now.limits.now known.now.resolved.now }
     requires given { IsFaultless (soc_value known.now.soc.now) (limits_value known.now.limits.now) (plan_value given.now) }
-    ensures good { IfOk result (λ plan. IfSome plan (λ p. IsGood (soc_value known.now.soc.now) (limits_value known.now.limits.now) (plan_value p))) }
+    ensures good { IfOk result (λ plan. IfSome plan (λ p. IsGood (soc_value known.now.soc.now) (limits_value known.now.limits.now)
+        (plan_value p))) }
     ensures small_starts { IfOk result (λ plan. IfSome plan (λ p. AreSmallStarts (plan_value p).starts)) }
     ensures fewer { IfOk result (λ plan. IfSome plan (λ p. p.cycles < given.now.cycles)) }
     ensures faults_never_fall { T.faults told.old ≤ T.faults told.new }
@@ -207,7 +212,7 @@ fn searched<T: Sink>(
     }
     let grounds = grounds_of(alloc, known, given)?;
     let plan = searched_on(alloc, known, &grounds, given, tries, seed, told);
-    // let go by a call, as the search is
+    // dropped by a call, as the search is
     drop(grounds);
     plan
 }
@@ -215,7 +220,7 @@ fn searched<T: Sink>(
 /// A plan of no more cycles than the given one has, for the same chip and limits, after so many tries of a search that draws
 /// from a seed; the given plan where none is better. It is good, so that it runs right for every content, and its bound is
 /// the greater of the given one and of the best one at its cycles. Every number of it is in the range of a plan's text, where
-/// the given plan's starts are. From 100,000 tries on `told` is told each tenth of them, with the best cycles so far; a `told`
+/// the given plan's starts are. From 100,000 tries on `told` gets a line at each tenth of them, with the best cycles so far; a `told`
 /// that fails changes nothing else. `NoMemory` where there is none.
 pub fn improved<T: Sink>(
     alloc: Global,
@@ -229,8 +234,10 @@ pub fn improved<T: Sink>(
     requires limits { IsSoundLimits (soc_value known.now.soc.now) (limits_value known.now.limits.now) }
     requires resolved { IsResolved (soc_value known.now.soc.now) known.now.limits.now known.now.resolved.now }
     requires given { IsFaultless (soc_value known.now.soc.now) (limits_value known.now.limits.now) (plan_value given) }
-    ensures improved { IfOk result (λ plan. IsImproved (soc_value known.now.soc.now) (limits_value known.now.limits.now) tries (plan_value given) (plan_value plan)) }
-    ensures right { IfOk result (λ plan. (content : Content) → IsRight (soc_value known.now.soc.now) (limits_value known.now.limits.now) (plan_value plan) content) }
+    ensures improved { IfOk result (λ plan. IsImproved (soc_value known.now.soc.now) (limits_value known.now.limits.now) tries
+        (plan_value given) (plan_value plan)) }
+    ensures right { IfOk result (λ plan. (content : Content) →
+        IsRight (soc_value known.now.soc.now) (limits_value known.now.limits.now) (plan_value plan) content) }
     ensures faults_never_fall { T.faults told.old ≤ T.faults told.new }
     ensures quiet { tries < TOLD_FROM → told.new ≡ told.old }
     ensures told { MayTell tries (T.written told.old) (T.written told.new) }

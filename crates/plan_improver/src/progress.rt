@@ -1,4 +1,4 @@
-//! How far a search is, told as it goes.
+//! How far a search is, reported as it goes.
 ghost use Rattle.std.specs.Prelude.{◌≡◌, ◌<◌, ◌≤◌, OnOk};
 ghost use Rattle.plan_improver.specs.declared.progress.TheConstants.{TOLD_FROM};
 ghost use Rattle.plan_improver.specs.Told.{MayAdd, MayTell, told_line};
@@ -7,7 +7,7 @@ use arch_search::Search;
 use outside::{NoMemory, Sink, WriteFault, extend, push_number, put_all};
 use std::alloc::Global;
 
-/// From so many tries on it is told how far they are.
+/// From so many tries on it is reported how far they are.
 const TOLD_FROM: u64 = 100_000;
 /// How often.
 const PARTS: u64 = 10;
@@ -35,7 +35,7 @@ fn write_line(line: &mut Vec<u8>, tries: u64, cycles: u64) -> Result<(), NoMemor
 /// Tells the tries and the best cycles so far: a front of their line, or nothing where there is no room for it. Where that
 /// fails, nothing comes of it.
 #[tactic(auto, using(crate::proofs::Telling::all_is_front))]
-fn tell<T: Sink>(told: &mut T, line: &mut Vec<u8>, tries: u64, cycles: u64)
+fn report_tries<T: Sink>(told: &mut T, line: &mut Vec<u8>, tries: u64, cycles: u64)
     ensures faults { T.faults told.old ≤ T.faults told.new }
     ensures told { MayAdd (told_line tries cycles) (T.written told.old) (T.written told.new) }
 {
@@ -49,7 +49,7 @@ fn tell<T: Sink>(told: &mut T, line: &mut Vec<u8>, tries: u64, cycles: u64)
     }
 }
 
-/// Tries so many changes. Where they are many, each tenth of them is told.
+/// Tries so many changes. Where they are many, each tenth of them is reported.
 pub(crate) fn run_told<T: Sink>(
     search: &mut Search<'_>,
     tries: u64,
@@ -71,6 +71,6 @@ pub(crate) fn run_told<T: Sink>(
         let now = part.min(left);
         search.run(now);
         left -= now;
-        tell(told, line, tries - left, search.cycles());
+        report_tries(told, line, tries - left, search.cycles());
     }
 }

@@ -19,7 +19,7 @@ use std::alloc::Global;
 ///
 /// The words are `improve`, the names of three files, a number of tries, at most 10,000,000, and a seed below 10^12. The files are
 /// taken in this order, each only where the ones before it are taken; the plan has to be accepted. All memory is taken before
-/// the first byte is written. From 100,000 tries on, `told` is told each tenth of them with the best cycles so far, and
+/// the first byte is written. From 100,000 tries on, `told` gets a line at each tenth of them with the best cycles so far, and
 /// for fewer nothing; what becomes of that changes nothing else.
 pub fn improve<H: Shelf, K: Sink, T: Sink>(
     alloc: Global,
@@ -29,24 +29,31 @@ pub fn improve<H: Shelf, K: Sink, T: Sink>(
     told: &mut T,
 ) -> Status
     ensures held_stays { H.held shelf.new ≡ H.held shelf.old }
-    ensures faults_never_fall { (H.faults shelf.old ≤ H.faults shelf.new) × (K.faults out.old ≤ K.faults out.new) × (T.faults told.old ≤ T.faults told.new) }
+    ensures faults_never_fall { (H.faults shelf.old ≤ H.faults shelf.new) × (K.faults out.old ≤ K.faults out.new)
+        × (T.faults told.old ≤ T.faults told.new) }
 
     // What is written is an answer to the words and files, each status where its cause is.
-    ensures ends { Ends (MayAnswer (asked procedure_of (command_of (map string_bytes words.now))) (H.held shelf.old) (H.faults shelf.old) (H.faults shelf.new)) (K.faults out.old) (K.faults out.new) (K.written out.old) result (K.written out.new) }
+    ensures ends { Ends (MayAnswer (asked procedure_of (command_of (map string_bytes words.now))) (H.held shelf.old) (H.faults shelf.old)
+        (H.faults shelf.new)) (K.faults out.old) (K.faults out.new) (K.written out.old) result (K.written out.new) }
     ensures one_line { OneLine (K.written out.old) result (K.written out.new) }
-    ensures by_words { EndsByWords (asked procedure_of (command_of (map string_bytes words.now))) (Rose (K.faults out.old) (K.faults out.new)) result }
+    ensures by_words { EndsByWords (asked procedure_of (command_of (map string_bytes words.now)))
+        (Rose (K.faults out.old) (K.faults out.new)) result }
     ensures untouched { (IsCommand (asked procedure_of (command_of (map string_bytes words.now))) → ⊥) → shelf.new ≡ shelf.old }
     ensures quiet { IsQuiet (command_of (map string_bytes words.now)) → told.new ≡ told.old }
     ensures told { MayTellOf (command_of (map string_bytes words.now)) (T.written told.old) (T.written told.new) }
 
-    // Where the files give an answer and nothing fails, one comes, but for want of memory. The plan is any improved one.
-    ensures complete { Complete false (asked procedure_of (command_of (map string_bytes words.now))) (H.held shelf.old) (Rose (H.faults shelf.old) (H.faults shelf.new)) (Rose (K.faults out.old) (K.faults out.new)) (K.written out.old) result (K.written out.new) }
-    ensures finishes { Finishes (asked procedure_of (command_of (map string_bytes words.now))) (H.held shelf.old) (Rose (H.faults shelf.old) (H.faults shelf.new)) (Rose (K.faults out.old) (K.faults out.new)) result }
+    // Where the files give an answer and nothing fails, one comes, unless memory runs out. The plan is any improved one.
+    ensures complete { Complete false (asked procedure_of (command_of (map string_bytes words.now))) (H.held shelf.old)
+        (Rose (H.faults shelf.old) (H.faults shelf.new)) (Rose (K.faults out.old) (K.faults out.new)) (K.written out.old) result
+        (K.written out.new) }
+    ensures finishes { Finishes (asked procedure_of (command_of (map string_bytes words.now))) (H.held shelf.old)
+        (Rose (H.faults shelf.old) (H.faults shelf.new)) (Rose (K.faults out.old) (K.faults out.new)) result }
     ensures bad_words { SaysBadWords (K.written out.old) result (K.written out.new) }
 
     // The headline: the plan that is written is good and no worse than the one that was given; it runs right, its bound is
     // one, and its text reads back as that plan.
-    ensures headline { Headline (command_of (map string_bytes words.now)) (H.held shelf.old) (K.written out.old) result (K.written out.new) }
+    ensures headline { Headline (command_of (map string_bytes words.now)) (H.held shelf.old) (K.written out.old) result
+        (K.written out.new) }
 {
     good_plans_run_right();
     certificates_are_bounds();

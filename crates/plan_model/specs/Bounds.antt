@@ -25,7 +25,8 @@ least_length m t ends w =
 -- the cycles that a test takes at least on `w` wires
 unfoldable pub lower_time : ModuleValue → Test → ℕ → ℕ
 lower_time m t w =
-    if t.tam then length (ops_of m.setup (least_length m t (m.inputs + m.bidirs) w) (least_length m t (m.outputs + m.bidirs) w) t.patterns) else t.patterns
+    if t.tam then length (ops_of m.setup (least_length m t (m.inputs + m.bidirs) w) (least_length m t (m.outputs + m.bidirs) w) t.patterns)
+    else t.patterns
 
 -- the lower time of a live test
 abbrev pub lower : ℕ → LiveTest → ℕ

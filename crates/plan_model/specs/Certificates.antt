@@ -119,7 +119,8 @@ pub data CertificateFault : Type 0 where
 abbrev pub IsCertificateFault : SocValue → LimitsValue → BoundValue → CertificateFault → Type 0
 IsCertificateFault soc limits bound (BadListFault place) = IsListBreach soc limits bound.cycles bound.why place
 IsCertificateFault soc limits bound (LessFault claimed shown) =
-    KeepsList soc limits bound.cycles bound.why × (claimed ≡ bound.cycles) × (shown ≡ certificate_value soc limits bound.why) × (shown < claimed)
+    KeepsList soc limits bound.cycles bound.why × (claimed ≡ bound.cycles) × (shown ≡ certificate_value soc limits bound.why)
+    × (shown < claimed)
 
 -- ---- elementary values
 

@@ -54,7 +54,8 @@ fault_rank (CyclesFault right) = 12
 fault_rank (BoundFault fault) = 13
 
 -- the first item that breaks the first rule, or else the first that breaks the second; `f` and `g` say what is carried
-pub data FirstOf {X Y Z : Type 0} (P : List X → X → Type 0) (xs : List X) (f : X → Z) (Q : List Y → Y → Type 0) (ys : List Y) (g : Y → Z) (z : Z) : Type 0 where
+pub data FirstOf {X Y Z : Type 0} (P : List X → X → Type 0) (xs : List X) (f : X → Z) (Q : List Y → Y → Type 0) (ys : List Y) (g : Y → Z)
+    (z : Z) : Type 0 where
   Present : (n : ℕ) (x : X) → IsFirstBreach P xs n x → z ≡ f x → FirstOf P xs f Q ys g z
   Missing : Each P xs → (n : ℕ) (y : Y) → IsFirstBreach Q ys n y → z ≡ g y → FirstOf P xs f Q ys g z
 
@@ -81,8 +82,10 @@ abbrev pub Shows : SocValue → LimitsValue → PlanValue → FaultValue → Typ
 Shows soc limits plan (WidthFault bus) = (b : BusValue) × IsFirstBreach (FitsWires limits) plan.buses bus b
 Shows soc limits plan (UnknownModuleFault m) = (n : ℕ) × IsFirstBreach (IsKnown soc) (named plan) n m
 Shows soc limits plan (ModulePlaceFault m) = FirstOf IsNew (listed plan) (λ x. x) (IsListed plan) soc.modules (λ x. x.number) m
-Shows soc limits plan (WrapperListFault m scan) = FirstOf (IsFitting soc plan) plan.wrappers pair_of (HasWrapper plan) (used_pairs soc) (λ p. p) (m, scan)
-Shows soc limits plan (CellsFault m scan) = (n : ℕ) × (w : WrapperValue) × IsFirstBreach (HasProperCells soc) plan.wrappers n w × ((m, scan) ≡ pair_of w)
+Shows soc limits plan (WrapperListFault m scan) =
+    FirstOf (IsFitting soc plan) plan.wrappers pair_of (HasWrapper plan) (used_pairs soc) (λ p. p) (m, scan)
+Shows soc limits plan (CellsFault m scan) =
+    (n : ℕ) × (w : WrapperValue) × IsFirstBreach (HasProperCells soc) plan.wrappers n w × ((m, scan) ≡ pair_of w)
 Shows soc limits plan (TestsFault id) = FirstOf (StartsOnce soc) plan.starts (λ s. s.0) (HasStart plan) (live_ids soc) (λ x. x) id
 Shows soc limits plan (WireFault a b c) = IsFirstClash ShareBus (planned soc plan) a b c
 Shows soc limits plan (BusyFault a b c) = IsFirstClash ShareModule (planned soc plan) a b c

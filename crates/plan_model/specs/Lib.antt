@@ -11,4 +11,5 @@ pub mod Bounds
 pub mod Certificates
 pub mod Faults
 pub mod SoundLimits
+pub mod ProfilePlaces
 pub mod Listing

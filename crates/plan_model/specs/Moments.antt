@@ -40,7 +40,8 @@ wanted_by stimulus cells (Some a) = if nat_lt a.0 (in_length cells) then stimulu
 -- The moment is operation `n`: it wants what lies ahead, and behind it is the capture that is read, if there is one.
 pub record IsMoment (p : Phases) (n : ℕ) (m : Moment) : Type 0 where
   pub operation : slice_get (phase_ops p) n ≡ Some (moment_operation m)
-  pub wants : (stimulus : ℕ → Cell → Bool) (cells : List Cell) → wanted stimulus cells (drop n (phase_ops p)) ≡ wanted_by stimulus cells (moment_ahead m)
+  pub wants : (stimulus : ℕ → Cell → Bool) (cells : List Cell) →
+      wanted stimulus cells (drop n (phase_ops p)) ≡ wanted_by stimulus cells (moment_ahead m)
   pub behind : (s k : ℕ) → moment_behind m ≡ Some (s, k) → (q : ℕ) × (slice_get (phase_ops p) q ≡ Some (Capture k)) × (n ≡ q + 1 + s)
   pub every : (s k q : ℕ) → slice_get (phase_ops p) q ≡ Some (Capture k) → n ≡ q + 1 + s → s < p.so → moment_behind m ≡ Some (s, k)
 

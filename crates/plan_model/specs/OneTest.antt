@@ -15,7 +15,8 @@ pub record ChainTest : Type 0 where
 -- the bits of the chain after so many operations
 unfoldable pub bits_after : ChainTest → ℕ → List Bool
 bits_after t zero = t.initial
-bits_after t (suc n) = next_bits t.response t.cells (slice_get t.operations n) (wanted t.stimulus t.cells (drop n t.operations)) (bits_after t n)
+bits_after t (suc n) =
+    next_bits t.response t.cells (slice_get t.operations n) (wanted t.stimulus t.cells (drop n t.operations)) (bits_after t n)
 
 -- the cell that is `r` places from the end of a chain
 abbrev pub from_end : List Cell → ℕ → Cell
@@ -24,8 +25,10 @@ from_end cells r = get_or cells (length cells - 1 - r) (In 0)
 -- Every capture finds its stimulus in the cells that are loaded. The Shifts after it show its response, the last cell
 -- first.
 pub record RunsRight (t : ChainTest) : Type 0 where
-  pub loads : (n k r : ℕ) (x : Cell) → slice_get t.operations n ≡ Some (Capture k) → r < in_length t.cells → slice_get t.cells r ≡ Some x → slice_get (bits_after t n) r ≡ Some (t.stimulus k x)
-  pub reads : (n k r : ℕ) (x : Cell) → slice_get t.operations n ≡ Some (Capture k) → r < out_length t.cells → slice_get (reverse t.cells) r ≡ Some x →
+  pub loads : (n k r : ℕ) (x : Cell) → slice_get t.operations n ≡ Some (Capture k) → r < in_length t.cells → slice_get t.cells r ≡ Some x →
+      slice_get (bits_after t n) r ≡ Some (t.stimulus k x)
+  pub reads : (n k r : ℕ) (x : Cell) → slice_get t.operations n ≡ Some (Capture k) → r < out_length t.cells →
+      slice_get (reverse t.cells) r ≡ Some x →
       (slice_get t.operations (n + 1 + r) ≡ Some Shift) × (last_bit (bits_after t (n + 1 + r)) ≡ t.response k x)
 
 -- the cells that are read stand at the end of the chain

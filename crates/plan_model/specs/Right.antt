@@ -50,13 +50,16 @@ pub record IsReadAt (t : PlannedTest) (k : ℕ) (x : Cell) (c w : ℕ) : Type 0 
 -- the Shifts after each Capture show its response
 pub record Reads (content : Content) (tests : List PlannedTest) : Type 0 where
   -- from the capture on the test does nothing but Shifts until the bit is shown
-  pub all_shifts : (i : ℕ) (t : PlannedTest) (k : ℕ) (x : Cell) (c w : ℕ) → IsAt tests i t → (read : IsReadAt t k x c w) → (d : ℕ) → read.capture < d → d ≤ c → operation_at t d ≡ Some Shift
+  pub all_shifts : (i : ℕ) (t : PlannedTest) (k : ℕ) (x : Cell) (c w : ℕ) → IsAt tests i t → (read : IsReadAt t k x c w) → (d : ℕ) →
+      read.capture < d → d ≤ c → operation_at t d ≡ Some Shift
   pub shows : (i : ℕ) (t : PlannedTest) (k : ℕ) (x : Cell) (c w : ℕ) → IsAt tests i t → IsReadAt t k x c w →
       (is_read x ≡ true) × (shown tests (state_at content tests c) c w ≡ content.response t.id k x)
   -- each response bit of each pattern is read
-  pub every : (i : ℕ) (t : PlannedTest) (k : ℕ) (x : Cell) → IsAt tests i t → t.tam ≡ true → 1 ≤ k → k ≤ t.patterns → Contains t.cells x → is_read x ≡ true → (c : ℕ) × (w : ℕ) × IsReadAt t k x c w
+  pub every : (i : ℕ) (t : PlannedTest) (k : ℕ) (x : Cell) → IsAt tests i t → t.tam ≡ true → 1 ≤ k → k ≤ t.patterns → Contains t.cells x →
+      is_read x ≡ true → (c : ℕ) × (w : ℕ) × IsReadAt t k x c w
   -- no response bit is read at two cycles or on two wires
-  pub once : (i : ℕ) (t : PlannedTest) (k : ℕ) (x : Cell) (c c' w w' : ℕ) → IsAt tests i t → IsReadAt t k x c w → IsReadAt t k x c' w' → (c ≡ c') × (w ≡ w')
+  pub once : (i : ℕ) (t : PlannedTest) (k : ℕ) (x : Cell) (c c' w w' : ℕ) → IsAt tests i t → IsReadAt t k x c w → IsReadAt t k x c' w' →
+      (c ≡ c') × (w ≡ w')
   -- no two response bits are read at one cycle on one wire
   pub apart : (i i' : ℕ) (t t' : PlannedTest) (k k' : ℕ) (x x' : Cell) (c w : ℕ) → IsAt tests i t → IsAt tests i' t' →
       IsReadAt t k x c w → IsReadAt t' k' x' c w → (i ≡ i') × (k ≡ k') × (x ≡ x')
@@ -95,12 +98,15 @@ pub record AreBeside (soc : SocValue) (tests : List PlannedTest) (i j c : ℕ) :
 pub record KeepsLimits (soc : SocValue) (limits : LimitsValue) (tests : List PlannedTest) : Type 0 where
   pub power : (c : ℕ) → IfSome limits.power (λ most. power_at limits tests c ≤ most)
   pub none_beside : (i j c : ℕ) → AreBeside soc tests i j c → ⊥
-  pub before : (i j n : ℕ) (t u : PlannedTest) (c d : ℕ) → IsAt tests i t → IsAt tests j u → slice_get limits.before n ≡ Some (t.id, u.id) → IsActive t c → IsActive u d → c < d
+  pub before : (i j n : ℕ) (t u : PlannedTest) (c d : ℕ) → IsAt tests i t → IsAt tests j u → slice_get limits.before n ≡ Some (t.id, u.id) →
+      IsActive t c → IsActive u d → c < d
 
--- In the run of the plan every live test loads and reads each pattern, or tests itself; the plan ends in its cycles, no wire has two users, and the limits are kept.
+-- In the run of the plan every live test loads and reads each pattern, or tests itself; the plan ends in its cycles, no wire has two
+-- users, and the limits are kept.
 pub record IsRight (soc : SocValue) (limits : LimitsValue) (plan : PlanValue) (content : Content) : Type 0 where
   pub stand : (i : ℕ) (t : PlannedTest) → IsAt (planned soc plan) i t → t.tam ≡ true → AllStand t
-  pub loads : (i : ℕ) (t : PlannedTest) (k : ℕ) → IsAt (planned soc plan) i t → t.tam ≡ true → 1 ≤ k → k ≤ t.patterns → Loads content (planned soc plan) i t k
+  pub loads : (i : ℕ) (t : PlannedTest) (k : ℕ) → IsAt (planned soc plan) i t → t.tam ≡ true → 1 ≤ k → k ≤ t.patterns →
+      Loads content (planned soc plan) i t k
   pub reads : Reads content (planned soc plan)
   pub self_tests : (i : ℕ) (t : PlannedTest) → IsAt (planned soc plan) i t → t.tam ≡ false → TestsItself t
   pub ends : EndsAt (planned soc plan) plan.cycles

@@ -74,7 +74,8 @@ HasWrapper plan earlier pair = Contains (map pair_of plan.wrappers) pair
 
 -- the wrapper is proper for its module
 abbrev pub HasProperCells : SocValue → List WrapperValue → WrapperValue → Type 0
-HasProperCells soc earlier w = (n : ℕ) (m : ModuleValue) → slice_get soc.modules n ≡ Some m → m.number ≡ w.«module» → IsProper m w.scan w.chains
+HasProperCells soc earlier w =
+    (n : ℕ) (m : ModuleValue) → slice_get soc.modules n ≡ Some m → m.number ≡ w.«module» → IsProper m w.scan w.chains
 
 -- the wrappers have one for the mode of a test of the module, and each such is proper
 pub record IsWrapped (m : ModuleValue) (t : Test) (wrappers : List WrapperValue) : Type 0 where

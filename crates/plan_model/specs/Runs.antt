@@ -70,7 +70,8 @@ first_state content tests = each_chain (λ i t j. map (content.initial t.id) (ch
 -- the chip's step, with the bits that the wires carry
 unfoldable pub step : Content → List PlannedTest → (carried : ℕ → Bool) → ℕ → State → State
 step content tests carried c state =
-    each_chain (λ i t j. next_bits (content.response t.id) (chain_at t j) (operation_at t c) (carried (t.first_wire + j)) (bits_at state i j)) 0 tests
+    each_chain (λ i t j. next_bits (content.response t.id) (chain_at t j) (operation_at t c) (carried (t.first_wire + j))
+    (bits_at state i j)) 0 tests
 
 -- `f` of the place of the wire's first user, that test, and the number of its chain on the wire; 0 where nobody uses it
 abbrev pub at_first_user : (ℕ → PlannedTest → ℕ → Bool) → ℕ → ℕ → ℕ → List PlannedTest → Bool

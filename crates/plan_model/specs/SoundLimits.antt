@@ -30,7 +30,8 @@ pub record IsSoundProfile (soc : SocValue) (p : ProfileValue) : Type 0 where
 -- The precedences of live tests have no cycle: each goes from a test of a lower rank to one of a greater rank.
 abbrev pub IsAcyclic : SocValue → LimitsValue → Type 0
 IsAcyclic soc limits =
-    (rank : TestId → ℕ) × ((a b : TestId) → Contains limits.before (a, b) → Contains (live_ids soc) a → Contains (live_ids soc) b → rank a < rank b)
+    (rank : TestId → ℕ) × ((a b : TestId) → Contains limits.before (a, b) → Contains (live_ids soc) a → Contains (live_ids soc) b →
+    rank a < rank b)
 
 -- limits that are sound for the chip
 pub record IsSoundLimits (soc : SocValue) (limits : LimitsValue) : Type 0 where
@@ -41,7 +42,9 @@ pub record IsSoundLimits (soc : SocValue) (limits : LimitsValue) : Type 0 where
   pub before : All (λ (p : TestId × TestId). HasTest soc p.0 × HasTest soc p.1) limits.before
   pub profiles : All (IsSoundProfile soc) limits.profiles
   -- no test has two profiles
-  pub one_profile : (p q : ℕ) (x y : ProfileValue) → slice_get limits.profiles p ≡ Some x → slice_get limits.profiles q ≡ Some y → x.test ≡ y.test → p ≡ q
+  pub one_profile : (p q : ℕ) (x y : ProfileValue) → slice_get limits.profiles p ≡ Some x → slice_get limits.profiles q ≡ Some y →
+      x.test ≡ y.test → p ≡ q
   pub acyclic : IsAcyclic soc limits
   -- no live test passes the limit at any cycle
-  pub within : (i : ℕ) (l : LiveTest) → slice_get (live_tests soc) i ≡ Some l → (r : ℕ) → IfSome limits.power (λ most. power_of_id limits (id_of l) l.test.power r ≤ most)
+  pub within : (i : ℕ) (l : LiveTest) → slice_get (live_tests soc) i ≡ Some l → (r : ℕ) →
+      IfSome limits.power (λ most. power_of_id limits (id_of l) l.test.power r ≤ most)

@@ -1,5 +1,8 @@
 //! Test plans of a chip (after the ITC'02 SOC Test Benchmarks, Marinissen, Iyengar and Chakrabarty 2002): plans and their
 //! limits, the definitions of what a plan does cycle by cycle and when it is good, and the laws over them.
+//!
+//! The main law: a good plan runs right, bit by bit, for every content; and accepted certificates bound every good plan. It
+//! stands on the chips of `soc_model` alone. Nothing here takes memory.
 #![tactic(auto)]
 
 mod laws;

@@ -41,7 +41,8 @@ fn all_outs(chains: &[ChainPlan]) -> u128
 
 /// Marks a scan chain in the window from `base`; false where it is marked already.
 fn mark(scan: u64, base: u64, seen: &mut [bool]) -> bool
-    ensures marked { IsTrue result → (k : ℕ) → k < length seen.old → mark_at seen.new k ≡ mark_at seen.old k + (if nat_eq scan (base + k) then 1 else 0) }
+    ensures marked { IsTrue result → (k : ℕ) → k < length seen.old →
+        mark_at seen.new k ≡ mark_at seen.old k + (if nat_eq scan (base + k) then 1 else 0) }
     ensures twice { result ≡ false → (k : ℕ) × (k < length seen.old) × (scan ≡ base + k) × (mark_at seen.old k ≡ 1) }
 {
     if scan < base {
@@ -74,7 +75,8 @@ fn mark_chain(scans: &[u64], base: u64, seen: &mut [bool]) -> bool
 
 /// Marks the scan chains that the chains list; false where one is then marked twice.
 fn mark_chains(chains: &[ChainPlan], base: u64, seen: &mut [bool]) -> bool
-    ensures marked { IsTrue result → (k : ℕ) → k < length seen.old → mark_at seen.new k ≡ mark_at seen.old k + listed_times (base + k) chains.now }
+    ensures marked { IsTrue result → (k : ℕ) → k < length seen.old →
+        mark_at seen.new k ≡ mark_at seen.old k + listed_times (base + k) chains.now }
     ensures twice { result ≡ false → (k : ℕ) × (k < length seen.old) × (2 ≤ mark_at seen.old k + listed_times (base + k) chains.now) }
 {
     for chain in chains {
@@ -155,7 +157,8 @@ fn both(a: u64, b: u64) -> u128
 fn takes_terminals(module: &Module, chains: &[ChainPlan]) -> bool
     ensures ins { IsTrue result → sum_by (λ (c : ChainPlan). c.ins) chains.now ≡ «module».now.inputs + «module».now.bidirs }
     ensures outs { IsTrue result → sum_by (λ (c : ChainPlan). c.outs) chains.now ≡ «module».now.outputs + «module».now.bidirs }
-    ensures only { sum_by (λ (c : ChainPlan). c.ins) chains.now ≡ «module».now.inputs + «module».now.bidirs → sum_by (λ (c : ChainPlan). c.outs) chains.now ≡ «module».now.outputs + «module».now.bidirs → IsTrue result }
+    ensures only { sum_by (λ (c : ChainPlan). c.ins) chains.now ≡ «module».now.inputs + «module».now.bidirs →
+        sum_by (λ (c : ChainPlan). c.outs) chains.now ≡ «module».now.outputs + «module».now.bidirs → IsTrue result }
 {
     all_ins(chains) == both(module.inputs, module.bidirs)
         && all_outs(chains) == both(module.outputs, module.bidirs)
@@ -198,8 +201,10 @@ fn flops_of(lengths: &[u64], scans: &[u64]) -> u64
 pub fn lengths(module: &Module, wrapper: &Wrapper) -> (u64, u64)
     requires proper { IsProper (module_value «module».now) wrapper.now.scan (map chain_value wrapper.now.chains.items) }
     requires small { module_size (module_value «module».now) ≤ 10 ^ 18 }
-    ensures si { result.0 ≡ greatest (map in_length (chain_cells (module_value «module».now) wrapper.now.scan (map chain_value wrapper.now.chains.items))) }
-    ensures so { result.1 ≡ greatest (map out_length (chain_cells (module_value «module».now) wrapper.now.scan (map chain_value wrapper.now.chains.items))) }
+    ensures si { result.0 ≡ greatest (map in_length (chain_cells (module_value «module».now) wrapper.now.scan
+        (map chain_value wrapper.now.chains.items))) }
+    ensures so { result.1 ≡ greatest (map out_length (chain_cells (module_value «module».now) wrapper.now.scan
+        (map chain_value wrapper.now.chains.items))) }
 {
     let lengths = mode_chains(module, wrapper.scan);
     let mut si: u64 = 0;
@@ -223,7 +228,8 @@ pub fn tam_duration(module: &Module, wrapper: &Wrapper, test: &Test) -> u64
     requires live { 1 ≤ test.now.patterns }
     requires work { «module».now.setup + test.now.patterns * module_size (module_value «module».now) ≤ 10 ^ 18 }
     ensures small { result ≤ 10 ^ 18 }
-    ensures time { result ≡ length (operations_of (module_value «module».now) test.now (chain_cells (module_value «module».now) test.now.scan (map chain_value wrapper.now.chains.items))) }
+    ensures time { result ≡ length (operations_of (module_value «module».now) test.now
+        (chain_cells (module_value «module».now) test.now.scan (map chain_value wrapper.now.chains.items))) }
 {
     let (si, so) = lengths(module, wrapper);
     closed_time(module.setup, si, so, test.patterns)
@@ -236,7 +242,8 @@ pub fn test_cycles(wrappers: &[Wrapper], module: &Module, test: &Test) -> u64
     requires live { 1 ≤ test.now.patterns }
     requires work { test_work (module_value «module».now) test.now ≤ 10 ^ 18 }
     requires wrapped { IsTrue test.now.tam → IsWrapped (module_value «module».now) test.now (map wrapper_value wrappers.now) }
-    ensures time { (plan : PlanValue) → plan.wrappers ≡ map wrapper_value wrappers.now → result ≡ length (operations_of (module_value «module».now) test.now (chains_of plan (module_value «module».now) test.now)) }
+    ensures time { (plan : PlanValue) → plan.wrappers ≡ map wrapper_value wrappers.now →
+        result ≡ length (operations_of (module_value «module».now) test.now (chains_of plan (module_value «module».now) test.now)) }
 {
     if !test.tam {
         return test.patterns;

@@ -45,4 +45,5 @@ pub record IsDrawn (files : Files) (soc limits plan : List ℕ) (old new : Optio
 -- the headline, where the shelf tells what it holds
 abbrev pub Headline : Option CommandValue → Option Files → Option (List ℕ) → Status → Option (List ℕ) → Type 0
 Headline command held old end new =
-    (files : Files) (soc limits plan : List ℕ) → held ≡ Some files → command ≡ Some (Picture soc limits plan) → end ≡ Done → IsDrawn files soc limits plan old new
+    (files : Files) (soc limits plan : List ℕ) → held ≡ Some files → command ≡ Some (Picture soc limits plan) → end ≡ Done →
+    IsDrawn files soc limits plan old new

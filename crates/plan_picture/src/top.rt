@@ -26,7 +26,8 @@ fn decide_picture<H: Shelf>(
 ) -> Verdict
     ensures held_stays { H.held shelf.new ≡ H.held shelf.old }
     ensures faults_never_fall { H.faults shelf.old ≤ H.faults shelf.new }
-    ensures follows { Follows (procedure_of (Picture soc.now limits.now plan.now)) (H.held shelf.old) (H.faults shelf.old) (H.faults shelf.new) result }
+    ensures follows { Follows (procedure_of (Picture soc.now limits.now plan.now)) (H.held shelf.old) (H.faults shelf.old)
+        (H.faults shelf.new) result }
 {
     match load_all(alloc, soc, limits, plan, shelf) {
         Ok(all) => answered_with(
@@ -41,7 +42,8 @@ fn decide_picture<H: Shelf>(
 fn decide<H: Shelf>(alloc: Global, words: &[String], shelf: &mut H) -> Verdict
     ensures held_stays { H.held shelf.new ≡ H.held shelf.old }
     ensures faults_never_fall { H.faults shelf.old ≤ H.faults shelf.new }
-    ensures decides { Decides (asked procedure_of (asked_command (map string_bytes words.now))) (H.held shelf.old) (H.faults shelf.old) (H.faults shelf.new) result }
+    ensures decides { Decides (asked procedure_of (asked_command (map string_bytes words.now))) (H.held shelf.old) (H.faults shelf.old)
+        (H.faults shelf.new) result }
     ensures untouched { (IsCommand (asked procedure_of (asked_command (map string_bytes words.now))) → ⊥) → shelf.new ≡ shelf.old }
 {
     match command_of(words) {
@@ -66,19 +68,25 @@ pub fn draw<H: Shelf, K: Sink>(
     ensures faults_never_fall { (H.faults shelf.old ≤ H.faults shelf.new) × (K.faults out.old ≤ K.faults out.new) }
 
     // What is written is an answer to the words and files, each status where its cause is.
-    ensures ends { Ends (MayAnswer (asked procedure_of (asked_command (map string_bytes words.now))) (H.held shelf.old) (H.faults shelf.old) (H.faults shelf.new)) (K.faults out.old) (K.faults out.new) (K.written out.old) result (K.written out.new) }
+    ensures ends { Ends (MayAnswer (asked procedure_of (asked_command (map string_bytes words.now))) (H.held shelf.old) (H.faults shelf.old)
+        (H.faults shelf.new)) (K.faults out.old) (K.faults out.new) (K.written out.old) result (K.written out.new) }
     ensures one_line { OneLine (K.written out.old) result (K.written out.new) }
-    ensures by_words { EndsByWords (asked procedure_of (asked_command (map string_bytes words.now))) (Rose (K.faults out.old) (K.faults out.new)) result }
+    ensures by_words { EndsByWords (asked procedure_of (asked_command (map string_bytes words.now)))
+        (Rose (K.faults out.old) (K.faults out.new)) result }
     ensures bad_words { SaysBadWords (K.written out.old) result (K.written out.new) }
     ensures untouched { (IsCommand (asked procedure_of (asked_command (map string_bytes words.now))) → ⊥) → shelf.new ≡ shelf.old }
 
-    // Where the files give an answer and nothing fails, it comes, but for want of memory.
-    ensures complete { Complete true (asked procedure_of (asked_command (map string_bytes words.now))) (H.held shelf.old) (Rose (H.faults shelf.old) (H.faults shelf.new)) (Rose (K.faults out.old) (K.faults out.new)) (K.written out.old) result (K.written out.new) }
-    ensures finishes { Finishes (asked procedure_of (asked_command (map string_bytes words.now))) (H.held shelf.old) (Rose (H.faults shelf.old) (H.faults shelf.new)) (Rose (K.faults out.old) (K.faults out.new)) result }
+    // Where the files give an answer and nothing fails, it comes, unless memory runs out.
+    ensures complete { Complete true (asked procedure_of (asked_command (map string_bytes words.now))) (H.held shelf.old)
+        (Rose (H.faults shelf.old) (H.faults shelf.new)) (Rose (K.faults out.old) (K.faults out.new)) (K.written out.old) result
+        (K.written out.new) }
+    ensures finishes { Finishes (asked procedure_of (asked_command (map string_bytes words.now))) (H.held shelf.old)
+        (Rose (H.faults shelf.old) (H.faults shelf.new)) (Rose (K.faults out.old) (K.faults out.new)) result }
 
     // The headline: a plan that is drawn runs right, its bound is one, its rectangles are the tests and are apart, cover the cycles
     // of wires that the run uses and no others, and its power stays within the limit.
-    ensures headline { Headline (asked_command (map string_bytes words.now)) (H.held shelf.old) (K.written out.old) result (K.written out.new) }
+    ensures headline { Headline (asked_command (map string_bytes words.now)) (H.held shelf.old) (K.written out.old) result
+        (K.written out.new) }
 {
     good_plans_run_right();
     certificates_are_bounds();

@@ -4,7 +4,8 @@ use Rattle.plan_model.specs.Plans.{PlanValue}
 use Rattle.commands.specs.Texts.{run_line}
 use Rattle.commands.specs.Commands.{CommandValue, Simulate}
 use Rattle.commands.specs.Procedures.{Procedure, Unless, NoCommand, done_with, with_all}
-use Rattle.plan_simulator.specs.Runs.{simulated_text, too_many}
+use Rattle.tester_vectors.specs.VectorText.{too_many}
+use Rattle.plan_simulator.specs.Runs.{simulated_text}
 
 -- the line that refuses the run of a plan, where it is too long
 abbrev pub long_run : PlanValue → Option (List ℕ)

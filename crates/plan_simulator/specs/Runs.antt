@@ -1,18 +1,11 @@
 -- What the run of a whole plan counts, and the line that tells it.
-use Rattle.std.specs.Prelude.{ℕ, ◌++◌, List, Option, codes, decimal}
+use Rattle.std.specs.Prelude.{ℕ, ◌++◌, List, codes, decimal}
 use Rattle.std.specs.List.{sum_by, filter}
 use Rattle.soc_model.specs.Chips.{SocValue, LiveTest, live_tests}
 use Rattle.plan_model.specs.Bounds.{sum_below}
 use Rattle.plan_model.specs.Plans.{PlanValue, PlannedTest, planned}
 use Rattle.plan_model.specs.Runs.{Content, state_at}
 use Rattle.bit_machine.specs.Chips.{made_content, captures_at, right_loads_at}
-use Rattle.tester_vectors.specs.declared.TheConstants.{RUN_MOST}
-use Rattle.tester_vectors.specs.VectorText.{wire_cycles}
-use Rattle.commands.specs.Texts.{beyond}
-
--- the cycles of a plan times its wires, where these are too many for a run; the limit is that of a run of vectors
-abbrev pub too_many : PlanValue → Option ℕ
-too_many value = beyond RUN_MOST (wire_cycles value)
 
 -- the captures of all tests in so many cycles
 abbrev pub captures_in : List PlannedTest → (cycles : ℕ) → ℕ

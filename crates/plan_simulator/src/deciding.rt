@@ -13,7 +13,7 @@ ghost use Rattle.plan_simulator.specs.Runs.{simulated_text};
 ghost use Rattle.plan_simulator.specs.Requests.{procedure_of, long_run};
 
 use crate::lines::counts_line;
-use crate::running::{run, too_many_cells};
+use crate::running::run;
 use commands::{
     Command, Status, Verdict, answered_with, bad_words, command_of, load_all, refused_with,
     run_line,
@@ -22,6 +22,7 @@ use outside::{NoMemory, Shelf};
 use plan_model::{Plan, good_without_limits};
 use soc_model::Soc;
 use std::alloc::Global;
+use tester_vectors::too_many_cells;
 
 /// The line of a run.
 fn text_of(alloc: Global, soc: &Soc, plan: &Plan, seed: u64) -> Result<Vec<u8>, NoMemory>

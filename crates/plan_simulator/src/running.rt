@@ -1,13 +1,12 @@
 //! A whole chip is stepped through its plan.
-ghost use Rattle.std.specs.Prelude.{◌≡◌, ℕ, ◌+◌, ◌*◌, ◌<◌, ◌≤◌, length, max, nat_lt, IfOk};
+ghost use Rattle.std.specs.Prelude.{◌≡◌, ℕ, ◌+◌, ◌<◌, ◌≤◌, length, IfOk};
 ghost use Rattle.soc_model.specs.Chips.{SocValue, soc_value};
 ghost use Rattle.soc_model.specs.SoundChips.{IsSoundChip};
 ghost use Rattle.plan_model.specs.Plans.{PlanValue, planned};
 ghost use Rattle.plan_model.specs.Rules.{IsGoodAlone};
 ghost use Rattle.plan_model.specs.Views.{plan_value};
 ghost use Rattle.bit_machine.specs.Chips.{wires_of, made_content};
-ghost use Rattle.plan_simulator.specs.Runs.{captures_in, right_loads_in, too_many};
-ghost use Rattle.tester_vectors.specs.declared.TheConstants.{RUN_MOST};
+ghost use Rattle.plan_simulator.specs.Runs.{captures_in, right_loads_in};
 ghost use Rattle.plan_simulator.specs.Steps.{IsAfter};
 
 use bit_machine::{Chip, Report};
@@ -16,40 +15,12 @@ use outside::NoMemory;
 use plan_model::Plan;
 use soc_model::Soc;
 use std::alloc::Global;
-use tester_vectors::RUN_MOST;
 
 /// So many bits 0.
 fn zero_bits(alloc: Global, count: usize) -> Result<Vec<bool>, NoMemory>
     ensures { IfOk result (λ bits. length bits.items ≡ count) }
 {
     vec![in alloc; false; count].map_err(|_| NoMemory)
-}
-
-/// Cycles times wires; without wires, times 1.
-fn wire_cycles(cycles: u64, wires: u64) -> u128
-    ensures { result ≡ cycles * max 1 wires }
-{
-    u128::from(cycles) * u128::from(wires.max(1))
-}
-
-/// Whether a run of so many cycles times wires is too long.
-fn is_too_long(cells: u128) -> bool
-    ensures { result ≡ nat_lt RUN_MOST cells }
-{
-    cells > RUN_MOST
-}
-
-/// The cycles of a plan times its wires, where these are too many for a run.
-pub(crate) fn too_many_cells(plan: &Plan) -> Option<u128>
-    requires { wires_of (plan_value plan.now) ≤ 256 }
-    ensures { result ≡ too_many (plan_value plan.now) }
-{
-    let cells = wire_cycles(plan.cycles, all_wires(plan));
-    if is_too_long(cells) {
-        Some(cells)
-    } else {
-        None
-    }
 }
 
 /// One cycle of a chip, whose wires carry what its tests want. Each list has a bit for each wire: what is driven, and what is

@@ -49,7 +49,8 @@ reason_numbers OfPower = []
 reason_numbers (OfForced modules) = modules
 
 abbrev pub bound_line_by : ℕ → WhyValue → Line Keyword
-bound_line_by cycles why = record { head = key.Bound; others = Number cycles ∷ Key (reason_key why) ∷ []; colon = false; listed = reason_numbers why }
+bound_line_by cycles why =
+    record { head = key.Bound; others = Number cycles ∷ Key (reason_key why) ∷ []; colon = false; listed = reason_numbers why }
 
 abbrev pub bound_line : BoundValue → Line Keyword
 bound_line b = bound_line_by b.cycles b.why

@@ -3,6 +3,8 @@
 //! The grammar is a set of whole lists of words: the words of a plan's lines, where keywords may be written in any case
 //! and numbers by any digits of their value. What begins a list of the set, and where a text first leaves all of them,
 //! follows from that set alone.
+//!
+//! A plan that is printed is read back. Errors are the line at which a text is refused, and out of memory.
 #![tactic(auto)]
 
 mod laws;

@@ -6,7 +6,7 @@ ghost use Rattle.keyword_text.specs.Reads.{Makes};
 
 use crate::PlanTextFault;
 use crate::parts::{Part, ReadSoFar};
-use crate::steps::{bound_at, new_draft, step};
+use crate::steps::{bound_at, new_draft, take_token};
 use crate::tokens::{KEYWORDS, Keyword};
 use keyword_text::{Format, Spelled, Token, read_by};
 use outside::{Stop, Unread};
@@ -60,7 +60,7 @@ impl Format for PlanText {
     {
         let PlanText { alloc, mut read } = self;
         let so_far = &mut *read;
-        match step(alloc, &mut so_far.draft, &mut so_far.part, token) {
+        match take_token(alloc, &mut so_far.draft, &mut so_far.part, token) {
             Ok(()) => Ok(PlanText { alloc, read }),
             Err(stop) => Err(stop),
         }

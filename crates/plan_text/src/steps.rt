@@ -82,7 +82,7 @@ fn push_forced(modules: &mut Vec<u64>, module: u64) -> Result<(), Stop>
 }
 
 /// What a keyword begins, where a section is not over.
-fn begin(part: &mut Part, key: Keyword, section: Section) -> Result<(), Stop>
+fn begin_part(part: &mut Part, key: Keyword, section: Section) -> Result<(), Stop>
     ensures { Begins (begins key section) result part.new }
 {
     *part = match (key, section) {
@@ -180,7 +180,7 @@ fn step_wrapper(
         return Ok(());
     }
     push_wrapper(draft, wrapper)?;
-    begin(part, key, Section::Wrappers)
+    begin_part(part, key, Section::Wrappers)
 }
 
 /// A keyword after a bus.
@@ -188,7 +188,7 @@ fn step_bus(draft: &mut Draft, part: &mut Part, bus: Bus, key: Keyword) -> Resul
     ensures { Steps (steps_key (draft_value draft.old) (in_bus (bus_value bus)) key) result part.new draft.new }
 {
     push_bus(draft, bus)?;
-    begin(part, key, Section::Buses)
+    begin_part(part, key, Section::Buses)
 }
 
 /// A wrapper that stands where one is taken away.
@@ -224,7 +224,7 @@ fn step_key(alloc: Global, draft: &mut Draft, part: &mut Part, key: Keyword) -> 
     match part {
         Part::WantsPlan => begin_plan(part, key),
         Part::WantsCyclesWord => begin_cycles(part, key),
-        Part::AfterCycles => begin(part, key, Section::Buses),
+        Part::AfterCycles => begin_part(part, key, Section::Buses),
         Part::InBus(bus) => {
             let bus = replace(bus, no_bus(alloc));
             step_bus(draft, part, bus, key)
@@ -243,7 +243,7 @@ fn step_key(alloc: Global, draft: &mut Draft, part: &mut Part, key: Keyword) -> 
             let wrapper = replace(wrapper, no_wrapper(alloc));
             step_wrapper(draft, part, wrapper, key)
         }
-        Part::AfterStart => begin(part, key, Section::Starts),
+        Part::AfterStart => begin_part(part, key, Section::Starts),
         Part::WantsReason { cycles } => {
             let cycles = *cycles;
             begin_reason(alloc, part, key, cycles)
@@ -301,7 +301,7 @@ fn step_test(part: &mut Part, cycles: u64, mut tests: Vec<TestId>, test: TestId)
     Ok(())
 }
 
-/// Ends a step: puts the next part in place of this one. Each place that writes a part also lets go of whatever the old one may
+/// Ends a step: puts the next part in place of this one. Each place that writes a part also drops whatever the old one may
 /// own, and is proved for all of it, so one function writes. In its caller's place no whole part is moved through memory for
 /// each word.
 #[inline(always)]
@@ -399,7 +399,7 @@ fn step_number(alloc: Global, draft: &mut Draft, part: &mut Part, n: u64) -> Res
 }
 
 /// The next word.
-pub fn step(
+pub fn take_token(
     alloc: Global,
     draft: &mut Draft,
     part: &mut Part,

@@ -1,17 +1,16 @@
 -- The live tests of a chip as a job, with the buses and wrappers of a plan.
 use Rattle.std.specs.Prelude.{ℕ, Option, None, Some, List, [], ◌∷◌, map, length, if◌then◌else◌}
-use Rattle.std.specs.List.{flat_map}
 use Rattle.soc_model.specs.declared.Test.{Test}
 use Rattle.soc_model.specs.declared.TestId.{TestId}
 use Rattle.soc_model.specs.Chips.{ModuleValue, SocValue, LiveTest, live_tests, id_of, same_test, parent_place}
 use Rattle.plan_model.specs.Plans.{BusValue, WrapperValue, OfArea, PlanValue, ProfileValue, LimitsValue, of_first, bus_place, chains_of, operations_of}
-use Rattle.plan_model.specs.Rules.{live_ids}
-use Rattle.live_tests.specs.Names.{places_of}
+use Rattle.live_tests.specs.Names.{precedences}
 use Rattle.resource_table.specs.Jobs.{TestValue, JobValue}
 
 -- a plan of which only the buses and the wrappers are settled
 abbrev pub settled_parts : List BusValue → List WrapperValue → PlanValue
-settled_parts buses wrappers = record { buses = buses; wrappers = wrappers; starts = []; cycles = 0; bound = record { cycles = 0; why = OfArea } }
+settled_parts buses wrappers =
+    record { buses = buses; wrappers = wrappers; starts = []; cycles = 0; bound = record { cycles = 0; why = OfArea } }
 
 -- a test's power in steps: those of its profile, or its own power at every cycle
 abbrev pub steps_of : LimitsValue → TestId → ℕ → List (ℕ × ℕ)
@@ -40,6 +39,6 @@ test_in soc limits plan place m t = test_of soc limits plan (record { place = pl
 abbrev pub job_of : SocValue → LimitsValue → PlanValue → JobValue
 job_of soc limits plan = record {
   tests = map (test_of soc limits plan) (live_tests soc);
-  before = flat_map (places_of (live_ids soc)) limits.before;
+  before = precedences soc limits;
   power = limits.power;
 }

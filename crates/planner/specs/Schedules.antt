@@ -34,7 +34,8 @@ pub record IsFoundSchedule (soc : SocValue) (limits : LimitsValue) (plan : PlanV
 -- the starts of placed tests in this order, each with its test
 abbrev pub AreStartsOf : JobValue → (order starts : List ℕ) → List (TestId × ℕ) → Type 0
 AreStartsOf job order starts listed =
-    (placed : List Placement) → map (λ (p : Placement). p.test) placed ≡ order → map (λ (p : Placement). p.start) placed ≡ starts → listed ≡ map (start_of job) placed
+    (placed : List Placement) → map (λ (p : Placement). p.test) placed ≡ order → map (λ (p : Placement). p.start) placed ≡ starts →
+    listed ≡ map (start_of job) placed
 
 -- the starts with their tests, and the end of the last one, of an order that a search finds
 pub record IsFoundList (job : JobValue) (budget : ℕ) (listed : List (TestId × ℕ)) (cycles : ℕ) : Type 0 where

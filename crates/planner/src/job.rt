@@ -28,7 +28,7 @@ use std::alloc::Global;
 
 /// What the job of a plan is made from: a chip, limits, and the buses and wrappers of the plan.
 #[derive(Clone, Copy, Drop)]
-pub struct JobParts<'a> {
+pub struct JobSource<'a> {
     pub soc: &'a Soc,
     pub limits: &'a Limits,
     pub buses: &'a [Bus],
@@ -77,11 +77,12 @@ struct PartPlaces<'a> {
 /// The places of all parts.
 fn part_places<'a>(
     alloc: Global,
-    parts: &JobParts<'_>,
+    parts: &JobSource<'_>,
     resolved: &'a Resolved,
 ) -> Result<PartPlaces<'a>, NoMemory>
     requires resolved { IsResolved (soc_value parts.now.soc.now) parts.now.limits.now resolved.now }
-    ensures parts { IfOk result (λ places. IsIndex (settled_parts (map bus_value parts.now.buses.now) (map wrapper_value parts.now.wrappers.now)) places.buses.entries places.wrappers.entries []) }
+    ensures parts { IfOk result (λ places. IsIndex (settled_parts (map bus_value parts.now.buses.now)
+        (map wrapper_value parts.now.wrappers.now)) places.buses.entries places.wrappers.entries []) }
     ensures resolved { IfOk result (λ places. IsResolved (soc_value parts.now.soc.now) parts.now.limits.now places.resolved.now) }
 {
     let buses = buses_by_module(alloc, parts.buses)?;
@@ -107,14 +108,22 @@ struct Shared {
 }
 
 /// What the tests of the module at a place share.
-fn shared_of(parts: &JobParts<'_>, places: &PartPlaces<'_>, place: usize, module: &Module) -> Shared
+fn shared_of(
+    parts: &JobSource<'_>,
+    places: &PartPlaces<'_>,
+    place: usize,
+    module: &Module,
+) -> Shared
     requires sound { IsSoundChip (soc_value parts.now.soc.now) }
-    requires proper { Keeps (soc_value parts.now.soc.now) (limits_value parts.now.limits.now) (settled_parts (map bus_value parts.now.buses.now) (map wrapper_value parts.now.wrappers.now)) Proper }
-    requires places { IsIndex (settled_parts (map bus_value parts.now.buses.now) (map wrapper_value parts.now.wrappers.now)) places.now.buses.entries places.now.wrappers.entries [] }
+    requires proper { Keeps (soc_value parts.now.soc.now) (limits_value parts.now.limits.now)
+        (settled_parts (map bus_value parts.now.buses.now) (map wrapper_value parts.now.wrappers.now)) Proper }
+    requires places { IsIndex (settled_parts (map bus_value parts.now.buses.now) (map wrapper_value parts.now.wrappers.now))
+        places.now.buses.entries places.now.wrappers.entries [] }
     requires resolved { IsResolved (soc_value parts.now.soc.now) parts.now.limits.now places.now.resolved.now }
     requires module_there { slice_get (soc_value parts.now.soc.now).modules place ≡ Some (module_value «module».now) }
     ensures place { result.place ≡ place }
-    ensures shared { IsShared (soc_value parts.now.soc.now) (settled_parts (map bus_value parts.now.buses.now) (map wrapper_value parts.now.wrappers.now)) (module_value «module».now) result }
+    ensures shared { IsShared (soc_value parts.now.soc.now)
+        (settled_parts (map bus_value parts.now.buses.now) (map wrapper_value parts.now.wrappers.now)) (module_value «module».now) result }
 {
     let scan = places.wrappers.get(&(module.number, true)).copied();
     let terminals = places.wrappers.get(&(module.number, false)).copied();
@@ -130,19 +139,24 @@ fn shared_of(parts: &JobParts<'_>, places: &PartPlaces<'_>, place: usize, module
 /// A live test of a module.
 fn test_of(
     alloc: Global,
-    parts: &JobParts<'_>,
+    parts: &JobSource<'_>,
     places: &PartPlaces<'_>,
     shared: &Shared,
     module: &Module,
     test: &Test,
 ) -> Result<JobTest, NoMemory>
     requires sound { IsSoundChip (soc_value parts.now.soc.now) }
-    requires wrapped { Keeps (soc_value parts.now.soc.now) (limits_value parts.now.limits.now) (settled_parts (map bus_value parts.now.buses.now) (map wrapper_value parts.now.wrappers.now)) Wrappers }
+    requires wrapped { Keeps (soc_value parts.now.soc.now) (limits_value parts.now.limits.now)
+        (settled_parts (map bus_value parts.now.buses.now) (map wrapper_value parts.now.wrappers.now)) Wrappers }
     requires resolved { IsResolved (soc_value parts.now.soc.now) parts.now.limits.now places.now.resolved.now }
-    requires shared { IsShared (soc_value parts.now.soc.now) (settled_parts (map bus_value parts.now.buses.now) (map wrapper_value parts.now.wrappers.now)) (module_value «module».now) shared.now }
+    requires shared { IsShared (soc_value parts.now.soc.now)
+        (settled_parts (map bus_value parts.now.buses.now) (map wrapper_value parts.now.wrappers.now))
+        (module_value «module».now) shared.now }
     requires test_there { (k : ℕ) × (slice_get «module».now.tests.items k ≡ Some test.now) }
     requires is_live { is_live test.now ≡ true }
-    ensures { IfOk result (λ t. test_value t ≡ test_in (soc_value parts.now.soc.now) (limits_value parts.now.limits.now) (settled_parts (map bus_value parts.now.buses.now) (map wrapper_value parts.now.wrappers.now)) shared.now.place (module_value «module».now) test.now) }
+    ensures { IfOk result (λ t. test_value t ≡ test_in (soc_value parts.now.soc.now) (limits_value parts.now.limits.now)
+        (settled_parts (map bus_value parts.now.buses.now) (map wrapper_value parts.now.wrappers.now)) shared.now.place
+        (module_value «module».now) test.now) }
 {
     let id = TestId {
         module: module.number,
@@ -169,18 +183,24 @@ fn test_of(
 fn push_live(
     alloc: Global,
     tests: &mut Vec<JobTest>,
-    parts: &JobParts<'_>,
+    parts: &JobSource<'_>,
     places: &PartPlaces<'_>,
     place: usize,
     module: &Module,
 ) -> Result<(), NoMemory>
     requires sound { IsSoundChip (soc_value parts.now.soc.now) }
-    requires wrapped { Keeps (soc_value parts.now.soc.now) (limits_value parts.now.limits.now) (settled_parts (map bus_value parts.now.buses.now) (map wrapper_value parts.now.wrappers.now)) Wrappers }
-    requires proper { Keeps (soc_value parts.now.soc.now) (limits_value parts.now.limits.now) (settled_parts (map bus_value parts.now.buses.now) (map wrapper_value parts.now.wrappers.now)) Proper }
-    requires places { IsIndex (settled_parts (map bus_value parts.now.buses.now) (map wrapper_value parts.now.wrappers.now)) places.now.buses.entries places.now.wrappers.entries [] }
+    requires wrapped { Keeps (soc_value parts.now.soc.now) (limits_value parts.now.limits.now)
+        (settled_parts (map bus_value parts.now.buses.now) (map wrapper_value parts.now.wrappers.now)) Wrappers }
+    requires proper { Keeps (soc_value parts.now.soc.now) (limits_value parts.now.limits.now)
+        (settled_parts (map bus_value parts.now.buses.now) (map wrapper_value parts.now.wrappers.now)) Proper }
+    requires places { IsIndex (settled_parts (map bus_value parts.now.buses.now) (map wrapper_value parts.now.wrappers.now))
+        places.now.buses.entries places.now.wrappers.entries [] }
     requires resolved { IsResolved (soc_value parts.now.soc.now) parts.now.limits.now places.now.resolved.now }
     requires module_there { slice_get (soc_value parts.now.soc.now).modules place ≡ Some (module_value «module».now) }
-    ensures { OnOk result (map test_value tests.new.items ≡ map test_value tests.old.items ++ map (test_in (soc_value parts.now.soc.now) (limits_value parts.now.limits.now) (settled_parts (map bus_value parts.now.buses.now) (map wrapper_value parts.now.wrappers.now)) place (module_value «module».now)) (filter is_live «module».now.tests.items)) }
+    ensures { OnOk result (map test_value tests.new.items ≡ map test_value tests.old.items
+        ++ map (test_in (soc_value parts.now.soc.now) (limits_value parts.now.limits.now)
+        (settled_parts (map bus_value parts.now.buses.now) (map wrapper_value parts.now.wrappers.now)) place (module_value «module».now))
+        (filter is_live «module».now.tests.items)) }
 {
     let shared = shared_of(parts, places, place, module);
     for test in &module.tests {
@@ -195,15 +215,21 @@ fn push_live(
 /// The live tests, in the order of the chip, found by the places of all parts.
 fn tests_at(
     alloc: Global,
-    parts: &JobParts<'_>,
+    parts: &JobSource<'_>,
     places: &PartPlaces<'_>,
 ) -> Result<Vec<JobTest>, NoMemory>
     requires sound { IsSoundChip (soc_value parts.now.soc.now) }
-    requires wrapped { Keeps (soc_value parts.now.soc.now) (limits_value parts.now.limits.now) (settled_parts (map bus_value parts.now.buses.now) (map wrapper_value parts.now.wrappers.now)) Wrappers }
-    requires proper { Keeps (soc_value parts.now.soc.now) (limits_value parts.now.limits.now) (settled_parts (map bus_value parts.now.buses.now) (map wrapper_value parts.now.wrappers.now)) Proper }
-    requires places { IsIndex (settled_parts (map bus_value parts.now.buses.now) (map wrapper_value parts.now.wrappers.now)) places.now.buses.entries places.now.wrappers.entries [] }
+    requires wrapped { Keeps (soc_value parts.now.soc.now) (limits_value parts.now.limits.now)
+        (settled_parts (map bus_value parts.now.buses.now) (map wrapper_value parts.now.wrappers.now)) Wrappers }
+    requires proper { Keeps (soc_value parts.now.soc.now) (limits_value parts.now.limits.now)
+        (settled_parts (map bus_value parts.now.buses.now) (map wrapper_value parts.now.wrappers.now)) Proper }
+    requires places { IsIndex (settled_parts (map bus_value parts.now.buses.now) (map wrapper_value parts.now.wrappers.now))
+        places.now.buses.entries places.now.wrappers.entries [] }
     requires resolved { IsResolved (soc_value parts.now.soc.now) parts.now.limits.now places.now.resolved.now }
-    ensures { IfOk result (λ tests. map test_value tests.items ≡ map (the_test (soc_value parts.now.soc.now) (limits_value parts.now.limits.now) (settled_parts (map bus_value parts.now.buses.now) (map wrapper_value parts.now.wrappers.now))) (live_tests (soc_value parts.now.soc.now))) }
+    ensures { IfOk result (λ tests. map test_value tests.items
+        ≡ map (the_test (soc_value parts.now.soc.now) (limits_value parts.now.limits.now)
+        (settled_parts (map bus_value parts.now.buses.now) (map wrapper_value parts.now.wrappers.now)))
+        (live_tests (soc_value parts.now.soc.now))) }
 {
     let mut tests = Vec::new(alloc);
     for place in 0..module_count(parts.soc) {
@@ -222,14 +248,19 @@ fn tests_at(
 /// The live tests, in the order of the chip.
 fn tests_of(
     alloc: Global,
-    parts: &JobParts<'_>,
+    parts: &JobSource<'_>,
     resolved: &Resolved,
 ) -> Result<Vec<JobTest>, NoMemory>
     requires sound { IsSoundChip (soc_value parts.now.soc.now) }
-    requires wrapped { Keeps (soc_value parts.now.soc.now) (limits_value parts.now.limits.now) (settled_parts (map bus_value parts.now.buses.now) (map wrapper_value parts.now.wrappers.now)) Wrappers }
-    requires proper { Keeps (soc_value parts.now.soc.now) (limits_value parts.now.limits.now) (settled_parts (map bus_value parts.now.buses.now) (map wrapper_value parts.now.wrappers.now)) Proper }
+    requires wrapped { Keeps (soc_value parts.now.soc.now) (limits_value parts.now.limits.now)
+        (settled_parts (map bus_value parts.now.buses.now) (map wrapper_value parts.now.wrappers.now)) Wrappers }
+    requires proper { Keeps (soc_value parts.now.soc.now) (limits_value parts.now.limits.now)
+        (settled_parts (map bus_value parts.now.buses.now) (map wrapper_value parts.now.wrappers.now)) Proper }
     requires resolved { IsResolved (soc_value parts.now.soc.now) parts.now.limits.now resolved.now }
-    ensures { IfOk result (λ tests. map test_value tests.items ≡ map (the_test (soc_value parts.now.soc.now) (limits_value parts.now.limits.now) (settled_parts (map bus_value parts.now.buses.now) (map wrapper_value parts.now.wrappers.now))) (live_tests (soc_value parts.now.soc.now))) }
+    ensures { IfOk result (λ tests. map test_value tests.items
+        ≡ map (the_test (soc_value parts.now.soc.now) (limits_value parts.now.limits.now)
+        (settled_parts (map bus_value parts.now.buses.now) (map wrapper_value parts.now.wrappers.now)))
+        (live_tests (soc_value parts.now.soc.now))) }
 {
     let places = part_places(alloc, parts, resolved)?;
     let tests = tests_at(alloc, parts, &places);
@@ -240,25 +271,33 @@ fn tests_of(
 /// The job of the live tests, in the order of the chip, each with the cycles that it takes in the wrappers and the bus that
 /// it goes over. Under sound limits it is a sound job, which a schedule can be searched for. `NoMemory` where there is
 /// none.
-pub fn job_of(alloc: Global, parts: &JobParts<'_>) -> Result<Job, NoMemory>
+pub fn job_of(alloc: Global, parts: &JobSource<'_>) -> Result<Job, NoMemory>
     requires sound { IsSoundChip (soc_value parts.now.soc.now) }
-    requires wrapped { Keeps (soc_value parts.now.soc.now) (limits_value parts.now.limits.now) (settled_parts (map bus_value parts.now.buses.now) (map wrapper_value parts.now.wrappers.now)) Wrappers }
-    requires proper { Keeps (soc_value parts.now.soc.now) (limits_value parts.now.limits.now) (settled_parts (map bus_value parts.now.buses.now) (map wrapper_value parts.now.wrappers.now)) Proper }
-    ensures job { IfOk result (λ job. job_value job ≡ the_job (soc_value parts.now.soc.now) (limits_value parts.now.limits.now) (settled_parts (map bus_value parts.now.buses.now) (map wrapper_value parts.now.wrappers.now))) }
-    ensures sound { IsSoundLimits (soc_value parts.now.soc.now) (limits_value parts.now.limits.now) → IfOk result (λ job. IsSoundJob (job_value job)) }
+    requires wrapped { Keeps (soc_value parts.now.soc.now) (limits_value parts.now.limits.now)
+        (settled_parts (map bus_value parts.now.buses.now) (map wrapper_value parts.now.wrappers.now)) Wrappers }
+    requires proper { Keeps (soc_value parts.now.soc.now) (limits_value parts.now.limits.now)
+        (settled_parts (map bus_value parts.now.buses.now) (map wrapper_value parts.now.wrappers.now)) Proper }
+    ensures job { IfOk result (λ job. job_value job ≡ the_job (soc_value parts.now.soc.now) (limits_value parts.now.limits.now)
+        (settled_parts (map bus_value parts.now.buses.now) (map wrapper_value parts.now.wrappers.now))) }
+    ensures sound { IsSoundLimits (soc_value parts.now.soc.now) (limits_value parts.now.limits.now) →
+        IfOk result (λ job. IsSoundJob (job_value job)) }
 {
     let resolved = Resolved::new(alloc, parts.soc, parts.limits)?;
     job_with(alloc, parts, &resolved)
 }
 
 /// The same job, where the chip and its limits are resolved already.
-pub fn job_with(alloc: Global, parts: &JobParts<'_>, resolved: &Resolved) -> Result<Job, NoMemory>
+pub fn job_with(alloc: Global, parts: &JobSource<'_>, resolved: &Resolved) -> Result<Job, NoMemory>
     requires sound { IsSoundChip (soc_value parts.now.soc.now) }
-    requires wrapped { Keeps (soc_value parts.now.soc.now) (limits_value parts.now.limits.now) (settled_parts (map bus_value parts.now.buses.now) (map wrapper_value parts.now.wrappers.now)) Wrappers }
-    requires proper { Keeps (soc_value parts.now.soc.now) (limits_value parts.now.limits.now) (settled_parts (map bus_value parts.now.buses.now) (map wrapper_value parts.now.wrappers.now)) Proper }
+    requires wrapped { Keeps (soc_value parts.now.soc.now) (limits_value parts.now.limits.now)
+        (settled_parts (map bus_value parts.now.buses.now) (map wrapper_value parts.now.wrappers.now)) Wrappers }
+    requires proper { Keeps (soc_value parts.now.soc.now) (limits_value parts.now.limits.now)
+        (settled_parts (map bus_value parts.now.buses.now) (map wrapper_value parts.now.wrappers.now)) Proper }
     requires resolved { IsResolved (soc_value parts.now.soc.now) parts.now.limits.now resolved.now }
-    ensures job { IfOk result (λ job. job_value job ≡ the_job (soc_value parts.now.soc.now) (limits_value parts.now.limits.now) (settled_parts (map bus_value parts.now.buses.now) (map wrapper_value parts.now.wrappers.now))) }
-    ensures sound { IsSoundLimits (soc_value parts.now.soc.now) (limits_value parts.now.limits.now) → IfOk result (λ job. IsSoundJob (job_value job)) }
+    ensures job { IfOk result (λ job. job_value job ≡ the_job (soc_value parts.now.soc.now) (limits_value parts.now.limits.now)
+        (settled_parts (map bus_value parts.now.buses.now) (map wrapper_value parts.now.wrappers.now))) }
+    ensures sound { IsSoundLimits (soc_value parts.now.soc.now) (limits_value parts.now.limits.now) →
+        IfOk result (λ job. IsSoundJob (job_value job)) }
 {
     let tests = tests_of(alloc, parts, resolved)?;
     let before = copied(alloc, &resolved.precedences)?;

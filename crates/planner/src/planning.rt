@@ -49,11 +49,16 @@ where
     requires limits { IsSoundLimits (soc_value soc.now) (limits_value limits.now) }
     requires estimate { IsEstimate (λ t test. F.pre ahead t test) (λ t test estimate. F.post ahead t test estimate) }
     ensures planned { IfOk result (λ plan. IsPlanned (soc_value soc.now) (limits_value limits.now) (plan_value plan)) }
-    ensures right { IfOk result (λ plan. (content : Content) → IsRight (soc_value soc.now) (limits_value limits.now) (plan_value plan) content) }
+    ensures right { IfOk result (λ plan. (content : Content) →
+        IsRight (soc_value soc.now) (limits_value limits.now) (plan_value plan) content) }
     ensures bound { IfOk result (λ plan. IsBound (soc_value soc.now) (limits_value limits.now) plan.bound.cycles) }
-    ensures elementary { IfOk result (λ plan. (n : ℕ) → IsElementary (soc_value soc.now) (limits_value limits.now) n → n ≤ plan.bound.cycles) }
-    ensures only_plan { IfOk result (λ plan. (HasMoreOpen (job_of (soc_value soc.now) (limits_value limits.now) (plan_value plan)) (limits_value limits.now).budget → ⊥) → (other : PlanValue) → IsPlanned (soc_value soc.now) (limits_value limits.now) other → other ≡ plan_value plan) }
-    ensures only_buses { IfOk result (λ plan. (buses : List BusValue) → AreSettledBuses (table_of (soc_value soc.now) (limits_value limits.now)) buses → buses ≡ (plan_value plan).buses) }
+    ensures elementary { IfOk result (λ plan. (n : ℕ) → IsElementary (soc_value soc.now) (limits_value limits.now) n →
+        n ≤ plan.bound.cycles) }
+    ensures only_plan { IfOk result (λ plan. (HasMoreOpen (job_of (soc_value soc.now) (limits_value limits.now) (plan_value plan))
+        (limits_value limits.now).budget → ⊥) → (other : PlanValue) → IsPlanned (soc_value soc.now) (limits_value limits.now) other →
+        other ≡ plan_value plan) }
+    ensures only_buses { IfOk result (λ plan. (buses : List BusValue) →
+        AreSettledBuses (table_of (soc_value soc.now) (limits_value limits.now)) buses → buses ≡ (plan_value plan).buses) }
 {
     let resolved = Resolved::new(alloc, soc, limits)?;
     plan_with(alloc, soc, limits, &resolved, ahead)
@@ -74,11 +79,16 @@ where
     requires resolved { IsResolved (soc_value soc.now) limits.now resolved.now }
     requires estimate { IsEstimate (λ t test. F.pre ahead t test) (λ t test estimate. F.post ahead t test estimate) }
     ensures planned { IfOk result (λ plan. IsPlanned (soc_value soc.now) (limits_value limits.now) (plan_value plan)) }
-    ensures right { IfOk result (λ plan. (content : Content) → IsRight (soc_value soc.now) (limits_value limits.now) (plan_value plan) content) }
+    ensures right { IfOk result (λ plan. (content : Content) →
+        IsRight (soc_value soc.now) (limits_value limits.now) (plan_value plan) content) }
     ensures bound { IfOk result (λ plan. IsBound (soc_value soc.now) (limits_value limits.now) plan.bound.cycles) }
-    ensures elementary { IfOk result (λ plan. (n : ℕ) → IsElementary (soc_value soc.now) (limits_value limits.now) n → n ≤ plan.bound.cycles) }
-    ensures only_plan { IfOk result (λ plan. (HasMoreOpen (job_of (soc_value soc.now) (limits_value limits.now) (plan_value plan)) (limits_value limits.now).budget → ⊥) → (other : PlanValue) → IsPlanned (soc_value soc.now) (limits_value limits.now) other → other ≡ plan_value plan) }
-    ensures only_buses { IfOk result (λ plan. (buses : List BusValue) → AreSettledBuses (table_of (soc_value soc.now) (limits_value limits.now)) buses → buses ≡ (plan_value plan).buses) }
+    ensures elementary { IfOk result (λ plan. (n : ℕ) → IsElementary (soc_value soc.now) (limits_value limits.now) n →
+        n ≤ plan.bound.cycles) }
+    ensures only_plan { IfOk result (λ plan. (HasMoreOpen (job_of (soc_value soc.now) (limits_value limits.now) (plan_value plan))
+        (limits_value limits.now).budget → ⊥) → (other : PlanValue) → IsPlanned (soc_value soc.now) (limits_value limits.now) other →
+        other ≡ plan_value plan) }
+    ensures only_buses { IfOk result (λ plan. (buses : List BusValue) →
+        AreSettledBuses (table_of (soc_value soc.now) (limits_value limits.now)) buses → buses ≡ (plan_value plan).buses) }
 {
     good_plans_run_right();
     let table = WidthTable::new(alloc, soc, limits.wires)?;

@@ -14,7 +14,7 @@ ghost use Rattle.schedule_search.specs.Estimates.{IsEstimate};
 ghost use Rattle.planner.specs.Jobs.{settled_parts};
 ghost use Rattle.planner.specs.Schedules.{IsFoundSchedule, AreStartsOf, IsFoundList, KeepsTimes};
 
-use crate::job::{JobParts, job_with};
+use crate::job::{JobSource, job_with};
 use live_tests::Resolved;
 use outside::{NoMemory, push};
 use plan_model::{Bus, Limits, Wrapper};
@@ -85,15 +85,21 @@ where
     requires sound { IsSoundChip (soc_value soc.now) }
     requires limits { IsSoundLimits (soc_value soc.now) (limits_value limits.now) }
     requires resolved { IsResolved (soc_value soc.now) limits.now resolved.now }
-    requires wrapped { Keeps (soc_value soc.now) (limits_value limits.now) (settled_parts (map bus_value buses.now) (map wrapper_value wrappers.now)) Wrappers }
-    requires proper { Keeps (soc_value soc.now) (limits_value limits.now) (settled_parts (map bus_value buses.now) (map wrapper_value wrappers.now)) Proper }
+    requires wrapped { Keeps (soc_value soc.now) (limits_value limits.now)
+        (settled_parts (map bus_value buses.now) (map wrapper_value wrappers.now)) Wrappers }
+    requires proper { Keeps (soc_value soc.now) (limits_value limits.now)
+        (settled_parts (map bus_value buses.now) (map wrapper_value wrappers.now)) Proper }
     requires estimate { IsEstimate (λ t test. F.pre ahead t test) (λ t test estimate. F.post ahead t test estimate) }
-    ensures found { IfOk result (λ s. (plan : PlanValue) → plan.buses ≡ map bus_value buses.now → plan.wrappers ≡ map wrapper_value wrappers.now → plan.starts ≡ s.starts.items → plan.cycles ≡ s.cycles → IsFoundSchedule (soc_value soc.now) (limits_value limits.now) plan) }
-    ensures keeps { IfOk result (λ s. (plan : PlanValue) → plan.buses ≡ map bus_value buses.now → plan.wrappers ≡ map wrapper_value wrappers.now → plan.starts ≡ s.starts.items → KeepsTimes (soc_value soc.now) (limits_value limits.now) plan s.cycles) }
+    ensures found { IfOk result (λ s. (plan : PlanValue) → plan.buses ≡ map bus_value buses.now →
+        plan.wrappers ≡ map wrapper_value wrappers.now → plan.starts ≡ s.starts.items → plan.cycles ≡ s.cycles →
+        IsFoundSchedule (soc_value soc.now) (limits_value limits.now) plan) }
+    ensures keeps { IfOk result (λ s. (plan : PlanValue) → plan.buses ≡ map bus_value buses.now →
+        plan.wrappers ≡ map wrapper_value wrappers.now → plan.starts ≡ s.starts.items →
+        KeepsTimes (soc_value soc.now) (limits_value limits.now) plan s.cycles) }
     ensures early { IfOk result (λ s. All (λ (start : TestId × ℕ). start.1 ≤ 10 ^ 18) s.starts.items) }
     ensures short { IfOk result (λ s. s.cycles ≤ 10 ^ 18) }
 {
-    let parts = JobParts {
+    let parts = JobSource {
         soc,
         limits,
         buses,

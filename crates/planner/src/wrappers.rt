@@ -36,7 +36,8 @@ pub fn width_of(buses: &[Bus], number: u64) -> u64
 
 /// The wires of the bus at a place, 0 where none stands there.
 fn width_at(buses: &[Bus], place: usize) -> u64
-    ensures { (number : ℕ) → place ≡ the_bus_place number 0 (map bus_value buses.now) → result ≡ bus_width (map bus_value buses.now) number }
+    ensures { (number : ℕ) → place ≡ the_bus_place number 0 (map bus_value buses.now) →
+        result ≡ bus_width (map bus_value buses.now) number }
 {
     if place < buses.len() {
         buses[place].width
@@ -56,7 +57,9 @@ fn push_mode(
 ) -> Result<(), NoMemory>
     requires place { place < length (soc_value soc.now).modules }
     requires places { AreBusPlaces places.now.entries (map bus_value buses.now) }
-    ensures { OnOk result ((core : ModuleValue) (pairs : List (ℕ × Bool)) → slice_get (soc_value soc.now).modules place ≡ Some core → AreUsedModes (soc_value soc.now) (map bus_value buses.now) pairs to.old.items → AreUsedModes (soc_value soc.now) (map bus_value buses.now) (pairs ++ mode_pair scan core) to.new.items) }
+    ensures { OnOk result ((core : ModuleValue) (pairs : List (ℕ × Bool)) → slice_get (soc_value soc.now).modules place ≡ Some core →
+        AreUsedModes (soc_value soc.now) (map bus_value buses.now) pairs to.old.items →
+        AreUsedModes (soc_value soc.now) (map bus_value buses.now) (pairs ++ mode_pair scan core) to.new.items) }
 {
     let module = module_at(soc, place);
     if !uses_mode(module, scan) {
@@ -75,7 +78,8 @@ fn modes_at(
     places: &IndexMap<u64, usize>,
 ) -> Result<Vec<UsedMode>, NoMemory>
     requires { AreBusPlaces places.now.entries (map bus_value buses.now) }
-    ensures { IfOk result (λ modes. AreUsedModes (soc_value soc.now) (map bus_value buses.now) (used_pairs (soc_value soc.now)) modes.items) }
+    ensures { IfOk result (λ modes. AreUsedModes (soc_value soc.now) (map bus_value buses.now)
+        (used_pairs (soc_value soc.now)) modes.items) }
 {
     let mut modes = Vec::new(alloc);
     for place in 0..soc.modules.len() {
@@ -87,7 +91,8 @@ fn modes_at(
 
 /// The modes that are used, of all modules in their order, scan before terminals.
 fn used_modes(alloc: Global, soc: &Soc, buses: &[Bus]) -> Result<Vec<UsedMode>, NoMemory>
-    ensures { IfOk result (λ modes. AreUsedModes (soc_value soc.now) (map bus_value buses.now) (used_pairs (soc_value soc.now)) modes.items) }
+    ensures { IfOk result (λ modes. AreUsedModes (soc_value soc.now) (map bus_value buses.now)
+        (used_pairs (soc_value soc.now)) modes.items) }
 {
     let places = buses_by_module(alloc, buses)?;
     let modes = modes_at(alloc, soc, buses, &places);

@@ -28,7 +28,8 @@ event_at cycle begins ends = record { cycle = cycle; begins = begins; ends = end
 -- last one ends.
 abbrev pub step_events : (start end now : ℕ) → List (ℕ × ℕ) → List Event
 step_events start end now [] = event_at end 0 now ∷ []
-step_events start end now (s ∷ steps) = if nat_lt (start + s.0) end then event_at (start + s.0) s.1 now ∷ step_events start end s.1 steps else step_events start end now steps
+step_events start end now (s ∷ steps) =
+    if nat_lt (start + s.0) end then event_at (start + s.0) s.1 now ∷ step_events start end s.1 steps else step_events start end now steps
 
 abbrev pub test_events : LimitsValue → PlacedTest → List Event
 test_events limits t = step_events t.start t.end 0 (steps_of limits t)

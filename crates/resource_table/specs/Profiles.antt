@@ -1,5 +1,5 @@
 -- A profile of the power that is drawn: its load at some cycles, between which it stays the same.
-use Rattle.std.specs.Prelude.{◌≡◌, ℕ, zero, suc, ◌+◌, ◌<◌, ◌≤◌, ◌⊎◌, Bool, not, nat_eq, if◌then◌else◌, Some, List, length, slice_get, slice_index_or}
+use Rattle.std.specs.Prelude.{◌≡◌, ℕ, zero, suc, ◌+◌, ◌<◌, ◌≤◌, ◌⊎◌, ◌∷◌, Bool, not, nat_eq, if◌then◌else◌, Some, List, length, slice_get, slice_index_or}
 use Rattle.std.specs.List.{All, sum_by}
 use Rattle.std.specs.List.Sorted.{IsNonDecreasingBy}
 use Rattle.resource_table.specs.declared.power.Draw.{Draw}
@@ -48,6 +48,10 @@ pub record ArePoints (draws : List Draw) (cycles : List ℕ) (points : List Poin
 -- each draw that takes anything begins and ends at one of the cycles
 pub record AreMarked (draws : List Draw) (cycles : List ℕ) : Type 0 where
   pub each : (i : ℕ) (d : Draw) → slice_get draws i ≡ Some d → (d.to ≤ d.from) ⊎ ((1 ≤ counted d.from cycles) × (1 ≤ counted d.to cycles))
+
+-- the points of some draws have a mark more
+abbrev pub HaveMarkMore : (cycle : ℕ) → (old new : List Point) → Type 0
+HaveMarkMore cycle old new = (draws : List Draw) (cycles : List ℕ) → AreMarked draws cycles → ArePoints draws cycles old → ArePoints draws (cycle ∷ cycles) new
 
 -- a point, with a draw that begins to be taken
 abbrev pub raised_by : Draw → Point → Point

@@ -1,4 +1,5 @@
-//! Where a profile of power leaves enough free for a step of a test, and for long enough.
+//! Where a profile of power leaves enough free for a step of a test, and for long enough. A point is crowded for a step where it
+//! leaves less free than the step draws; a crowd is a run of such points, one behind the other.
 ghost use Rattle.std.specs.Prelude.{◌≡◌, ℕ, ◌+◌, ◌^◌, ◌<◌, ◌≤◌, ◌⊎◌, nat_lt, length, slice_index_or, IfSome, IfNone};
 ghost use Rattle.resource_table.specs.Profiles.{no_point, IsEndedProfile, IsFreeFor};
 

@@ -3,11 +3,11 @@
 //! are taken out together, where there is no room.
 ghost use Rattle.std.specs.Prelude.{◌≡◌, ℕ, ◌+◌, ◌-◌, ◌^◌, ◌<◌, ◌≤◌, ◌++◌, ◌∷◌, true, false, List, drop, length, slice_index_or, vec_capacity};
 ghost use Rattle.std.specs.List.{sum_by};
-ghost use Rattle.std.specs.List.Sorted.{IsNonDecreasingBy};
+ghost use Rattle.std.specs.List.Sorted.{IsNonDecreasingBy, IsPartitionPoint};
 ghost use Rattle.resource_table.specs.declared.power.Draw.{Draw};
 ghost use Rattle.resource_table.specs.declared.points.Point.{Point};
 ghost use Rattle.resource_table.specs.Resources.{marks_from};
-ghost use Rattle.resource_table.specs.Profiles.{no_point, uses_at, all_uses, ArePoints, AreMarked};
+ghost use Rattle.resource_table.specs.Profiles.{no_point, uses_at, all_uses, ArePoints, AreMarked, HaveMarkMore};
 
 use crate::points::{
     Point, drop_unused, load_before, places_before_near, put_point, stands_at, use_less, use_more,
@@ -42,16 +42,16 @@ fn add_standing_mark(points: &mut Vec<Point>, place: usize, cycle: u64) -> bool
     false
 }
 
-/// Adds a mark at a cycle, in room that is there. The loads stay as they are. Its place, which is sought from a near one, is
-/// answered.
-fn add_mark(points: &mut Vec<Point>, near: usize, cycle: u64) -> usize
+/// Adds a mark at a cycle to the point at a place, before which the points of earlier cycles stand, or puts a point there, in room that
+/// is there. The loads stay as they are. The place is answered.
+fn put_mark(points: &mut Vec<Point>, place: usize, cycle: u64) -> usize
     requires room { length points.old.items < vec_capacity points.old }
     requires fits { all_uses points.old.items + 1 < 2 ^ 64 }
-    requires ordered { IsNonDecreasingBy (λ (p : Point). p.cycle) points.old.items }
-    ensures points { (held : List Draw) (cycles : List ℕ) → AreMarked held cycles → ArePoints held cycles points.old.items → ArePoints held (cycle ∷ cycles) points.new.items }
+    requires place { place ≤ length points.old.items }
+    requires parts { IsPartitionPoint (λ (p : Point). p.cycle < cycle) (λ (p : Point). cycle ≤ p.cycle) points.old.items place }
+    ensures points { HaveMarkMore cycle points.old.items points.new.items }
     ensures capacity { vec_capacity points.new ≡ vec_capacity points.old }
 {
-    let place = places_before_near(points, near, cycle);
     if add_standing_mark(points, place, cycle) {
         return place;
     }
@@ -59,6 +59,19 @@ fn add_mark(points: &mut Vec<Point>, near: usize, cycle: u64) -> usize
     let uses = 1;
     put_point(points, place, Point { cycle, load, uses });
     place
+}
+
+/// Adds a mark at a cycle, in room that is there. The loads stay as they are. Its place, which is sought from a near one, is
+/// answered.
+fn add_mark(points: &mut Vec<Point>, near: usize, cycle: u64) -> usize
+    requires room { length points.old.items < vec_capacity points.old }
+    requires fits { all_uses points.old.items + 1 < 2 ^ 64 }
+    requires ordered { IsNonDecreasingBy (λ (p : Point). p.cycle) points.old.items }
+    ensures points { HaveMarkMore cycle points.old.items points.new.items }
+    ensures capacity { vec_capacity points.new ≡ vec_capacity points.old }
+{
+    let place = places_before_near(points, near, cycle);
+    put_mark(points, place, cycle)
 }
 
 /// Takes away a mark that stands at a cycle. Its place, which is sought from a near one, is answered.
@@ -148,6 +161,9 @@ fn add_next_mark(points: &mut Vec<Point>, near: usize, spare: usize, cycle: u64)
         let uses = 1;
         put_over(points, place, spare, Point { cycle, load, uses });
         return (place, spare + 1);
+    }
+    if points.len() < points.capacity() {
+        return (put_mark(points, place, cycle), spare);
     }
     make_room(points, 1);
     (add_mark(points, place, cycle), spare)

@@ -57,6 +57,7 @@ fn places_between(points: &[Point], from: usize, to: usize, cycle: u64) -> usize
 }
 
 /// How many points stand before a cycle, where these are so many at least. They are looked for in steps that double.
+#[inline(never)]
 fn places_from(points: &[Point], from: usize, cycle: u64) -> usize
     requires bound { from ≤ length points.now }
     requires ahead { 0 < from → (slice_index_or points.now (from - 1) no_point).cycle < cycle }
@@ -78,6 +79,7 @@ fn places_from(points: &[Point], from: usize, cycle: u64) -> usize
 }
 
 /// How many points stand before a cycle, where these are so many at most. They are looked for in steps that double.
+#[inline(never)]
 fn places_up_to(points: &[Point], to: usize, cycle: u64) -> usize
     requires bound { to ≤ length points.now }
     requires late { to < length points.now → cycle ≤ (slice_index_or points.now to no_point).cycle }
@@ -99,6 +101,7 @@ fn places_up_to(points: &[Point], to: usize, cycle: u64) -> usize
 }
 
 /// How many points stand before a cycle. It is found the sooner, the nearer it is to some number.
+#[inline(always)]
 pub fn places_before_near(points: &[Point], near: usize, cycle: u64) -> usize
     requires { IsNonDecreasingBy (λ (p : Point). p.cycle) points.now }
     ensures bound { result ≤ length points.now }
@@ -141,10 +144,8 @@ pub fn put_point(points: &mut Vec<Point>, place: usize, point: Point)
     ensures items { points.new.items ≡ insert points.old.items place point }
     ensures capacity { vec_capacity points.new ≡ vec_capacity points.old }
 {
-    match points.insert(place, point) {
-        Ok(()) => {}
-        Err(_) => unreachable!(),
-    }
+    points.push_reserved(point);
+    points[place..].rotate_right(1);
 }
 
 /// A mark more at a point.

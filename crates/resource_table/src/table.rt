@@ -166,7 +166,7 @@ fn new_points(alloc: Global, tests: usize, steps: usize) -> Result<Vec<Point>, N
 }
 
 /// What a table keeps of its placements. It is made by a function of its own, and what the table makes of its job by another: one
-/// that has all parts of a table in its hands at each want of memory takes much longer to prove.
+/// that has all parts of a table in its hands wherever memory runs out takes much longer to prove.
 #[derive(Drop)]
 struct Rows {
     ends: Vec<Option<u64>>,

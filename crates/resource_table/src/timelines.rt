@@ -129,13 +129,27 @@ fn ended_by(spans: &[Span], cycle: u64) -> usize
     )
 }
 
-/// Puts a time before those that start no earlier, in room that is there.
+/// Puts a time behind all others, which start earlier, in room that is there.
+fn push_span(spans: &mut Vec<Span>, span: Span)
+    requires room { vec_len spans.old < vec_capacity spans.old }
+    requires earlier { All (λ (s : Span). s.from < span.from) spans.old.items }
+    ensures put { IsPut span spans.old.items spans.new.items }
+    ensures capacity { vec_capacity spans.new ≡ vec_capacity spans.old }
+{
+    spans.push_reserved(span);
+}
+
+/// Puts a time before those that start no earlier, in room that is there. Often there is none of these.
 fn put_span(spans: &mut Vec<Span>, span: Span)
     requires room { vec_len spans.old < vec_capacity spans.old }
     requires ordered { IsNonDecreasingBy (λ (s : Span). s.from) spans.old.items }
     ensures put { IsPut span spans.old.items spans.new.items }
     ensures capacity { vec_capacity spans.new ≡ vec_capacity spans.old }
 {
+    if all_start_before(spans, span.from) {
+        push_span(spans, span);
+        return;
+    }
     let place = starts_before(spans, span.from);
     match spans.insert(place, span) {
         Ok(()) => {}

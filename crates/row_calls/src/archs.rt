@@ -94,7 +94,7 @@ fn text_of_step(
 }
 
 /// `buses STEP FIRST WIRES`: what a kind of step (bottom_up, top_down, reshuffle, settle) makes of the buses of the start
-/// solution of the chip of SOC for FIRST wires, to which the others of the WIRES are given. Each is told by its cycles and buses.
+/// solution of the chip of SOC for FIRST wires, to which the others of the WIRES are given. Each is printed by its cycles and buses.
 pub fn cycles_of_steps(rig: &Rig, words: &str) -> Result<Vec<u8>, NoMemory> {
     let Some(soc) = chip_of(rig) else {
         return copied(rig.alloc(), b"no chip");

@@ -15,6 +15,6 @@ mod texts;
 
 pub use archs::cycles_of_steps;
 pub use calls::{printed_again, session_of_plan, under_the_plan};
-pub use lines::{Line, count_of, line_of, part, word_of};
+pub use lines::{RowLine, count_of, line_of, part, word_of};
 pub use rig::Rig;
 pub use texts::is_text;

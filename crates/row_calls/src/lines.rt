@@ -2,7 +2,7 @@
 use outside::number;
 
 /// A line of a file of rows.
-pub enum Line<'a> {
+pub enum RowLine<'a> {
     /// Nothing, or a comment that `#` begins.
     Blank,
     /// `hold NAME TEXT`: the file NAME holds the text from here on.
@@ -39,7 +39,7 @@ pub enum Line<'a> {
     Puts {
         shape: &'a str,
     },
-    /// `tells ROOM MOST N ..`: the same for the second output, which is told how far a run has come.
+    /// `tells ROOM MOST N ..`: the same for the second output, on which is reported how far a run has come.
     Tells {
         shape: &'a str,
     },
@@ -63,10 +63,10 @@ pub fn word_of(word: &str) -> &str {
 }
 
 /// The line `more N NAME TEXT`, by what stands behind its first word.
-fn more_of(rest: &str) -> Line<'_> {
+fn more_of(rest: &str) -> RowLine<'_> {
     let (copies, rest) = part(rest);
     let (name, text) = part(rest);
-    Line::More {
+    RowLine::More {
         name,
         copies: count_of(copies),
         text,
@@ -74,10 +74,10 @@ fn more_of(rest: &str) -> Line<'_> {
 }
 
 /// The line `keep NAME BEGIN END`, by what stands behind its first word.
-fn keep_of(rest: &str) -> Line<'_> {
+fn keep_of(rest: &str) -> RowLine<'_> {
     let (name, rest) = part(rest);
     let (begin, end) = part(rest);
-    Line::Keep {
+    RowLine::Keep {
         name,
         begin: word_of(begin),
         end,
@@ -85,9 +85,9 @@ fn keep_of(rest: &str) -> Line<'_> {
 }
 
 /// The row of a kind, by what stands behind its first word.
-fn row_of<'a>(kind: &'a str, rest: &'a str) -> Line<'a> {
+fn row_of<'a>(kind: &'a str, rest: &'a str) -> RowLine<'a> {
     let (words, wanted) = rest.split_once("-> ").unwrap_or((rest, ""));
-    Line::Row {
+    RowLine::Row {
         kind,
         words,
         wanted,
@@ -95,19 +95,19 @@ fn row_of<'a>(kind: &'a str, rest: &'a str) -> Line<'a> {
 }
 
 /// What a line says.
-pub fn line_of(text: &str) -> Line<'_> {
+pub fn line_of(text: &str) -> RowLine<'_> {
     let (word, rest) = part(text);
     let (name, behind) = part(rest);
     match word {
-        "hold" => Line::Hold { name, text: behind },
+        "hold" => RowLine::Hold { name, text: behind },
         "more" => more_of(rest),
-        "data" => Line::Data { name, file: behind },
+        "data" => RowLine::Data { name, file: behind },
         "keep" => keep_of(rest),
-        "loads" => Line::Loads { failing: rest },
-        "puts" => Line::Puts { shape: rest },
-        "tells" => Line::Tells { shape: rest },
-        "" => Line::Blank,
-        kind if kind.starts_with('#') => Line::Blank,
+        "loads" => RowLine::Loads { failing: rest },
+        "puts" => RowLine::Puts { shape: rest },
+        "tells" => RowLine::Tells { shape: rest },
+        "" => RowLine::Blank,
+        kind if kind.starts_with('#') => RowLine::Blank,
         kind => row_of(kind, rest),
     }
 }

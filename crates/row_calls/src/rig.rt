@@ -12,23 +12,23 @@ const MOST_A_CALL: usize = 7;
 
 /// A file that is held.
 #[derive(Drop)]
-struct Held {
+struct HeldFile {
     name: Vec<u8>,
     bytes: Vec<u8>,
 }
 
 /// What an output is like: its room, the most bytes of a call, and the calls that fail.
 #[derive(Drop)]
-struct Shape {
+struct OutputShape {
     room: usize,
     most: usize,
     failing: Vec<u64>,
 }
 
-impl Shape {
+impl OutputShape {
     /// An output that takes every answer.
-    fn new(alloc: Global) -> Shape {
-        Shape {
+    fn new(alloc: Global) -> OutputShape {
+        OutputShape {
             room: ROOM_FOR_ALL,
             most: MOST_A_CALL,
             failing: Vec::new(alloc),
@@ -71,10 +71,10 @@ impl Shape {
 #[derive(Drop)]
 pub struct Rig {
     alloc: Global,
-    files: Vec<Held>,
+    files: Vec<HeldFile>,
     pub shelf: MemShelf,
-    puts: Shape,
-    tells: Shape,
+    puts: OutputShape,
+    tells: OutputShape,
     written: Vec<u8>,
     told: Vec<u8>,
 }
@@ -86,8 +86,8 @@ impl Rig {
             alloc,
             files: Vec::new(alloc),
             shelf: MemShelf::new(alloc),
-            puts: Shape::new(alloc),
-            tells: Shape::new(alloc),
+            puts: OutputShape::new(alloc),
+            tells: OutputShape::new(alloc),
             written: Vec::new(alloc),
             told: Vec::new(alloc),
         }
@@ -114,7 +114,7 @@ impl Rig {
         self.files
             .retain(|file| file.name.as_slice() != name.as_bytes());
         let name = copied(self.alloc, name.as_bytes())?;
-        push(&mut self.files, Held { name, bytes })
+        push(&mut self.files, HeldFile { name, bytes })
     }
 
     /// Has a file hold a text.

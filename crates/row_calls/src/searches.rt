@@ -11,7 +11,7 @@ ghost use Rattle.schedule_search.specs.Estimates.{CanAsk, IsAtLeastReady, IsAtMo
 
 use outside::{NoMemory, extend, push, push_number};
 use plan_model::{Limits, Plan};
-use planner::{JobParts, job_of};
+use planner::{JobSource, job_of};
 use resource_table::{Job, Table};
 use schedule_search::{Ahead, Found, Search};
 use soc_model::Soc;
@@ -24,7 +24,7 @@ pub fn job_of_plan(alloc: Global, soc: &Soc, limits: &Limits, plan: &Plan) -> Re
     requires accepted { IsFaultless (soc_value soc.now) (limits_value limits.now) (plan_value plan.now) }
     ensures { IfOk result (λ job. IsSoundJob (job_value job)) }
 {
-    let parts = JobParts {
+    let parts = JobSource {
         soc,
         limits,
         buses: &plan.buses,

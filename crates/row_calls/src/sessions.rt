@@ -51,7 +51,7 @@ fn bits_of(alloc: Global, text: &str) -> Result<Vec<bool>, NoMemory> {
 }
 
 /// One cycle of capturing a response of the module. A response of another length isn't taken.
-fn capture(
+fn run_capture(
     alloc: Global,
     session: &mut Session,
     reads: usize,
@@ -69,7 +69,7 @@ fn capture(
 
 /// One cycle of shifting, whose bits, one for each chain, are driven; those that are read are appended. Bits for another
 /// number of chains aren't taken.
-fn shift(
+fn run_shift(
     alloc: Global,
     session: &mut Session,
     chains: usize,
@@ -112,8 +112,8 @@ pub fn steps_of_session(
     let mut answer = Vec::new(alloc);
     for step in steps.split_whitespace() {
         match step.strip_prefix('=') {
-            Some(response) => capture(alloc, &mut session, reads, response)?,
-            None => shift(alloc, &mut session, chains, step, &mut answer)?,
+            Some(response) => run_capture(alloc, &mut session, reads, response)?,
+            None => run_shift(alloc, &mut session, chains, step, &mut answer)?,
         }
     }
     Ok(answer)

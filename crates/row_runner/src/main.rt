@@ -10,7 +10,7 @@ mod report;
 mod rows;
 mod runs;
 
-use crate::report::Report;
+use crate::report::RowReport;
 use crate::rows::take_file;
 use outside::{NoMemory, RealSink, put_all};
 use std::env;
@@ -18,8 +18,8 @@ use std::process::ExitCode;
 use std::rt::{Env, Files};
 
 /// Goes by the files of rows that the command line names.
-fn take_files<R: Env + Files + AllocGlobal>(rt: &R) -> Result<Report, NoMemory> {
-    let mut report = Report::new(rt.alloc());
+fn take_files<R: Env + Files + AllocGlobal>(rt: &R) -> Result<RowReport, NoMemory> {
+    let mut report = RowReport::new(rt.alloc());
     let Ok(names) = env::args(rt) else {
         return Err(NoMemory);
     };

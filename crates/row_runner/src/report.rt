@@ -7,16 +7,16 @@ const SHOWN_MOST: usize = 2_000;
 
 /// How many rows passed and failed, and what is to be printed of the latter.
 #[derive(Drop)]
-pub struct Report {
+pub struct RowReport {
     passed: u64,
     failed: u64,
     text: Vec<u8>,
 }
 
-impl Report {
+impl RowReport {
     /// No row yet.
-    pub fn new(alloc: Global) -> Report {
-        Report {
+    pub fn new(alloc: Global) -> RowReport {
+        RowReport {
             passed: 0,
             failed: 0,
             text: Vec::new(alloc),

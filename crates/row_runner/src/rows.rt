@@ -3,11 +3,11 @@
 use crate::comparing::{are_same, takes_fewer};
 use crate::keeping::keep_lines;
 use crate::real_files::{hold_data, run_of_real_files, what_a_load_answers};
-use crate::report::Report;
+use crate::report::RowReport;
 use crate::runs::run_of_command;
 use outside::{Loaded, NoMemory, RealShelf, Shelf, copied};
 use row_calls::{
-    Line, Rig, cycles_of_steps, is_text, line_of, part, printed_again, session_of_plan,
+    Rig, RowLine, cycles_of_steps, is_text, line_of, part, printed_again, session_of_plan,
     under_the_plan,
 };
 use std::rt::Files;
@@ -62,23 +62,23 @@ fn is_wanted(rig: &Rig, wanted: &str, answer: &[u8]) -> bool {
 fn said_of_line<R: Files + AllocGlobal>(
     rt: &R,
     rig: &mut Rig,
-    report: &mut Report,
-    line: Line<'_>,
+    report: &mut RowReport,
+    line: RowLine<'_>,
 ) -> Result<Option<Vec<u8>>, NoMemory> {
     match line {
-        Line::Blank => {}
-        Line::Hold { name, text } => rig.hold(name, text)?,
-        Line::More { name, copies, text } => rig.hold_more(name, copies, text)?,
-        Line::Data { name, file } => {
+        RowLine::Blank => {}
+        RowLine::Hold { name, text } => rig.hold(name, text)?,
+        RowLine::More { name, copies, text } => rig.hold_more(name, copies, text)?,
+        RowLine::Data { name, file } => {
             if !hold_data(rt, rig, name, file)? {
                 return Ok(Some(copied(rt.alloc(), b"cannot be read")?));
             }
         }
-        Line::Keep { name, begin, end } => keep_lines(rig, name, begin, end)?,
-        Line::Loads { failing } => rig.renew_shelf(failing)?,
-        Line::Puts { shape } => rig.set_output(shape)?,
-        Line::Tells { shape } => rig.set_second_output(shape)?,
-        Line::Row {
+        RowLine::Keep { name, begin, end } => keep_lines(rig, name, begin, end)?,
+        RowLine::Loads { failing } => rig.renew_shelf(failing)?,
+        RowLine::Puts { shape } => rig.set_output(shape)?,
+        RowLine::Tells { shape } => rig.set_second_output(shape)?,
+        RowLine::Row {
             kind,
             words,
             wanted,
@@ -98,7 +98,7 @@ fn said_of_line<R: Files + AllocGlobal>(
 /// Goes by the lines of a file of rows.
 pub fn take_file<R: Files + AllocGlobal>(
     rt: &R,
-    report: &mut Report,
+    report: &mut RowReport,
     name: &str,
 ) -> Result<(), NoMemory> {
     let mut shelf = RealShelf::new(rt);

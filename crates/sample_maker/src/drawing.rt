@@ -6,7 +6,7 @@ ghost use Rattle.sample_maker.specs.Samples.{drawn};
 const MODULUS: u64 = 997;
 
 /// The number that a seed and two numbers draw: a square modulo 997.
-pub fn draw(seed: u64, first: u64, second: u64) -> u64
+pub fn drawn_number(seed: u64, first: u64, second: u64) -> u64
     requires seed { seed < 10 ^ 12 }
     requires first { first ≤ 200 }
     requires second { second ≤ 100 }

@@ -1,4 +1,7 @@
 //! Made chips for whoever wants to try the planner: a number of modules and a seed fix the chip.
+//!
+//! The chip is by its definition, and sound; it is made from `soc_model` alone. Errors are a number of modules that is 0 or too
+//! large, and out of memory.
 #![tactic(auto)]
 
 ghost use Rattle.std.specs.Prelude.{◌≡◌, ℕ, ◌↔◌, ◌⊎◌, ◌+◌, ◌<◌, ◌≤◌, ◌^◌, ◌++◌, ◌∷◌, [], false, IfOk, OnOk, Err};
@@ -39,9 +42,12 @@ impl From<NoMemory> for SampleFault {
 }
 
 /// Adds a module last. `NoMemory` where there is none for it.
-fn add(soc: &mut Soc, module: Module) -> Result<(), NoMemory>
+fn add_module(soc: &mut Soc, module: Module) -> Result<(), NoMemory>
     requires new { has_module_number (soc_value soc.old) «module».number ≡ false }
-    ensures { OnOk result (soc_value soc.new ≡ record (soc_value soc.old) { keys = (soc_value soc.old).keys ++ «module».number ∷ []; modules = (soc_value soc.old).modules ++ module_value «module» ∷ [] }) }
+    ensures { OnOk result (soc_value soc.new ≡ record (soc_value soc.old) {
+      keys = (soc_value soc.old).keys ++ «module».number ∷ [];
+      modules = (soc_value soc.old).modules ++ module_value «module» ∷ [];
+    }) }
 {
     match soc.put(module) {
         Ok(()) => Ok(()),
@@ -74,7 +80,7 @@ fn start_chip(alloc: Global, seed: u64) -> Result<Soc, NoMemory>
     let mut soc = Soc::new(alloc);
     soc.name = copied(alloc, b"sample")?;
     soc.power_flag = true;
-    add(&mut soc, make_top(alloc))?;
+    add_module(&mut soc, make_top(alloc))?;
     Ok(soc)
 }
 
@@ -87,14 +93,14 @@ fn make_chip(alloc: Global, n: u64, seed: u64) -> Result<Soc, NoMemory>
     let mut soc = start_chip(alloc, seed)?;
     for done in 0..n {
         let module = make_module(alloc, seed, done + 1)?;
-        add(&mut soc, module)?;
+        add_module(&mut soc, module)?;
     }
     Ok(soc)
 }
 
 /// The made chip of so many modules, 1 to [`SAMPLE_MODULES_MOST`], and a seed: a sound chip whose module 0 has nothing, and
-/// whose other modules have up to nine scan chains, a test over the wires, and some a self test; none draws more than 99. `SampleSize` comes exactly
-/// where the number of modules is 0 or more than that; `NoMemory` where there is no memory for the chip.
+/// whose other modules have up to nine scan chains, a test over the wires, and some a self test; none draws more than 99. `SampleSize`
+/// comes exactly where the number of modules is 0 or more than that; `NoMemory` where there is no memory for the chip.
 pub fn sample(alloc: Global, n: u64, seed: u64) -> Result<Soc, SampleFault>
     requires seed { seed < 10 ^ 12 }
     ensures chip { IfOk result (λ soc. soc_value soc ≡ made_chip n seed) }

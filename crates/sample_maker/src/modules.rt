@@ -3,7 +3,7 @@ ghost use Rattle.std.specs.Prelude.{◌≡◌, ◌^◌, ◌<◌, ◌≤◌, IfOk
 ghost use Rattle.soc_model.specs.Chips.{module_value};
 ghost use Rattle.sample_maker.specs.Samples.{chain_lengths, has_self_test, is_below, made_module, scan_test, self_test, tests_of};
 
-use crate::drawing::draw;
+use crate::drawing::drawn_number;
 use outside::{NoMemory, push};
 use soc_model::{Module, Test};
 use std::alloc::Global;
@@ -14,7 +14,7 @@ fn lies_below(seed: u64, number: u64) -> bool
     requires number { number ≤ 200 }
     ensures { result ≡ is_below seed number }
 {
-    number > 1 && draw(seed, number, 0) % 4 == 0
+    number > 1 && drawn_number(seed, number, 0) % 4 == 0
 }
 
 /// The lengths of a module's scan chains, in cells.
@@ -24,9 +24,9 @@ fn make_chains(alloc: Global, seed: u64, number: u64) -> Result<Vec<u64>, NoMemo
     ensures { IfOk result (λ chains. chains.items ≡ chain_lengths seed number) }
 {
     let mut chains = Vec::new(alloc);
-    let count = draw(seed, number, 4) % 10;
+    let count = drawn_number(seed, number, 4) % 10;
     for chain in 0..count {
-        push(&mut chains, 10 + draw(seed, number, 5 + chain) % 90)?;
+        push(&mut chains, 10 + drawn_number(seed, number, 5 + chain) % 90)?;
     }
     Ok(chains)
 }
@@ -41,8 +41,8 @@ fn make_scan_test(seed: u64, number: u64) -> Test
         number: 1,
         scan: true,
         tam: true,
-        patterns: 1 + draw(seed, number, 20) % 200,
-        power: 10 + draw(seed, number, 21) % 90,
+        patterns: 1 + drawn_number(seed, number, 20) % 200,
+        power: 10 + drawn_number(seed, number, 21) % 90,
     }
 }
 
@@ -52,7 +52,7 @@ fn tests_itself(seed: u64, number: u64) -> bool
     requires number { number ≤ 200 }
     ensures { result ≡ has_self_test seed number }
 {
-    draw(seed, number, 22) % 5 == 0
+    drawn_number(seed, number, 22) % 5 == 0
 }
 
 /// The self test.
@@ -65,7 +65,7 @@ fn make_self_test(seed: u64, number: u64) -> Test
         number: 2,
         scan: false,
         tam: false,
-        patterns: 1 + 20 * draw(seed, number, 23),
+        patterns: 1 + 20 * drawn_number(seed, number, 23),
         power: 5,
     }
 }
@@ -97,9 +97,9 @@ pub fn make_module(alloc: Global, seed: u64, number: u64) -> Result<Module, NoMe
         number,
         name: Vec::new(alloc),
         level,
-        inputs: draw(seed, number, 1) % 100,
-        outputs: draw(seed, number, 2) % 100,
-        bidirs: draw(seed, number, 3) % 10,
+        inputs: drawn_number(seed, number, 1) % 100,
+        outputs: drawn_number(seed, number, 2) % 100,
+        bidirs: drawn_number(seed, number, 3) % 10,
         setup: 0,
         chains,
         tests,

@@ -12,14 +12,14 @@ use Rattle.std.proofs.lemmas.List.Sorted.{sum_by-IsPermutation, All-permutation}
 use Rattle.std.proofs.lemmas.Option.{slice_get_within, get_or_from_slice_get}
 use Rattle.plan_model.proofs.Sums.{one_if, item-le-sum_by, some_passes}
 use Rattle.resource_table.specs.Jobs.{JobValue, cycles_of}
-use Rattle.schedule_search.specs.declared.tries.Turn.{Turn}
+use Rattle.schedule_search.specs.declared.tries.TriedTest.{TriedTest}
 use Rattle.schedule_search.specs.Walks.{goes_before, put_by_length, first_by_length, by_length}
 use Rattle.schedule_search.proofs.Comparing.{AreInOrder, goes_to, first_in_order}
 
-abbrev pub turn_at : JobValue → ℕ → Turn
+abbrev pub turn_at : JobValue → ℕ → TriedTest
 turn_at job k = record { cycles = record { 0 = cycles_of job k }; place = k }
 
-abbrev pub turn_cmp : Turn → Turn → Ordering
+abbrev pub turn_cmp : TriedTest → TriedTest → Ordering
 turn_cmp x y = ordering_then (nat_cmp y.cycles.0 x.cycles.0) (nat_cmp x.place y.place)
 
 -- `c` may stand before `d`
@@ -135,22 +135,22 @@ sum_map f g (x ∷ xs) =
     let ih : sum_by f (map g xs) ≡ sum_by (λ x. f (g x)) xs = sum_map f g xs in
     omega (arith, sum_by-cons f (g x) (map g xs), sum_by-cons (λ x. f (g x)) x xs)
 
-all_turn_at : (job : JobValue) (ns : List ℕ) → All (λ (t : Turn). t.cycles.0 ≡ cycles_of job t.place) (map (turn_at job) ns)
+all_turn_at : (job : JobValue) (ns : List ℕ) → All (λ (t : TriedTest). t.cycles.0 ≡ cycles_of job t.place) (map (turn_at job) ns)
 all_turn_at job [] k d h = absurd (omega arith)
 all_turn_at job (n ∷ ns) zero d h = refl
 all_turn_at job (n ∷ ns) (suc k) d h = all_turn_at job ns k d (omega arith)
 
-places_of : (job : JobValue) (ns : List ℕ) → map (λ (t : Turn). t.place) (map (turn_at job) ns) ≡ ns
+places_of : (job : JobValue) (ns : List ℕ) → map (λ (t : TriedTest). t.place) (map (turn_at job) ns) ≡ ns
 places_of job [] = refl
 places_of job (n ∷ ns) = ap (λ v. n ∷ v) (places_of job ns)
 
 -- a place of a list of places comes from a turn
-from_place : (ys : List Turn) (k c : ℕ) (d : Turn) → slice_get (map (λ (t : Turn). t.place) ys) k ≡ Some c → (k < length ys) × ((get_or ys k d).place ≡ c)
+from_place : (ys : List TriedTest) (k c : ℕ) (d : TriedTest) → slice_get (map (λ (t : TriedTest). t.place) ys) k ≡ Some c → (k < length ys) × ((get_or ys k d).place ≡ c)
 from_place [] k c d at = absurd cc
 from_place (y ∷ ys) zero c d at = (omega arith, cc)
 from_place (y ∷ ys) (suc k) c d at = let r = from_place ys k c d at in (omega (arith, r.0), r.1)
 
-neighbours : (job : JobValue) (ys : List Turn) → All (λ (t : Turn). t.cycles.0 ≡ cycles_of job t.place) ys → IsSorted turn_cmp ys → (k c d : ℕ) → slice_get (map (λ (t : Turn). t.place) ys) k ≡ Some c → slice_get (map (λ (t : Turn). t.place) ys) (suc k) ≡ Some d → MayStandBefore job c d
+neighbours : (job : JobValue) (ys : List TriedTest) → All (λ (t : TriedTest). t.cycles.0 ≡ cycles_of job t.place) ys → IsSorted turn_cmp ys → (k c d : ℕ) → slice_get (map (λ (t : TriedTest). t.place) ys) k ≡ Some c → slice_get (map (λ (t : TriedTest). t.place) ys) (suc k) ≡ Some d → MayStandBefore job c d
 neighbours job ys all sorted k c d at at' =
     let x = from_place ys k c (turn_at job 0) at in
     let y = from_place ys (suc k) d (turn_at job 0) at' in
@@ -164,12 +164,12 @@ neighbours job ys all sorted k c d at at' =
       | inr tie ↦ Tie (omega (arith, lx, ly, tie.0)) (omega (arith, x.1, y1, tie.1))
     ]
 
-pub order_from_sort : (job : JobValue) (xs ys : List Turn) → xs ≡ map (turn_at job) (range_with_len 0 (length job.tests)) → IsPermutation xs ys → IsSorted turn_cmp ys → map (λ (t : Turn). t.place) ys ≡ by_length job
+pub order_from_sort : (job : JobValue) (xs ys : List TriedTest) → xs ≡ map (turn_at job) (range_with_len 0 (length job.tests)) → IsPermutation xs ys → IsSorted turn_cmp ys → map (λ (t : TriedTest). t.place) ys ≡ by_length job
 order_from_sort job xs ys e perm sorted =
-    let ok : All (λ (t : Turn). t.cycles.0 ≡ cycles_of job t.place) xs = rw e (all_turn_at job (range_with_len 0 (length job.tests))) in
-    let all : All (λ (t : Turn). t.cycles.0 ≡ cycles_of job t.place) ys = All-permutation (λ (t : Turn). t.cycles.0 ≡ cycles_of job t.place) xs ys perm ok in
+    let ok : All (λ (t : TriedTest). t.cycles.0 ≡ cycles_of job t.place) xs = rw e (all_turn_at job (range_with_len 0 (length job.tests))) in
+    let all : All (λ (t : TriedTest). t.cycles.0 ≡ cycles_of job t.place) ys = All-permutation (λ (t : TriedTest). t.cycles.0 ≡ cycles_of job t.place) xs ys perm ok in
     let sums = λ (f : ℕ → ℕ).
-    sum_map f (λ (t : Turn). t.place) ys ∙ sum_by-IsPermutation (λ (t : Turn). f t.place) xs ys perm ∙ sym (sum_map f (λ (t : Turn). t.place) xs)
-    ∙ ap (sum_by f) (ap (map (λ (t : Turn). t.place)) e ∙ places_of job (range_with_len 0 (length job.tests)))
+    sum_map f (λ (t : TriedTest). t.place) ys ∙ sum_by-IsPermutation (λ (t : TriedTest). f t.place) xs ys perm ∙ sym (sum_map f (λ (t : TriedTest). t.place) xs)
+    ∙ ap (sum_by f) (ap (map (λ (t : TriedTest). t.place)) e ∙ places_of job (range_with_len 0 (length job.tests)))
     ∙ sym (sum_first job f (length job.tests)) in
-    one_order job (map (λ (t : Turn). t.place) ys) (by_length job) sums (in_order_from job (map (λ (t : Turn). t.place) ys) (neighbours job ys all sorted)) (weaker job (by_length job) (first_in_order job (length job.tests)))
+    one_order job (map (λ (t : TriedTest). t.place) ys) (by_length job) sums (in_order_from job (map (λ (t : TriedTest). t.place) ys) (neighbours job ys all sorted)) (weaker job (by_length job) (first_in_order job (length job.tests)))

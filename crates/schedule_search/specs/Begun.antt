@@ -31,5 +31,6 @@ pub record IsSearched (job : JobValue) (budget : ℕ) (s : Stand) : Type 0 where
   pub within : (other : List ℕ) (c : ℕ) → IsWithinBudget job budget other → Takes job other c → s.cycles ≤ c
   pub no_gain : length job.tests ≤ 64 → NoExchangeHelps job s.best s.cycles
   pub fewest : s.refused ≡ false → (other : List ℕ) (c : ℕ) → IsTopological job other → Takes job other c → s.cycles ≤ c
-  pub earliest : s.refused ≡ false → (other : List ℕ) → IsTopological job other → Takes job other s.cycles → stands_before job other s.best ≡ false
+  pub earliest : s.refused ≡ false → (other : List ℕ) → IsTopological job other → Takes job other s.cycles →
+      stands_before job other s.best ≡ false
   pub refused : s.refused ≡ true → HasMoreOpen job budget

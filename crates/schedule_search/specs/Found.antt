@@ -28,6 +28,7 @@ pub record IsFound (job : JobValue) (budget : ℕ) (order starts : List ℕ) (cy
   pub no_gain : length job.tests ≤ 64 → NoExchangeHelps job order cycles
   -- a complete search has the fewest cycles of all orders, and the first order that takes them
   pub fewest : complete ≡ true → (other : List ℕ) (c : ℕ) → IsTopological job other → Takes job other c → cycles ≤ c
-  pub earliest : complete ≡ true → (other : List ℕ) → IsTopological job other → Takes job other cycles → stands_before job other order ≡ false
+  pub earliest : complete ≡ true → (other : List ℕ) → IsTopological job other → Takes job other cycles →
+      stands_before job other order ≡ false
   -- a search is incomplete only where it may not enter all open entries
   pub refused : complete ≡ false → HasMoreOpen job budget

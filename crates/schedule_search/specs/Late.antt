@@ -14,7 +14,8 @@ pub record IsLateAt (t : TableValue) (cycles : ℕ) : Type 0 where
 
 -- each test that isn't placed is ready, and has run, before so many cycles
 abbrev pub AreInTime : TableValue → ℕ → Type 0
-AreInTime t cycles = (test : ℕ) → test < length t.job.tests → is_placed t.placed test ≡ false → ready_at t.job t.placed test + cycles_of t.job test < cycles
+AreInTime t cycles =
+    (test : ℕ) → test < length t.job.tests → is_placed t.placed test ≡ false → ready_at t.job t.placed test + cycles_of t.job test < cycles
 
 -- what is seen beside a test of the job: each one that isn't placed is in time
 pub record IsSeen (t : TableValue) (s : Seen) : Type 0 where
@@ -25,4 +26,5 @@ pub record IsSeen (t : TableValue) (s : Seen) : Type 0 where
 pub record AreUnplaced (job : JobValue) (placed : List Placement) (tests : List ℕ) : Type 0 where
   pub free : (n test : ℕ) → slice_get tests n ≡ Some test → (test < length job.tests) × (is_placed placed test ≡ false)
   pub whole : (test : ℕ) → test < length job.tests → is_placed placed test ≡ false → (n : ℕ) × (slice_get tests n ≡ Some test)
-  pub falls : (m n test later : ℕ) → m < n → slice_get tests m ≡ Some test → slice_get tests n ≡ Some later → cycles_of job later ≤ cycles_of job test
+  pub falls : (m n test later : ℕ) → m < n → slice_get tests m ≡ Some test → slice_get tests n ≡ Some later →
+      cycles_of job later ≤ cycles_of job test

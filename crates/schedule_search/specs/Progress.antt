@@ -42,7 +42,8 @@ NoneBefore job prefix best = (rest : List ℕ) → IsTopological job (prefix ++ 
 
 -- an order takes more cycles, or as many and doesn't stand before
 abbrev pub NoBetter : JobValue → Stand → List ℕ → Type 0
-NoBetter job s order = (c : ℕ) → IsTopological job order → Takes job order c → (s.cycles < c) ⊎ ((s.cycles ≡ c) × (stands_before job order s.best ≡ false))
+NoBetter job s order =
+    (c : ℕ) → IsTopological job order → Takes job order c → (s.cycles < c) ⊎ ((s.cycles ≡ c) × (stands_before job order s.best ≡ false))
 
 -- the best is the same, or another of fewer cycles that stands among these
 abbrev pub IsKeptOrFewer : List (List ℕ) → Stand → Stand → Type 0

@@ -45,7 +45,8 @@ may_follow job prefix test = not (is_in prefix test) && list_all (is_in prefix) 
 -- a prefix, and then all that extend it by at most so many tests
 abbrev pub walk_from : JobValue → ℕ → List ℕ → List (List ℕ)
 walk_from job zero prefix = prefix ∷ []
-walk_from job (suc more) prefix = prefix ∷ flat_map (λ test. walk_from job more (prefix ++ test ∷ [])) (filter (may_follow job prefix) (by_length job))
+walk_from job (suc more) prefix =
+    prefix ∷ flat_map (λ test. walk_from job more (prefix ++ test ∷ [])) (filter (may_follow job prefix) (by_length job))
 
 -- all prefixes of topological orders: the empty one first, and each before those that extend it
 abbrev pub walk : JobValue → List (List ℕ)

@@ -82,7 +82,8 @@ fn exchange_from<J>(
     requires topological { IsTopological (job_value job.now) order.old }
     ensures fewer { IfSome result (TakesFewer (job_value job.now) (length order.old) cycles order.new) }
     ensures stays { IfNone result (order.new ≡ order.old) }
-    ensures none_helps { IfNone result ((later : ℕ) → place ≤ later → later + 1 < length order.old → NoGainAt (job_value job.now) order.old later cycles) }
+    ensures none_helps { IfNone result ((later : ℕ) → place ≤ later → later + 1 < length order.old →
+        NoGainAt (job_value job.now) order.old later cycles) }
     ensures table { table.new ≡ table.old }
 {
     if place + 1 == order.len() {
@@ -125,7 +126,12 @@ fn exchange_first<J>(
 
 /// Exchanges neighbours in a topological order that takes so many cycles: the first exchange that gives fewer is made,
 /// again and again, until none does. Answers the cycles that the order takes then.
-pub(crate) fn improve<J>(job: &Job, table: &mut TableOf<J>, order: &mut [usize], cycles: u64) -> u64
+pub(crate) fn improve_order<J>(
+    job: &Job,
+    table: &mut TableOf<J>,
+    order: &mut [usize],
+    cycles: u64,
+) -> u64
     requires job { table.old.job ≡ job_value job.now }
     requires empty { table.old.placed ≡ [] }
     requires topological { IsTopological (job_value job.now) order.old }

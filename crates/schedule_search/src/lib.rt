@@ -1,5 +1,8 @@
 //! Orders of the tests of a job, and a search for one whose list schedule ends early: a walk in depth over the orders, within
 //! a budget, and exchanges of neighbours. Tests go by their places in the job.
+//!
+//! What is found is a topological order with the starts of its list schedule in a table of `resource_table`, of the fewest cycles
+//! of all where the budget is enough. Times are in cycles. The only error is out of memory.
 #![tactic(auto)]
 
 mod ahead;

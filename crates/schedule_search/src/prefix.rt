@@ -29,7 +29,7 @@ pub(crate) struct Prefix {
 
 /// A test that is out of the lists of a prefix, and its place among the tests that are left.
 #[derive(Clone, Copy, Drop)]
-pub(crate) struct Taken {
+pub(crate) struct TakenOut {
     /// The test.
     pub(crate) test: usize,
     /// Its place.
@@ -44,7 +44,8 @@ fn wait_less(job: &Job, missing: &mut [usize], free: &mut Vec<usize>, test: usiz
     requires free { (prefix : List ℕ) × (is_in prefix test ≡ false) × (free.old.items ≡ all_free (job_value job.now) prefix missing.old) }
     requires room { length (job_value job.now).tests ≤ vec_capacity free.old }
     ensures missing { missing.new ≡ slice_set missing.old test (slice_index_or missing.old test 0 - 1) }
-    ensures free { (prefix : List ℕ) → is_in prefix test ≡ false → free.old.items ≡ all_free (job_value job.now) prefix missing.old → free.new.items ≡ all_free (job_value job.now) prefix missing.new }
+    ensures free { (prefix : List ℕ) → is_in prefix test ≡ false → free.old.items ≡ all_free (job_value job.now) prefix missing.old →
+        free.new.items ≡ all_free (job_value job.now) prefix missing.new }
     ensures room { vec_capacity free.new ≡ vec_capacity free.old }
 {
     missing[test] -= 1;
@@ -61,7 +62,8 @@ fn wait_more(job: &Job, missing: &mut [usize], free: &mut Vec<usize>, test: usiz
     requires small { slice_index_or missing.old test 0 + 1 < 2 ^ 64 }
     requires free { (prefix : List ℕ) × (is_in prefix test ≡ false) × (free.old.items ≡ all_free (job_value job.now) prefix missing.old) }
     ensures missing { missing.new ≡ slice_set missing.old test (slice_index_or missing.old test 0 + 1) }
-    ensures free { (prefix : List ℕ) → is_in prefix test ≡ false → free.old.items ≡ all_free (job_value job.now) prefix missing.old → free.new.items ≡ all_free (job_value job.now) prefix missing.new }
+    ensures free { (prefix : List ℕ) → is_in prefix test ≡ false → free.old.items ≡ all_free (job_value job.now) prefix missing.old →
+        free.new.items ≡ all_free (job_value job.now) prefix missing.new }
     ensures room { vec_capacity free.new ≡ vec_capacity free.old }
 {
     missing[test] += 1;
@@ -80,7 +82,8 @@ fn count_down(job: &Job, missing: &mut [usize], free: &mut Vec<usize>, tests: &[
     requires free { (prefix : List ℕ) × AreApart prefix tests.now × (free.old.items ≡ all_free (job_value job.now) prefix missing.old) }
     requires room { length (job_value job.now).tests ≤ vec_capacity free.old }
     ensures less { AreLess missing.old missing.new tests.now }
-    ensures free { (prefix : List ℕ) → AreApart prefix tests.now → free.old.items ≡ all_free (job_value job.now) prefix missing.old → free.new.items ≡ all_free (job_value job.now) prefix missing.new }
+    ensures free { (prefix : List ℕ) → AreApart prefix tests.now → free.old.items ≡ all_free (job_value job.now) prefix missing.old →
+        free.new.items ≡ all_free (job_value job.now) prefix missing.new }
     ensures room { vec_capacity free.new ≡ vec_capacity free.old }
 {
     for test in tests {
@@ -96,7 +99,8 @@ fn count_up(job: &Job, missing: &mut [usize], free: &mut Vec<usize>, tests: &[us
     requires small { (n : ℕ) → n < length missing.old → slice_index_or missing.old n 0 + times_in tests.now n < 2 ^ 64 }
     requires free { (prefix : List ℕ) × AreApart prefix tests.now × (free.old.items ≡ all_free (job_value job.now) prefix missing.old) }
     ensures less { AreLess missing.new missing.old tests.now }
-    ensures free { (prefix : List ℕ) → AreApart prefix tests.now → free.old.items ≡ all_free (job_value job.now) prefix missing.old → free.new.items ≡ all_free (job_value job.now) prefix missing.new }
+    ensures free { (prefix : List ℕ) → AreApart prefix tests.now → free.old.items ≡ all_free (job_value job.now) prefix missing.old →
+        free.new.items ≡ all_free (job_value job.now) prefix missing.new }
     ensures room { vec_capacity free.new ≡ vec_capacity free.old }
 {
     for test in tests {
@@ -142,9 +146,15 @@ fn place_left(job: &Job, rest: &[usize], near: usize, test: usize) -> usize
 /// Puts a test back to its place among those that are left, and takes another one out. Where none between them waits, that stands
 /// next to it, and nothing has to move. Answers its place.
 fn pass_left(job: &Job, rest: &mut Vec<usize>, left: usize, test: usize, next: usize) -> usize
-    requires out { (path : List ℕ) × (rest.old.items ≡ remove (outside (job_value job.now) path) left) × (slice_get (outside (job_value job.now) path) left ≡ Some test) × (k : ℕ) × (slice_get (outside (job_value job.now) path) k ≡ Some next) }
+    requires out { (path : List ℕ) × (rest.old.items ≡ remove (outside (job_value job.now) path) left)
+        × (slice_get (outside (job_value job.now) path) left ≡ Some test) × (k : ℕ)
+        × (slice_get (outside (job_value job.now) path) k ≡ Some next) }
     requires room { length rest.old.items < vec_capacity rest.old }
-    ensures out { (path : List ℕ) → rest.old.items ≡ remove (outside (job_value job.now) path) left → slice_get (outside (job_value job.now) path) left ≡ Some test → (k : ℕ) × (slice_get (outside (job_value job.now) path) k ≡ Some next) → (rest.new.items ≡ remove (outside (job_value job.now) path) result) × (slice_get (outside (job_value job.now) path) result ≡ Some next) }
+    ensures out { (path : List ℕ) → rest.old.items ≡ remove (outside (job_value job.now) path) left →
+        slice_get (outside (job_value job.now) path) left ≡ Some test →
+        (k : ℕ) × (slice_get (outside (job_value job.now) path) k ≡ Some next) →
+        (rest.new.items ≡ remove (outside (job_value job.now) path) result)
+        × (slice_get (outside (job_value job.now) path) result ≡ Some next) }
     ensures room { vec_capacity rest.new ≡ vec_capacity rest.old }
 {
     if stands_at(rest, left, next) {
@@ -185,7 +195,7 @@ impl Prefix {
     }
 
     /// Takes the test at a place of the free ones out. It isn't appended yet.
-    pub(crate) fn take_out(&mut self, job: &Job, place: usize) -> Taken
+    pub(crate) fn take_out(&mut self, job: &Job, place: usize) -> TakenOut
         requires at { IsAt (job_value job.now) self.old.tests.items self.old }
         requires within { place < length self.old.free.items }
         ensures out { IsOut (job_value job.now) self.old.tests.items result.test self.new }
@@ -194,7 +204,7 @@ impl Prefix {
         let test = take_at(&mut self.free, place);
         let left = place_left(job, &self.rest, place, test);
         take_at(&mut self.rest, left);
-        Taken { test, left }
+        TakenOut { test, left }
     }
 
     /// Appends a test that was taken out.
@@ -243,7 +253,7 @@ impl Prefix {
     }
 
     /// Puts the test that is out back to its place among the free ones, and takes the one behind it out.
-    fn exchange(&mut self, job: &Job, place: usize, taken: Taken) -> Taken
+    fn exchange(&mut self, job: &Job, place: usize, taken: TakenOut) -> TakenOut
         requires out { IsOut (job_value job.now) self.old.tests.items taken.test self.old }
         requires turn { IsTurn (job_value job.now) self.old.tests.items place taken }
         requires more { place < length self.old.free.items }
@@ -252,11 +262,11 @@ impl Prefix {
     {
         let test = put_for(&mut self.free, place, taken.test);
         let left = pass_left(job, &mut self.rest, taken.left, taken.test, test);
-        Taken { test, left }
+        TakenOut { test, left }
     }
 
     /// Puts the test that is out back to its place among the free ones.
-    fn put_back(&mut self, job: &Job, place: usize, taken: Taken)
+    fn put_back(&mut self, job: &Job, place: usize, taken: TakenOut)
         requires out { IsOut (job_value job.now) self.old.tests.items taken.test self.old }
         requires turn { IsTurn (job_value job.now) self.old.tests.items place taken }
         ensures { IsAt (job_value job.now) self.old.tests.items self.new }
@@ -266,12 +276,15 @@ impl Prefix {
     }
 
     /// Puts the test that is out back to its place among the free ones. Where there is one behind it, that is taken out.
-    pub(crate) fn pass(&mut self, job: &Job, place: usize, taken: Taken) -> Taken
+    pub(crate) fn pass(&mut self, job: &Job, place: usize, taken: TakenOut) -> TakenOut
         requires out { IsOut (job_value job.now) self.old.tests.items taken.test self.old }
         requires turn { IsTurn (job_value job.now) self.old.tests.items place taken }
-        ensures out { place + 1 < length (followers (job_value job.now) self.old.tests.items) → IsOut (job_value job.now) self.old.tests.items result.test self.new }
-        ensures turn { place + 1 < length (followers (job_value job.now) self.old.tests.items) → IsTurn (job_value job.now) self.old.tests.items (place + 1) result }
-        ensures back { place + 1 ≡ length (followers (job_value job.now) self.old.tests.items) → IsAt (job_value job.now) self.old.tests.items self.new }
+        ensures out { place + 1 < length (followers (job_value job.now) self.old.tests.items) →
+            IsOut (job_value job.now) self.old.tests.items result.test self.new }
+        ensures turn { place + 1 < length (followers (job_value job.now) self.old.tests.items) →
+            IsTurn (job_value job.now) self.old.tests.items (place + 1) result }
+        ensures back { place + 1 ≡ length (followers (job_value job.now) self.old.tests.items) →
+            IsAt (job_value job.now) self.old.tests.items self.new }
     {
         if place < self.free.len() {
             return self.exchange(job, place, taken);

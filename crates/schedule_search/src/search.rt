@@ -14,14 +14,14 @@ ghost use Rattle.schedule_search.specs.Searches.{Keeps};
 ghost use Rattle.schedule_search.specs.Begun.{IsBegun, IsImproved, IsSearched};
 
 use crate::ahead::{Ahead, Estimate};
-use crate::exchanges::improve;
+use crate::exchanges::improve_order;
 use crate::lists::{copy_to, room_for};
 use crate::order::first_by;
 use crate::placing::order_cycles;
 use crate::prefix::Prefix;
 use crate::starts::list_starts;
 use crate::tries::{Tries, tries_of};
-use crate::walk::{Progress, explore};
+use crate::walk::{Progress, Reached, explore_orders};
 use outside::NoMemory;
 use resource_table::{Job, Table, TableOf};
 use std::alloc::Global;
@@ -32,7 +32,7 @@ const EXCHANGED_MOST: usize = 64;
 
 /// Room for a walk, and for what it finds.
 #[derive(Drop)]
-pub(crate) struct Room {
+pub(crate) struct WalkRoom {
     /// A prefix of an order.
     pub(crate) prefix: Prefix,
     /// The best order.
@@ -55,7 +55,7 @@ pub struct Search<'a, F> {
     /// The first order.
     first: Vec<usize>,
     /// Room for what is found.
-    room: Room,
+    room: WalkRoom,
 }
 
 impl<'a, F> Model for Search<'a, F> {
@@ -110,7 +110,7 @@ fn improve_best<J>(job: &Job, table: &mut TableOf<J>, progress: &mut Progress)
     ensures room { vec_capacity progress.new.best ≡ vec_capacity progress.old.best }
 {
     if job.tests.len() <= EXCHANGED_MOST {
-        progress.cycles = improve(job, table, &mut progress.best, progress.cycles);
+        progress.cycles = improve_order(job, table, &mut progress.best, progress.cycles);
     }
 }
 
@@ -139,7 +139,8 @@ fn search_orders<J, E: Estimate<J>>(
 {
     begin(job, table, first, progress);
     prefix.begin(job, tries);
-    explore(job, tries, ahead, table, prefix, progress, 0, None);
+    let from = Reached { end: 0, seen: None };
+    explore_orders(job, tries, ahead, table, prefix, progress, from);
     improve_best(job, table, progress);
 }
 
@@ -150,7 +151,7 @@ fn search_all<J, E: Estimate<J>>(
     ahead: &E,
     table: &mut TableOf<J>,
     first: &[usize],
-    room: &mut Room,
+    room: &mut WalkRoom,
 )
     requires job { table.old.job ≡ job_value job.now }
     requires empty { table.old.placed ≡ [] }
@@ -159,7 +160,8 @@ fn search_all<J, E: Estimate<J>>(
     requires estimates { E.estimates ahead.now }
     requires first { IsFirstOrder (job_value job.now) first.now }
     requires room { HasRoom (length (job_value job.now).tests) room.old }
-    ensures found { IsFound (job_value job.now) tries.now.budget room.new.progress.best.items room.new.starts.items room.new.progress.cycles (not room.new.progress.refused) }
+    ensures found { IsFound (job_value job.now) tries.now.budget room.new.progress.best.items room.new.starts.items room.new.progress.cycles
+        (not room.new.progress.refused) }
     ensures table { table.new ≡ table.old }
     ensures room { HasRoom (length (job_value job.now).tests) room.new }
 {
@@ -188,12 +190,12 @@ fn no_progress(alloc: Global, tests: usize) -> Result<Progress, NoMemory>
     })
 }
 
-impl Room {
+impl WalkRoom {
     /// Room for so many tests.
-    fn new(alloc: Global, tests: usize) -> Result<Room, NoMemory>
+    fn new(alloc: Global, tests: usize) -> Result<WalkRoom, NoMemory>
         ensures { IfOk result (HasRoom tests) }
     {
-        Ok(Room {
+        Ok(WalkRoom {
             prefix: Prefix::new(alloc, tests)?,
             progress: no_progress(alloc, tests)?,
             starts: room_for(alloc, tests)?,
@@ -221,14 +223,14 @@ fn kept_for<'a>(
     alloc: Global,
     job: &'a Job,
     budget: u64,
-) -> Result<(Table<'a>, Tries, Vec<usize>, Room), NoMemory>
+) -> Result<(Table<'a>, Tries, Vec<usize>, WalkRoom), NoMemory>
     requires { IsSoundJob (job_value job.now) }
     ensures kept { IfOk result (λ kept. IsKept (job_value job.now) kept.0 kept.1 kept.2 kept.3) }
     ensures budget { IfOk result (λ kept. kept.1.budget ≡ budget) }
 {
     let tries = tries_of(alloc, job, budget)?;
     let first = first_by(alloc, job, &tries)?;
-    let room = Room::new(alloc, job.tests.len())?;
+    let room = WalkRoom::new(alloc, job.tests.len())?;
     let table = Table::new(alloc, job)?;
     Ok((table, tries, first, room))
 }

@@ -5,7 +5,7 @@ ghost use Rattle.resource_table.specs.Befores.{listed};
 ghost use Rattle.schedule_search.specs.Walks.{by_length as by_length_of};
 ghost use Rattle.schedule_search.specs.Prefixes.{AreFollowers, AreMissing};
 ghost use Rattle.schedule_search.specs.Progress.{AreTries};
-ghost use Rattle.schedule_search.specs.declared.tries.Turn.{Turn};
+ghost use Rattle.schedule_search.specs.declared.tries.TriedTest.{TriedTest};
 
 use crate::order::cycles_at;
 use live_tests::{Neighbours, all_after, count_before};
@@ -31,7 +31,7 @@ pub(crate) struct Tries {
 
 /// A test by its cycles and its place in the job. The order is that of trying: longest first, ties by place.
 #[derive(Clone, Copy, PartialEq, Eq, PartialOrd, Ord, Drop)]
-pub(crate) struct Turn {
+pub(crate) struct TriedTest {
     /// The cycles of the test.
     pub(crate) cycles: Reverse<u64>,
     /// Its place in the job.
@@ -39,21 +39,21 @@ pub(crate) struct Turn {
 }
 
 /// The tests of a job by their cycles and places, in the order in which they are tried.
-fn sorted_turns(alloc: Global, job: &Job) -> Result<Vec<Turn>, NoMemory>
-    ensures { IfOk result (λ turns. map (λ (t : Turn). t.place) turns.items ≡ by_length_of (job_value job.now)) }
+fn sorted_turns(alloc: Global, job: &Job) -> Result<Vec<TriedTest>, NoMemory>
+    ensures { IfOk result (λ turns. map (λ (t : TriedTest). t.place) turns.items ≡ by_length_of (job_value job.now)) }
 {
     let mut turns = Vec::new(alloc);
     for place in 0..job.tests.len() {
         let cycles = Reverse(cycles_at(job, place));
-        push(&mut turns, Turn { cycles, place })?;
+        push(&mut turns, TriedTest { cycles, place })?;
     }
     turns.sort_unstable();
     Ok(turns)
 }
 
 /// The places of tests.
-fn places_of(alloc: Global, turns: &[Turn]) -> Result<Vec<usize>, NoMemory>
-    ensures { IfOk result (λ places. places.items ≡ map (λ (t : Turn). t.place) turns.now) }
+fn places_of(alloc: Global, turns: &[TriedTest]) -> Result<Vec<usize>, NoMemory>
+    ensures { IfOk result (λ places. places.items ≡ map (λ (t : TriedTest). t.place) turns.now) }
 {
     let mut places = Vec::new(alloc);
     for turn in turns {

@@ -1,4 +1,7 @@
 //! The walk over the orders of a job, depth first, within a budget of prefixes that are entered.
+//!
+//! A test is late where it ends, by its estimate, no earlier than the best order so far; then no order that begins with the placed
+//! tests is better. A cycle is calm for a power where a test that draws no more than that stays within the limit from it on.
 ghost use Rattle.std.specs.Prelude.{◌≡◌, ℕ, ◌+◌, ◌-◌, ◌<◌, ◌≤◌, ◌++◌, ◌∷◌, [], true, false, length, vec_capacity, Some, IfSome};
 ghost use Rattle.resource_table.specs.Jobs.{job_value, cycles_of, Precedes};
 ghost use Rattle.resource_table.specs.Schedules.{last_end, ready_at, IsEarliest, IsSoundTable};
@@ -43,9 +46,10 @@ pub(crate) struct Seen {
 }
 
 /// Enters one prefix more, where the budget isn't spent; else notes the refusal.
-fn enter(progress: &mut Progress, budget: u64) -> bool
+fn enter_prefix(progress: &mut Progress, budget: u64) -> bool
     requires { progress.old.entered ≤ budget }
-    ensures entered { result ≡ true → (progress.old.entered < budget) × (progress.new ≡ record progress.old { entered = progress.old.entered + 1 }) }
+    ensures entered { result ≡ true → (progress.old.entered < budget)
+        × (progress.new ≡ record progress.old { entered = progress.old.entered + 1 }) }
     ensures refused { result ≡ false → (progress.old.entered ≡ budget) × (progress.new ≡ record progress.old { refused = true }) }
 {
     if progress.entered == budget {
@@ -57,9 +61,10 @@ fn enter(progress: &mut Progress, budget: u64) -> bool
 }
 
 /// Takes an order for the best one, if it takes fewer cycles.
-fn offer(progress: &mut Progress, order: &[usize], cycles: u64)
+fn offer_order(progress: &mut Progress, order: &[usize], cycles: u64)
     requires { length order.now ≤ vec_capacity progress.old.best }
-    ensures fewer { cycles < progress.old.cycles → stand_of progress.new ≡ record (stand_of progress.old) { best = order.now; cycles = cycles } }
+    ensures fewer { cycles < progress.old.cycles → stand_of progress.new
+        ≡ record (stand_of progress.old) { best = order.now; cycles = cycles } }
     ensures kept { progress.old.cycles ≤ cycles → progress.new ≡ progress.old }
     ensures room { vec_capacity progress.new.best ≡ vec_capacity progress.old.best }
 {
@@ -97,7 +102,8 @@ fn ends_late<J, E: Estimate<J>>(
     requires job { table.old.job ≡ job_value job.now }
     requires estimates { E.estimates ahead.now }
     requires asked { CanAsk table.old test }
-    ensures late { result ≡ true → (start : ℕ) → IsEarliest table.old.job table.old.placed test start → cycles ≤ start + cycles_of table.old.job test }
+    ensures late { result ≡ true → (start : ℕ) → IsEarliest table.old.job table.old.placed test start →
+        cycles ≤ start + cycles_of table.old.job test }
     ensures in_time { result ≡ false → ready_at table.old.job table.old.placed test + cycles_of table.old.job test < cycles }
     ensures same { table.new ≡ table.old }
 {
@@ -189,35 +195,47 @@ fn is_in_time<J>(
     start < cycles.saturating_sub(cycles_at(job, test))
 }
 
+/// What the tests that are left are asked by.
+#[derive(Clone, Copy)]
+struct Asked {
+    /// The end of the last placed test.
+    end: u64,
+    /// So many cycles, or later, are late.
+    cycles: u64,
+    /// The greatest power of a step of a test.
+    most: u64,
+    /// What was seen as the last test was placed.
+    seen: Option<Seen>,
+}
+
 /// Whether a test that isn't placed ends, by its estimate, as late as so many cycles, or later. Where it is still in time, or in time
 /// from a calm cycle on, it isn't asked where it fits first.
 fn ends_late_after<J, E: Estimate<J>>(
     job: &Job,
     ahead: &E,
     table: &mut TableOf<J>,
+    by: Asked,
     test: usize,
-    most: u64,
     calm: Option<u64>,
-    cycles: u64,
-    seen: Option<Seen>,
 ) -> bool
     requires job { table.old.job ≡ job_value job.now }
     requires estimates { E.estimates ahead.now }
     requires asked { CanAsk table.old test }
-    requires seen { IfSome seen (IsSeen table.old) }
-    requires calm { IfSome calm (IsCalm table.old.job table.old.placed most) }
+    requires seen { IfSome by.seen (IsSeen table.old) }
+    requires calm { IfSome calm (IsCalm table.old.job table.old.placed by.most) }
     requires at_last { IfSome calm (λ from. from ≤ last_end table.old.job table.old.placed) }
-    ensures late { result ≡ true → (start : ℕ) → IsEarliest table.old.job table.old.placed test start → cycles ≤ start + cycles_of table.old.job test }
-    ensures in_time { result ≡ false → ready_at table.old.job table.old.placed test + cycles_of table.old.job test < cycles }
+    ensures late { result ≡ true → (start : ℕ) → IsEarliest table.old.job table.old.placed test start →
+        by.cycles ≤ start + cycles_of table.old.job test }
+    ensures in_time { result ≡ false → ready_at table.old.job table.old.placed test + cycles_of table.old.job test < by.cycles }
     ensures same { table.new ≡ table.old }
 {
-    if is_still_in_time(job, seen, test, cycles) {
+    if is_still_in_time(job, by.seen, test, by.cycles) {
         return false;
     }
-    if is_in_time(job, table, test, most, calm, cycles) {
+    if is_in_time(job, table, test, by.most, calm, by.cycles) {
         return false;
     }
-    ends_late(job, ahead, table, test, cycles)
+    ends_late(job, ahead, table, test, by.cycles)
 }
 
 /// Whether one of some tests ends, by its estimate, as late as so many cycles, or later. The tests are those that aren't
@@ -229,24 +247,21 @@ fn is_late<J, E: Estimate<J>>(
     ahead: &E,
     table: &mut TableOf<J>,
     rest: &[usize],
-    end: u64,
-    cycles: u64,
-    most: u64,
+    by: Asked,
     late: &mut usize,
-    seen: Option<Seen>,
 ) -> bool
     requires job { table.old.job ≡ job_value job.now }
     requires estimates { E.estimates ahead.now }
     requires sound { IsSoundTable table.old }
-    requires ends { end ≡ last_end table.old.job table.old.placed }
+    requires ends { by.end ≡ last_end table.old.job table.old.placed }
     requires rest { AreUnplaced table.old.job table.old.placed rest.now }
-    requires seen { IfSome seen (IsSeen table.old) }
-    ensures late { result ≡ true → IsLateAt table.old cycles }
-    ensures in_time { result ≡ false → AreInTime table.old cycles }
+    requires seen { IfSome by.seen (IsSeen table.old) }
+    ensures late { result ≡ true → IsLateAt table.old by.cycles }
+    ensures in_time { result ≡ false → AreInTime table.old by.cycles }
     ensures same { table.new ≡ table.old }
 {
-    let left = cycles.saturating_sub(end);
-    if asks_late(job, ahead, table, *late, left, cycles, seen) {
+    let left = by.cycles.saturating_sub(by.end);
+    if asks_late(job, ahead, table, *late, left, by.cycles, by.seen) {
         return true;
     }
     let mut calm = None;
@@ -254,8 +269,8 @@ fn is_late<J, E: Estimate<J>>(
         if cycles_at(job, *test) < left {
             return false;
         }
-        calm = calm_after(job, table, asked, calm, most);
-        if ends_late_after(job, ahead, table, *test, most, calm, cycles, seen) {
+        calm = calm_after(job, table, asked, calm, by.most);
+        if ends_late_after(job, ahead, table, by, *test, calm) {
             *late = *test;
             return true;
         }
@@ -287,23 +302,20 @@ fn is_over<J, E: Estimate<J>>(
     ahead: &E,
     table: &mut TableOf<J>,
     rest: &[usize],
-    end: u64,
-    cycles: u64,
-    most: u64,
+    by: Asked,
     late: &mut usize,
-    seen: Option<Seen>,
 ) -> bool
     requires job { table.old.job ≡ job_value job.now }
     requires estimates { E.estimates ahead.now }
     requires sound { IsSoundTable table.old }
-    requires ends { end ≡ last_end table.old.job table.old.placed }
+    requires ends { by.end ≡ last_end table.old.job table.old.placed }
     requires rest { AreUnplaced table.old.job table.old.placed rest.now }
-    requires seen { IfSome seen (IsSeen table.old) }
-    ensures late { result ≡ true → IsLateAt table.old cycles }
-    ensures in_time { result ≡ false → AreInTime table.old cycles }
+    requires seen { IfSome by.seen (IsSeen table.old) }
+    ensures late { result ≡ true → IsLateAt table.old by.cycles }
+    ensures in_time { result ≡ false → AreInTime table.old by.cycles }
     ensures same { table.new ≡ table.old }
 {
-    if is_late(job, ahead, table, rest, end, cycles, most, late, seen) {
+    if is_late(job, ahead, table, rest, by, late) {
         return true;
     }
     note_few(table, rest);
@@ -327,9 +339,29 @@ fn seen_beside(job: &Job, tries: &Tries, test: usize, cycles: u64) -> Option<See
     Some(Seen { test, cycles })
 }
 
+/// The test that is placed next.
+#[derive(Clone, Copy)]
+struct NextTest {
+    /// The end of the last placed test.
+    end: u64,
+    /// The test.
+    test: usize,
+    /// All tests that are left end before so many cycles, by their estimates.
+    cycles: u64,
+}
+
+/// How far the placed tests reach.
+#[derive(Clone, Copy)]
+pub(crate) struct Reached {
+    /// The end of the last of them.
+    pub(crate) end: u64,
+    /// What was seen as the last of them was placed.
+    pub(crate) seen: Option<Seen>,
+}
+
 /// Goes on with all orders that begin with the placed tests and then with one more, which is taken out. Its start is noted:
 /// the orders that go on from here with other tests ask for it and place it again and again.
-#[cycle(explore)]
+#[cycle(explore_orders)]
 fn go_on<J, E: Estimate<J>>(
     job: &Job,
     tries: &Tries,
@@ -337,47 +369,42 @@ fn go_on<J, E: Estimate<J>>(
     table: &mut TableOf<J>,
     prefix: &mut Prefix,
     progress: &mut Progress,
-    end: u64,
-    test: usize,
-    cycles: u64,
+    next: NextTest,
 )
     requires job { table.old.job ≡ job_value job.now }
     requires sound { IsSoundTable table.old }
     requires tries { AreTries (job_value job.now) tries.now }
     requires estimates { E.estimates ahead.now }
-    requires placed { HasPlaced table.old prefix.old.tests.items end }
-    requires out { IsOut (job_value job.now) prefix.old.tests.items test prefix.old }
-    requires in_time { AreInTime table.old cycles }
+    requires placed { HasPlaced table.old prefix.old.tests.items next.end }
+    requires out { IsOut (job_value job.now) prefix.old.tests.items next.test prefix.old }
+    requires in_time { AreInTime table.old next.cycles }
     requires best_room { length (job_value job.now).tests ≤ vec_capacity progress.old.best }
     requires going { progress.old.refused ≡ false }
     requires within { progress.old.entered ≤ tries.now.budget }
-    requires opened { IsOpen (job_value job.now) (prefix.old.tests.items ++ test ∷ []) }
+    requires opened { IsOpen (job_value job.now) (prefix.old.tests.items ++ next.test ∷ []) }
     requires best { IsBest (job_value job.now) (stand_of progress.old) }
-    requires none_before { NoneBefore (job_value job.now) (prefix.old.tests.items ++ test ∷ []) progress.old.best.items }
+    requires none_before { NoneBefore (job_value job.now) (prefix.old.tests.items ++ next.test ∷ []) progress.old.best.items }
     ensures table { table.new ≡ table.old }
-    ensures out { progress.new.refused ≡ false → IsOut (job_value job.now) prefix.old.tests.items test prefix.new }
+    ensures out { progress.new.refused ≡ false → IsOut (job_value job.now) prefix.old.tests.items next.test prefix.new }
     ensures room { HasPrefixRoom (length (job_value job.now).tests) prefix.new }
     ensures best_room { vec_capacity progress.new.best ≡ vec_capacity progress.old.best }
     ensures within { progress.new.entered ≤ tries.now.budget }
     ensures best { IsBest (job_value job.now) (stand_of progress.new) }
-    ensures explored { Explored (job_value job.now) tries.now.budget (walk_from (job_value job.now) (length (job_value job.now).tests - length prefix.old.tests.items - 1) (prefix.old.tests.items ++ test ∷ [])) (stand_of progress.old) (stand_of progress.new) }
+    ensures explored { Explored (job_value job.now) tries.now.budget
+        (walk_from (job_value job.now) (length (job_value job.now).tests - length prefix.old.tests.items - 1)
+        (prefix.old.tests.items ++ next.test ∷ [])) (stand_of progress.old) (stand_of progress.new) }
 {
     list_schedules_are_short();
-    let start = table.noted_start(test);
-    let next_end = end.max(start + cycles_at(job, test));
-    let seen = seen_beside(job, tries, test, cycles);
-    prefix.append(job, tries, test);
-    let mut frame = table.place(test, start);
-    explore(
-        job,
-        tries,
-        ahead,
-        frame.table(),
-        prefix,
-        progress,
-        next_end,
+    let start = table.noted_start(next.test);
+    let next_end = next.end.max(start + cycles_at(job, next.test));
+    let seen = seen_beside(job, tries, next.test, next.cycles);
+    prefix.append(job, tries, next.test);
+    let reached = Reached {
+        end: next_end,
         seen,
-    );
+    };
+    let mut frame = table.place(next.test, start);
+    explore_orders(job, tries, ahead, frame.table(), prefix, progress, reached);
     frame.undo();
     if !progress.refused {
         prefix.go_back(job, tries);
@@ -386,24 +413,23 @@ fn go_on<J, E: Estimate<J>>(
 
 /// Goes on with all orders that begin with the placed tests. Where a prefix was refused, the walk is over, and its own
 /// prefix is left as it is then.
-#[cycle(explore)]
-pub(crate) fn explore<J, E: Estimate<J>>(
+#[cycle(explore_orders)]
+pub(crate) fn explore_orders<J, E: Estimate<J>>(
     job: &Job,
     tries: &Tries,
     ahead: &E,
     table: &mut TableOf<J>,
     prefix: &mut Prefix,
     progress: &mut Progress,
-    end: u64,
-    seen: Option<Seen>,
+    from: Reached,
 )
     requires job { table.old.job ≡ job_value job.now }
     requires sound { IsSoundTable table.old }
     requires tries { AreTries (job_value job.now) tries.now }
     requires estimates { E.estimates ahead.now }
-    requires placed { HasPlaced table.old prefix.old.tests.items end }
+    requires placed { HasPlaced table.old prefix.old.tests.items from.end }
     requires at { IsAt (job_value job.now) prefix.old.tests.items prefix.old }
-    requires seen { IfSome seen (IsSeen table.old) }
+    requires seen { IfSome from.seen (IsSeen table.old) }
     requires best_room { length (job_value job.now).tests ≤ vec_capacity progress.old.best }
     requires going { progress.old.refused ≡ false }
     requires within { progress.old.entered ≤ tries.now.budget }
@@ -416,36 +442,37 @@ pub(crate) fn explore<J, E: Estimate<J>>(
     ensures best_room { vec_capacity progress.new.best ≡ vec_capacity progress.old.best }
     ensures within { progress.new.entered ≤ tries.now.budget }
     ensures best { IsBest (job_value job.now) (stand_of progress.new) }
-    ensures explored { Explored (job_value job.now) tries.now.budget (walk_from (job_value job.now) (length (job_value job.now).tests - length prefix.old.tests.items) prefix.old.tests.items) (stand_of progress.old) (stand_of progress.new) }
+    ensures explored { Explored (job_value job.now) tries.now.budget
+        (walk_from (job_value job.now) (length (job_value job.now).tests - length prefix.old.tests.items) prefix.old.tests.items)
+        (stand_of progress.old) (stand_of progress.new) }
 {
-    if !enter(progress, tries.budget) {
+    if !enter_prefix(progress, tries.budget) {
         return;
     }
     if prefix.rest.is_empty() {
-        offer(progress, &prefix.tests, end);
+        offer_order(progress, &prefix.tests, from.end);
         return;
     }
     let cycles = progress.cycles;
-    if is_over(
-        job,
-        ahead,
-        table,
-        &prefix.rest,
-        end,
+    let by = Asked {
+        end: from.end,
         cycles,
-        tries.most,
-        &mut progress.late,
-        seen,
-    ) {
+        most: tries.most,
+        seen: from.seen,
+    };
+    if is_over(job, ahead, table, &prefix.rest, by, &mut progress.late) {
         return;
     }
     let count = prefix.free.len();
     let mut taken = prefix.take_out(job, 0);
     let mut place = 0;
     while place < count {
-        go_on(
-            job, tries, ahead, table, prefix, progress, end, taken.test, cycles,
-        );
+        let next = NextTest {
+            end: from.end,
+            test: taken.test,
+            cycles,
+        };
+        go_on(job, tries, ahead, table, prefix, progress, next);
         if progress.refused {
             return;
         }

@@ -14,15 +14,19 @@ use Rattle.shift_program.specs.Answers.{TextMeaning, Means}
 
 -- in a wrapper of any chains of the module's cells, a program without a fault is right
 abbrev pub FaultlessAreRight : Type 0
-FaultlessAreRight = (m : ModuleValue) (t : Test) (w : WrapperValue) (entries : List Entry) → 1 ≤ t.patterns → IsFaultless (needed_for (wrapped_test m t w)) entries → AreRight (wrapped_test m t w) (operations entries)
+FaultlessAreRight = (m : ModuleValue) (t : Test) (w : WrapperValue) (entries : List Entry) → 1 ≤ t.patterns →
+    IsFaultless (needed_for (wrapped_test m t w)) entries → AreRight (wrapped_test m t w) (operations entries)
 
 -- and a right program has no fault
 abbrev pub RightAreFaultless : Type 0
-RightAreFaultless = (m : ModuleValue) (t : Test) (w : WrapperValue) (entries : List Entry) → All IsLasting entries → AreRight (wrapped_test m t w) (operations entries) → IsFaultless (needed_for (wrapped_test m t w)) entries
+RightAreFaultless = (m : ModuleValue) (t : Test) (w : WrapperValue) (entries : List Entry) → All IsLasting entries →
+    AreRight (wrapped_test m t w) (operations entries) → IsFaultless (needed_for (wrapped_test m t w)) entries
 
 -- a right program has at least as many operations as the test
 abbrev pub RightAreLong : Type 0
-RightAreLong = (m : ModuleValue) (t : Test) (w : WrapperValue) (entries : List Entry) → 1 ≤ t.patterns → All IsLasting entries → AreRight (wrapped_test m t w) (operations entries) → length (ops_of m.setup (si_of (wrapped_test m t w).chains) (so_of (wrapped_test m t w).chains) t.patterns) ≤ length (operations entries)
+RightAreLong = (m : ModuleValue) (t : Test) (w : WrapperValue) (entries : List Entry) → 1 ≤ t.patterns → All IsLasting entries →
+    AreRight (wrapped_test m t w) (operations entries) → length
+    (ops_of m.setup (si_of (wrapped_test m t w).chains) (so_of (wrapped_test m t w).chains) t.patterns) ≤ length (operations entries)
 
 -- no two faults show first
 abbrev pub OneFault : Type 0

@@ -15,7 +15,8 @@ pub record TestContent : Type 0 where
 -- The bits of a chain as operation `n` begins. The bit `drive n` is driven into it at operation `n`; only a Shift takes it.
 unfoldable pub bits_before : TestContent → List Cell → List Operation → (drive : ℕ → Bool) → ℕ → List Bool
 bits_before content cells ops drive zero = map content.initial cells
-bits_before content cells ops drive (suc n) = next_bits content.response cells (slice_get ops n) (drive n) (bits_before content cells ops drive n)
+bits_before content cells ops drive (suc n) =
+    next_bits content.response cells (slice_get ops n) (drive n) (bits_before content cells ops drive n)
 
 -- the bits that are driven: into which chain, at which operation
 abbrev pub Drive : Type 0
@@ -24,7 +25,8 @@ Drive = ℕ → ℕ → Bool
 -- each Capture finds its stimulus in the cells that are loaded
 abbrev pub Loads : List (List Cell) → List Operation → TestContent → Drive → Type 0
 Loads chains ops content drive =
-    (n k j r : ℕ) (cells : List Cell) (x : Cell) → slice_get ops n ≡ Some (Capture k) → slice_get chains j ≡ Some cells → slice_get cells r ≡ Some x → is_loaded x ≡ true →
+    (n k j r : ℕ) (cells : List Cell) (x : Cell) → slice_get ops n ≡ Some (Capture k) → slice_get chains j ≡ Some cells →
+    slice_get cells r ≡ Some x → is_loaded x ≡ true →
     slice_get (bits_before content cells ops (drive j) n) r ≡ Some (content.stimulus k x)
 
 abbrev pub is_shift : Operation → Bool
@@ -53,7 +55,8 @@ pub record IsShiftBehind (ops : List Operation) (n i m : ℕ) : Type 0 where
 -- The Shifts behind each Capture, up to the next one or to the end, show its response, the last cell of each chain first.
 abbrev pub Reads : List (List Cell) → List Operation → TestContent → Drive → Type 0
 Reads chains ops content drive =
-    (n k j i : ℕ) (cells : List Cell) (x : Cell) → slice_get ops n ≡ Some (Capture k) → slice_get chains j ≡ Some cells → i < out_length cells → slice_get (reverse cells) i ≡ Some x →
+    (n k j i : ℕ) (cells : List Cell) (x : Cell) → slice_get ops n ≡ Some (Capture k) → slice_get chains j ≡ Some cells →
+    i < out_length cells → slice_get (reverse cells) i ≡ Some x →
     (m : ℕ) × IsShiftBehind ops n i m × (last_bit (bits_before content cells ops (drive j) m) ≡ content.response k x)
 
 -- Capture `k` stands at exactly one place.

@@ -13,7 +13,7 @@ ghost use Rattle.shift_program.specs.Programs.{operations, wrapped_test, IsLasti
 ghost use Rattle.shift_program.specs.RightPrograms.{AreRight};
 ghost use Rattle.shift_program.specs.Faults.{needed_for, IsFault};
 
-use crate::counting::{Need, count};
+use crate::counting::{Need, count_operations};
 use crate::laws::{faultless_programs_are_right, program_faults_are_exact};
 use crate::{Program, ProgramFault};
 use indexmap::IndexSet;
@@ -68,12 +68,17 @@ pub fn check_program(
     requires live { 1 ≤ test.now.patterns }
     requires lasting { All IsLasting program.now.entries.items }
     requires room { length program.now.entries.items ≤ room.old }
-    ensures right { OnOk result (AreRight (wrapped_test (module_value «module».now) test.now (wrapper_value wrapper.now)) (operations program.now.entries.items)) }
-    ensures exact { AreRight (wrapped_test (module_value «module».now) test.now (wrapper_value wrapper.now)) (operations program.now.entries.items) → IsOk result }
+    ensures right { OnOk result (AreRight (wrapped_test (module_value «module».now) test.now (wrapper_value wrapper.now))
+        (operations program.now.entries.items)) }
+    ensures exact { AreRight (wrapped_test (module_value «module».now) test.now (wrapper_value wrapper.now))
+        (operations program.now.entries.items) → IsOk result }
     ensures operations { IfOk result (λ n. n ≡ length (operations program.now.entries.items)) }
-    ensures least { IfOk result (λ n. let chains = (wrapped_test (module_value «module».now) test.now (wrapper_value wrapper.now)).chains in length (ops_of «module».now.setup (si_of chains) (so_of chains) test.now.patterns) ≤ n) }
-    ensures fault { IfErr result (IsFault (needed_for (wrapped_test (module_value «module».now) test.now (wrapper_value wrapper.now))) program.now.entries.items) }
-    ensures only { (f : ProgramFault) → IsFault (needed_for (wrapped_test (module_value «module».now) test.now (wrapper_value wrapper.now))) program.now.entries.items f → result ≡ Err f }
+    ensures least { IfOk result (λ n. let chains = (wrapped_test (module_value «module».now) test.now (wrapper_value wrapper.now)).chains
+        in length (ops_of «module».now.setup (si_of chains) (so_of chains) test.now.patterns) ≤ n) }
+    ensures fault { IfErr result (IsFault (needed_for (wrapped_test (module_value «module».now) test.now (wrapper_value wrapper.now)))
+        program.now.entries.items) }
+    ensures only { (f : ProgramFault) → IsFault (needed_for (wrapped_test (module_value «module».now) test.now (wrapper_value wrapper.now)))
+        program.now.entries.items f → result ≡ Err f }
     ensures room { room.old ≤ room.new }
 {
     faultless_programs_are_right();
@@ -85,5 +90,5 @@ pub fn check_program(
         so,
         patterns: test.patterns,
     };
-    count(&need, &program.entries, &mut room.seen)
+    count_operations(&need, &program.entries, &mut room.seen)
 }

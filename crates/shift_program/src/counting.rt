@@ -164,7 +164,7 @@ fn put_pattern(seen: &mut IndexSet<u64>, pattern: u64)
 }
 
 /// Notes the pattern that an entry captures.
-fn note(seen: &mut IndexSet<u64>, entry: Entry)
+fn note_capture(seen: &mut IndexSet<u64>, entry: Entry)
     requires new { (k : ℕ) → patterns_of entry ≡ k ∷ [] → list_any (nat_eq k) (keys seen.old) ≡ false }
     requires space { 0 < spare seen.old }
     ensures filled { keys seen.new ≡ keys seen.old ++ patterns_of entry }
@@ -177,7 +177,11 @@ fn note(seen: &mut IndexSet<u64>, entry: Entry)
 }
 
 /// The number of operations of a program, where no fault shows; else the fault that shows first.
-pub fn count(need: &Need, entries: &[Entry], seen: &mut IndexSet<u64>) -> Result<u128, ProgramFault>
+pub fn count_operations(
+    need: &Need,
+    entries: &[Entry],
+    seen: &mut IndexSet<u64>,
+) -> Result<u128, ProgramFault>
     requires space { length entries.now ≤ length (keys seen.old) + spare seen.old }
     ensures operations { IfOk result (λ n. n ≡ length (operations entries.now)) }
     ensures faultless { OnOk result (IsFaultless (needed_by need.now) entries.now) }
@@ -195,7 +199,7 @@ pub fn count(need: &Need, entries: &[Entry], seen: &mut IndexSet<u64>) -> Result
         if let Some(fault) = entry_fault(need, passed, seen, *entry, place) {
             return Err(fault);
         }
-        note(seen, *entry);
+        note_capture(seen, *entry);
         passed = passed.more(*entry);
         place += 1;
     }

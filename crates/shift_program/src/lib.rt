@@ -3,6 +3,9 @@
 //!
 //! A program is read from its text word by word; the grammar is a set of whole lists of words. What makes a program right is
 //! said of its run, bit by bit (specs/RightPrograms.antt); the checker counts Shifts.
+//!
+//! A program is accepted exactly where it is right. Errors are its first fault, the line at which a text is refused, and out of
+//! memory.
 #![tactic(auto)]
 
 mod check;

@@ -4,7 +4,7 @@ ghost use Rattle.shift_program.specs.Answers.{ProgramRead};
 ghost use Rattle.shift_program.specs.Reads.{state_of};
 ghost use Rattle.shift_program.specs.Steps.{step as step_value};
 
-use crate::steps::{Draft, Part, new_draft, step};
+use crate::steps::{Draft, Part, new_draft, take_token};
 use crate::tokens::{KEYWORDS, Keyword};
 use crate::{Program, ProgramTextFault};
 use keyword_text::{Format, Spelled, Token, read_by};
@@ -57,7 +57,7 @@ impl Format for ProgramText {
         ensures { Makes state_of (step_value (state_of self) token) result }
     {
         let ProgramText { mut draft, part } = self;
-        match step(&mut draft, part, token) {
+        match take_token(&mut draft, part, token) {
             Ok(part) => Ok(ProgramText { draft, part }),
             Err(stop) => Err(stop),
         }

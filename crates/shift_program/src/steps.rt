@@ -57,7 +57,7 @@ fn push_entry(draft: &mut Draft, entry: Entry) -> Result<(), Stop>
 }
 
 /// What a keyword begins behind whole entries.
-fn begin(key: Keyword) -> Result<Part, Stop>
+fn begin_part(key: Keyword) -> Result<Part, Stop>
     ensures { Begins (begins key) result }
 {
     match key {
@@ -93,7 +93,7 @@ fn step_key(draft: &mut Draft, part: Part, key: Keyword) -> Result<Part, Stop>
     match part {
         Part::WantsProgram => begin_program(key),
         Part::WantsTestWord => begin_test(key),
-        Part::AfterEntry => begin(key),
+        Part::AfterEntry => begin_part(key),
         Part::WantsForm
         | Part::WantsModule
         | Part::WantsTest { .. }
@@ -150,7 +150,7 @@ fn step_number(draft: &mut Draft, part: Part, n: u64) -> Result<Part, Stop>
 }
 
 /// The next word.
-pub fn step(draft: &mut Draft, part: Part, token: Token<Keyword>) -> Result<Part, Stop>
+pub fn take_token(draft: &mut Draft, part: Part, token: Token<Keyword>) -> Result<Part, Stop>
     ensures { Steps (steps (at (draft_value draft.old) part) token) result draft.new }
 {
     match token {

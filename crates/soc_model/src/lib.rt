@@ -1,4 +1,7 @@
 //! A chip for test after the ITC'02 SOC Test Benchmarks: its modules in order of first mention, and their tests.
+//!
+//! A chip has no two modules of one number, and its sizes are within limits once they are checked. Lengths are in cells, powers
+//! in the unit of the file. It stands on no other crate of this repository.
 #![tactic(auto)]
 
 ghost use Rattle.std.specs.Prelude.{◌≡◌, ◌++◌, ◌∷◌, [], false, OnOk, OnErr, IfErr};
@@ -147,7 +150,10 @@ impl Soc {
     /// Adds a module last, under its own number. The refusal is `Known` exactly where a module of that number is there.
     /// After a refusal the chip is as it was.
     pub fn put(&mut self, module: Module) -> Result<(), PutFault>
-        ensures ok { OnOk result (soc_value self.new ≡ record (soc_value self.old) { keys = (soc_value self.old).keys ++ «module».number ∷ []; modules = (soc_value self.old).modules ++ module_value «module» ∷ [] }) }
+        ensures ok { OnOk result (soc_value self.new ≡ record (soc_value self.old) {
+          keys = (soc_value self.old).keys ++ «module».number ∷ [];
+          modules = (soc_value self.old).modules ++ module_value «module» ∷ [];
+        }) }
         ensures err { OnErr result (soc_value self.new ≡ soc_value self.old) }
         ensures handed_back { IfErr result (λ fault. module_of fault ≡ «module») }
         ensures known { is_known result ≡ has_module_number (soc_value self.old) «module».number }

@@ -85,7 +85,8 @@ fn level_of(soc: &Soc, place: usize) -> u64
 pub fn parent(soc: &Soc, place: usize) -> Option<usize>
     requires { place < length (soc_value soc.now).modules }
     ensures parent { IfSome result (λ found. IsParent (soc_value soc.now).modules found place) }
-    ensures none { IfNone result ((q : ℕ) → q < place → level_at (soc_value soc.now).modules place ≤ level_at (soc_value soc.now).modules q) }
+    ensures none { IfNone result ((q : ℕ) → q < place → level_at (soc_value soc.now).modules place
+        ≤ level_at (soc_value soc.now).modules q) }
     ensures place { result ≡ parent_place (soc_value soc.now).modules place }
 {
     let level = level_of(soc, place);

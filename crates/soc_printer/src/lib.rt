@@ -1,4 +1,6 @@
 //! Prints a chip as the text that `soc_reader` reads.
+//!
+//! What is printed of a sound chip is read back as that chip. The only error is out of memory.
 #![tactic(auto)]
 
 ghost use Rattle.std.specs.Prelude.{◌≡◌, ◌∷◌, [], ◌++◌, decimal, map, OnOk, IfOk};
@@ -40,11 +42,8 @@ fn push_flag(text: &mut Vec<u8>, key: &[u8], flag: bool) -> Result<(), NoMemory>
     ensures { OnOk result (text.new.items ≡ text.old.items ++ spaced (key.now ∷ flag_word flag ∷ [])) }
 {
     push_word(text, key)?;
-    if flag {
-        push_word(text, b"1")
-    } else {
-        push_word(text, b"0")
-    }
+    push(text, b' ')?;
+    push(text, if flag { b'1' } else { b'0' })
 }
 
 /// Appends the line of the chip's name, where it has one.
@@ -56,7 +55,7 @@ fn push_name_line(text: &mut Vec<u8>, name: &[u8]) -> Result<(), NoMemory>
     }
     extend(text, b"SocName")?;
     push_word(text, name)?;
-    extend(text, b"\n")
+    push(text, b'\n')
 }
 
 /// Appends the line of the number of modules.
@@ -65,7 +64,7 @@ fn push_total_line(text: &mut Vec<u8>, modules: usize) -> Result<(), NoMemory>
 {
     extend(text, b"TotalModules")?;
     push_count(text, modules as u64)?;
-    extend(text, b"\n")
+    push(text, b'\n')
 }
 
 /// Appends the line of the chip's flags.
@@ -75,7 +74,7 @@ fn push_options_line(text: &mut Vec<u8>, power: bool, xy: bool) -> Result<(), No
     extend(text, b"Options")?;
     push_flag(text, b"Power", power)?;
     push_flag(text, b"XY", xy)?;
-    extend(text, b"\n")
+    push(text, b'\n')
 }
 
 /// Appends a module's name, where it has one.
@@ -147,7 +146,7 @@ fn push_module_line(text: &mut Vec<u8>, module: &Module) -> Result<(), NoMemory>
     extend(text, b"Module")?;
     push_module_words(text, module)?;
     push_lengths(text, &module.chains)?;
-    extend(text, b"\n")
+    push(text, b'\n')
 }
 
 /// Appends the line of the number of a module's tests.
@@ -157,7 +156,7 @@ fn push_tests_line(text: &mut Vec<u8>, number: u64, tests: usize) -> Result<(), 
     extend(text, b"Module")?;
     push_count(text, number)?;
     push_entry(text, b"TotalTests", tests as u64)?;
-    extend(text, b"\n")
+    push(text, b'\n')
 }
 
 /// Appends the line of a test.
@@ -171,7 +170,7 @@ fn push_test_line(text: &mut Vec<u8>, number: u64, test: &Test) -> Result<(), No
     push_flag(text, b"TamUse", test.tam)?;
     push_entry(text, b"Patterns", test.patterns)?;
     push_entry(text, b"Power", test.power)?;
-    extend(text, b"\n")
+    push(text, b'\n')
 }
 
 /// Appends the lines of tests.

@@ -1,4 +1,4 @@
--- The chip of items that are told in their order.
+-- The chip of items that are put into it in their order.
 use Rattle.std.proofs.Common.{◌≡◌, List, [], ◌∷◌, ◌++◌, reverse, refl, sym, ◌∙◌, ap, append_assoc, append-nil}
 use Rattle.std.proofs.lemmas.List.{reverse-append}
 use Rattle.soc_model.specs.Chips.{SocValue}

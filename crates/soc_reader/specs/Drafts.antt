@@ -1,4 +1,4 @@
--- A chip that is being told, with the numbers of its tests beside it.
+-- A chip that is being made, with the numbers of its tests beside it.
 use Rattle.std.specs.Prelude.{◌≡◌, ℕ, List, map}
 use Rattle.soc_model.specs.declared.Test.{Test}
 use Rattle.soc_model.specs.Chips.{ModuleValue, soc_value}

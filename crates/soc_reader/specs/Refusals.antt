@@ -28,7 +28,7 @@ pub record IsTooLarge (bytes : List ℕ) (limit : SocLimit) : Type 0 where
   pub modules : SaysModules bytes soc
   pub passed : IsFirstPassed soc limit
 
--- Why the bytes are refused; it is not told when memory runs out.
+-- Why the bytes are refused; it is not said when memory runs out.
 abbrev pub Refuses : List ℕ → SocFault → Type 0
 Refuses bytes (Text line) = IsRefusedLine bytes line
 Refuses bytes (Limit which value) = IsTooLarge bytes (record { which = which; value = value })

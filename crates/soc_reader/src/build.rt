@@ -20,7 +20,7 @@ pub struct TestNumbers {
     pub set: IndexSet<u64>,
 }
 
-/// A chip that items are told to. Beside it stand the numbers of the tests of each module, at the module's place.
+/// A chip that items are put into. Beside it stand the numbers of the tests of each module, at the module's place.
 #[derive(Drop)]
 pub struct Draft {
     pub soc: Soc,

@@ -9,9 +9,8 @@ use Rattle.planner.specs.Plans.{IsPlanned}
 use Rattle.plan_text.specs.PlanLines.{plan_text}
 use Rattle.width_tree.specs.Trees.{TreeValue}
 use Rattle.bit_machine.specs.Chips.{made_content}
-use Rattle.tester_vectors.specs.declared.TheConstants.{RUN_MOST}
-use Rattle.tester_vectors.specs.VectorText.{wire_cycles, vector_text}
-use Rattle.commands.specs.Texts.{beyond, run_line}
+use Rattle.tester_vectors.specs.VectorText.{too_many, vector_text}
+use Rattle.commands.specs.Texts.{run_line}
 use Rattle.commands.specs.Commands.{CommandValue, Print, Widths, Plan, Check, Chart, Vectors, Sample, Locate, Tree, Split, Shift, Improve, Picture, Simulate, Bound, Prove}
 use Rattle.sample_maker.specs.Samples.{made_chip}
 use Rattle.sample_maker.specs.declared.TheConstants.{SAMPLE_MODULES_MOST}
@@ -34,7 +33,7 @@ done_with_plan chip bounds = done_with_any (λ text. (value : PlanValue) × IsPl
 
 -- the line that refuses the vectors of a plan whose run is too long
 abbrev pub long_run : PlanValue → Option (List ℕ)
-long_run value = option_map run_line (beyond RUN_MOST (wire_cycles value))
+long_run value = option_map run_line (too_many value)
 
 -- the answer is the summary of a made chip and of any plan that the planner may make for it
 abbrev pub done_with_sample : (n seed : ℕ) → Procedure

@@ -139,7 +139,7 @@ fn judge(alloc: Global, plan: &Plan, module: &Module, test: &Test, program: &Pro
     let wrapper = wrapper_for(plan, module, test);
     let cycles = test_cycles(&plan.wrappers, module, test);
     let judged = check_program(module, wrapper, test, program, &mut room);
-    // let go by a call, as the room of a checker is
+    // dropped by a call, as the room of a checker is
     drop(room);
     match judged {
         Ok(done) => answered_with(Status::Done, accepted_program(alloc, done, cycles)),

@@ -37,7 +37,7 @@ pub fn soctest<H: Shelf, K: Sink>(
     ensures by_words { EndsByWords (asked procedure_of (command_of (map string_bytes words.now))) (Rose (K.faults out.old) (K.faults out.new)) result }
     ensures untouched { (IsCommand (asked procedure_of (command_of (map string_bytes words.now))) → ⊥) → shelf.new ≡ shelf.old }
 
-    // Where the files give an answer and nothing fails, it comes, but for want of memory.
+    // Where the files give an answer and nothing fails, it comes, unless memory runs out.
     ensures complete { Complete (fixes_text (command_of (map string_bytes words.now))) (asked procedure_of (command_of (map string_bytes words.now))) (H.held shelf.old) (Rose (H.faults shelf.old) (H.faults shelf.new)) (Rose (K.faults out.old) (K.faults out.new)) (K.written out.old) result (K.written out.new) }
 
     ensures finishes { Finishes (asked procedure_of (command_of (map string_bytes words.now))) (H.held shelf.old) (Rose (H.faults shelf.old) (H.faults shelf.new)) (Rose (K.faults out.old) (K.faults out.new)) result }

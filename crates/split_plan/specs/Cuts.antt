@@ -7,7 +7,7 @@ use Rattle.soc_model.specs.declared.TestId.{TestId}
 use Rattle.soc_model.specs.Chips.{ModuleValue, SocValue, is_live, same_test}
 use Rattle.soc_model.specs.Modes.{is_tam}
 use Rattle.plan_model.specs.Plans.{LimitsValue, ProfileValue, greatest, of_first}
-use Rattle.split_plan.specs.declared.Part.{Part}
+use Rattle.split_plan.specs.declared.PatternRun.{PatternRun}
 use Rattle.split_plan.specs.declared.cuts.Cut.{Cut}
 
 -- the parts of a test: of at most `most` patterns where it is live and goes over the wires, else one
@@ -20,7 +20,8 @@ part_size most t = if is_tam t then most else t.patterns
 
 -- the most that a test draws: the greatest power of its profile, its own where it has none
 abbrev pub peak : LimitsValue → TestId → (own : ℕ) → ℕ
-peak limits id own = of_first (λ (p : ProfileValue). same_test id p.test) (λ p. greatest (map (λ (s : ℕ × ℕ). s.1) p.steps)) own limits.profiles
+peak limits id own =
+    of_first (λ (p : ProfileValue). same_test id p.test) (λ p. greatest (map (λ (s : ℕ × ℕ). s.1) p.steps)) own limits.profiles
 
 -- the power of each part: a test of one part keeps its own
 abbrev pub part_power : LimitsValue → TestId → Test → (count : ℕ) → ℕ
@@ -77,10 +78,11 @@ patterns_of c k = min c.size (c.test.patterns - k * c.size)
 
 -- the test that a part is
 abbrev pub part_test : Cut × ℕ → Test
-part_test e = record { number = e.0.number + e.1; scan = e.0.test.scan; tam = e.0.test.tam; patterns = patterns_of e.0 e.1; power = e.0.power }
+part_test e =
+    record { number = e.0.number + e.1; scan = e.0.test.scan; tam = e.0.test.tam; patterns = patterns_of e.0 e.1; power = e.0.power }
 
 -- the patterns of a part, from the first to the last, counted from 1
-abbrev pub part_at : Cut × ℕ → Part
+abbrev pub part_at : Cut × ℕ → PatternRun
 part_at e = record {
   whole = e.0.whole;
   first = e.1 * e.0.size + 1;

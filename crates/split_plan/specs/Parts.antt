@@ -5,7 +5,7 @@ use Rattle.soc_model.specs.declared.TestId.{TestId}
 use Rattle.soc_model.specs.Chips.{ModuleValue, SocValue, is_live, soc_value}
 use Rattle.plan_model.specs.Plans.{LimitsValue, ProfileValue}
 use Rattle.plan_model.specs.Views.{limits_value}
-use Rattle.split_plan.specs.declared.Part.{Part}
+use Rattle.split_plan.specs.declared.PatternRun.{PatternRun}
 use Rattle.split_plan.specs.declared.Split.{Split}
 use Rattle.split_plan.specs.declared.cuts.Cut.{Cut}
 use Rattle.split_plan.specs.Cuts.{cuts_in, all_cuts, live_cuts, cut_named, pieces, part_id, part_test, part_at}
@@ -14,7 +14,7 @@ use Rattle.split_plan.specs.Cuts.{cuts_in, all_cuts, live_cuts, cut_named, piece
 pub record SplitValue : Type 0 where
   pub soc : SocValue
   pub limits : LimitsValue
-  pub parts : List Part
+  pub parts : List PatternRun
 
 abbrev pub split_value : Split → SplitValue
 split_value s = record { soc = soc_value s.soc; limits = limits_value s.limits; parts = s.parts.items }
@@ -31,7 +31,7 @@ split_chip limits most soc = record soc { modules = map (split_module limits mos
 -- ---- the list of parts
 
 -- the parts of live tests, in the order of the chip
-abbrev pub split_parts : LimitsValue → (most : ℕ) → SocValue → List Part
+abbrev pub split_parts : LimitsValue → (most : ℕ) → SocValue → List PatternRun
 split_parts limits most soc = map part_at (pieces (live_cuts (all_cuts limits most soc)))
 
 -- ---- the limits of the parts
@@ -52,7 +52,8 @@ kept_profile (Some c) p = if nat_le c.count 1 then record { test = part_id c 0; 
 kept_profile None p = []
 
 abbrev pub precedences_of : List Cut → List (TestId × TestId) → List (TestId × TestId)
-precedences_of cuts before = flat_map chain cuts ++ flat_map (λ (p : TestId × TestId). joined (cut_named cuts p.0) (cut_named cuts p.1)) before
+precedences_of cuts before =
+    flat_map chain cuts ++ flat_map (λ (p : TestId × TestId). joined (cut_named cuts p.0) (cut_named cuts p.1)) before
 
 abbrev pub profiles_of : List Cut → List ProfileValue → List ProfileValue
 profiles_of cuts profiles = flat_map (λ (p : ProfileValue). kept_profile (cut_named cuts p.test) p) profiles
@@ -66,4 +67,5 @@ split_limits limits most soc = record limits {
 
 -- all three
 abbrev pub split_of : SocValue → LimitsValue → (most : ℕ) → SplitValue
-split_of soc limits most = record { soc = split_chip limits most soc; limits = split_limits limits most soc; parts = split_parts limits most soc }
+split_of soc limits most =
+    record { soc = split_chip limits most soc; limits = split_limits limits most soc; parts = split_parts limits most soc }

@@ -19,7 +19,8 @@ count_all most soc = sum_by (count_in most) soc.modules
 
 -- the work of a test's parts together: the setup counts once a part
 abbrev pub parts_work : (most : ℕ) → ModuleValue → Test → ℕ
-parts_work most m t = t.patterns * (1 + (m.inputs + m.bidirs) + (m.outputs + m.bidirs) + 2 * sum m.chains) + (if t.tam then m.setup * part_count most t else 0)
+parts_work most m t = t.patterns * (1 + (m.inputs + m.bidirs) + (m.outputs + m.bidirs) + 2 * sum m.chains)
+    + (if t.tam then m.setup * part_count most t else 0)
 
 -- the work of the parts of a module's live tests, and of all
 abbrev pub module_work : (most : ℕ) → ModuleValue → ℕ

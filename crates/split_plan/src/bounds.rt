@@ -96,7 +96,8 @@ fn push_all_joined(
 ) -> Result<(), NoMemory>
     requires named { index.now.keys ≡ wholes cuts.now }
     requires room { All HasRoom cuts.now }
-    ensures { OnOk result (before.new.items ≡ before.old.items ++ flat_map (λ (p : TestId × TestId). joined (the_cut cuts.now p.0) (the_cut cuts.now p.1)) pairs.now) }
+    ensures { OnOk result (before.new.items ≡ before.old.items
+        ++ flat_map (λ (p : TestId × TestId). joined (the_cut cuts.now p.0) (the_cut cuts.now p.1)) pairs.now) }
 {
     for (first, second) in pairs {
         push_joined(
@@ -116,7 +117,8 @@ fn push_profile(
     profile: &Profile,
 ) -> Result<(), NoMemory>
     requires { IfSome cut HasRoom }
-    ensures { OnOk result (map profile_value profiles.new.items ≡ map profile_value profiles.old.items ++ kept_profile cut (profile_value profile.now)) }
+    ensures { OnOk result (map profile_value profiles.new.items
+        ≡ map profile_value profiles.old.items ++ kept_profile cut (profile_value profile.now)) }
 {
     let Some(cut) = cut else {
         return Ok(());
@@ -192,7 +194,10 @@ fn limits_by(
 ) -> Result<Limits, NoMemory>
     requires named { index.now.keys ≡ wholes cuts.now }
     requires room { All HasRoom cuts.now }
-    ensures { IfOk result (λ made. limits_value made ≡ record (limits_value limits.now) { before = precedences_of cuts.now (limits_value limits.now).before; profiles = profiles_of cuts.now (limits_value limits.now).profiles }) }
+    ensures { IfOk result (λ made. limits_value made ≡ record (limits_value limits.now) {
+      before = precedences_of cuts.now (limits_value limits.now).before;
+      profiles = profiles_of cuts.now (limits_value limits.now).profiles;
+    }) }
 {
     let before = precedences(alloc, index, cuts, &limits.before)?;
     let profiles = kept_profiles(alloc, index, cuts, &limits.profiles)?;
@@ -209,7 +214,10 @@ fn limits_by(
 pub(crate) fn limits_of(alloc: Global, limits: &Limits, cuts: &[Cut]) -> Result<Limits, NoMemory>
     requires differ { AllDiffer (wholes cuts.now) }
     requires room { All HasRoom cuts.now }
-    ensures { IfOk result (λ made. limits_value made ≡ record (limits_value limits.now) { before = precedences_of cuts.now (limits_value limits.now).before; profiles = profiles_of cuts.now (limits_value limits.now).profiles }) }
+    ensures { IfOk result (λ made. limits_value made ≡ record (limits_value limits.now) {
+      before = precedences_of cuts.now (limits_value limits.now).before;
+      profiles = profiles_of cuts.now (limits_value limits.now).profiles;
+    }) }
 {
     let index = index_of_wholes(alloc, cuts)?;
     limits_by(alloc, &index, limits, cuts)

@@ -73,7 +73,10 @@ fn with_tests(alloc: Global, module: &Module, tests: Vec<Test>) -> Result<Module
 /// Puts a module last, whose number the chip hasn't.
 fn put_new(soc: &mut Soc, module: Module) -> Result<(), NoMemory>
     requires { has_module_number (soc_value soc.old) «module».number ≡ false }
-    ensures { OnOk result (soc_value soc.new ≡ record (soc_value soc.old) { keys = (soc_value soc.old).keys ++ «module».number ∷ []; modules = (soc_value soc.old).modules ++ module_value «module» ∷ [] }) }
+    ensures { OnOk result (soc_value soc.new ≡ record (soc_value soc.old) {
+      keys = (soc_value soc.old).keys ++ «module».number ∷ [];
+      modules = (soc_value soc.old).modules ++ module_value «module» ∷ [];
+    }) }
 {
     match soc.put(module) {
         Ok(()) => Ok(()),
@@ -86,7 +89,10 @@ fn put_new(soc: &mut Soc, module: Module) -> Result<(), NoMemory>
 fn put_parts(alloc: Global, soc: &mut Soc, module: &Module, cuts: &[Cut]) -> Result<(), NoMemory>
     requires new { has_module_number (soc_value soc.old) «module».now.number ≡ false }
     requires room { All HasRoom cuts.now }
-    ensures { OnOk result (soc_value soc.new ≡ record (soc_value soc.old) { keys = (soc_value soc.old).keys ++ «module».now.number ∷ []; modules = (soc_value soc.old).modules ++ record (module_value «module».now) { tests = map part_test (pieces cuts.now) } ∷ [] }) }
+    ensures { OnOk result (soc_value soc.new ≡ record (soc_value soc.old) {
+      keys = (soc_value soc.old).keys ++ «module».now.number ∷ [];
+      modules = (soc_value soc.old).modules ++ record (module_value «module».now) { tests = map part_test (pieces cuts.now) } ∷ [];
+    }) }
 {
     let tests = part_tests(alloc, cuts)?;
     let of_parts = with_tests(alloc, module, tests)?;
@@ -108,8 +114,12 @@ fn add_module(
     requires small { All (λ (t : Test). t.patterns < 10 ^ 12) «module».now.tests.items }
     requires few { length «module».now.tests.items ≤ 4096 }
     requires room { All HasRoom made.old.cuts.items }
-    ensures chip { OnOk result (soc_value made.new.soc ≡ record (soc_value made.old.soc) { keys = (soc_value made.old.soc).keys ++ «module».now.number ∷ []; modules = (soc_value made.old.soc).modules ++ split_module (limits_value limits.now) most (module_value «module».now) ∷ [] }) }
-    ensures cuts { OnOk result (made.new.cuts.items ≡ made.old.cuts.items ++ cuts_of_module (limits_value limits.now) most (module_value «module».now)) }
+    ensures chip { OnOk result (soc_value made.new.soc ≡ record (soc_value made.old.soc) {
+      keys = (soc_value made.old.soc).keys ++ «module».now.number ∷ [];
+      modules = (soc_value made.old.soc).modules ++ split_module (limits_value limits.now) most (module_value «module».now) ∷ [];
+    }) }
+    ensures cuts { OnOk result (made.new.cuts.items ≡ made.old.cuts.items
+        ++ cuts_of_module (limits_value limits.now) most (module_value «module».now)) }
     ensures room { OnOk result (All HasRoom made.new.cuts.items) }
 {
     let own = cuts_in(alloc, limits, profiled, most, module)?;

@@ -1,5 +1,8 @@
 //! Cuts the tests of a chip between their patterns into parts, so that long tests fit into the gaps of a plan. The parts
 //! are tests of a chip of their own, under limits of their own.
+//!
+//! Each pattern of each live test is in exactly one part. Errors are the size limit that the chip of parts passes first, and out
+//! of memory.
 #![tactic(auto)]
 
 ghost use Rattle.std.specs.Prelude.{◌≡◌, ◌≤◌, IfOk, IfErr};
@@ -27,7 +30,7 @@ use std::alloc::Global;
 
 /// A part of a live test: a run of its patterns.
 #[derive(Clone, Copy, PartialEq, Eq, Debug)]
-pub struct Part {
+pub struct PatternRun {
     /// The test, in the chip that is cut.
     pub whole: TestId,
     /// The first pattern of the part, counted from 1 in the test.
@@ -46,7 +49,7 @@ pub struct Split {
     /// The limits of the parts: the parts of a test stand one after another.
     pub limits: Limits,
     /// The parts of live tests, in the order of the chip.
-    pub parts: Vec<Part>,
+    pub parts: Vec<PatternRun>,
 }
 
 /// Why a chip isn't cut.

@@ -111,8 +111,10 @@ fn total_work(soc: &Soc, most: u64) -> u128
 pub(crate) fn check_numbers(soc: &Soc, most: u64) -> Result<(), SplitFault>
     requires some { 1 ≤ most }
     requires sound { IsSoundChip (soc_value soc.now) }
-    ensures fits { OnOk result ((limits : LimitsValue) → IsSoundLimits (soc_value soc.now) limits → IsWithinSize (split_chip limits most (soc_value soc.now))) }
-    ensures refused { IfErr result (λ fault. (limits : LimitsValue) → IsSoundLimits (soc_value soc.now) limits → IsRefusal (split_chip limits most (soc_value soc.now)) fault) }
+    ensures fits { OnOk result ((limits : LimitsValue) → IsSoundLimits (soc_value soc.now) limits →
+        IsWithinSize (split_chip limits most (soc_value soc.now))) }
+    ensures refused { IfErr result (λ fault. (limits : LimitsValue) → IsSoundLimits (soc_value soc.now) limits →
+        IsRefusal (split_chip limits most (soc_value soc.now)) fault) }
 {
     let tests = count_all(soc, most);
     if tests > u128::from(TESTS_MOST) {

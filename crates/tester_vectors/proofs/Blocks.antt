@@ -1,6 +1,5 @@
 -- Blocks of lines one after another.
-use Rattle.std.proofs.Common.{◌≡◌, ℕ, zero, suc, ◌+◌, ◌-◌, ◌*◌, ◌≤◌, ◌<◌, Bool, List, ◌∷◌, ◌++◌, length, take, refl, ap, sym, subst, ◌∙◌, arith, Option, false, true≢false, max}
-use Rattle.std.specs.Prelude.{nat_lt}
+use Rattle.std.proofs.Common.{◌≡◌, ℕ, zero, suc, ◌+◌, ◌-◌, ◌*◌, ◌≤◌, ◌<◌, List, ◌∷◌, ◌++◌, length, take, refl, ap, sym, ◌∙◌, arith, Option, Some, None}
 use Rattle.std.specs.List.{flat_map, range_with_len}
 use Rattle.std.proofs.Math.Nat.{mul-le-mul_right}
 use Rattle.std.proofs.Math.Seq.{take-append-add}
@@ -9,7 +8,9 @@ use Rattle.std.proofs.lemmas.Grind.{flat_map-append}
 use Rattle.std.proofs.lemmas.List.{take-append-le, length-append}
 use Rattle.outside.specs.Held.{Appended, AppendedFront}
 use Rattle.outside.proofs.PieceLemmas.{Appended-then}
+use Rattle.plan_model.specs.Plans.{PlanValue}
 use Rattle.tester_vectors.specs.declared.TheConstants.{RUN_MOST}
+use Rattle.tester_vectors.specs.VectorText.{wire_cycles, too_many}
 
 -- ranges
 pub range_split : (a b n m : ℕ) → range_with_len a (n + m) ≡ range_with_len a n ++ range_with_len (a + n) m
@@ -58,8 +59,9 @@ lines_more_split f done count block is =
     let start : done ≡ 0 + done = omega arith in
     ap (λ v. flat_map f (range_with_len 0 done) ++ v) (is ∙ ap (λ n. flat_map f (range_with_len n count)) start) ∙ sym (lines_split f 0 done count)
 
--- a run that was not too long
-pub not_too_long : (cycles wires all cells : ℕ) (b : Bool) → wires ≡ all → cells ≡ cycles * max 1 wires → b ≡ nat_lt RUN_MOST cells → b ≡ false → RUN_MOST < cycles * max 1 all → ⊥
-not_too_long cycles wires all cells b same is test short long =
-    let more : RUN_MOST < cells = subst (λ n. RUN_MOST < n) (sym (is ∙ ap (λ n. cycles * max 1 n) same)) long in
-    true≢false (sym (lt-ltb RUN_MOST cells more) ∙ sym test ∙ short)
+-- a run that isn't too long
+pub not_too_long : (plan : PlanValue) (found : Option ℕ) → found ≡ too_many plan → found ≡ None → RUN_MOST < wire_cycles plan → ⊥
+not_too_long plan found is none long =
+    let some : too_many plan ≡ Some (wire_cycles plan) = rw (lt-ltb RUN_MOST (wire_cycles plan) long) refl in
+    let clash : None ≡ Some (wire_cycles plan) = sym none ∙ is ∙ some in
+    absurd cc

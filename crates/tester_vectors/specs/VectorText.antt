@@ -1,15 +1,20 @@
 -- The text of a plan's vectors, which a tester drives and compares.
-use Rattle.std.specs.Prelude.{ℕ, ◌*◌, ◌++◌, List, max, map, codes, decimal}
+use Rattle.std.specs.Prelude.{ℕ, ◌*◌, ◌++◌, List, Option, Some, None, max, nat_lt, map, codes, decimal, if◌then◌else◌}
 use Rattle.std.specs.List.{flat_map, range_with_len}
 use Rattle.soc_model.specs.Chips.{SocValue}
 use Rattle.plan_model.specs.Plans.{PlannedTest, PlanValue, planned}
 use Rattle.plan_model.specs.Runs.{Content, carried}
 use Rattle.bit_machine.specs.Chips.{wires_of}
+use Rattle.tester_vectors.specs.declared.TheConstants.{RUN_MOST}
 use Rattle.tester_vectors.specs.Marks.{digit, mark}
 
 -- wires times cycles; a plan without wires counts as one of one wire
 abbrev pub wire_cycles : PlanValue → ℕ
 wire_cycles plan = plan.cycles * max 1 (wires_of plan)
+
+-- these, where they are too many for a run
+abbrev pub too_many : PlanValue → Option ℕ
+too_many plan = if nat_lt RUN_MOST (wire_cycles plan) then Some (wire_cycles plan) else None
 
 -- the first line: wires and cycles
 abbrev pub head_line : (wires cycles : ℕ) → List ℕ

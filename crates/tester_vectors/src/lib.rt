@@ -21,7 +21,8 @@ use outside::Sink;
 use plan_model::Plan;
 use soc_model::Soc;
 use std::alloc::Global;
-use text::{Run, is_too_long, wire_cycles};
+use text::Run;
+pub use text::too_many_cells;
 
 /// The cycles of a run of vectors times its wires, at most. A plan without wires counts as one of one wire.
 pub const RUN_MOST: u128 = 20_000_000;
@@ -70,12 +71,10 @@ pub fn write_vectors<K: Sink>(
     ensures fault { result ≡ Outcome.WriteFault → Rose (K.faults out.old) (K.faults out.new) }
     ensures front { result ≡ Outcome.WriteFault → AppendedFront (K.written out.old) (whole_text (soc_value soc.now) (plan_value plan.now) (made_content (soc_value soc.now) seed)) (K.written out.new) }
 {
-    let wires = all_wires(plan);
-    let cells = wire_cycles(plan.cycles, wires);
-    if is_too_long(cells) {
+    if let Some(cells) = too_many_cells(plan) {
         return Outcome::RunTooLong { cells };
     }
-    let mut run = match Run::new(alloc, soc, plan, seed, wires) {
+    let mut run = match Run::new(alloc, soc, plan, seed, all_wires(plan)) {
         Ok(run) => run,
         Err(_) => return Outcome::NoMemory,
     };

@@ -7,11 +7,12 @@ ghost use Rattle.plan_model.specs.Rules.{IsGoodAlone};
 ghost use Rattle.plan_model.specs.Views.{plan_value};
 ghost use Rattle.bit_machine.specs.Chips.{wires_of};
 ghost use Rattle.bit_machine.specs.Vectors.{vectors_content};
-ghost use Rattle.tester_vectors.specs.VectorText.{head_line, vector_text};
+ghost use Rattle.tester_vectors.specs.VectorText.{too_many, head_line, vector_text};
 ghost use Rattle.tester_vectors.specs.Lines.{lines_of, IsRun};
 
 use crate::RUN_MOST;
 use bit_machine::Vectors;
+use live_tests::all_wires;
 use outside::{NoMemory, Sink, WriteFault, extend, push_number, put_all};
 use plan_model::Plan;
 use soc_model::Soc;
@@ -21,17 +22,31 @@ use std::alloc::Global;
 const BLOCK: usize = 65_536;
 
 /// Cycles times wires; without wires, times 1.
-pub fn wire_cycles(cycles: u64, wires: u64) -> u128
+fn wire_cycles(cycles: u64, wires: u64) -> u128
     ensures { result ≡ cycles * max 1 wires }
 {
     u128::from(cycles) * u128::from(wires.max(1))
 }
 
 /// Whether a run of so many cycles times wires is too long.
-pub fn is_too_long(cells: u128) -> bool
+fn is_too_long(cells: u128) -> bool
     ensures { result ≡ nat_lt RUN_MOST cells }
 {
     cells > RUN_MOST
+}
+
+/// The cycles of a plan times its wires, where these are more than [`RUN_MOST`]; a plan without wires counts as one of one
+/// wire. None comes exactly where its run isn't too long.
+pub fn too_many_cells(plan: &Plan) -> Option<u128>
+    requires { wires_of (plan_value plan.now) ≤ 256 }
+    ensures { result ≡ too_many (plan_value plan.now) }
+{
+    let cells = wire_cycles(plan.cycles, all_wires(plan));
+    if is_too_long(cells) {
+        Some(cells)
+    } else {
+        None
+    }
 }
 
 /// The characters of a cycle's line: two for each wire, a space and a line feed.

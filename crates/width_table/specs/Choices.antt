@@ -58,7 +58,8 @@ pub record IsRow (m : ModuleValue) (wires : ℕ) (r : ModuleRow) : Type 0 where
 
 -- the rows of the first modules of a chip
 abbrev pub AreRows : List ModuleValue → ℕ → List ModuleRow → Type 0
-AreRows modules wires rows = (place : ℕ) (m : ModuleValue) (r : ModuleRow) → slice_get modules place ≡ Some m → slice_get rows place ≡ Some r → IsRow m wires r
+AreRows modules wires rows =
+    (place : ℕ) (m : ModuleValue) (r : ModuleRow) → slice_get modules place ≡ Some m → slice_get rows place ≡ Some r → IsRow m wires r
 
 -- the rows of all modules of a sound chip
 pub record HasRows (soc : SocValue) (wires : ℕ) (rows : List ModuleRow) : Type 0 where

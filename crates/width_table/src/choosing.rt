@@ -39,8 +39,10 @@ impl Choices {
     /// The choice at a width.
     pub fn at(&self, width: u64) -> Choice
         requires some { 1 ≤ width }
-        requires within { (m : ModuleValue) × (scan : Bool) × (wires : ℕ) × AreChoices m scan wires self.now.taken.items self.now.places.items × (width ≤ wires) }
-        ensures { (m : ModuleValue) (scan : Bool) (wires : ℕ) → AreChoices m scan wires self.now.taken.items self.now.places.items → width ≤ wires → IsChoice m scan width result }
+        requires within { (m : ModuleValue) × (scan : Bool) × (wires : ℕ)
+            × AreChoices m scan wires self.now.taken.items self.now.places.items × (width ≤ wires) }
+        ensures { (m : ModuleValue) (scan : Bool) (wires : ℕ) → AreChoices m scan wires self.now.taken.items self.now.places.items →
+            width ≤ wires → IsChoice m scan width result }
     {
         let place = self.places[(width - 1) as usize];
         self.taken[place as usize]
@@ -109,7 +111,7 @@ fn takes_fewer(choice: &Choice, taken: &[Choice]) -> bool
 }
 
 /// Adds a choice, where it takes fewer cycles than the last one. Answers the place of the one that is the last then.
-fn add(taken: &mut Vec<Choice>, choice: Choice) -> Result<usize, AllocError>
+fn add_choice(taken: &mut Vec<Choice>, choice: Choice) -> Result<usize, AllocError>
     ensures added { OnOk result (taken.new.items ≡ with_choice choice taken.old.items) }
     ensures newest { IfOk result (λ newest. newest + 1 ≡ length taken.new.items) }
 {
@@ -149,7 +151,7 @@ pub fn choices_of(
             so,
             cycles,
         };
-        let newest = add(&mut taken, choice)?;
+        let newest = add_choice(&mut taken, choice)?;
         // where the paths stay as they are, so does the choice
         let last = paths.same_to(width, si, so, wires);
         places.resize(last as usize, newest as u8)?;

@@ -2,6 +2,9 @@
 //! widths of TR-ARCHITECT, Goel and Marinissen 2002). A wider bus may leave wires unused, so no time grows with the width.
 //!
 //! Times are in cycles, widths in wires; modules go by their places in the chip, from 0.
+//!
+//! Each time is the sum of the least times of both modes up to the width, by the designs of `wrapper_design`. The only error is
+//! out of memory.
 #![tactic(auto)]
 
 ghost use Rattle.std.specs.Prelude.{◌≡◌, ℕ, ◌+◌, ◌^◌, ◌<◌, ◌≤◌, length, slice_get, Some, IsTrue, IfOk, IfSome, true, false};
@@ -83,7 +86,9 @@ impl<'a> WidthTable<'a> {
         requires within { width ≤ self.now.wires }
         ensures time { result ≡ time_of self.now place width }
         ensures falls { (v : ℕ) → 1 ≤ v → v ≤ width → result ≤ time_of self.now place v }
-        ensures attained { IfSome (slice_get self.now.soc.modules place) (λ m. (v u : ℕ) → IsChosen (mode_time m true) width v → IsChosen (mode_time m false) width u → result ≡ mode_time m true v + mode_time m false u) }
+        ensures attained { IfSome (slice_get self.now.soc.modules place)
+            (λ m. (v u : ℕ) → IsChosen (mode_time m true) width v → IsChosen (mode_time m false) width u →
+            result ≡ mode_time m true v + mode_time m false u) }
     {
         let times = &self.rows[place].times;
         times[(width - 1) as usize]
@@ -127,7 +132,8 @@ impl<'a> WidthTable<'a> {
         requires tam { IsTrue test.now.tam }
         requires some { 1 ≤ width }
         requires within { width ≤ self.now.wires }
-        ensures cycles { IfSome (slice_get self.now.soc.modules place) (λ m. (v : ℕ) → IsChosen (mode_time m test.now.scan) width v → result ≡ test_time m test.now v) }
+        ensures cycles { IfSome (slice_get self.now.soc.modules place)
+            (λ m. (v : ℕ) → IsChosen (mode_time m test.now.scan) width v → result ≡ test_time m test.now v) }
         ensures small { result ≤ 10 ^ 18 }
     {
         let choice = self.choice(place, test.scan, width);
@@ -147,12 +153,16 @@ impl<'a> WidthTable<'a> {
         requires place { place < places_of self.now }
         requires some { 1 ≤ width }
         requires within { width ≤ self.now.wires }
-        ensures designed { IfOk result (λ w. IfSome (slice_get self.now.soc.modules place) (λ m. (v : ℕ) → IsChosen (mode_time m scan) width v → wrapper_value w ≡ record { «module» = m.number; scan = scan; chains = design (mode_of m scan) v })) }
+        ensures designed { IfOk result (λ w. IfSome (slice_get self.now.soc.modules place)
+            (λ m. (v : ℕ) → IsChosen (mode_time m scan) width v →
+            wrapper_value w ≡ record { «module» = m.number; scan = scan; chains = design (mode_of m scan) v })) }
         ensures proper { IfOk result (λ w. IfSome (slice_get self.now.soc.modules place) (λ m. IsProper m scan (wrapper_value w).chains)) }
-        ensures balanced { IfOk result (λ w. IfSome (slice_get self.now.soc.modules place) (λ m. IsBalanced (mode_of m scan) (wrapper_value w).chains)) }
+        ensures balanced { IfOk result (λ w. IfSome (slice_get self.now.soc.modules place)
+            (λ m. IsBalanced (mode_of m scan) (wrapper_value w).chains)) }
         ensures some_chain { IfOk result (λ w. 1 ≤ length (wrapper_value w).chains) }
         ensures few_chains { IfOk result (λ w. length (wrapper_value w).chains ≤ width) }
-        ensures attained { IfOk result (λ w. IfSome (slice_get self.now.soc.modules place) (λ m. time_in m scan (wrapper_value w).chains ≡ least_time m scan width)) }
+        ensures attained { IfOk result (λ w. IfSome (slice_get self.now.soc.modules place)
+            (λ m. time_in m scan (wrapper_value w).chains ≡ least_time m scan width)) }
     {
         let chosen = self.chosen(place, scan, width);
         design(alloc, module_at(self.soc, place), scan, chosen)

@@ -11,7 +11,7 @@ use Rattle.plan_model.specs.Bounds.{sum_below, module_bound, lower_tam_time}
 use Rattle.plan_model.proofs.SumsOverCycles.{sum_below-same, sum_below-indices}
 use Rattle.width_tree.specs.declared.areas.Widths.{Widths}
 use Rattle.width_tree.specs.declared.intervals.Interval.{Interval}
-use Rattle.width_tree.specs.declared.tables.Table.{Table}
+use Rattle.width_tree.specs.declared.tables.ChipTimes.{ChipTimes}
 use Rattle.width_tree.specs.Cases.{Case, interval, interval_at, area_in}
 use Rattle.width_tree.specs.Tables.{place_of_time, chip_of, IsTable, HasRow, own_time}
 use Rattle.width_tree.specs.Findings.{area_by, IsInterval, AreIntervals, AreWidths, IsFinding}
@@ -25,7 +25,7 @@ use Rattle.std.proofs.lemmas.List.{take_all}
 
 -- ---- one area
 
-pub area_few : (t : Table) (i : Interval) (p : ℕ) → IsTable t → p < length (chip_of t).modules → IsInterval t.wires i → area_by t.times.now i p ≤ 256 * 10 ^ 18
+pub area_few : (t : ChipTimes) (i : Interval) (p : ℕ) → IsTable t → p < length (chip_of t).modules → IsInterval t.wires i → area_by t.times.now i p ≤ 256 * 10 ^ 18
 area_few t i p is within int =
     let row : HasRow (chip_of t) t.wires t.times.now p = is.times p within in
     let some : 1 ≤ i.low = int.some in
@@ -39,7 +39,7 @@ area_few t i p is within int =
     omega arith
 
 -- by the table or by the times themselves
-pub area_same : (t : Table) (c : Case) (p : ℕ) → IsTable t → p < length (chip_of t).modules → IsInterval t.wires (interval_at c p) → area_by t.times.now (interval_at c p) p ≡ area_in (chip_of t) c p
+pub area_same : (t : ChipTimes) (c : Case) (p : ℕ) → IsTable t → p < length (chip_of t).modules → IsInterval t.wires (interval_at c p) → area_by t.times.now (interval_at c p) p ≡ area_in (chip_of t) c p
 area_same t c p is within int =
     let row : HasRow (chip_of t) t.wires t.times.now p = is.times p within in
     let some : 1 ≤ (interval_at c p).low = int.some in
@@ -59,7 +59,7 @@ sum_few (x ∷ xs) m each =
     let product : suc (length xs) * m ≡ m + length xs * m = omega arith in
     omega arith
 
-pub areas_few : (t : Table) (c : Case) (areas : List ℕ) → IsTable t → AreIntervals t.wires (length (chip_of t).modules) c → length areas ≡ length (chip_of t).modules →
+pub areas_few : (t : ChipTimes) (c : Case) (areas : List ℕ) → IsTable t → AreIntervals t.wires (length (chip_of t).modules) c → length areas ≡ length (chip_of t).modules →
     ((p : ℕ) → p < length (chip_of t).modules → slice_index areas p ≡ area_by t.times.now (interval_at c p) p) → sum areas ≤ 1000 * (256 * 10 ^ 18)
 areas_few t c areas is ints long each =
     let all : sum areas ≤ length areas * (256 * 10 ^ 18) = sum_few areas (256 * 10 ^ 18) (λ k less. let p : k < length (chip_of t).modules = omega arith in omega (arith, each k p, area_few t (interval_at c k) k is p (ints.each k p))) in
@@ -67,11 +67,11 @@ areas_few t c areas is ints long each =
     let product : length areas * (256 * 10 ^ 18) ≤ 1000 * (256 * 10 ^ 18) = mul-le-mul_right (256 * 10 ^ 18) few in
     omega arith
 
-pub total_few : (t : Table) (widths : Widths) → IsTable t → AreWidths t.wires (length (chip_of t).modules) t.times.now widths → widths.total ≤ 1000 * (256 * 10 ^ 18)
+pub total_few : (t : ChipTimes) (widths : Widths) → IsTable t → AreWidths t.wires (length (chip_of t).modules) t.times.now widths → widths.total ≤ 1000 * (256 * 10 ^ 18)
 total_few t widths is are = omega (arith, are.total, areas_few t widths.intervals.items widths.areas.items is are.intervals are.long are.areas)
 
 -- the sum over the modules of a chip
-pub total_is : (t : Table) (widths : Widths) → IsTable t → AreWidths t.wires (length (chip_of t).modules) t.times.now widths → widths.total ≡ sum_below (area_in (chip_of t) widths.intervals.items) (length (chip_of t).modules)
+pub total_is : (t : ChipTimes) (widths : Widths) → IsTable t → AreWidths t.wires (length (chip_of t).modules) t.times.now widths → widths.total ≡ sum_below (area_in (chip_of t) widths.intervals.items) (length (chip_of t).modules)
 total_is t widths is are =
     let indices : sum_below (slice_index widths.areas.items) (length widths.areas.items) ≡ _ = sum_below-indices widths.areas.items (length widths.areas.items) (omega arith) in
     are.total
@@ -105,7 +105,7 @@ put_widths w n times old new p i area are within int area_is intervals areas tot
 
 -- ---- what leaves show
 
-pub time_shown : (t : Table) (c : Case) (m p a b : ℕ) → IsTable t → AreIntervals t.wires (length (chip_of t).modules) c → module_place (chip_of t) m ≡ Some p → a ≡ slice_index t.times.now (place_of_time p (interval_at c p).high) → b ≡ slice_index t.own.now p →
+pub time_shown : (t : ChipTimes) (c : Case) (m p a b : ℕ) → IsTable t → AreIntervals t.wires (length (chip_of t).modules) c → module_place (chip_of t) m ≡ Some p → a ≡ slice_index t.times.now (place_of_time p (interval_at c p).high) → b ≡ slice_index t.own.now p →
     on (module_place (chip_of t) m) (λ place. module_bound (chip_of t) (interval_at c place).high place) ≡ a + b
 time_shown t c m p a b is ints here a_is b_is =
     let within : p < length (chip_of t).modules = place_within (chip_of t) is.sound m p here in
@@ -123,7 +123,7 @@ bus_found soc w c c' n ms ms' f node case_is modules_is h =
 
 -- ---- more room than a sum wants
 
-pub put_fits : (t : Table) (widths : Widths) (i : Interval) (p area : ℕ) → IsTable t → AreWidths t.wires (length (chip_of t).modules) t.times.now widths → p < length (chip_of t).modules → IsInterval t.wires i → area ≡ area_by t.times.now i p → widths.total + area < 2 ^ 128
+pub put_fits : (t : ChipTimes) (widths : Widths) (i : Interval) (p area : ℕ) → IsTable t → AreWidths t.wires (length (chip_of t).modules) t.times.now widths → p < length (chip_of t).modules → IsInterval t.wires i → area ≡ area_by t.times.now i p → widths.total + area < 2 ^ 128
 put_fits t widths i p area is are within int area_is = omega (arith, total_few t widths is are, area_few t i p is within int)
 
 pub narrow_interval : (w : ℕ) (old i : Interval) (width : ℕ) → IsInterval w i → old ≡ i → i.low ≤ width → width < i.high → IsInterval w (interval old.low width)

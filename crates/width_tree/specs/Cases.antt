@@ -54,7 +54,8 @@ in_case c node = record { node = node; widths = c }
 -- the nodes of a tree, each with its case: a split hands on the narrow case to its first branch and the wide case to its second
 unfoldable pub cases_of : SocValue → Case → WidthTree → List NodeCase
 cases_of soc c (Leaf leaf) = in_case c (OfLeaf leaf) ∷ []
-cases_of soc c (Branches m at narrow wide) = in_case c (OfSplit m at) ∷ (cases_of soc (narrow_case soc c m at) narrow ++ cases_of soc (wide_case soc c m at) wide)
+cases_of soc c (Branches m at narrow wide) =
+    in_case c (OfSplit m at) ∷ (cases_of soc (narrow_case soc c m at) narrow ++ cases_of soc (wide_case soc c m at) wide)
 
 -- ---- the rules
 
@@ -109,7 +110,8 @@ least_over f low (suc n) = min (least_over f low n) (f (low + suc n))
 
 -- the least area of wires and cycles that the module at a place takes in the case; none where it has no test over the wires
 abbrev pub area_in : SocValue → Case → ℕ → ℕ
-area_in soc c place = least_over (λ v. v * lower_tam_time soc place v) (interval_at c place).low ((interval_at c place).high - (interval_at c place).low)
+area_in soc c place =
+    least_over (λ v. v * lower_tam_time soc place v) (interval_at c place).low ((interval_at c place).high - (interval_at c place).low)
 
 -- the lower times of a module's tests over the wires on a width, together
 abbrev pub tam_time_of : SocValue → (width m : ℕ) → ℕ

@@ -31,7 +31,8 @@ pub record AreIntervals (w n : ℕ) (c : Case) : Type 0 where
 pub record AreWidths (w n : ℕ) (times : List ℕ) (widths : Widths) : Type 0 where
   pub intervals : AreIntervals w n widths.intervals.items
   pub long : length widths.areas.items ≡ n
-  pub areas : (place : ℕ) → place < n → slice_index widths.areas.items place ≡ area_by times (interval_at widths.intervals.items place) place
+  pub areas : (place : ℕ) → place < n → slice_index widths.areas.items place
+      ≡ area_by times (interval_at widths.intervals.items place) place
   pub total : widths.total ≡ sum widths.areas.items
 
 -- ---- what is found at a node

@@ -3,7 +3,7 @@ use Rattle.std.specs.Prelude.{◌≡◌, ℕ, ◌+◌, ◌-◌, ◌*◌, ◌^◌
 use Rattle.soc_model.specs.Chips.{SocValue, soc_value}
 use Rattle.soc_model.specs.SoundChips.{IsSoundChip}
 use Rattle.plan_model.specs.Bounds.{sum_where, is_of, lower_tam_time}
-use Rattle.width_tree.specs.declared.tables.Table.{Table}
+use Rattle.width_tree.specs.declared.tables.ChipTimes.{ChipTimes}
 
 -- where the time of the module at a place on a width stands: each module has a row of 256 widths
 abbrev pub place_of_time : (place width : ℕ) → ℕ
@@ -28,11 +28,11 @@ pub record AreOwnTimes (soc : SocValue) (own : List ℕ) : Type 0 where
   pub small : (place : ℕ) → place < length soc.modules → slice_index own place ≤ 10 ^ 18
 
 -- the chip of a table
-abbrev pub chip_of : Table → SocValue
+abbrev pub chip_of : ChipTimes → SocValue
 chip_of t = soc_value t.soc.now
 
 -- the times of a sound chip on each width of some wires
-pub record IsTable (t : Table) : Type 0 where
+pub record IsTable (t : ChipTimes) : Type 0 where
   pub sound : IsSoundChip (chip_of t)
   pub some_wire : 1 ≤ t.wires
   pub few_wires : t.wires ≤ 256

@@ -34,13 +34,15 @@ pub record IsTurn (w : ℕ) (times : List ℕ) (c : Case) (turn : Turn) : Type 0
 -- Behind a turn the nodes `left` are to come, where `Rest` says which come behind the split: behind its first branch its second
 -- one and then those, behind its second branch those alone.
 abbrev pub Behind : SocValue → Case → Turn → (List NodeCase → Type 0) → List NodeCase → Type 0
-Behind soc c turn Rest left = MatchBool turn.second (Rest left) ((tree : WidthTree) × (rest : List NodeCase) × (left ≡ cases_of soc (case_later c turn) tree ++ rest) × Rest rest)
+Behind soc c turn Rest left = MatchBool turn.second (Rest left)
+    ((tree : WidthTree) × (rest : List NodeCase) × (left ≡ cases_of soc (case_later c turn) tree ++ rest) × Rest rest)
 
 -- behind a tree in this case, within so many splits, the nodes `left` are to come
 unfoldable pub Awaits : SocValue → (w : ℕ) → (times : List ℕ) → List Turn → (depth : ℕ) → Case → List NodeCase → Type 0
 Awaits soc w times turns zero c left = left ≡ []
 Awaits soc w times turns (suc depth) c left =
-    IsTurn w times c (turn_at turns depth) × Behind soc c (turn_at turns depth) (Awaits soc w times turns depth (case_before c (turn_at turns depth))) left
+    IsTurn w times c (turn_at turns depth) × Behind soc c (turn_at turns depth)
+    (Awaits soc w times turns depth (case_before c (turn_at turns depth))) left
 
 -- the nodes that are left begin with those of a tree in this case
 pub record Begins (soc : SocValue) (w : ℕ) (times : List ℕ) (turns : List Turn) (depth : ℕ) (c : Case) (left : List NodeCase) : Type 0 where
@@ -59,7 +61,8 @@ GoesOn soc w times turns depth c left = (left ≡ []) ⊎ Begins soc w times tur
 abbrev pub IsJudged : {X : Type 0} → SocValue → (w claim : ℕ) → (place : ℕ) → NodeCase → Result X TreeFault → Type 0
 IsJudged soc w claim place n (Ok _) = IsEnough soc w claim n
 IsJudged soc w claim place n (Err (BadNode p)) = (p ≡ place) × (KeepsNode soc w n.widths n.node → ⊥)
-IsJudged soc w claim place n (Err (Less p claimed shown)) = (p ≡ place) × (claimed ≡ claim) × KeepsNode soc w n.widths n.node × (node_shows soc w n.widths n.node ≡ Some shown) × (shown < claim)
+IsJudged soc w claim place n (Err (Less p claimed shown)) =
+    (p ≡ place) × (claimed ≡ claim) × KeepsNode soc w n.widths n.node × (node_shows soc w n.widths n.node ≡ Some shown) × (shown < claim)
 
 -- ---- the room
 

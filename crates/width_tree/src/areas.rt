@@ -42,7 +42,7 @@ pub fn least_area(times: &[u64], place: usize, interval: Interval) -> u128
 }
 
 /// Gives a module another interval, with the least area there.
-pub fn put(widths: &mut Widths, place: usize, interval: Interval, area: u128)
+pub fn put_interval(widths: &mut Widths, place: usize, interval: Interval, area: u128)
     requires place { place < length widths.old.intervals.items }
     requires areas { length widths.old.areas.items ≡ length widths.old.intervals.items }
     requires total { widths.old.total ≡ sum widths.old.areas.items }

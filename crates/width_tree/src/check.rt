@@ -15,7 +15,7 @@ ghost use Rattle.width_tree.specs.Walks.{HasRoom};
 use crate::areas::{Widths, least_area};
 use crate::intervals::{Interval, fill_root};
 use crate::laws::{accepted_trees_are_bounds, accepted_trees_have_no_fault};
-use crate::tables::{ROW_WIDTHS, Table, fill_own_times, fill_times};
+use crate::tables::{ChipTimes, ROW_WIDTHS, fill_own_times, fill_times};
 use crate::walk::{Turn, check_nodes};
 use crate::{Tree, TreeFault};
 use outside::NoMemory;
@@ -92,7 +92,7 @@ impl TreeRoom {
 }
 
 /// Writes the least area of each module within its interval.
-fn fill_areas(table: &Table<'_>, intervals: &[Interval], areas: &mut [u128])
+fn fill_areas(table: &ChipTimes<'_>, intervals: &[Interval], areas: &mut [u128])
     requires table { IsTable table.now }
     requires intervals { AreIntervals table.now.wires (length (chip_of table.now).modules) intervals.now }
     requires room { length areas.old ≡ length (chip_of table.now).modules }
@@ -112,7 +112,7 @@ fn sum_of(areas: &[u128]) -> u128
 }
 
 /// Writes the intervals of the root and the least areas within them. The answer is the sum of the areas.
-fn fill_slices(table: &Table<'_>, intervals: &mut [Interval], areas: &mut [u128]) -> u128
+fn fill_slices(table: &ChipTimes<'_>, intervals: &mut [Interval], areas: &mut [u128]) -> u128
     requires table { IsTable table.now }
     requires intervals { length intervals.old ≡ length (chip_of table.now).modules }
     requires areas { length areas.old ≡ length (chip_of table.now).modules }
@@ -126,7 +126,7 @@ fn fill_slices(table: &Table<'_>, intervals: &mut [Interval], areas: &mut [u128]
 }
 
 /// The widths of the root, with their areas.
-fn fill_widths(table: &Table<'_>, widths: &mut Widths)
+fn fill_widths(table: &ChipTimes<'_>, widths: &mut Widths)
     requires table { IsTable table.now }
     requires intervals { length widths.old.intervals.items ≡ length (chip_of table.now).modules }
     requires areas { length widths.old.areas.items ≡ length (chip_of table.now).modules }
@@ -136,10 +136,16 @@ fn fill_widths(table: &Table<'_>, widths: &mut Widths)
     widths.total = fill_slices(table, &mut widths.intervals, &mut widths.areas);
 }
 
+/// A chip and the wires of its limits.
+#[derive(Clone, Copy, Drop)]
+struct WiredChip<'a> {
+    soc: &'a Soc,
+    wires: u64,
+}
+
 /// The check over rooms that are long enough.
 fn check_in(
-    soc: &Soc,
-    wires: u64,
+    chip: &WiredChip<'_>,
     tree: &Tree,
     times: &mut [u64],
     own: &mut [u64],
@@ -147,25 +153,27 @@ fn check_in(
     marks: &mut [usize],
     turns: &mut [Turn],
 ) -> Result<(), TreeFault>
-    requires sound { IsSoundChip (soc_value soc.now) }
-    requires some_wire { 1 ≤ wires }
-    requires few_wires { wires ≤ 256 }
+    requires sound { IsSoundChip (soc_value chip.now.soc.now) }
+    requires some_wire { 1 ≤ chip.now.wires }
+    requires few_wires { chip.now.wires ≤ 256 }
     requires tree { IsOneTree (map node_value tree.now.nodes.items) }
-    requires times { length times.old ≡ length (soc_value soc.now).modules * 256 }
-    requires own { length own.old ≡ length (soc_value soc.now).modules }
-    requires intervals { length widths.old.intervals.items ≡ length (soc_value soc.now).modules }
-    requires areas { length widths.old.areas.items ≡ length (soc_value soc.now).modules }
-    requires marks { length marks.old ≡ length (soc_value soc.now).modules }
+    requires times { length times.old ≡ length (soc_value chip.now.soc.now).modules * 256 }
+    requires own { length own.old ≡ length (soc_value chip.now.soc.now).modules }
+    requires intervals { length widths.old.intervals.items ≡ length (soc_value chip.now.soc.now).modules }
+    requires areas { length widths.old.areas.items ≡ length (soc_value chip.now.soc.now).modules }
+    requires marks { length marks.old ≡ length (soc_value chip.now.soc.now).modules }
     requires turns { length tree.now.nodes.items ≤ length turns.old }
-    ensures checked { (t : WidthTree) → nodes_of t ≡ map node_value tree.now.nodes.items → IsChecked (soc_value soc.now) wires tree.now.claimed (cases_of (soc_value soc.now) (root_case (soc_value soc.now) wires) t) result }
+    ensures checked { (t : WidthTree) → nodes_of t ≡ map node_value tree.now.nodes.items →
+        IsChecked (soc_value chip.now.soc.now) chip.now.wires tree.now.claimed
+        (cases_of (soc_value chip.now.soc.now) (root_case (soc_value chip.now.soc.now) chip.now.wires) t) result }
     ensures intervals { length widths.new.intervals.items ≡ length widths.old.intervals.items }
     ensures areas { length widths.new.areas.items ≡ length widths.old.areas.items }
 {
-    fill_times(soc, wires, times);
-    fill_own_times(soc, wires, own);
-    let table = Table {
-        soc,
-        wires,
+    fill_times(chip.soc, chip.wires, times);
+    fill_own_times(chip.soc, chip.wires, own);
+    let table = ChipTimes {
+        soc: chip.soc,
+        wires: chip.wires,
         times,
         own,
     };
@@ -197,9 +205,12 @@ pub fn check_tree(
 {
     accepted_trees_are_bounds();
     accepted_trees_have_no_fault();
-    check_in(
+    let chip = WiredChip {
         soc,
-        limits.wires,
+        wires: limits.wires,
+    };
+    check_in(
+        &chip,
         tree,
         &mut room.times,
         &mut room.own,

@@ -9,7 +9,7 @@ use crate::Node;
 use crate::areas::Widths;
 use crate::intervals::Interval;
 use crate::lists::{are_too_wide, least_widths, tam_place, times_of};
-use crate::tables::{Table, tam_time};
+use crate::tables::{ChipTimes, tam_time};
 use soc_model::place_of;
 
 /// What is found at a node.
@@ -24,7 +24,7 @@ pub enum Finding {
 }
 
 /// What is found at a split of the widths of a module.
-fn find_split(table: &Table<'_>, intervals: &[Interval], module: u64, at: u64) -> Finding
+fn find_split(table: &ChipTimes<'_>, intervals: &[Interval], module: u64, at: u64) -> Finding
     requires table { IsTable table.now }
     requires intervals { AreIntervals table.now.wires (length (chip_of table.now).modules) intervals.now }
     ensures { IsFinding (chip_of table.now) table.now.wires intervals.now (OfSplit «module» at) result }
@@ -45,7 +45,7 @@ fn find_split(table: &Table<'_>, intervals: &[Interval], module: u64, at: u64) -
 }
 
 /// What is found at a leaf by the times of a module: the lower times of its live tests on its greatest width.
-fn find_time(table: &Table<'_>, intervals: &[Interval], module: u64) -> Finding
+fn find_time(table: &ChipTimes<'_>, intervals: &[Interval], module: u64) -> Finding
     requires table { IsTable table.now }
     requires intervals { AreIntervals table.now.wires (length (chip_of table.now).modules) intervals.now }
     ensures { IsFinding (chip_of table.now) table.now.wires intervals.now (OfLeaf (OfTime «module»)) result }
@@ -69,7 +69,7 @@ fn divided_up(total: u128, parts: u64) -> u128
 }
 
 /// What is found at a leaf by the areas of all modules: the cycles that they take on all wires.
-fn find_area(table: &Table<'_>, widths: &Widths) -> Finding
+fn find_area(table: &ChipTimes<'_>, widths: &Widths) -> Finding
     requires table { IsTable table.now }
     requires widths { AreWidths table.now.wires (length (chip_of table.now).modules) table.now.times.now widths.now }
     ensures { IsFinding (chip_of table.now) table.now.wires widths.now.intervals.items (OfLeaf OfArea) result }
@@ -80,7 +80,7 @@ fn find_area(table: &Table<'_>, widths: &Widths) -> Finding
 /// What is found at a leaf by modules on one bus: the lower times of their tests over the wires, on the least of their
 /// greatest widths.
 fn find_bus(
-    table: &Table<'_>,
+    table: &ChipTimes<'_>,
     intervals: &[Interval],
     modules: &[u64],
     stamp: usize,
@@ -100,7 +100,7 @@ fn find_bus(
 }
 
 /// What is found at a leaf by two modules that need one bus, of which no width is in the intervals of both.
-fn find_apart(table: &Table<'_>, intervals: &[Interval], a: u64, b: u64) -> Finding
+fn find_apart(table: &ChipTimes<'_>, intervals: &[Interval], a: u64, b: u64) -> Finding
     requires table { IsTable table.now }
     requires intervals { AreIntervals table.now.wires (length (chip_of table.now).modules) intervals.now }
     ensures { IsFinding (chip_of table.now) table.now.wires intervals.now (OfLeaf (OfApart a b)) result }
@@ -129,8 +129,8 @@ fn find_apart(table: &Table<'_>, intervals: &[Interval], a: u64, b: u64) -> Find
 }
 
 /// What is found at a node in its case. `stamp` is greater than all marks, and serves once.
-pub fn find(
-    table: &Table<'_>,
+pub fn find_shown(
+    table: &ChipTimes<'_>,
     widths: &Widths,
     node: &Node,
     stamp: usize,

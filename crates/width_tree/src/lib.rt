@@ -2,6 +2,9 @@
 //!
 //! A tree splits on the width of the bus of a module, again and again, and ends in reasons why no good plan of a case is
 //! shorter than claimed. Modules go by their numbers, widths are in wires, claims and values in cycles.
+//!
+//! A tree is accepted exactly where its definition says so; then no good plan has fewer cycles than it claims. Errors are the one
+//! fault that comes first, the line at which a text is refused, and out of memory.
 #![tactic(auto)]
 
 mod areas;

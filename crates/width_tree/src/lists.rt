@@ -9,7 +9,7 @@ ghost use Rattle.width_tree.specs.Tables.{chip_of, IsTable};
 ghost use Rattle.width_tree.specs.Findings.{AreIntervals, IsBusSoFar, AreOlder};
 
 use crate::intervals::Interval;
-use crate::tables::{Table, tam_time};
+use crate::tables::{ChipTimes, tam_time};
 use soc_model::{has_tam_test, module_at, place_of};
 
 /// The least of the low widths and the least of the high widths of modules.
@@ -21,9 +21,10 @@ pub struct Least {
 
 /// The place of a module that has a live test over the wires. None comes exactly where the chip has no such module of
 /// this number.
-pub fn tam_place(table: &Table<'_>, number: u64) -> Option<usize>
+pub fn tam_place(table: &ChipTimes<'_>, number: u64) -> Option<usize>
     requires { IsTable table.now }
-    ensures some { IfSome result (λ place. (module_place (chip_of table.now) number ≡ Some place) × (place < length (chip_of table.now).modules)) }
+    ensures some { IfSome result (λ place. (module_place (chip_of table.now) number ≡ Some place)
+        × (place < length (chip_of table.now).modules)) }
     ensures exact { is_some result ≡ passes (has_tam_at (chip_of table.now)) (module_place (chip_of table.now) number) }
 {
     match place_of(table.soc, number) {
@@ -49,7 +50,7 @@ pub fn are_too_wide(wires: u64, a: u64, b: u64) -> bool
 /// The least widths after one more module of a list. The modules before it are stamped, and `least` is of them, so that one
 /// comparison does for all. None comes exactly where the module breaks the rule of the list.
 fn take_module(
-    table: &Table<'_>,
+    table: &ChipTimes<'_>,
     intervals: &[Interval],
     modules: &[u64],
     place: usize,
@@ -63,11 +64,14 @@ fn take_module(
     requires room { length marks.old ≡ length (chip_of table.now).modules }
     requires low { least.low ≤ table.now.wires + 1 }
     requires so_far { IsBusSoFar (chip_of table.now) table.now.wires intervals.now (take place modules.now) marks.old stamp least }
-    ensures kept { IfSome result (λ next. (m : ℕ) → slice_get modules.now place ≡ Some m → IsBusItem (chip_of table.now) table.now.wires intervals.now (take place modules.now) m × IsBusSoFar (chip_of table.now) table.now.wires intervals.now (take (place + 1) modules.now) marks.new stamp next) }
+    ensures kept { IfSome result (λ next. (m : ℕ) → slice_get modules.now place ≡ Some m →
+        IsBusItem (chip_of table.now) table.now.wires intervals.now (take place modules.now) m
+        × IsBusSoFar (chip_of table.now) table.now.wires intervals.now (take (place + 1) modules.now) marks.new stamp next) }
     ensures low { IfSome result (λ next. next.low ≤ table.now.wires + 1) }
     ensures some { IfSome result (λ next. 1 ≤ least.high → 1 ≤ next.high) }
     ensures few { IfSome result (λ next. next.high ≤ least.high) }
-    ensures breach { IfNone result ((m : ℕ) → slice_get modules.now place ≡ Some m → IsBusItem (chip_of table.now) table.now.wires intervals.now (take place modules.now) m → ⊥) }
+    ensures breach { IfNone result ((m : ℕ) → slice_get modules.now place ≡ Some m →
+        IsBusItem (chip_of table.now) table.now.wires intervals.now (take place modules.now) m → ⊥) }
     ensures older { AreOlder (stamp + 1) marks.old → AreOlder (stamp + 1) marks.new }
 {
     match tam_place(table, modules[place]) {
@@ -92,7 +96,7 @@ fn take_module(
 /// The least widths of the modules of a list that all need one bus; of no module the low one is one more than all wires, and
 /// the high one all wires. None comes exactly where a module breaks the rule of the list.
 pub fn least_widths(
-    table: &Table<'_>,
+    table: &ChipTimes<'_>,
     intervals: &[Interval],
     modules: &[u64],
     stamp: usize,
@@ -104,7 +108,8 @@ pub fn least_widths(
     requires older { AreOlder stamp marks.old }
     ensures exact { MatchOption result
         (Each (IsBusItem (chip_of table.now) table.now.wires intervals.now) modules.now → ⊥)
-        (λ least. Each (IsBusItem (chip_of table.now) table.now.wires intervals.now) modules.now × (least.high ≡ least_high (chip_of table.now) table.now.wires intervals.now modules.now)) }
+        (λ least. Each (IsBusItem (chip_of table.now) table.now.wires intervals.now) modules.now
+        × (least.high ≡ least_high (chip_of table.now) table.now.wires intervals.now modules.now)) }
     ensures some { IfSome result (λ least. 1 ≤ least.high) }
     ensures few { IfSome result (λ least. least.high ≤ table.now.wires) }
     ensures older { AreOlder (stamp + 1) marks.new }
@@ -124,7 +129,7 @@ pub fn least_widths(
 
 /// The lower times of a module's tests over the wires on a width, together, by its number; 0 where the chip has no such
 /// module.
-fn time_of(table: &Table<'_>, number: u64, width: u64) -> u64
+fn time_of(table: &ChipTimes<'_>, number: u64, width: u64) -> u64
     requires table { IsTable table.now }
     requires some { 1 ≤ width }
     requires few { width ≤ table.now.wires }
@@ -138,7 +143,7 @@ fn time_of(table: &Table<'_>, number: u64, width: u64) -> u64
 }
 
 /// The lower times of the tests over the wires of some modules on a width, together.
-pub fn times_of(table: &Table<'_>, modules: &[u64], width: u64) -> u128
+pub fn times_of(table: &ChipTimes<'_>, modules: &[u64], width: u64) -> u128
     requires table { IsTable table.now }
     requires some { 1 ≤ width }
     requires few { width ≤ table.now.wires }

@@ -5,7 +5,7 @@ ghost use Rattle.width_tree.specs.Reads.{state_of};
 ghost use Rattle.width_tree.specs.Steps.{step as step_value};
 
 use crate::parts::{Draft, Part};
-use crate::steps::{end_tree, new_draft, step};
+use crate::steps::{end_tree, new_draft, take_token};
 use crate::tokens::{KEYWORDS, Keyword};
 use crate::{Tree, TreeTextFault};
 use keyword_text::{Format, Spelled, Token, read_by};
@@ -63,7 +63,7 @@ impl Format for TreeReading {
             mut draft,
             part,
         } = self;
-        match step(alloc, &mut draft, part, token) {
+        match take_token(alloc, &mut draft, part, token) {
             Ok(part) => Ok(TreeReading { alloc, draft, part }),
             Err(stop) => Err(stop),
         }

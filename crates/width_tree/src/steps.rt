@@ -74,7 +74,7 @@ fn begin_node(alloc: Global, draft: &mut Draft, key: Keyword) -> Result<Part, St
 }
 
 /// The same where a node is wanted; else no text goes on so.
-fn begin(alloc: Global, draft: &mut Draft, key: Keyword) -> Result<Part, Stop>
+fn begin_part(alloc: Global, draft: &mut Draft, key: Keyword) -> Result<Part, Stop>
     ensures { Steps (begins (draft_value draft.old) key) result draft.new }
 {
     if draft.wanted == 0 {
@@ -89,7 +89,7 @@ fn end_bus(alloc: Global, draft: &mut Draft, modules: Vec<u64>, key: Keyword) ->
     ensures { Steps (steps_key (draft_value draft.old) (in_bus modules.items) key) result draft.new }
 {
     push_node(draft, Node::Bus { modules })?;
-    begin(alloc, draft, key)
+    begin_part(alloc, draft, key)
 }
 
 fn begin_tree(key: Keyword) -> Result<Part, Stop>
@@ -117,7 +117,7 @@ fn step_key(alloc: Global, draft: &mut Draft, part: Part, key: Keyword) -> Resul
     match part {
         Part::WantsTree => begin_tree(key),
         Part::WantsBound => begin_bound(key),
-        Part::Between => begin(alloc, draft, key),
+        Part::Between => begin_part(alloc, draft, key),
         Part::InBus { modules } => end_bus(alloc, draft, modules, key),
         Part::WantsForm
         | Part::WantsClaim
@@ -173,7 +173,7 @@ fn step_number(draft: &mut Draft, part: Part, n: u64) -> Result<Part, Stop>
 }
 
 /// The next word.
-pub fn step(
+pub fn take_token(
     alloc: Global,
     draft: &mut Draft,
     part: Part,

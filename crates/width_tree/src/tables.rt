@@ -14,7 +14,7 @@ pub const ROW_WIDTHS: usize = 256;
 /// A chip, the wires of limits, and the times of the chip's modules: those over the wires on each width, and those of self
 /// tests.
 #[derive(Clone, Copy, Drop)]
-pub struct Table<'a> {
+pub struct ChipTimes<'a> {
     pub soc: &'a Soc,
     pub wires: u64,
     pub times: &'a [u64],

@@ -9,10 +9,10 @@ ghost use Rattle.width_tree.specs.Tables.{chip_of, IsTable};
 ghost use Rattle.width_tree.specs.Findings.{AreWidths, AreOlder, IsFinding};
 ghost use Rattle.width_tree.specs.Walks.{turn_at, case_later, IsTurn, Awaits, Begins, GoesOn, IsJudged};
 
-use crate::areas::{Widths, least_area, put};
+use crate::areas::{Widths, least_area, put_interval};
 use crate::intervals::Interval;
-use crate::leaves::{Finding, find};
-use crate::tables::Table;
+use crate::leaves::{Finding, find_shown};
+use crate::tables::ChipTimes;
 use crate::{Node, Tree, TreeFault};
 use soc_model::place_of;
 
@@ -31,8 +31,9 @@ pub struct Turn {
 }
 
 /// The answer to what was found at the node at a place.
-fn judge(claimed: u64, place: usize, finding: Finding) -> Result<(), TreeFault>
-    ensures { (soc : SocValue) (w : ℕ) (c : Case) (n : NodeValue) → IsFinding soc w c n finding → IsJudged soc w claimed place (in_case c n) result }
+fn judge_node(claimed: u64, place: usize, finding: Finding) -> Result<(), TreeFault>
+    ensures { (soc : SocValue) (w : ℕ) (c : Case) (n : NodeValue) → IsFinding soc w c n finding →
+        IsJudged soc w claimed place (in_case c n) result }
 {
     match finding {
         Finding::Broken => Err(TreeFault::BadNode { place }),
@@ -53,7 +54,7 @@ fn judge(claimed: u64, place: usize, finding: Finding) -> Result<(), TreeFault>
 /// Begins the first branch of a split at a width, with the narrow case of its module. The answer is how many splits are
 /// under way then.
 fn begin_split(
-    table: &Table<'_>,
+    table: &ChipTimes<'_>,
     widths: &mut Widths,
     turns: &mut [Turn],
     depth: usize,
@@ -69,8 +70,10 @@ fn begin_split(
     ensures widths { AreWidths table.now.wires (length (chip_of table.now).modules) table.now.times.now widths.new }
     ensures narrow { widths.new.intervals.items ≡ narrow_at widths.old.intervals.items at place }
     ensures depth { result ≡ depth + 1 }
-    ensures awaits { (wide : WidthTree) (rest : List NodeCase) → Awaits (chip_of table.now) table.now.wires table.now.times.now turns.old depth widths.old.intervals.items rest →
-        Awaits (chip_of table.now) table.now.wires table.now.times.now turns.new (depth + 1) widths.new.intervals.items (cases_of (chip_of table.now) (wide_at widths.old.intervals.items at place) wide ++ rest) }
+    ensures awaits { (wide : WidthTree) (rest : List NodeCase) →
+        Awaits (chip_of table.now) table.now.wires table.now.times.now turns.old depth widths.old.intervals.items rest →
+        Awaits (chip_of table.now) table.now.wires table.now.times.now turns.new (depth + 1) widths.new.intervals.items
+        (cases_of (chip_of table.now) (wide_at widths.old.intervals.items at place) wide ++ rest) }
 {
     let old = widths.intervals[place];
     let area = widths.areas[place];
@@ -85,7 +88,7 @@ fn begin_split(
         area,
         second: false,
     };
-    put(
+    put_interval(
         widths,
         place,
         narrow,
@@ -95,7 +98,7 @@ fn begin_split(
 }
 
 /// Begins the second branch of the last split that is under way, with the wide case of its module.
-fn begin_second(table: &Table<'_>, widths: &mut Widths, turns: &mut [Turn], last: usize)
+fn begin_second(table: &ChipTimes<'_>, widths: &mut Widths, turns: &mut [Turn], last: usize)
     requires table { IsTable table.now }
     requires widths { AreWidths table.now.wires (length (chip_of table.now).modules) table.now.times.now widths.old }
     requires room { last < length turns.old }
@@ -110,7 +113,7 @@ fn begin_second(table: &Table<'_>, widths: &mut Widths, turns: &mut [Turn], last
         high: turn.old.high,
     };
     turns[last].second = true;
-    put(
+    put_interval(
         widths,
         turn.place,
         wide,
@@ -121,7 +124,7 @@ fn begin_second(table: &Table<'_>, widths: &mut Widths, turns: &mut [Turn], last
 /// After a leaf: takes back the cases of splits of which both branches are over, and begins the second branch of the split
 /// before them. The answer is how many splits are under way then.
 fn next_branch(
-    table: &Table<'_>,
+    table: &ChipTimes<'_>,
     widths: &mut Widths,
     turns: &mut [Turn],
     under_way: usize,
@@ -129,10 +132,12 @@ fn next_branch(
     requires table { IsTable table.now }
     requires widths { AreWidths table.now.wires (length (chip_of table.now).modules) table.now.times.now widths.old }
     requires room { under_way ≤ length turns.old }
-    requires awaits { (rest : List NodeCase) × Awaits (chip_of table.now) table.now.wires table.now.times.now turns.old under_way widths.old.intervals.items rest }
+    requires awaits { (rest : List NodeCase) × Awaits (chip_of table.now) table.now.wires table.now.times.now turns.old under_way
+        widths.old.intervals.items rest }
     ensures widths { AreWidths table.now.wires (length (chip_of table.now).modules) table.now.times.now widths.new }
     ensures few { result ≤ under_way }
-    ensures goes_on { (rest : List NodeCase) → Awaits (chip_of table.now) table.now.wires table.now.times.now turns.old under_way widths.old.intervals.items rest →
+    ensures goes_on { (rest : List NodeCase) → Awaits (chip_of table.now) table.now.wires table.now.times.now turns.old under_way
+        widths.old.intervals.items rest →
         GoesOn (chip_of table.now) table.now.wires table.now.times.now turns.new result widths.new.intervals.items rest }
 {
     let mut depth = under_way;
@@ -142,7 +147,7 @@ fn next_branch(
             begin_second(table, widths, turns, depth - 1);
             return depth;
         }
-        put(widths, turn.place, turn.old, turn.area);
+        put_interval(widths, turn.place, turn.old, turn.area);
         depth -= 1;
     }
     depth
@@ -150,7 +155,7 @@ fn next_branch(
 
 /// Goes on behind a node that keeps its rule. The answer is how many splits are under way then.
 fn go_on(
-    table: &Table<'_>,
+    table: &ChipTimes<'_>,
     node: &Node,
     widths: &mut Widths,
     turns: &mut [Turn],
@@ -160,10 +165,12 @@ fn go_on(
     requires widths { AreWidths table.now.wires (length (chip_of table.now).modules) table.now.times.now widths.old }
     requires room { depth < length turns.old }
     requires rule { KeepsNode (chip_of table.now) table.now.wires widths.old.intervals.items (node_value node.now) }
-    requires begins { (left : List NodeCase) × Begins (chip_of table.now) table.now.wires table.now.times.now turns.old depth widths.old.intervals.items (in_case widths.old.intervals.items (node_value node.now) ∷ left) }
+    requires begins { (left : List NodeCase) × Begins (chip_of table.now) table.now.wires table.now.times.now turns.old depth
+        widths.old.intervals.items (in_case widths.old.intervals.items (node_value node.now) ∷ left) }
     ensures widths { AreWidths table.now.wires (length (chip_of table.now).modules) table.now.times.now widths.new }
     ensures few { result ≤ depth + 1 }
-    ensures goes_on { (left : List NodeCase) → Begins (chip_of table.now) table.now.wires table.now.times.now turns.old depth widths.old.intervals.items (in_case widths.old.intervals.items (node_value node.now) ∷ left) →
+    ensures goes_on { (left : List NodeCase) → Begins (chip_of table.now) table.now.wires table.now.times.now turns.old depth
+        widths.old.intervals.items (in_case widths.old.intervals.items (node_value node.now) ∷ left) →
         GoesOn (chip_of table.now) table.now.wires table.now.times.now turns.new result widths.new.intervals.items left }
 {
     if let Node::Split { module, at } = node {
@@ -175,33 +182,43 @@ fn go_on(
     next_branch(table, widths, turns, depth)
 }
 
-/// Checks the node at a place and goes on behind it. The answer is how many splits are under way then.
-fn check_node(
-    table: &Table<'_>,
+/// What a node is judged by: the claim of its tree, in cycles, and its place in it.
+#[derive(Clone, Copy, Drop)]
+struct NodePlace {
     claimed: u64,
-    node: &Node,
     place: usize,
+}
+
+/// Checks a node and goes on behind it. The answer is how many splits are under way then.
+fn check_node(
+    table: &ChipTimes<'_>,
+    by: NodePlace,
+    node: &Node,
     widths: &mut Widths,
     marks: &mut [usize],
     turns: &mut [Turn],
     depth: usize,
 ) -> Result<usize, TreeFault>
     requires table { IsTable table.now }
-    requires small { place + 2 < 2 ^ 64 }
+    requires small { by.place + 2 < 2 ^ 64 }
     requires widths { AreWidths table.now.wires (length (chip_of table.now).modules) table.now.times.now widths.old }
     requires marks { length marks.old ≡ length (chip_of table.now).modules }
-    requires older { AreOlder (place + 1) marks.old }
+    requires older { AreOlder (by.place + 1) marks.old }
     requires room { depth < length turns.old }
-    requires begins { (left : List NodeCase) × Begins (chip_of table.now) table.now.wires table.now.times.now turns.old depth widths.old.intervals.items (in_case widths.old.intervals.items (node_value node.now) ∷ left) }
-    ensures judged { IsJudged (chip_of table.now) table.now.wires claimed place (in_case widths.old.intervals.items (node_value node.now)) result }
-    ensures older { AreOlder (place + 2) marks.new }
+    requires begins { (left : List NodeCase) × Begins (chip_of table.now) table.now.wires table.now.times.now turns.old depth
+        widths.old.intervals.items (in_case widths.old.intervals.items (node_value node.now) ∷ left) }
+    ensures judged { IsJudged (chip_of table.now) table.now.wires by.claimed by.place
+        (in_case widths.old.intervals.items (node_value node.now)) result }
+    ensures older { AreOlder (by.place + 2) marks.new }
     ensures widths { AreWidths table.now.wires (length (chip_of table.now).modules) table.now.times.now widths.new }
     ensures few { IfOk result (λ next. next ≤ depth + 1) }
-    ensures goes_on { (left : List NodeCase) → Begins (chip_of table.now) table.now.wires table.now.times.now turns.old depth widths.old.intervals.items (in_case widths.old.intervals.items (node_value node.now) ∷ left) →
-        IfOk result (λ next. GoesOn (chip_of table.now) table.now.wires table.now.times.now turns.new next widths.new.intervals.items left) }
+    ensures goes_on { (left : List NodeCase) → Begins (chip_of table.now) table.now.wires table.now.times.now turns.old depth
+        widths.old.intervals.items (in_case widths.old.intervals.items (node_value node.now) ∷ left) →
+        IfOk result (λ next. GoesOn (chip_of table.now) table.now.wires table.now.times.now turns.new next
+        widths.new.intervals.items left) }
 {
-    let finding = find(table, widths, node, place + 1, marks);
-    match judge(claimed, place, finding) {
+    let finding = find_shown(table, widths, node, by.place + 1, marks);
+    match judge_node(by.claimed, by.place, finding) {
         Ok(()) => Ok(go_on(table, node, widths, turns, depth)),
         Err(fault) => Err(fault),
     }
@@ -210,7 +227,7 @@ fn check_node(
 /// Checks the nodes of a tree one after another, the widths being those of its root. An error is the fault of the first
 /// node that has one.
 pub fn check_nodes(
-    table: &Table<'_>,
+    table: &ChipTimes<'_>,
     tree: &Tree,
     widths: &mut Widths,
     marks: &mut [usize],
@@ -223,21 +240,17 @@ pub fn check_nodes(
     requires room { length tree.now.nodes.items ≤ length turns.old }
     requires tree { IsOneTree (map node_value tree.now.nodes.items) }
     ensures widths { AreWidths table.now.wires (length (chip_of table.now).modules) table.now.times.now widths.new }
-    ensures checked { (t : WidthTree) → nodes_of t ≡ map node_value tree.now.nodes.items → IsChecked (chip_of table.now) table.now.wires tree.now.claimed (cases_of (chip_of table.now) widths.old.intervals.items t) result }
+    ensures checked { (t : WidthTree) → nodes_of t ≡ map node_value tree.now.nodes.items →
+        IsChecked (chip_of table.now) table.now.wires tree.now.claimed (cases_of (chip_of table.now) widths.old.intervals.items t) result }
 {
     let mut depth = 0;
     for place in 0..tree.nodes.len() {
         let node = &tree.nodes[place];
-        match check_node(
-            table,
-            tree.claimed,
-            node,
+        let by = NodePlace {
+            claimed: tree.claimed,
             place,
-            widths,
-            marks,
-            turns,
-            depth,
-        ) {
+        };
+        match check_node(table, by, node, widths, marks, turns, depth) {
             Ok(next) => depth = next,
             Err(fault) => return Err(fault),
         }

@@ -23,7 +23,8 @@ scan_length lengths scans = sum_by (slice_index lengths) scans
 -- a scan chain's place goes before the first that is no longer
 unfoldable pub put_by_length : (lengths : List ℕ) → ℕ → List ℕ → List ℕ
 put_by_length lengths c [] = c ∷ []
-put_by_length lengths c (d ∷ ds) = if nat_le (slice_index lengths d) (slice_index lengths c) then c ∷ d ∷ ds else d ∷ put_by_length lengths c ds
+put_by_length lengths c (d ∷ ds) =
+    if nat_le (slice_index lengths d) (slice_index lengths c) then c ∷ d ∷ ds else d ∷ put_by_length lengths c ds
 
 unfoldable pub sort_by_length : (lengths places : List ℕ) → List ℕ
 sort_by_length lengths [] = []

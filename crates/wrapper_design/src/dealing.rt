@@ -42,8 +42,10 @@ fn put_scans(
     requires entries { HasEntries (heap_items heap.old) loads.old }
     requires fits { sum_by (λ c. c.length.0) order.now < 2 ^ 62 }
     ensures longest { IfOk result (λ longest. longest ≡ greatest loads.new) }
-    ensures loads { IfOk result (λ longest. (lengths : List ℕ) → IsOrder lengths order.now → loads.new ≡ map (scan_length lengths) (scan_parts lengths (length loads.old))) }
-    ensures parts { IfOk result (λ longest. (lengths : List ℕ) → IsOrder lengths order.now → map (λ (c : ChainPlan). c.scans.items) chains.new ≡ scan_parts lengths (length loads.old)) }
+    ensures loads { IfOk result (λ longest. (lengths : List ℕ) → IsOrder lengths order.now →
+        loads.new ≡ map (scan_length lengths) (scan_parts lengths (length loads.old))) }
+    ensures parts { IfOk result (λ longest. (lengths : List ℕ) → IsOrder lengths order.now →
+        map (λ (c : ChainPlan). c.scans.items) chains.new ≡ scan_parts lengths (length loads.old)) }
 {
     let mut longest: u64 = 0;
     for chain in order {
@@ -56,11 +58,19 @@ fn put_scans(
 }
 
 /// Fills chains in order with input cells up to `si` and output cells up to `so`.
-fn fill(loads: &[u64], chains: &mut [ChainPlan], mut ins: u64, si: u64, mut outs: u64, so: u64)
+fn fill_chains(
+    loads: &[u64],
+    chains: &mut [ChainPlan],
+    mut ins: u64,
+    si: u64,
+    mut outs: u64,
+    so: u64,
+)
     requires as_many { length loads.now ≡ length chains.old }
     requires below_si { All (λ n. n ≤ si) loads.now }
     requires below_so { All (λ n. n ≤ so) loads.now }
-    ensures { (lengths : List ℕ) → loads.now ≡ map (λ (c : ChainPlan). scan_length lengths c.scans.items) chains.old → map chain_value chains.new ≡ filled lengths si ins so outs (map (λ (c : ChainPlan). c.scans.items) chains.old) }
+    ensures { (lengths : List ℕ) → loads.now ≡ map (λ (c : ChainPlan). scan_length lengths c.scans.items) chains.old →
+        map chain_value chains.new ≡ filled lengths si ins so outs (map (λ (c : ChainPlan). c.scans.items) chains.old) }
 {
     for (place, load) in loads.iter().enumerate() {
         let chain = &mut chains[place];
@@ -107,18 +117,19 @@ fn put_cells(
     requires few_flops { flops < 2 ^ 62 }
     requires few_ins { ins < 2 ^ 62 }
     requires few_outs { outs < 2 ^ 62 }
-    ensures { IfOk result (λ _. (lengths : List ℕ) → IsOrder lengths order.now → flops ≡ sum lengths → map chain_value chains.new ≡ design (record { lengths = lengths; ins = ins; outs = outs }) (length loads.old)) }
+    ensures { IfOk result (λ _. (lengths : List ℕ) → IsOrder lengths order.now → flops ≡ sum lengths →
+        map chain_value chains.new ≡ design (record { lengths = lengths; ins = ins; outs = outs }) (length loads.old)) }
 {
     let longest = put_scans(order, heap, loads, chains)?;
     let width = loads.len() as u64;
     let si = level(longest, ins, flops, width);
     let so = level(longest, outs, flops, width);
-    fill(loads, chains, ins, si, outs, so);
+    fill_chains(loads, chains, ins, si, outs, so);
     Ok(())
 }
 
 /// The chains of the design for scan chains in their order.
-pub fn build(
+pub fn build_chains(
     alloc: Global,
     order: &[ScanChain],
     flops: u64,
@@ -131,7 +142,8 @@ pub fn build(
     requires few_flops { flops < 2 ^ 62 }
     requires few_ins { ins < 2 ^ 62 }
     requires few_outs { outs < 2 ^ 62 }
-    ensures { IfOk result (λ v. (lengths : List ℕ) → IsOrder lengths order.now → flops ≡ sum lengths → map chain_value v.items ≡ design (record { lengths = lengths; ins = ins; outs = outs }) width) }
+    ensures { IfOk result (λ v. (lengths : List ℕ) → IsOrder lengths order.now → flops ≡ sum lengths →
+        map chain_value v.items ≡ design (record { lengths = lengths; ins = ins; outs = outs }) width) }
 {
     let mut chains = empty_chains(alloc, width)?;
     let mut loads = Vec::from_elem(alloc, 0u64, width as usize)?;

@@ -2,6 +2,8 @@
 //! design of Iyengar, Chakrabarty and Marinissen 2002; the order, the ties and the filling are this program's own).
 //!
 //! Widths are in wires, one chain a wire; lengths are in cells.
+//!
+//! The wrapper is proper for `plan_model`, and its chains are by the definition. The only error is out of memory.
 #![tactic(auto)]
 
 ghost use Rattle.std.specs.Prelude.{◌≡◌, ◌^◌, ◌≤◌, length, map, IfOk};
@@ -17,7 +19,7 @@ mod loads;
 mod order;
 mod path_lengths;
 
-use dealing::build;
+use dealing::build_chains;
 use order::{flops_of, longest_first};
 use outside::NoMemory;
 pub use path_lengths::PathLengths;
@@ -37,7 +39,11 @@ use std::alloc::{AllocError, Global};
 pub fn design(alloc: Global, module: &Module, scan: bool, width: u64) -> Result<Wrapper, NoMemory>
     requires small { module_size (module_value «module».now) ≤ 10 ^ 18 }
     requires some_wire { 1 ≤ width }
-    ensures designed { IfOk result (λ w. wrapper_value w ≡ record { «module» = «module».now.number; scan = scan; chains = design (mode_of (module_value «module».now) scan) width }) }
+    ensures designed { IfOk result (λ w. wrapper_value w ≡ record {
+      «module» = «module».now.number;
+      scan = scan;
+      chains = design (mode_of (module_value «module».now) scan) width;
+    }) }
     ensures width { IfOk result (λ w. length (wrapper_value w).chains ≡ width) }
     ensures proper { IfOk result (λ w. IsProper (module_value «module».now) scan (wrapper_value w).chains) }
     ensures balanced { IfOk result (λ w. IsBalanced (mode_of (module_value «module».now) scan) (wrapper_value w).chains) }
@@ -66,5 +72,5 @@ fn chains_of(
     let flops = flops_of(lengths);
     let ins = module.inputs + module.bidirs;
     let outs = module.outputs + module.bidirs;
-    build(alloc, &order, flops, ins, outs, width)
+    build_chains(alloc, &order, flops, ins, outs, width)
 }

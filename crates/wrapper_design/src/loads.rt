@@ -35,7 +35,8 @@ pub fn grow_shortest(
     requires fits { sum_by (λ e. e.0.0) (heap_items heap.old) + length < 2 ^ 63 }
     ensures heap { OnOk result (IsHeap entry_cmp (heap_items heap.new)) }
     ensures len { OnOk result (heap_len heap.new ≡ heap_len heap.old) }
-    ensures grows { IfOk result (λ r. (loads : List ℕ) → HasEntries (heap_items heap.old) loads → Grows loads length r.0 r.1 × HasEntries (heap_items heap.new) (slice_set loads r.0 r.1)) }
+    ensures grows { IfOk result (λ r. (loads : List ℕ) → HasEntries (heap_items heap.old) loads →
+        Grows loads length r.0 r.1 × HasEntries (heap_items heap.new) (slice_set loads r.0 r.1)) }
 {
     match heap.pop() {
         Some(Reverse((shortest, place))) => {

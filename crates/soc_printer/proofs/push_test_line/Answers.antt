@@ -20,13 +20,13 @@ returns c =
     let t5 = c.push_flag-2.new.text.items in
     let t6 = c.push_entry-2.new.text.items in
     let t7 = c.push_entry-3.new.text.items in
-    let t8 = c.extend-2.new.to.items in
+    let t8 = c.push.new.to.items in
     let s7 = spaced power ++ 10 ∷ [] in
     let s6 = spaced patterns ++ s7 in
     let s5 = spaced tam ++ s6 in
     let s4 = spaced scan ++ s5 in
     let s3 = spaced test ++ s4 in
-    on_ok c.extend-2.result
+    on_ok c.push.result
     (λ e.
     join t0 t1 t8 (codes "Module") (spaced number ++ s3) c.in_ok-extend.ensures.ok
     (join t1 t2 t8 (spaced number) s3 c.in_ok-push_count.ensures
@@ -36,4 +36,4 @@ returns c =
     (join t5 t6 t8 (spaced patterns) s7 c.in_ok-push_entry-2.ensures
     (join t6 t7 t8 (spaced power) (10 ∷ []) c.in_ok-push_entry-3.ensures e))))))
     ∙ ap (λ s. t0 ++ (codes "Module" ++ s)) (sym (spaced-six-then number test scan tam patterns power (10 ∷ []))))
-    c.extend-2.ensures.ok
+    c.push.ensures.ok

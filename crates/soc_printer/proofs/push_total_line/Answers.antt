@@ -8,8 +8,8 @@ returns c =
     let t0 = c.args.text.now.items in
     let t1 = c.extend.new.to.items in
     let t2 = c.push_count.new.text.items in
-    let t3 = c.extend-2.new.to.items in
+    let t3 = c.push.new.to.items in
     let number = spaced (decimal c.args.modules ∷ []) in
-    on_ok c.extend-2.result
+    on_ok c.push.result
     (λ e. join t0 t1 t3 (codes "TotalModules") (number ++ 10 ∷ []) c.in_ok-extend.ensures.ok (join t1 t2 t3 number (10 ∷ []) c.in_ok-push_count.ensures e))
-    c.extend-2.ensures.ok
+    c.push.ensures.ok

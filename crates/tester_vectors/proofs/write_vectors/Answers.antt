@@ -1,8 +1,8 @@
-use Rattle.std.proofs.Common.{◌≡◌, subst, sym}
+use Rattle.std.proofs.Common.{subst, sym}
 use Rattle.soc_model.specs.Chips.{soc_value}
 use Rattle.plan_model.specs.Rules.{IsGoodAlone, bare_limits}
 use Rattle.plan_model.specs.Views.{plan_value}
-use Rattle.bit_machine.specs.Chips.{wires_of, made_content}
+use Rattle.bit_machine.specs.Chips.{made_content}
 use Rattle.tester_vectors.proofs.Blocks.{not_too_long}
 use Rattle.bit_machine.specs.Vectors.{VectorsValue}
 use Rattle.tester_vectors.proofs.DrivenByText.{runs_as_shown}
@@ -12,11 +12,11 @@ use Rattle.tester_vectors.proofs.write_vectors.Goals as goal
 pub write-requires-clause-good : goal.write-requires-clause-good
 write-requires-clause-good g c = subst (λ (v : VectorsValue). IsGoodAlone v.soc v.plan) (sym c.in-Ok.ensures.vectors) c.requires.good
 
-pub returns-then-is_too_long-clause-run : goal.returns-then-is_too_long-clause-run
-returns-then-is_too_long-clause-run g c = runs_as_shown (soc_value c.args.soc.now) (bare_limits (plan_value c.args.plan.now)) (plan_value c.args.plan.now) (made_content (soc_value c.args.soc.now) c.args.seed) c.requires.good
+pub returns-in-Some-clause-run : goal.returns-in-Some-clause-run
+returns-in-Some-clause-run g c = runs_as_shown (soc_value c.args.soc.now) (bare_limits (plan_value c.args.plan.now)) (plan_value c.args.plan.now) (made_content (soc_value c.args.soc.now) c.args.seed) c.requires.good
 
-pub returns-then-is_too_long-clause-marks : goal.returns-then-is_too_long-clause-marks
-returns-then-is_too_long-clause-marks g c = marks_read (soc_value c.args.soc.now) (bare_limits (plan_value c.args.plan.now)) (plan_value c.args.plan.now) (made_content (soc_value c.args.soc.now) c.args.seed) c.requires.good
+pub returns-in-Some-clause-marks : goal.returns-in-Some-clause-marks
+returns-in-Some-clause-marks g c = marks_read (soc_value c.args.soc.now) (bare_limits (plan_value c.args.plan.now)) (plan_value c.args.plan.now) (made_content (soc_value c.args.soc.now) c.args.seed) c.requires.good
 
 pub returns-in-Err-clause-run : goal.returns-in-Err-clause-run
 returns-in-Err-clause-run g c = runs_as_shown (soc_value c.args.soc.now) (bare_limits (plan_value c.args.plan.now)) (plan_value c.args.plan.now) (made_content (soc_value c.args.soc.now) c.args.seed) c.requires.good
@@ -38,10 +38,8 @@ returns-clause-marks g c = marks_read (soc_value c.args.soc.now) (bare_limits (p
 
 pub returns-in-Ok-write-clause-too_long : goal.returns-in-Ok-write-clause-too_long
 returns-in-Ok-write-clause-too_long g c = λ long.
-    let wires : c.all_wires-wires.result ≡ wires_of (plan_value c.args.plan.now) = c.all_wires-wires.ensures in
-    absurd (not_too_long c.args.plan.now.cycles c.all_wires-wires.result (wires_of (plan_value c.args.plan.now)) c.wire_cycles-cells.result c.is_too_long.result wires c.wire_cycles-cells.ensures c.is_too_long.ensures c.if-is_too_long.false long)
+    absurd (not_too_long (plan_value c.args.plan.now) c.too_many_cells.result c.too_many_cells.ensures c.in_default.is long)
 
 pub returns-clause-too_long : goal.returns-clause-too_long
 returns-clause-too_long g c = λ long.
-    let wires : c.all_wires-wires.result ≡ wires_of (plan_value c.args.plan.now) = c.all_wires-wires.ensures in
-    absurd (not_too_long c.args.plan.now.cycles c.all_wires-wires.result (wires_of (plan_value c.args.plan.now)) c.wire_cycles-cells.result c.is_too_long.result wires c.wire_cycles-cells.ensures c.is_too_long.ensures c.if-is_too_long.false long)
+    absurd (not_too_long (plan_value c.args.plan.now) c.too_many_cells.result c.too_many_cells.ensures c.in_default.is long)

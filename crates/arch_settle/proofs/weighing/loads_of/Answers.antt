@@ -2,10 +2,10 @@ use Rattle.std.proofs.Common.{arith, ◌≡◌, ◌<◌, ◌++◌, ◌∷◌, []
 use Rattle.bus_model.specs.Buses.{arch_value, no_bus, bus_time_of}
 use Rattle.bus_model.proofs.Views.{value_at, value_length}
 use Rattle.bus_model.proofs.SoundLemmas.{sound_item}
-use Rattle.arch_settle.specs.declared.weighing.Load.{Load}
+use Rattle.arch_settle.specs.declared.weighing.WeighedBus.{WeighedBus}
 use Rattle.arch_settle.specs.Loads.{AreLoads, loads_value}
 use Rattle.arch_settle.proofs.LoadLemmas.{loads_push, loads_push_value}
-use Rattle.arch_settle.specs.declared.weighing.Held.TheVariants.{One}
+use Rattle.arch_settle.specs.declared.weighing.BusModules.TheVariants.{One}
 use Rattle.arch_settle.proofs.weighing.loads_of.Goals as goal
 
 pub bus_time-requires : goal.bus_time-requires
@@ -22,7 +22,7 @@ loop-at-preserved c =
     let n = value_length c.args.arch.now.buses.items in
     let k : c.loop-at.at < length A = omega arith in
     let read = value_at c.args.arch.now.buses.items c.loop-at.at c.bus-item.result no_bus h (rw (← items) c.bus-item.is) in
-    let new : Load = record { held = One c.loop-at.at; width = c.bus-item.result.width; time = c.bus_time.result } in
+    let new : WeighedBus = record { held = One c.loop-at.at; width = c.bus-item.result.width; time = c.bus_time.result } in
     let pushed : c.push.new.to.items ≡ c.loop-at.loads.items ++ new ∷ [] = c.in_ok-push.ensures.ok in
     let width = ap (λ b. b.width) (sym read) in
     let time = c.bus_time.ensures ∙ ap (bus_time_of c.args.table.now) (sym read) in

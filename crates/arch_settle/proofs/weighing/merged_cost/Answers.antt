@@ -4,8 +4,8 @@ use Rattle.bus_model.specs.Buses.{arch_value, bus_value, bus_at, no_bus, spread_
 use Rattle.bus_model.specs.Sound.{IsSoundArch, wires_used}
 use Rattle.bus_model.proofs.Views.{value_at, value_length}
 use Rattle.bus_model.proofs.SoundLemmas.{sound_bus}
-use Rattle.arch_settle.specs.declared.weighing.Load.{Load}
-use Rattle.arch_settle.specs.declared.weighing.Held.TheVariants.{Both}
+use Rattle.arch_settle.specs.declared.weighing.WeighedBus.{WeighedBus}
+use Rattle.arch_settle.specs.declared.weighing.BusModules.TheVariants.{Both}
 use Rattle.arch_settle.specs.Neighbours.{joined_at, merged}
 use Rattle.arch_settle.specs.Loads.{AreLoads, loads_value}
 use Rattle.arch_settle.proofs.Joins.{sound_joined, wires-joined}
@@ -31,13 +31,13 @@ held_time-time-requires-clause-width c =
     let e = c.max-width.ensures in
     omega arith
 
-items_are : (loads cleared filled final : List Load) (into from : ℕ) (new : Load) → cleared ≡ [] → filled ≡ cleared ++ loads → final ≡ remove (set filled into new) from → final ≡ remove (set loads into new) from
+items_are : (loads cleared filled final : List WeighedBus) (into from : ℕ) (new : WeighedBus) → cleared ≡ [] → filled ≡ cleared ++ loads → final ≡ remove (set filled into new) from → final ≡ remove (set loads into new) from
 items_are loads cleared filled final into from new none all last = last ∙ ap (λ xs. remove (set xs into new) from) (all ∙ ap (λ xs. xs ++ loads) none)
 
 pub spread_cost-requires-clause-loads : goal.spread_cost-requires-clause-loads
 spread_cost-requires-clause-loads c =
     let A = arch_value c.args.arch.now in
-    let new : Load = record { held = Both; width = c.max-width.result; time = c.held_time-time.result } in
+    let new : WeighedBus = record { held = Both; width = c.max-width.result; time = c.held_time-time.result } in
     let own = width_at c.args.arch.now.buses.items c.args.into c.index.result.now c.requires.into c.index.ensures in
     let further = width_at c.args.arch.now.buses.items c.args.from c.index-2.result.now c.requires.from c.index-2.ensures in
     let width : c.max-width.result ≡ max (bus_at A c.args.into).width (bus_at A c.args.from).width = omega (arith, c.max-width.ensures) in
@@ -51,7 +51,7 @@ spread_cost-requires-clause-loads c =
 pub spread_cost-requires-clause-fits : goal.spread_cost-requires-clause-fits
 spread_cost-requires-clause-fits c =
     let A = arch_value c.args.arch.now in
-    let new : Load = record { held = Both; width = c.max-width.result; time = c.held_time-time.result } in
+    let new : WeighedBus = record { held = Both; width = c.max-width.result; time = c.held_time-time.result } in
     let own = width_at c.args.arch.now.buses.items c.args.into c.index.result.now c.requires.into c.index.ensures in
     let further = width_at c.args.arch.now.buses.items c.args.from c.index-2.result.now c.requires.from c.index-2.ensures in
     let width : c.max-width.result ≡ max (bus_at A c.args.into).width (bus_at A c.args.from).width = omega (arith, c.max-width.ensures) in
@@ -64,7 +64,7 @@ spread_cost-requires-clause-fits c =
 pub spread_cost-requires-clause-free : goal.spread_cost-requires-clause-free
 spread_cost-requires-clause-free c =
     let A = arch_value c.args.arch.now in
-    let new : Load = record { held = Both; width = c.max-width.result; time = c.held_time-time.result } in
+    let new : WeighedBus = record { held = Both; width = c.max-width.result; time = c.held_time-time.result } in
     let own = width_at c.args.arch.now.buses.items c.args.into c.index.result.now c.requires.into c.index.ensures in
     let further = width_at c.args.arch.now.buses.items c.args.from c.index-2.result.now c.requires.from c.index-2.ensures in
     let width : c.max-width.result ≡ max (bus_at A c.args.into).width (bus_at A c.args.from).width = omega (arith, c.max-width.ensures) in
@@ -82,7 +82,7 @@ pub returns : goal.returns
 unfolding merged
 returns c =
     let A = arch_value c.args.arch.now in
-    let new : Load = record { held = Both; width = c.max-width.result; time = c.held_time-time.result } in
+    let new : WeighedBus = record { held = Both; width = c.max-width.result; time = c.held_time-time.result } in
     let own = width_at c.args.arch.now.buses.items c.args.into c.index.result.now c.requires.into c.index.ensures in
     let further = width_at c.args.arch.now.buses.items c.args.from c.index-2.result.now c.requires.from c.index-2.ensures in
     let width : c.max-width.result ≡ max (bus_at A c.args.into).width (bus_at A c.args.from).width = omega (arith, c.max-width.ensures) in

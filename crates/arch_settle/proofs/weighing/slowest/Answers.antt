@@ -2,18 +2,18 @@ use Rattle.std.proofs.Common.{◌≡◌, ℕ, ◌+◌, ◌<◌, ◌≤◌, List,
 use Rattle.std.specs.List.{IsFirstMaxByKey}
 use Rattle.std.proofs.lemmas.List.{get_or_default}
 use Rattle.std.proofs.lemmas.List.Sums.{best_keeps, best_takes}
-use Rattle.arch_settle.specs.declared.weighing.Load.{Load}
+use Rattle.arch_settle.specs.declared.weighing.WeighedBus.{WeighedBus}
 use Rattle.arch_settle.proofs.weighing.slowest.Goals as goal
 use Rattle.arch_settle.proofs.weighing.slowest.Goals.{then-most-time, else-most-time}
 
-same_time : (loads : List Load) (i : ℕ) (d e : Load) → i < length loads → (get_or loads i d).time ≡ (get_or loads i e).time
-same_time loads i d e within = ap (λ (l : Load). l.time) (get_or_default loads i d e within)
+same_time : (loads : List WeighedBus) (i : ℕ) (d e : WeighedBus) → i < length loads → (get_or loads i d).time ≡ (get_or loads i e).time
+same_time loads i d e within = ap (λ (l : WeighedBus). l.time) (get_or_default loads i d e within)
 
-takes : (loads : List Load) (i at most : ℕ) (e : Load) → i < length loads → IsFirstMaxByKey (λ load. load.time) loads i at → ((d : Load) → most ≡ (get_or loads at d).time) → most < (get_or loads i e).time → IsFirstMaxByKey (λ load. load.time) loads (i + 1) i
-takes loads i at most e within first so more = best_takes (λ (l : Load). l.time) loads i at first (λ d. omega (arith, so d, more, same_time loads i d e within))
+takes : (loads : List WeighedBus) (i at most : ℕ) (e : WeighedBus) → i < length loads → IsFirstMaxByKey (λ load. load.time) loads i at → ((d : WeighedBus) → most ≡ (get_or loads at d).time) → most < (get_or loads i e).time → IsFirstMaxByKey (λ load. load.time) loads (i + 1) i
+takes loads i at most e within first so more = best_takes (λ (l : WeighedBus). l.time) loads i at first (λ d. omega (arith, so d, more, same_time loads i d e within))
 
-keeps : (loads : List Load) (i at most : ℕ) (e : Load) → i < length loads → IsFirstMaxByKey (λ load. load.time) loads i at → ((d : Load) → most ≡ (get_or loads at d).time) → (get_or loads i e).time ≤ most → IsFirstMaxByKey (λ load. load.time) loads (i + 1) at
-keeps loads i at most e within first so less = best_keeps (λ (l : Load). l.time) loads i at first (λ d. omega (arith, so d, less, same_time loads i d e within))
+keeps : (loads : List WeighedBus) (i at most : ℕ) (e : WeighedBus) → i < length loads → IsFirstMaxByKey (λ load. load.time) loads i at → ((d : WeighedBus) → most ≡ (get_or loads at d).time) → (get_or loads i e).time ≤ most → IsFirstMaxByKey (λ load. load.time) loads (i + 1) at
+keeps loads i at most e within first so less = best_keeps (λ (l : WeighedBus). l.time) loads i at first (λ d. omega (arith, so d, less, same_time loads i d e within))
 
 pub loop-i-preserved : goal.loop-i-preserved
 loop-i-preserved c =

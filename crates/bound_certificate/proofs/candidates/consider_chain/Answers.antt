@@ -13,7 +13,7 @@ pub returns-in-Some-clause-seen : goal.returns-in-Some-clause-seen
 unfolding certificate_value
 returns-in-Some-clause-seen c =
     let is = c.chain_bound-shown.ensures.sum ∙ ap (sum_by (lower_of_id (soc_value c.args.soc.now) c.args.limits.now.wires)) c.deref.ensures.value in
-    rw c.consider.ensures (seen_considered (soc_value c.args.soc.now) (limits_value c.args.limits.now) c.args.best c.chain_bound-shown.result (why.Chain c.in-Some.tests) c.requires.value is)
+    rw c.better_known.ensures (seen_considered (soc_value c.args.soc.now) (limits_value c.args.limits.now) c.args.best c.chain_bound-shown.result (why.Chain c.in-Some.tests) c.requires.value is)
     ∙ sym (ap (λ o. fold (better (certificate_value (soc_value c.args.soc.now) (limits_value c.args.limits.now))) (seen c.args.best) (chain_why (names_of o))) c.in-Some.is)
 
 pub returns-in-Some-clause-value : goal.returns-in-Some-clause-value
@@ -21,5 +21,5 @@ unfolding certificate_value
 returns-in-Some-clause-value c =
     let is = c.chain_bound-shown.ensures.sum ∙ ap (sum_by (lower_of_id (soc_value c.args.soc.now) c.args.limits.now.wires)) c.deref.ensures.value in
     let keeps = rw c.in-Some.is at c.requires.chain in
-    rw c.consider.ensures (value_considered (soc_value c.args.soc.now) (limits_value c.args.limits.now) c.args.best c.chain_bound-shown.result (why.Chain c.in-Some.tests) c.requires.value is
+    rw c.better_known.ensures (value_considered (soc_value c.args.soc.now) (limits_value c.args.limits.now) c.args.best c.chain_bound-shown.result (why.Chain c.in-Some.tests) c.requires.value is
     (c.chain_bound-shown.ensures.bound (limits_value c.args.limits.now) refl (rw (← c.deref.ensures.value) at keeps)) keeps)

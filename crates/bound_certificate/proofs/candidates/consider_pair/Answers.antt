@@ -14,9 +14,9 @@ returns-in-Some-clause-seen c =
     let live : (has_live_at (soc_value c.args.soc.now) c.args.place && passes (has_live_at (soc_value c.args.soc.now)) (parent_place (soc_value c.args.soc.now).modules c.args.place)) ≡ true = sym c.has_live_family.ensures ∙ c.if-not-has_live_family.false in
     let number = number_is (soc_value c.args.soc.now) c.args.place (module_value c.module_at.result.now) c.module_at.ensures in
     let is = pair_bound_of (soc_value c.args.soc.now) (limits_value c.args.limits.now) c.args.place c.in-Some.shown (module_value c.module_at.result.now) c.requires.sound c.module_at.ensures c.in-Some.ensures.sum in
-    rw (c.consider.ensures, live, number) (seen_considered (soc_value c.args.soc.now) (limits_value c.args.limits.now) c.args.best c.from.result (why.Pair c.module_at.result.now.number) c.requires.value (c.from.ensures ∙ is))
+    rw (c.better_known.ensures, live, number) (seen_considered (soc_value c.args.soc.now) (limits_value c.args.limits.now) c.args.best c.from.result (why.Pair c.module_at.result.now.number) c.requires.value (c.from.ensures ∙ is))
 
 pub returns-in-Some-clause-value : goal.returns-in-Some-clause-value
 returns-in-Some-clause-value c =
     let is = pair_bound_of (soc_value c.args.soc.now) (limits_value c.args.limits.now) c.args.place c.in-Some.shown (module_value c.module_at.result.now) c.requires.sound c.module_at.ensures c.in-Some.ensures.sum in
-    rw c.consider.ensures (value_considered (soc_value c.args.soc.now) (limits_value c.args.limits.now) c.args.best c.from.result (why.Pair c.module_at.result.now.number) c.requires.value (c.from.ensures ∙ is) (rw c.from.ensures (c.in-Some.ensures.bound (limits_value c.args.limits.now) refl)) (pair_keeps (soc_value c.args.soc.now) (limits_value c.args.limits.now) c.args.place c.in-Some.shown (module_value c.module_at.result.now) c.requires.sound c.module_at.ensures c.in-Some.ensures.sum))
+    rw c.better_known.ensures (value_considered (soc_value c.args.soc.now) (limits_value c.args.limits.now) c.args.best c.from.result (why.Pair c.module_at.result.now.number) c.requires.value (c.from.ensures ∙ is) (rw c.from.ensures (c.in-Some.ensures.bound (limits_value c.args.limits.now) refl)) (pair_keeps (soc_value c.args.soc.now) (limits_value c.args.limits.now) c.args.place c.in-Some.shown (module_value c.module_at.result.now) c.requires.sound c.module_at.ensures c.in-Some.ensures.sum))

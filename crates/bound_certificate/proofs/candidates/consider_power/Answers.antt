@@ -12,9 +12,9 @@ use Rattle.bound_certificate.proofs.candidates.consider_power.Goals as goal
 pub returns-in-Some-clause-seen : goal.returns-in-Some-clause-seen
 unfolding certificate_value
 returns-in-Some-clause-seen c =
-    rw c.consider.ensures (seen_considered (soc_value c.args.soc.now) (limits_value c.args.limits.now) c.args.best c.from-shown.result why.Power c.requires.value (c.from-shown.ensures ∙ c.power_bound_with.ensures.quotient))
+    rw c.better_known.ensures (seen_considered (soc_value c.args.soc.now) (limits_value c.args.limits.now) c.args.best c.from-shown.result why.Power c.requires.value (c.from-shown.ensures ∙ c.power_bound_with.ensures.quotient))
     ∙ sym (ap (λ o. fold (better (certificate_value (soc_value c.args.soc.now) (limits_value c.args.limits.now))) (seen c.args.best) (power_why o)) c.in-Some.is)
 
 pub returns-in-Some-clause-value : goal.returns-in-Some-clause-value
 unfolding certificate_value
-returns-in-Some-clause-value c = rw c.consider.ensures (value_considered (soc_value c.args.soc.now) (limits_value c.args.limits.now) c.args.best c.from-shown.result why.Power c.requires.value (c.from-shown.ensures ∙ c.power_bound_with.ensures.quotient) (rw c.from-shown.ensures c.power_bound_with.ensures.bound) tt)
+returns-in-Some-clause-value c = rw c.better_known.ensures (value_considered (soc_value c.args.soc.now) (limits_value c.args.limits.now) c.args.best c.from-shown.result why.Power c.requires.value (c.from-shown.ensures ∙ c.power_bound_with.ensures.quotient) (rw c.from-shown.ensures c.power_bound_with.ensures.bound) tt)

@@ -4,7 +4,7 @@ use Rattle.std.specs.List.{Contains}
 use Rattle.std.proofs.lemmas.List.{length-map}
 use Rattle.std.proofs.lemmas.List.Elements.{Contains-get_or}
 use Rattle.soc_model.specs.declared.TestId.{TestId}
-use Rattle.bound_certificate.specs.declared.nodes.Node.{Node}
+use Rattle.bound_certificate.specs.declared.nodes.PrecedenceNode.{PrecedenceNode}
 use Rattle.bound_certificate.specs.Nodes.{node_value, node_values}
 use Rattle.bound_certificate.specs.Chains.{IsBest}
 use Rattle.bound_certificate.proofs.SumSteps.{node_here}
@@ -26,7 +26,7 @@ best_of-requires c = λ k d less.
     let nodes = node_values c.args.nodes.now in
     let n = c.index-nodes-test.result in
     let at : slice_get nodes c.loop-earlier.test ≡ Some (node_value n) = node_here c.args.nodes.now c.loop-earlier.test n c.loop-earlier.invariant.within c.index-nodes-test.is in
-    let items : c.deref.result.now ≡ n.before.items = c.deref.ensures.value ∙ ap (λ (n : Node). n.before.items) (sym c.index-nodes-test.is) in
+    let items : c.deref.result.now ≡ n.before.items = c.deref.ensures.value ∙ ap (λ (n : PrecedenceNode). n.before.items) (sym c.index-nodes-test.is) in
     let before = subst (λ (l : List ℕ). Contains l (get_or c.deref.result.now k d)) items (Contains-get_or c.deref.result.now k d less) in
     let falls = c.requires.fall (get_or c.deref.result.now k d) c.loop-earlier.test (node_value n) at before in
     omega (arith, falls.0, length-map c.args.nodes.now node_value, c.requires.long)
@@ -36,7 +36,7 @@ loop-earlier-smaller c =
     let nodes = node_values c.args.nodes.now in
     let n = c.index-nodes-test.result in
     let at : slice_get nodes c.loop-earlier.test ≡ Some (node_value n) = node_here c.args.nodes.now c.loop-earlier.test n c.loop-earlier.invariant.within c.index-nodes-test.is in
-    let items : c.deref.result.now ≡ n.before.items = c.deref.ensures.value ∙ ap (λ (n : Node). n.before.items) (sym c.index-nodes-test.is) in
+    let items : c.deref.result.now ≡ n.before.items = c.deref.ensures.value ∙ ap (λ (n : PrecedenceNode). n.before.items) (sym c.index-nodes-test.is) in
     let best = subst (λ (o : Option ℕ). IsBest c.args.sums.now (Contains c.deref.result.now) o) c.in-Some.is c.best_of.ensures.best in
     (c.requires.fall c.in-Some.earlier c.loop-earlier.test (node_value n) at (subst (λ (l : List ℕ). Contains l c.in-Some.earlier) items best.0)).1
 
@@ -46,7 +46,7 @@ loop-earlier-preserved c =
     let n = c.index-nodes-test.result in
     let m = c.index-nodes-test-in-Some.result in
     let at : slice_get nodes c.loop-earlier.test ≡ Some (node_value n) = node_here c.args.nodes.now c.loop-earlier.test n c.loop-earlier.invariant.within c.index-nodes-test.is in
-    let items : c.deref.result.now ≡ n.before.items = c.deref.ensures.value ∙ ap (λ (n : Node). n.before.items) (sym c.index-nodes-test.is) in
+    let items : c.deref.result.now ≡ n.before.items = c.deref.ensures.value ∙ ap (λ (n : PrecedenceNode). n.before.items) (sym c.index-nodes-test.is) in
     let best = subst (λ (o : Option ℕ). IsBest c.args.sums.now (Contains c.deref.result.now) o) c.in-Some.is c.best_of.ensures.best in
     let best_here = subst (λ (l : List ℕ). IsBest c.args.sums.now (Contains l) (Some c.in-Some.earlier)) items best in
     let falls = c.requires.fall c.in-Some.earlier c.loop-earlier.test (node_value n) at best_here.0 in
@@ -63,7 +63,7 @@ returns c = λ soc limits end are right at_end.
     let nodes = node_values c.args.nodes.now in
     let n = c.index-nodes-test.result in
     let at : slice_get nodes c.loop-earlier.test ≡ Some (node_value n) = node_here c.args.nodes.now c.loop-earlier.test n c.loop-earlier.invariant.within c.index-nodes-test.is in
-    let items : c.deref.result.now ≡ n.before.items = c.deref.ensures.value ∙ ap (λ (n : Node). n.before.items) (sym c.index-nodes-test.is) in
+    let items : c.deref.result.now ≡ n.before.items = c.deref.ensures.value ∙ ap (λ (n : PrecedenceNode). n.before.items) (sym c.index-nodes-test.is) in
     let none = c.in_default.ensures.best in
     let w = way_ends soc limits nodes c.args.sums.now are right c.args.last c.loop-earlier.test end (node_value n) c.loop-earlier.chain.items (c.loop-earlier.invariant.leads soc limits are right) at_end at (subst (λ (l : List ℕ). (p : ℕ) → Contains l p → ⊥) items none) in
     let turned : c.reverse.new.self.items ≡ reverse c.loop-earlier.chain.items = search rules in

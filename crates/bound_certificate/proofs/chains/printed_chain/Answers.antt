@@ -4,7 +4,7 @@ use Rattle.std.proofs.lemmas.List.{length-map}
 use Rattle.soc_model.specs.Chips.{SocValue, soc_value}
 use Rattle.plan_model.specs.Plans.{LimitsValue}
 use Rattle.plan_model.specs.Views.{limits_value}
-use Rattle.bound_certificate.specs.declared.nodes.Node.{Node}
+use Rattle.bound_certificate.specs.declared.nodes.PrecedenceNode.{PrecedenceNode}
 use Rattle.bound_certificate.specs.Nodes.{node_value, node_values, AreNodes}
 use Rattle.bound_certificate.specs.Sums.{AreSums}
 use Rattle.bound_certificate.specs.Chains.{SumsFall}
@@ -18,12 +18,12 @@ on_ok P Q (Ok x) f p = f x p
 on_ok P Q (Err e) f p = tt
 
 -- what holds of the same nodes and sums
-moved : (P : List Node → List ℕ → Type 0) (a b : List Node) (s t : List ℕ) → a ≡ b → s ≡ t → P a s → P b t
-moved P a b s t same equal p = subst (λ (l : List Node). P l t) same (subst (λ (l : List ℕ). P a l) equal p)
+moved : (P : List PrecedenceNode → List ℕ → Type 0) (a b : List PrecedenceNode) (s t : List ℕ) → a ≡ b → s ≡ t → P a s → P b t
+moved P a b s t same equal p = subst (λ (l : List PrecedenceNode). P l t) same (subst (λ (l : List ℕ). P a l) equal p)
 
 -- the sums that were found are of these nodes
-sums_right : (soc : SocValue) (limits : LimitsValue) (seen nodes : List Node) (sums : List ℕ) → seen ≡ nodes → AreNodes soc limits (node_values nodes) → ((soc : SocValue) (limits : LimitsValue) → AreNodes soc limits (node_values seen) → AreSums soc limits (node_values seen) sums) → AreSums soc limits (node_values nodes) sums
-sums_right soc limits seen nodes sums same are right = subst (λ (l : List Node). AreSums soc limits (node_values l) sums) same (right soc limits (subst (λ (l : List Node). AreNodes soc limits (node_values l)) (sym same) are))
+sums_right : (soc : SocValue) (limits : LimitsValue) (seen nodes : List PrecedenceNode) (sums : List ℕ) → seen ≡ nodes → AreNodes soc limits (node_values nodes) → ((soc : SocValue) (limits : LimitsValue) → AreNodes soc limits (node_values seen) → AreSums soc limits (node_values seen) sums) → AreSums soc limits (node_values nodes) sums
+sums_right soc limits seen nodes sums same are right = subst (λ (l : List PrecedenceNode). AreSums soc limits (node_values l) sums) same (right soc limits (subst (λ (l : List PrecedenceNode). AreNodes soc limits (node_values l)) (sym same) are))
 
 pub best_chain-requires-clause-long : goal.best_chain-requires-clause-long
 best_chain-requires-clause-long c =
@@ -43,7 +43,7 @@ returns-clause-printed c =
     let soc = soc_value c.args.soc.now in
     let limits = limits_value c.args.limits.now in
     let right = sums_right soc limits c.deref.result.now c.in_ok-nodes.nodes.items c.in_ok-sums.sums.items c.deref.ensures.value c.in_ok-nodes.ensures c.in_ok-sums.ensures in
-    let are = subst (λ (l : List Node). AreNodes soc limits (node_values l)) (sym c.deref-2.ensures.value) c.in_ok-nodes.ensures in
+    let are = subst (λ (l : List PrecedenceNode). AreNodes soc limits (node_values l)) (sym c.deref-2.ensures.value) c.in_ok-nodes.ensures in
     let seen = moved (λ nodes sums. AreSums soc limits (node_values nodes) sums) c.in_ok-nodes.nodes.items c.deref-2.result.now c.in_ok-sums.sums.items c.deref-3.result.now (sym c.deref-2.ensures.value) (sym c.deref-3.ensures.value) right in
     on_ok _ _ c.best_chain.result (λ chain printed. printed soc limits are seen) c.best_chain.ensures
 
@@ -52,7 +52,7 @@ returns-clause-keeps c =
     let soc = soc_value c.args.soc.now in
     let limits = limits_value c.args.limits.now in
     let right = sums_right soc limits c.deref.result.now c.in_ok-nodes.nodes.items c.in_ok-sums.sums.items c.deref.ensures.value c.in_ok-nodes.ensures c.in_ok-sums.ensures in
-    let are = subst (λ (l : List Node). AreNodes soc limits (node_values l)) (sym c.deref-2.ensures.value) c.in_ok-nodes.ensures in
+    let are = subst (λ (l : List PrecedenceNode). AreNodes soc limits (node_values l)) (sym c.deref-2.ensures.value) c.in_ok-nodes.ensures in
     let seen = moved (λ nodes sums. AreSums soc limits (node_values nodes) sums) c.in_ok-nodes.nodes.items c.deref-2.result.now c.in_ok-sums.sums.items c.deref-3.result.now (sym c.deref-2.ensures.value) (sym c.deref-3.ensures.value) right in
     on_ok _ _ c.best_chain.result (λ chain printed. printed_keeps soc limits (node_values c.deref-2.result.now) c.deref-3.result.now are seen chain (printed soc limits are seen)) c.best_chain.ensures
 
@@ -61,6 +61,6 @@ returns-clause-greatest c =
     let soc = soc_value c.args.soc.now in
     let limits = limits_value c.args.limits.now in
     let right = sums_right soc limits c.deref.result.now c.in_ok-nodes.nodes.items c.in_ok-sums.sums.items c.deref.ensures.value c.in_ok-nodes.ensures c.in_ok-sums.ensures in
-    let are = subst (λ (l : List Node). AreNodes soc limits (node_values l)) (sym c.deref-2.ensures.value) c.in_ok-nodes.ensures in
+    let are = subst (λ (l : List PrecedenceNode). AreNodes soc limits (node_values l)) (sym c.deref-2.ensures.value) c.in_ok-nodes.ensures in
     let seen = moved (λ nodes sums. AreSums soc limits (node_values nodes) sums) c.in_ok-nodes.nodes.items c.deref-2.result.now c.in_ok-sums.sums.items c.deref-3.result.now (sym c.deref-2.ensures.value) (sym c.deref-3.ensures.value) right in
     on_ok _ _ c.best_chain.result (λ chain printed. greatest_chain soc limits (node_values c.deref-2.result.now) c.deref-3.result.now are seen (names_of chain) (printed soc limits are seen)) c.best_chain.ensures

@@ -6,4 +6,4 @@ use Rattle.bound_certificate.proofs.forced_part.forced_part.Goals as goal
 pub returns : goal.returns
 returns c =
     let order : c.deref.result.now ≡ by_need (soc_value c.args.soc.now) c.args.limits.now.wires c.args.claimed = c.deref.ensures.value ∙ c.in_ok-order.ensures in
-    (c.forced_breach-place.result, rw order at c.forced_breach-place.ensures, c.cut.ensures ∙ ap (up_to c.forced_breach-place.result) c.in_ok-order.ensures)
+    (c.forced_breach-place.result, rw order at c.forced_breach-place.ensures, c.cut_order.ensures ∙ ap (up_to c.forced_breach-place.result) c.in_ok-order.ensures)

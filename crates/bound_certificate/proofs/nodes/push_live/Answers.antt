@@ -3,7 +3,7 @@ use Rattle.std.specs.Prelude.{slice_get}
 use Rattle.std.proofs.lemmas.Option.{slice_get-get_or}
 use Rattle.soc_model.specs.declared.Test.{Test}
 use Rattle.soc_model.specs.Chips.{ModuleValue, module_value}
-use Rattle.bound_certificate.specs.declared.nodes.Node.{Node}
+use Rattle.bound_certificate.specs.declared.nodes.PrecedenceNode.{PrecedenceNode}
 use Rattle.bound_certificate.specs.Nodes.{node_values}
 use Rattle.bound_certificate.proofs.LiveNodes.{node_made, node_taken, node_left}
 use Rattle.bound_certificate.proofs.nodes.push_live.Goals as goal
@@ -27,7 +27,7 @@ loop-test-preserved c =
     let i = c.loop-test.test-index in
     elim c.if-live.branch [
       | then-live+in_ok-push w ↦
-          let node : Node = record { id = record { «module» = c.args.«module».now.number; test = (get_or items i none).number }; time = w.of_test.result; before = w.new.result } in
+          let node : PrecedenceNode = record { id = record { «module» = c.args.«module».now.number; test = (get_or items i none).number }; time = w.of_test.result; before = w.new.result } in
           rw w.nodes-is (node_taken c.args.wires m (node_values c.args.nodes.now.items) c.loop-test.nodes.items w.push.new.to.items items c.args.«module».now.tests.items i none node c.deref-test-items.ensures.value c.loop-test-test.true (sym c.live.ensures ∙ w.if-live.true)
           (node_made c.args.wires m (get_or items i none) node refl (rw (← c.new-lower.ensures) w.of_test.ensures.time) w.new.ensures.items) w.in_ok-push.ensures.ok c.loop-test.invariant)
       | else-live w ↦

@@ -17,4 +17,4 @@ pub returns-else-place : goal.returns-else-place
 returns-else-place c = λ a b at at'.
     let first : get_or c.args.tests.now (c.args.place - 1) no_id ≡ a = get_or_from_slice_get c.args.tests.now (c.args.place - 1) a no_id at in
     let second : get_or c.args.tests.now c.args.place no_id ≡ b = get_or_from_slice_get c.args.tests.now c.args.place b no_id at' in
-    rw (first, second) at c.precedes.ensures
+    rw (first, second) at c.is_before.ensures

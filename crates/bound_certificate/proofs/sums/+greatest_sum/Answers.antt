@@ -4,7 +4,7 @@ use Rattle.std.specs.List.{Contains}
 use Rattle.std.proofs.lemmas.List.{length-map}
 use Rattle.std.proofs.lemmas.List.Elements.{Contains-get_or}
 use Rattle.std.proofs.lemmas.Option.{slice_get-get_or}
-use Rattle.bound_certificate.specs.declared.nodes.Node.{Node}
+use Rattle.bound_certificate.specs.declared.nodes.PrecedenceNode.{PrecedenceNode}
 use Rattle.bound_certificate.specs.declared.sums.Sum.{Sum}
 use Rattle.bound_certificate.specs.declared.sums.Sum.TheVariants.{Unknown}
 use Rattle.bound_certificate.specs.Best.{IsGreatestSum}
@@ -26,7 +26,7 @@ greatest_sum-sum-requires t c =
     let n = c.index-nodes-test.result in
     let p = get_or c.deref-earlier-items.result.now c.loop-earlier.earlier-index 0 in
     let at : slice_get nodes c.args.test ≡ Some (node_value n) = node_here c.args.nodes.now c.args.test n k.within c.index-nodes-test.is in
-    let items : c.deref-earlier-items.result.now ≡ n.before.items = c.deref-earlier-items.ensures.value ∙ ap (λ (n : Node). n.before.items) (sym c.index-nodes-test.is) in
+    let items : c.deref-earlier-items.result.now ≡ n.before.items = c.deref-earlier-items.ensures.value ∙ ap (λ (n : PrecedenceNode). n.before.items) (sym c.index-nodes-test.is) in
     let before : Contains n.before.items p = subst (λ (l : List ℕ). Contains l p) items (Contains-get_or c.deref-earlier-items.result.now c.loop-earlier.earlier-index 0 c.loop-earlier-test.true) in
     let test_within : c.args.test < length old = omega (arith, k.within, k.long) in
     let unknown = read_at old c.args.test c.index.result.now test_within c.index.ensures c.in-Unknown.is in

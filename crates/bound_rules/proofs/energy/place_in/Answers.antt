@@ -1,5 +1,5 @@
 use Rattle.std.proofs.Common.{rules}
-use Rattle.bound_rules.specs.ProfilePlaces.{FindProfiles}
+use Rattle.plan_model.specs.ProfilePlaces.{FindProfiles}
 use Rattle.bound_rules.proofs.energy.place_in.Goals as goal
 
 pub returns-in-Some : goal.returns-in-Some

@@ -4,7 +4,7 @@ use Rattle.std.proofs.lemmas.Option.{same_Some}
 use Rattle.soc_model.specs.declared.Test.{Test}
 use Rattle.soc_model.specs.Chips.{is_live, live_tests, module_value}
 use Rattle.bus_proofs.specs.Bases.{chip_of}
-use Rattle.bus_proofs.proofs.LeafTests.{some_at, own_core, own_test, own_live, own_work, place_within, test_within, kind_is, kind_not}
+use Rattle.bus_proofs.proofs.LeafTests.{some_at, own_core, own_test, own_live, own_work, place_within, test_within, kind_is, kind_not, idle_costs}
 use Rattle.bus_proofs.proofs.leaf_costs.kind_cost.Goals as goal
 
 pub module_at-requires : goal.module_at-requires
@@ -63,3 +63,7 @@ returns c = λ weights l weighed at.
     let is = c.requires.basis.tests.tests.at c.args.test l c.place_at-place.result at c.place_at-place.ensures in
     let own = own_test (chip_of c.args.basis.now) c.args.basis.now.limits.now l c.place_at-place.result (module_value c.module_at.result.now) c.test_at-own.result is c.module_at.ensures c.test_at-own.ensures in
     kind_not c.args.basis.now weights c.args.wires c.args.rank c.args.width l c.test_at-own.result own (sym c.is_over.ensures ∙ c.if-is_over.false)
+
+pub returns-then-is_idle : goal.returns-then-is_idle
+returns-then-is_idle c = λ weights l weighed at.
+    idle_costs c.args.basis.now weights c.args.wires c.args.rank c.args.width c.args.test l c.args.room.now weighed (c.is_idle.ensures c.if-is_idle.true) at

@@ -4,6 +4,7 @@ use Rattle.std.specs.List.{sum_by}
 use Rattle.std.proofs.lemmas.Option.{slice_get-map}
 use Rattle.plan_model.specs.Views.{profile_value}
 use Rattle.bound_rules.proofs.Energies.{sound_steps}
+use Rattle.bus_proofs.specs.Lists.{use_of}
 use Rattle.bus_proofs.specs.Leaves.{is_rank}
 use Rattle.bus_proofs.specs.Bases.{chip_of, limits_of}
 use Rattle.bus_proofs.specs.LeafCosts.{USES_COST_MOST, beside_use, drawn_use}
@@ -57,3 +58,4 @@ returns c = λ weights l weighed at own.
     three_are c.inside_uses-inside.result c.beside_uses-beside.result c.drawn_uses-drawn.result (slice_index c.args.room.now.sums.items c.args.test * c.args.cycles) (sum_by (beside_use c.args.basis.now.lists (is_rank c.args.rank) c.args.test c.args.cycles) c.args.room.now.beside.items)
     (sum_by (drawn_use (limits_of c.args.basis.now) l c.args.cycles) c.args.room.now.power.items) c.inside_uses-inside.ensures beside drawn
     ∙ sym (weighed.made.uses (is_rank c.args.rank) c.args.test c.args.cycles l at)
+    ∙ weighed.same (λ list. use_of (chip_of c.args.basis.now) (limits_of c.args.basis.now) (is_rank c.args.rank) list c.args.cycles l)

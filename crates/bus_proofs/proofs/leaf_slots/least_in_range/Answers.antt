@@ -1,21 +1,36 @@
-use Rattle.std.proofs.Common.{◌+◌, min, arith}
+use Rattle.std.proofs.Common.{◌≡◌, ℕ, ◌+◌, ◌≤◌, ◌<◌, min, sym, subst, arith}
+use Rattle.std.specs.Prelude.{IfSome}
+use Rattle.packed_times.specs.Tables.{TableValue}
+use Rattle.packed_times.specs.Packed.{packed_tam_time}
 use Rattle.bus_proofs.specs.Bases.{chip_of, claim_of}
-use Rattle.bus_proofs.specs.LeafSlots.{costs_at}
-use Rattle.bus_proofs.proofs.LeafSlots.{no_width, range_done, range_more}
+use Rattle.bus_proofs.specs.LeafCosts.{LEAF_COST_MOST}
+use Rattle.bus_proofs.specs.LeafSlots.{IsLeastOf, IsOfRange, costs_at}
+use Rattle.bus_proofs.proofs.LeafSlots.{no_width, range_done, range_jump, jump_costs, lesser_small}
 use Rattle.bus_proofs.proofs.leaf_slots.least_in_range.Goals as goal
 
 pub loop-width-init : goal.loop-width-init
 loop-width-init c = record {
+  from = omega arith;
   least = λ weights is. no_width (costs_at c.args.basis.now weights c.args.place) (chip_of c.args.basis.now) (claim_of c.args.basis.now) c.args.place c.args.range (min c.args.range.first (c.args.range.high + 1)) (omega arith);
   small = tt;
 }
 
 pub loop-width-preserved : goal.loop-width-preserved
 loop-width-preserved c = record {
-  least = λ weights is. range_more (costs_at c.args.basis.now weights c.args.place) (chip_of c.args.basis.now) (claim_of c.args.basis.now) c.args.place c.args.range c.loop-width.width c.loop-width.best c.try_width-best.result c.loop-width-test.true
-      (c.try_width-best.ensures.least weights is) (c.loop-width.invariant.least weights is);
-  small = c.try_width-best.ensures.small;
+  from = omega (arith, c.loop-width.invariant.from, c.next_width-width.ensures.wider);
+  least = λ weights is.
+      let some = c.requires.some_wire in
+      let same : (v : ℕ) → c.loop-width.width ≤ v → v < c.next_width-width.result → packed_tam_time (chip_of c.args.basis.now) c.args.place v ≡ packed_tam_time (chip_of c.args.basis.now) c.args.place c.loop-width.width = λ v from to. subst (λ (t : TableValue). packed_tam_time t.chip c.args.place v ≡ packed_tam_time t.chip c.args.place c.loop-width.width) c.requires.basis.times (c.next_width-width.ensures.same v from to) in
+      subst (λ o. IsLeastOf (costs_at c.args.basis.now weights c.args.place) (IsOfRange (chip_of c.args.basis.now) (claim_of c.args.basis.now) c.args.place c.args.range (min c.next_width-width.result (c.args.range.high + 1))) o) (sym c.lesser-best.ensures)
+      (range_jump (costs_at c.args.basis.now weights c.args.place) (chip_of c.args.basis.now) (claim_of c.args.basis.now) c.args.place c.args.range c.loop-width.width c.next_width-width.result c.loop-width.best c.cost_at-here.result
+      c.loop-width.invariant.from c.next_width-width.ensures.wider c.loop-width-test.true
+      (λ v from to. jump_costs c.wider_slots_cost_no_less.ensures c.args.basis.now weights c.args.place c.args.range c.loop-width.width v (omega (arith, some, c.loop-width.invariant.from)) from (sym (same v from to)))
+      same (c.loop-width.invariant.least weights is) (c.cost_at-here.ensures.cost weights is));
+  small = subst (λ o. IfSome o (λ n. n ≤ LEAF_COST_MOST)) (sym c.lesser-best.ensures) (lesser_small c.loop-width.best c.cost_at-here.result LEAF_COST_MOST c.loop-width.invariant.small c.cost_at-here.ensures.small);
 }
+
+pub loop-width-smaller : goal.loop-width-smaller
+loop-width-smaller c = omega (arith, c.loop-width-test.true, c.next_width-width.ensures.wider)
 
 pub returns-clause-least : goal.returns-clause-least
 returns-clause-least c = λ weights is. range_done (costs_at c.args.basis.now weights c.args.place) (chip_of c.args.basis.now) (claim_of c.args.basis.now) c.args.place c.args.range c.loop-width.width c.loop-width.best (omega (arith, c.loop-width-test.false))

@@ -1,4 +1,4 @@
-use Rattle.std.specs.Prelude.{◌+◌, ◌≤◌, min, IfSome}
+use Rattle.std.specs.Prelude.{◌+◌, ◌-◌, ◌≤◌, min, IfSome}
 use Rattle.bus_proofs.specs.Proofs.{WeightsValue}
 use Rattle.bus_proofs.specs.Bases.{chip_of, claim_of}
 use Rattle.bus_proofs.specs.LeafCosts.{IsWeighed, LEAF_COST_MOST}
@@ -7,6 +7,10 @@ use Rattle.bus_proofs.proofs.leaf_slots.least_in_range.Given as goal
 
 abbrev pub invariant-loop-width : goal.invariant-loop-width
 invariant-loop-width l = record {
+  from : l.range.first ≤ l.width;
   least : (weights : WeightsValue) → IsWeighed l.basis weights l.weighed → IsLeastOf (costs_at l.basis weights l.place) (IsOfRange (chip_of l.basis) (claim_of l.basis) l.place l.range (min l.width (l.range.high + 1))) l.best;
   small : IfSome l.best (λ n. n ≤ LEAF_COST_MOST);
 }
+
+abbrev pub decreases-loop-width : goal.decreases-loop-width
+decreases-loop-width l = l.range.high + 1 - l.width

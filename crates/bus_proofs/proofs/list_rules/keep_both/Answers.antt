@@ -7,6 +7,6 @@ pub loop-place-preserved : goal.loop-place-preserved
 loop-place-preserved c =
     let within : c.loop-place.place < length c.args.others.now = search rules in
     record {
-      long = length-set c.loop-place.marks.items c.loop-place.place c.both_at.result ∙ c.loop-place.invariant.long;
-      marks = both_more c.args.marks.now.items c.args.others.now c.loop-place.marks.items c.loop-place.place c.both_at.result (omega (arith, within, c.requires)) within c.loop-place.invariant.marks c.both_at.ensures;
+      long = length-set c.loop-place.marks c.loop-place.place c.both_at.result ∙ c.loop-place.invariant.long;
+      marks = both_more c.args.marks.now c.args.others.now c.loop-place.marks c.loop-place.place c.both_at.result (omega (arith, within, c.requires)) within c.loop-place.invariant.marks c.both_at.ensures;
     }

@@ -4,6 +4,6 @@ use Rattle.bus_proofs.proofs.list_rules.keep_both.Given as goal
 
 abbrev pub invariant-loop-place : goal.invariant-loop-place
 invariant-loop-place l = record {
-  long : length l.marks.items ≡ length l.initial.marks.items;
-  marks : l.marks.items ≡ both_marked l.initial.marks.items (take l.place l.others);
+  long : length l.marks ≡ length l.initial.marks;
+  marks : l.marks ≡ both_marked l.initial.marks (take l.place l.others);
 }

@@ -14,5 +14,5 @@ returns-clause-judged c = λ e is. c.judge.ensures c.args.basis.now e (weights_v
 pub returns-clause-leaves : goal.returns-clause-leaves
 returns-clause-leaves c = λ place weights at. record {
   few = (c.requires.leaves place weights at).few;
-  space = c.check_leaf-answer.ensures.space (length weights.lists) (c.requires.leaves place weights at).space;
+  space = c.check_leaf-answer.ensures.space;
 }

@@ -3,7 +3,8 @@ use Rattle.std.specs.List.{All}
 use Rattle.soc_model.specs.declared.TestId.{TestId}
 use Rattle.plan_model.specs.Rules.{live_ids}
 use Rattle.live_tests.proofs.Precedences.{pairs_within}
-use Rattle.limits_text.specs.Cycles.{precedences, HasRank, IsFirstCycle, AreAt}
+use Rattle.limits_text.specs.Cycles.{HasRank, IsFirstCycle, AreAt}
+use Rattle.live_tests.specs.Names.{precedences}
 use Rattle.limits_text.proofs.FirstCycles.{AreWithin}
 use Rattle.limits_text.proofs.CycleTests.{acyclic, cycle_within}
 use Rattle.limits_text.proofs.cycles.cycle_of.Goals as goal

@@ -10,8 +10,8 @@ pub tam_row-requires-clause-lengths : goal.tam_row-requires-clause-lengths
 tam_row-requires-clause-lengths c =
     by_own_length (packed c.args.module.now.chains.items) c.args.wires c.deref-3.result.now (c.deref-3.ensures.value ∙ c.in_ok-packed.ensures ∙ ap (λ l. map (packed l) (range_with_len 1 c.args.wires)) c.deref-2.ensures.value)
 
-pub returns : goal.returns
-returns c =
+pub returns-clause-row : goal.returns-clause-row
+returns-clause-row c =
     row_made c.args.wires (module_value c.args.module.now) c.in_ok-packed.packed.items c.in_ok-tam.tam.items c.flops_of-flops.result c.self_time-own.result
     (c.in_ok-packed.ensures ∙ ap (λ l. map (packed l) (range_with_len 1 c.args.wires)) c.deref-2.ensures.value)
     (c.in_ok-tam.ensures ∙ ap (λ n. map (λ w. tam_times_of (module_value c.args.module.now) w c.args.module.now.tests.items) (range_with_len 1 n))

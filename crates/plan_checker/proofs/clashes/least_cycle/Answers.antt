@@ -1,6 +1,6 @@
 use Rattle.std.proofs.Common.{subst, sym}
 use Rattle.plan_checker.specs.declared.clashes.Apart.TheVariants as apart
-use Rattle.plan_checker.specs.declared.meetings.Key.TheVariants as key
+use Rattle.plan_checker.specs.declared.meetings.EndKey.TheVariants as key
 use Rattle.plan_checker.specs.Clashes.{keeps_apart}
 use Rattle.plan_checker.specs.Meetings.{AreSlots, notes_for}
 use Rattle.plan_checker.proofs.Sides.{one_bus, one_module, parent_and_child, one_side, first_cycle}

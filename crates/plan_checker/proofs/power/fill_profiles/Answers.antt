@@ -12,7 +12,7 @@ use Rattle.plan_checker.proofs.power.fill_profiles.Goals as goal
 pub loop-at-init : goal.loop-at-init
 loop-at-init c =
     let count = c.profile_count-count.ensures ∙ ap length c.deref.ensures.value ∙ sym (length_values profile_value c.args.limits.now.profiles.items) in
-    no_profile_yet (limits_value c.args.limits.now) c.args.placed.now c.clear.new.marks c.profile_count-count.result (length c.args.profiles.now) count c.requires.room c.clear.ensures
+    no_profile_yet (limits_value c.args.limits.now) c.args.placed.now c.clear_marks.new.marks c.profile_count-count.result (length c.args.profiles.now) count c.requires.room c.clear_marks.ensures
 
 pub write_place-requires : goal.write_place-requires
 write_place-requires c =
@@ -25,7 +25,7 @@ profile_at ps x count at some within long is = profile_read ps (at - 1) x (omega
 pub loop-at-preserved-in-Some : goal.loop-at-preserved-in-Some
 loop-at-preserved-in-Some c =
     let read = profile_at c.args.limits.now.profiles.items c.index.result.now c.profile_count-count.result c.loop-at.at c.loop-at-test.true c.loop-at.auto.at (c.profile_count-count.ensures ∙ ap length c.deref.ensures.value) c.index.ensures in
-    rw c.write_place.ensures (profile_of_test (limits_value c.args.limits.now) c.args.placed.now c.loop-at.at (c.loop-at.at - 1) (profile_value c.index.result.now) c.loop-at.profiles c.in-Some.place (omega (arith, c.loop-at-test.true)) c.requires.apart (omega (arith, c.loop-at.auto.profiles, c.clear.auto.marks, c.requires.room)) read (rw c.requires.named at c.in-Some.ensures.found) c.loop-at.invariant)
+    rw c.write_place.ensures (profile_of_test (limits_value c.args.limits.now) c.args.placed.now c.loop-at.at (c.loop-at.at - 1) (profile_value c.index.result.now) c.loop-at.profiles c.in-Some.place (omega (arith, c.loop-at-test.true)) c.requires.apart (omega (arith, c.loop-at.auto.profiles, c.clear_marks.auto.marks, c.requires.room)) read (rw c.requires.named at c.in-Some.ensures.found) c.loop-at.invariant)
 
 pub loop-at-preserved : goal.loop-at-preserved
 loop-at-preserved c =

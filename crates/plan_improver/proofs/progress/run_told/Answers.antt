@@ -19,5 +19,5 @@ loop-left-preserved g c = record {
   some = search rules;
   within = search rules;
   part_is = search rules;
-  told = told_more c.args.tries c.div_ceil-part.result c.loop-left.left (c.loop-left.left - c.min-now.result) (c.args.tries - (c.loop-left.left - c.min-now.result)) c.cycles.result (g.T.Sink.written c.args.told.now) (g.T.Sink.written c.loop-left.told) (g.T.Sink.written c.tell.new.told) c.loop-left.invariant.told (search rules) refl c.tell.ensures.told;
+  told = told_more c.args.tries c.div_ceil-part.result c.loop-left.left (c.loop-left.left - c.min-now.result) (c.args.tries - (c.loop-left.left - c.min-now.result)) c.cycles.result (g.T.Sink.written c.args.told.now) (g.T.Sink.written c.loop-left.told) (g.T.Sink.written c.report_tries.new.told) c.loop-left.invariant.told (search rules) refl c.report_tries.ensures.told;
 }

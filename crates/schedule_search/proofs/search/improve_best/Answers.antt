@@ -10,8 +10,8 @@ use Rattle.schedule_search.proofs.search.improve_best.Goals as goal
 pub returns-then-len-le-EXCHANGED_MOST-clause-improved : goal.returns-then-len-le-EXCHANGED_MOST-clause-improved
 returns-then-len-le-EXCHANGED_MOST-clause-improved g c =
     let job = job_value c.args.job.now in
-    let order : List ℕ = c.improve-progress.new.order in
-    let long : length order ≡ c.args.progress.now.best.len = c.improve-progress.ensures.long ∙ ap length c.deref_mut.ensures.value ∙ sym c.args.progress.now.best.ok.0 in
+    let order : List ℕ = c.improve_order-progress.new.order in
+    let long : length order ≡ c.args.progress.now.best.len = c.improve_order-progress.ensures.long ∙ ap length c.deref_mut.ensures.value ∙ sym c.args.progress.now.best.ok.0 in
     let written : (with_items c.args.progress.now.best order).items ≡ order = with_items_is c.args.progress.now.best order long in
-    subst (λ (l : List ℕ). IsImproved job (stand_of c.args.progress.now) (record (stand_of c.args.progress.now) { best = l; cycles = c.improve-progress.result })) (sym written)
-    (improved job (stand_of c.args.progress.now) order c.improve-progress.result c.improve-progress.ensures.topological c.improve-progress.ensures.takes c.improve-progress.ensures.most (λ same. c.improve-progress.ensures.unchanged same ∙ c.deref_mut.ensures.value) c.improve-progress.ensures.none_helps)
+    subst (λ (l : List ℕ). IsImproved job (stand_of c.args.progress.now) (record (stand_of c.args.progress.now) { best = l; cycles = c.improve_order-progress.result })) (sym written)
+    (improved job (stand_of c.args.progress.now) order c.improve_order-progress.result c.improve_order-progress.ensures.topological c.improve_order-progress.ensures.takes c.improve_order-progress.ensures.most (λ same. c.improve_order-progress.ensures.unchanged same ∙ c.deref_mut.ensures.value) c.improve_order-progress.ensures.none_helps)

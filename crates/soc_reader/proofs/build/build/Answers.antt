@@ -9,7 +9,7 @@ use Rattle.soc_reader.proofs.Telling.{says_all, says_all-from}
 use Rattle.soc_reader.proofs.Places.{numbers_in}
 use Rattle.soc_reader.proofs.build.build.Goals as goal
 
--- one item is told, and the others are left
+-- one item is put, and the others are left
 told_more : (old new whole : SocValue) (items : List ReadItem) (i : ℕ) (item : ReadItem) → i < length items → item ≡ get_or items i item → new ≡ says (item_of item) old → says_all old (map item_of (drop i items)) ≡ whole → says_all new (map item_of (drop (i + 1) items)) ≡ whole
 told_more old new whole items i item within is said told =
     ap (λ (v : SocValue). says_all v (map item_of (drop (i + 1) items))) (said ∙ ap (λ (x : ReadItem). says (item_of x) old) is)

@@ -21,15 +21,15 @@ returns-then-not-turn-clause-goes_on c = λ rest h.
     (turn_at c.loop-depth.turns (c.loop-depth.depth - 1)) _ rest (omega (arith, c.loop-depth-test.true)) (omega (arith, c.loop-depth-test.true, c.loop-depth.auto.turns, c.loop-depth.invariant.few, c.requires.room)) refl (not-true (turn_at c.loop-depth.turns (c.loop-depth.depth - 1)).second c.if-not-turn.true) refl c.begin_second.ensures.turns c.begin_second.ensures.wide
     (c.loop-depth.invariant.awaits rest h))
 
-pub put-requires-clause-place : goal.put-requires-clause-place
-put-requires-clause-place c =
+pub put_interval-requires-clause-place : goal.put_interval-requires-clause-place
+put_interval-requires-clause-place c =
     let t : IsTurn c.args.table.now.wires c.args.table.now.times.now c.loop-depth.widths.intervals.items (turn_at c.loop-depth.turns (c.loop-depth.depth - 1)) =
     awaits_turn (chip_of c.args.table.now) c.args.table.now.wires c.args.table.now.times.now c.loop-depth.turns c.loop-depth.depth (c.loop-depth.depth - 1) c.loop-depth.widths.intervals.items c.requires.awaits.0
     (omega (arith, c.loop-depth-test.true)) (c.loop-depth.invariant.awaits c.requires.awaits.0 c.requires.awaits.1) in
     t.within
 
-pub put-requires-clause-fits : goal.put-requires-clause-fits
-put-requires-clause-fits c =
+pub put_interval-requires-clause-fits : goal.put_interval-requires-clause-fits
+put_interval-requires-clause-fits c =
     let t : IsTurn c.args.table.now.wires c.args.table.now.times.now c.loop-depth.widths.intervals.items (turn_at c.loop-depth.turns (c.loop-depth.depth - 1)) =
     awaits_turn (chip_of c.args.table.now) c.args.table.now.wires c.args.table.now.times.now c.loop-depth.turns c.loop-depth.depth (c.loop-depth.depth - 1) c.loop-depth.widths.intervals.items c.requires.awaits.0
     (omega (arith, c.loop-depth-test.true)) (c.loop-depth.invariant.awaits c.requires.awaits.0 c.requires.awaits.1) in
@@ -42,10 +42,10 @@ loop-depth-preserved c =
     awaits_turn (chip_of c.args.table.now) c.args.table.now.wires c.args.table.now.times.now c.loop-depth.turns c.loop-depth.depth (c.loop-depth.depth - 1) c.loop-depth.widths.intervals.items c.requires.awaits.0
     (omega (arith, c.loop-depth-test.true)) (c.loop-depth.invariant.awaits c.requires.awaits.0 c.requires.awaits.1) in
     record {
-      widths = put_widths c.args.table.now.wires (length (chip_of c.args.table.now).modules) c.args.table.now.times.now c.loop-depth.widths c.put.new.widths (turn_at c.loop-depth.turns (c.loop-depth.depth - 1)).place (turn_at c.loop-depth.turns (c.loop-depth.depth - 1)).old (turn_at c.loop-depth.turns (c.loop-depth.depth - 1)).area
-          c.loop-depth.invariant.widths (omega (arith, t.within, c.loop-depth.invariant.widths.intervals.long)) t.old t.area c.put.ensures.intervals c.put.ensures.areas c.put.ensures.total;
+      widths = put_widths c.args.table.now.wires (length (chip_of c.args.table.now).modules) c.args.table.now.times.now c.loop-depth.widths c.put_interval.new.widths (turn_at c.loop-depth.turns (c.loop-depth.depth - 1)).place (turn_at c.loop-depth.turns (c.loop-depth.depth - 1)).old (turn_at c.loop-depth.turns (c.loop-depth.depth - 1)).area
+          c.loop-depth.invariant.widths (omega (arith, t.within, c.loop-depth.invariant.widths.intervals.long)) t.old t.area c.put_interval.ensures.intervals c.put_interval.ensures.areas c.put_interval.ensures.total;
       few = omega (arith, c.loop-depth.invariant.few);
-      awaits = λ rest h. subst (λ (d : Case). Awaits (chip_of c.args.table.now) c.args.table.now.wires c.args.table.now.times.now c.loop-depth.turns (c.loop-depth.depth - 1) d rest) (sym c.put.ensures.intervals)
+      awaits = λ rest h. subst (λ (d : Case). Awaits (chip_of c.args.table.now) c.args.table.now.wires c.args.table.now.times.now c.loop-depth.turns (c.loop-depth.depth - 1) d rest) (sym c.put_interval.ensures.intervals)
           (awaits_second (chip_of c.args.table.now) c.args.table.now.wires c.args.table.now.times.now c.loop-depth.turns c.loop-depth.depth (c.loop-depth.depth - 1) c.loop-depth.widths.intervals.items rest (omega (arith, c.loop-depth-test.true)) (not-false (turn_at c.loop-depth.turns (c.loop-depth.depth - 1)).second c.if-not-turn.false) (c.loop-depth.invariant.awaits rest h));
     }
 

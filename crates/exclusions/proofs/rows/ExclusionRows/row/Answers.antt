@@ -1,7 +1,7 @@
 use Rattle.std.proofs.Common.{◌≡◌, ◌∙◌, ℕ, ◌<◌, Some, length, ap, arith, rules}
 use Rattle.std.specs.Prelude.{slice_get}
 use Rattle.exclusions.specs.declared.facts.TestFacts.{TestFacts}
-use Rattle.exclusions.specs.Exclusions.{precedences}
+use Rattle.live_tests.specs.Names.{precedences}
 use Rattle.exclusions.specs.Marks.{AreAfter, AreBefore, is_marked}
 use Rattle.exclusions.specs.Rows.{mark_of}
 use Rattle.exclusions.proofs.Rowing.{written_over, row_is}

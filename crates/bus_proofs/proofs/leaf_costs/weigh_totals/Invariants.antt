@@ -1,0 +1,12 @@
+use Rattle.std.proofs.Common.{◌≡◌}
+use Rattle.std.specs.Prelude.{vec_capacity}
+use Rattle.bus_proofs.specs.LeafCosts.{IsMade, by_places}
+use Rattle.bus_proofs.proofs.leaf_costs.weigh_totals.Given as goal
+
+abbrev pub invariant-loop-list : goal.invariant-loop-list
+invariant-loop-list l = record {
+  made : IsMade l.basis (by_places l.initial.room.totals.items l.list) l.room;
+  totals : l.room.totals ≡ l.initial.room.totals;
+  beside : vec_capacity l.room.beside ≡ vec_capacity l.initial.room.beside;
+  power : vec_capacity l.room.power ≡ vec_capacity l.initial.room.power;
+}

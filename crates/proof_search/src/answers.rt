@@ -1,0 +1,203 @@
+//! The answers of modules to the weights of a game: the slots that they take, and how much of each resource all of them use
+//! together, which is a cut of the game.
+
+use crate::facts::Facts;
+use crate::lists::{Kind, LISTS_MOST};
+use crate::picks::{NO_PICK, Pick, Prices, test_share};
+use crate::resources::{RESOURCES_MOST, Resources, clear_parts, number_of, part_of};
+use crate::tables::{NONE, filled, item_or, put};
+use crate::values::Chip;
+use outside::NoMemory;
+use std::alloc::Global;
+
+/// A game has at most so many cuts.
+pub(crate) const CUTS_MOST: usize = 300;
+
+/// The answers so far, and the last one.
+#[derive(Drop)]
+pub(crate) struct Answers {
+    /// How many wired modules there are.
+    modules: usize,
+    /// The slot that a module took, at [answer * modules + module].
+    picks: Vec<Pick>,
+    /// For each resource how much of it the last answer uses, as a part of what there is at each cycle.
+    pub used: Vec<i64>,
+    /// For each list of the game what self tests use of it.
+    own: Vec<i64>,
+    /// For each live test the width of its slot in the last answer.
+    width: Vec<usize>,
+    /// For each live test the rank of its slot in the last answer.
+    rank: Vec<usize>,
+}
+
+/// Adds to the part at a place.
+fn add_part(parts: &mut [i64], place: usize, more: u64) {
+    let sum = item_or(parts, place, 0).saturating_add(part_of(more));
+    put(parts, place, sum);
+}
+
+/// What a self test uses of a list.
+fn own_share(chip: &Chip, list: usize, test: usize) -> u64 {
+    if chip.lists.kind_of(list) == Kind::Power {
+        return chip.powers.share_at(list, test, 1);
+    }
+    if chip.lists.has(list, test) {
+        return test_share(chip, test, 1);
+    }
+    0
+}
+
+/// What the self tests use of a list, together.
+fn own_use(chip: &Chip, list: usize) -> u64 {
+    let mut sum: u64 = 0;
+    for test in 0..chip.facts.tests {
+        if !item_or(&chip.facts.tam, test, true) {
+            sum = sum.saturating_add(own_share(chip, list, test));
+        }
+    }
+    sum
+}
+
+impl Answers {
+    /// Room for the games of a chip. `NoMemory` where there is none.
+    pub fn new(alloc: Global, facts: &Facts) -> Result<Answers, NoMemory> {
+        let room = CUTS_MOST.saturating_mul(facts.modules);
+        let picks = filled(alloc, NO_PICK, room)?;
+        let used = filled(alloc, 0i64, RESOURCES_MOST)?;
+        let own = filled(alloc, 0i64, LISTS_MOST)?;
+        let width = filled(alloc, 1usize, facts.tests)?;
+        let rank = filled(alloc, 0usize, facts.tests)?;
+        Ok(Answers {
+            modules: facts.modules,
+            picks,
+            used,
+            own,
+            width,
+            rank,
+        })
+    }
+
+    /// The slot that a module took in an answer.
+    pub fn pick_of(&self, answer: usize, module: usize) -> Pick {
+        let place = answer.saturating_mul(self.modules).saturating_add(module);
+        item_or(&self.picks, place, NO_PICK)
+    }
+
+    /// Notes what self tests use of the lists of a game.
+    pub fn take_own(&mut self, chip: &Chip, resources: &Resources) {
+        for at in 0..resources.listed {
+            let used = own_use(chip, resources.list(at));
+            put(&mut self.own, at, part_of(used));
+        }
+    }
+
+    /// Notes the slot of a module's tests.
+    fn note_slot(&mut self, facts: &Facts, module: usize, width: usize, rank: usize) {
+        let from = item_or(&facts.first, module, 0);
+        let end = item_or(&facts.first, module.saturating_add(1), 0);
+        for at in from..end {
+            let test = item_or(&facts.order, at, NONE);
+            put(&mut self.width, test, width);
+            put(&mut self.rank, test, rank);
+        }
+    }
+
+    /// A module takes its first slot that costs least.
+    fn answer(&mut self, prices: Prices<'_>, answer: usize, module: usize) {
+        let pick = prices.least(module);
+        let place = answer.saturating_mul(self.modules).saturating_add(module);
+        put(&mut self.picks, place, pick);
+        let range = prices.spans.range(pick.range);
+        let share = prices.chip.slots.share_of(pick.step);
+        let wires = pick.width.saturating_sub(range.low) as u64;
+        let bus = prices.resources.of_rank(range.rank);
+        add_part(&mut self.used, bus, share);
+        add_part(
+            &mut self.used,
+            prices.resources.rest,
+            share.wrapping_mul(wires),
+        );
+        self.note_slot(&prices.chip.facts, module, pick.width, range.rank);
+    }
+
+    /// Whether a test counts in a list of turns on the bus of a rank.
+    fn is_reached(&self, chip: &Chip, list: usize, test: usize) -> bool {
+        if chip.lists.has(list, test) {
+            return true;
+        }
+        let rank = item_or(&self.rank, test, NONE) as u64;
+        rank == chip.lists.number_of(list) && chip.lists.reaches(list, test)
+    }
+
+    /// Whether a test counts in a list of a kind other than power.
+    fn counts(&self, chip: &Chip, kind: Kind, list: usize, test: usize) -> bool {
+        if kind == Kind::TurnsOn {
+            return self.is_reached(chip, list, test);
+        }
+        chip.lists.has(list, test)
+    }
+
+    /// What a test over the wires uses of a list of a kind.
+    fn share_in(&self, chip: &Chip, kind: Kind, list: usize, test: usize) -> u64 {
+        let width = item_or(&self.width, test, 1);
+        if kind == Kind::Power {
+            return chip.powers.share_at(list, test, width);
+        }
+        if self.counts(chip, kind, list, test) {
+            return test_share(chip, test, width);
+        }
+        0
+    }
+
+    /// What the tests over the wires use of a list, together.
+    fn list_use(&self, chip: &Chip, list: usize) -> u64 {
+        let kind = chip.lists.kind_of(list);
+        let mut sum: u64 = 0;
+        for test in 0..chip.facts.tests {
+            if item_or(&chip.facts.tam, test, false) {
+                sum = sum.saturating_add(self.share_in(chip, kind, list, test));
+            }
+        }
+        sum
+    }
+
+    /// Notes what all tests use of the lists.
+    fn take_lists(&mut self, chip: &Chip, resources: &Resources) {
+        for at in 0..resources.listed {
+            let list = resources.list(at);
+            let own = number_of(item_or(&self.own, at, 0));
+            let used = self.list_use(chip, list).saturating_add(own);
+            let part = used.checked_div(chip.lists.room(list)).unwrap_or(0);
+            let place = resources.lists_from.saturating_add(at);
+            put(&mut self.used, place, part_of(part));
+        }
+    }
+
+    /// Makes what is used of the spare wires a part of them.
+    fn share_rest(&mut self, resources: &Resources) {
+        let wires = number_of(item_or(&self.used, resources.rest, 0));
+        let part = wires.checked_div(resources.spare).unwrap_or(0);
+        put(&mut self.used, resources.rest, part_of(part));
+    }
+
+    /// All modules take their first slots that cost least, as an answer.
+    pub fn respond(&mut self, prices: Prices<'_>, answer: usize) {
+        clear_parts(&mut self.used);
+        for module in 0..self.modules {
+            self.answer(prices, answer, module);
+        }
+        self.share_rest(prices.resources);
+        self.take_lists(prices.chip, prices.resources);
+    }
+
+    /// What the parts of so many resources are worth against the last answer.
+    pub fn worth(&self, parts: &[i64], count: usize) -> i64 {
+        let mut sum: i128 = 0;
+        for place in 0..count {
+            let used = i128::from(item_or(&self.used, place, 0));
+            let part = i128::from(item_or(parts, place, 0));
+            sum = sum.saturating_add(used.wrapping_mul(part));
+        }
+        i64::try_from(sum >> 30).unwrap_or(i64::MAX)
+    }
+}

@@ -1,0 +1,247 @@
+//! The lists of turns that a search begins with: those of the elementary bounds, which are of the tests of one module, of a
+//! module and its parent, and of a chain of precedences; and the one that takes longest, as far as a search finds it.
+
+use crate::facts::Facts;
+use crate::lists::{Chosen, Kind, Lists};
+use crate::marks::{mark, marked};
+use crate::separating::Separating;
+use crate::tables::{NONE, item_or, put};
+use outside::{NoMemory, copied};
+use std::alloc::Global;
+
+/// How many steps the search for the list that takes longest takes at most.
+const STEPS: usize = 20_000;
+
+/// The numbers of two modules.
+#[derive(Clone, Copy)]
+struct Family {
+    /// That of a module.
+    own: u64,
+    /// That of its parent; the same number where the module stands alone.
+    parent: u64,
+}
+
+/// The chains of precedences that take longest.
+#[derive(Drop)]
+struct Chains {
+    /// For each test the cycles of the one that ends with it.
+    long: Vec<u64>,
+    /// For each test the one before it there, NONE where it is the first.
+    last: Vec<usize>,
+}
+
+/// The cycles that a live test takes at least.
+fn least_time(facts: &Facts, test: usize) -> u64 {
+    if item_or(&facts.tam, test, false) {
+        return facts.time_at(test, facts.wires);
+    }
+    item_or(&facts.patterns, test, 0)
+}
+
+/// The cycles that each live test takes at least.
+fn least_times(alloc: Global, facts: &Facts) -> Result<Vec<u64>, NoMemory> {
+    let mut times = vec![in alloc; 0u64; facts.tests].map_err(|_| NoMemory)?;
+    for test in 0..facts.tests {
+        let time = least_time(facts, test);
+        put(&mut times, test, time);
+    }
+    Ok(times)
+}
+
+/// Whether a test is of one of two modules.
+fn is_of(facts: &Facts, family: Family, test: usize) -> bool {
+    let number = item_or(&facts.test_module, test, u64::MAX);
+    number == family.own || number == family.parent
+}
+
+/// The cycles that the tests of two modules take at least, together.
+fn time_of(facts: &Facts, times: &[u64], family: Family) -> u64 {
+    let mut sum: u64 = 0;
+    for test in 0..facts.tests {
+        if is_of(facts, family, test) {
+            sum = sum.saturating_add(item_or(times, test, 0));
+        }
+    }
+    sum
+}
+
+/// The module of a test, alone or with its parent.
+fn family_of(facts: &Facts, test: usize, with_parent: bool) -> Family {
+    let own = item_or(&facts.test_module, test, u64::MAX);
+    let mut parent = own;
+    if with_parent {
+        parent = item_or(&facts.parent, test, u64::MAX);
+    }
+    Family { own, parent }
+}
+
+/// Whether a test is the first of its module.
+fn is_first(facts: &Facts, test: usize) -> bool {
+    let own = item_or(&facts.test_module, test, u64::MAX);
+    let before = item_or(&facts.test_module, test.saturating_sub(1), u64::MAX);
+    test == 0 || before != own
+}
+
+/// The module, alone or with its parent, whose tests take longest together.
+fn longest_family(facts: &Facts, times: &[u64], with_parent: bool) -> Family {
+    let mut best = family_of(facts, 0, with_parent);
+    let mut longest = 0;
+    for test in 0..facts.tests {
+        if is_first(facts, test) {
+            let family = family_of(facts, test, with_parent);
+            let time = time_of(facts, times, family);
+            if time > longest {
+                longest = time;
+                best = family;
+            }
+        }
+    }
+    best
+}
+
+/// Marks the tests of two modules.
+fn mark_family(facts: &Facts, family: Family, members: &mut [u64]) {
+    for test in 0..facts.tests {
+        if is_of(facts, family, test) {
+            mark(members, 0, test);
+        }
+    }
+}
+
+/// Adds the list of the tests of the module, alone or with its parent, whose tests take longest together.
+fn add_family(
+    alloc: Global,
+    facts: &Facts,
+    times: &[u64],
+    with_parent: bool,
+    lists: &mut Lists,
+    chosen: &mut Chosen,
+) -> Result<(), NoMemory> {
+    let family = longest_family(facts, times, with_parent);
+    let mut members = vec![in alloc; 0u64; facts.words].map_err(|_| NoMemory)?;
+    mark_family(facts, family, &mut members);
+    let list = lists.add(facts, Kind::Turns, 1, &members);
+    chosen.add(list);
+    Ok(())
+}
+
+/// Lengthens the chain of the later test of a precedence, where that of the earlier one makes it longer. Whether it does.
+fn lengthen(facts: &Facts, times: &[u64], chains: &mut Chains, place: usize) -> bool {
+    let before = item_or(&facts.before, place, NONE);
+    let after = item_or(&facts.after, place, NONE);
+    let time = item_or(times, after, 0);
+    let long = item_or(&chains.long, before, 0).saturating_add(time);
+    if long <= item_or(&chains.long, after, u64::MAX) {
+        return false;
+    }
+    put(&mut chains.long, after, long);
+    put(&mut chains.last, after, before);
+    true
+}
+
+/// Lengthens chains by one precedence. Whether any grew.
+fn lengthen_all(facts: &Facts, times: &[u64], chains: &mut Chains) -> bool {
+    let mut any = false;
+    for place in 0..facts.before.len() {
+        if lengthen(facts, times, chains, place) {
+            any = true;
+        }
+    }
+    any
+}
+
+/// The chains that take longest.
+fn longest_chains(alloc: Global, facts: &Facts, times: &[u64]) -> Result<Chains, NoMemory> {
+    let long = copied(alloc, times)?;
+    let last = vec![in alloc; NONE; facts.tests].map_err(|_| NoMemory)?;
+    let mut chains = Chains { long, last };
+    for _ in 0..facts.tests {
+        if !lengthen_all(facts, times, &mut chains) {
+            break;
+        }
+    }
+    Ok(chains)
+}
+
+/// The test with which the longest of the chains ends.
+fn longest_end(facts: &Facts, chains: &Chains) -> usize {
+    let mut best = 0;
+    for test in 0..facts.tests {
+        if item_or(&chains.long, test, 0) > item_or(&chains.long, best, 0) {
+            best = test;
+        }
+    }
+    best
+}
+
+/// Marks the tests of the chain that ends with a test.
+fn mark_chain(facts: &Facts, chains: &Chains, end: usize, members: &mut [u64]) {
+    let mut test = end;
+    for _ in 0..facts.tests {
+        if test >= facts.tests || marked(members, 0, test) {
+            break;
+        }
+        mark(members, 0, test);
+        test = item_or(&chains.last, test, NONE);
+    }
+}
+
+/// Adds the list of the chain of precedences that takes longest.
+fn add_chain(
+    alloc: Global,
+    facts: &Facts,
+    times: &[u64],
+    lists: &mut Lists,
+    chosen: &mut Chosen,
+) -> Result<(), NoMemory> {
+    let chains = longest_chains(alloc, facts, times)?;
+    let mut members = vec![in alloc; 0u64; facts.words].map_err(|_| NoMemory)?;
+    mark_chain(facts, &chains, longest_end(facts, &chains), &mut members);
+    let list = lists.add(facts, Kind::Turns, 1, &members);
+    chosen.add(list);
+    Ok(())
+}
+
+/// Cycles as weights.
+fn weights_of(alloc: Global, times: &[u64]) -> Result<Vec<i64>, NoMemory> {
+    let mut weights = vec![in alloc; 0i64; times.len()].map_err(|_| NoMemory)?;
+    for test in 0..times.len() {
+        let weight = i64::try_from(times[test]).unwrap_or(i64::MAX >> 1);
+        put(&mut weights, test, weight);
+    }
+    Ok(weights)
+}
+
+/// Adds the list of turns that takes longest, as far as a search finds it.
+fn add_longest(
+    alloc: Global,
+    room: &mut Separating,
+    facts: &Facts,
+    times: &[u64],
+    lists: &mut Lists,
+    chosen: &mut Chosen,
+) -> Result<(), NoMemory> {
+    let weights = weights_of(alloc, times)?;
+    if room.make_graph(facts, &weights, 0, false) && room.cliques.search(0, STEPS) {
+        room.add_found(facts, Kind::Turns, 1, lists, chosen);
+    }
+    Ok(())
+}
+
+/// Adds the lists of the elementary bounds, and the one that takes longest. `NoMemory` where there is none.
+pub(crate) fn elementary(
+    alloc: Global,
+    room: &mut Separating,
+    facts: &Facts,
+    lists: &mut Lists,
+    chosen: &mut Chosen,
+) -> Result<(), NoMemory> {
+    if facts.tests == 0 {
+        return Ok(());
+    }
+    let times = least_times(alloc, facts)?;
+    add_family(alloc, facts, &times, false, lists, chosen)?;
+    add_family(alloc, facts, &times, true, lists, chosen)?;
+    add_chain(alloc, facts, &times, lists, chosen)?;
+    add_longest(alloc, room, facts, &times, lists, chosen)
+}

@@ -1,0 +1,34 @@
+//! A mix of slots: how long tests are tested where each module is shared out among slots.
+
+use crate::facts::Facts;
+use crate::tables::ONE;
+use outside::NoMemory;
+use std::alloc::Global;
+
+/// A mix, in parts of the cycles that a better plan has at most.
+#[derive(Drop)]
+pub(crate) struct Mix {
+    /// For each live test how long it is tested.
+    pub on_all: Vec<i64>,
+    /// How long a live test is tested on the bus of a known rank, at [rank * tests + test].
+    pub on_rank: Vec<i64>,
+    /// How many ranks are known.
+    pub known: usize,
+    /// How much of what there is the mix takes at least, by the weights that go with it.
+    pub value: i64,
+}
+
+impl Mix {
+    /// Room for the mixes of a chip. `NoMemory` where there is none.
+    pub fn new(alloc: Global, facts: &Facts) -> Result<Mix, NoMemory> {
+        let room = facts.tests.saturating_mul(facts.wires);
+        let on_all = vec![in alloc; 0i64; facts.tests].map_err(|_| NoMemory)?;
+        let on_rank = vec![in alloc; 0i64; room].map_err(|_| NoMemory)?;
+        Ok(Mix {
+            on_all,
+            on_rank,
+            known: 0,
+            value: ONE,
+        })
+    }
+}

@@ -1,0 +1,189 @@
+//! What tests pay for the lists of a leaf, as its weights say.
+
+use crate::facts::Facts;
+use crate::lists::{Kind, LISTS_MOST, Lists};
+use crate::tables::{NONE, item_or, put};
+use outside::NoMemory;
+use std::alloc::Global;
+
+/// The ranks that may have lists of their own.
+const RANKS_MOST: usize = 256;
+
+/// What tests pay for each unit of their use of lists.
+#[derive(Drop)]
+pub(crate) struct Pays {
+    tests: usize,
+    /// For each live test what it pays as a member of lists.
+    member: Vec<u64>,
+    /// For each rank whether tests on its bus pay more.
+    on_rank: Vec<bool>,
+    /// What a live test pays more on the bus of a rank, at [rank * tests + test].
+    rank: Vec<u64>,
+    /// Whether tests pay more on the bus of any rank.
+    any_rank: bool,
+    /// How many lists of power are paid for.
+    pub power_count: usize,
+    /// These lists of power.
+    power: Vec<usize>,
+    /// For each of them what is paid for it.
+    power_pay: Vec<u64>,
+    /// For each wired module whether its tests pay anything.
+    paying: Vec<bool>,
+}
+
+/// Makes all numbers 0.
+fn clear_numbers(numbers: &mut [u64]) {
+    for place in 0..numbers.len() {
+        numbers[place] = 0;
+    }
+}
+
+/// Makes all tests false.
+fn clear_tests(tests: &mut [bool]) {
+    for place in 0..tests.len() {
+        tests[place] = false;
+    }
+}
+
+/// Adds to the number at a place.
+fn add_to(numbers: &mut [u64], place: usize, more: u64) {
+    let sum = item_or(numbers, place, 0).saturating_add(more);
+    put(numbers, place, sum);
+}
+
+impl Pays {
+    /// Room for the leaves of a chip. `NoMemory` where there is none.
+    pub fn new(alloc: Global, facts: &Facts) -> Result<Pays, NoMemory> {
+        let room = facts.tests.saturating_mul(RANKS_MOST);
+        let member = vec![in alloc; 0u64; facts.tests].map_err(|_| NoMemory)?;
+        let on_rank = vec![in alloc; false; RANKS_MOST].map_err(|_| NoMemory)?;
+        let rank = vec![in alloc; 0u64; room].map_err(|_| NoMemory)?;
+        let power = vec![in alloc; NONE; LISTS_MOST].map_err(|_| NoMemory)?;
+        let power_pay = vec![in alloc; 0u64; LISTS_MOST].map_err(|_| NoMemory)?;
+        let paying = vec![in alloc; false; facts.modules].map_err(|_| NoMemory)?;
+        Ok(Pays {
+            tests: facts.tests,
+            member,
+            on_rank,
+            rank,
+            any_rank: false,
+            power_count: 0,
+            power,
+            power_pay,
+            paying,
+        })
+    }
+
+    /// Nothing is paid.
+    pub fn clear(&mut self) {
+        clear_numbers(&mut self.member);
+        clear_tests(&mut self.on_rank);
+        self.any_rank = false;
+        self.power_count = 0;
+    }
+
+    /// Adds what the tests of a list pay.
+    fn add_members(&mut self, lists: &Lists, list: usize, pay: u64) {
+        for test in 0..self.tests {
+            if lists.has(list, test) {
+                add_to(&mut self.member, test, pay);
+            }
+        }
+    }
+
+    /// Says that nothing more is paid on the bus of a rank.
+    fn clear_rank(&mut self, rank: usize) {
+        let from = rank.saturating_mul(self.tests);
+        for test in 0..self.tests {
+            put(&mut self.rank, from.saturating_add(test), 0);
+        }
+    }
+
+    /// Makes a rank one on whose bus tests may pay more.
+    fn open_rank(&mut self, rank: usize) {
+        if item_or(&self.on_rank, rank, true) {
+            return;
+        }
+        put(&mut self.on_rank, rank, true);
+        self.any_rank = true;
+        self.clear_rank(rank);
+    }
+
+    /// Adds what other tests pay for a list where they are on the bus of its rank.
+    fn add_reached(&mut self, lists: &Lists, list: usize, pay: u64) {
+        let rank = lists.number_of(list) as usize;
+        self.open_rank(rank);
+        let from = rank.saturating_mul(self.tests);
+        for test in 0..self.tests {
+            if lists.reaches(list, test) {
+                add_to(&mut self.rank, from.saturating_add(test), pay);
+            }
+        }
+    }
+
+    /// Adds a list of power.
+    fn add_power(&mut self, list: usize, pay: u64) {
+        put(&mut self.power, self.power_count, list);
+        put(&mut self.power_pay, self.power_count, pay);
+        self.power_count = self.power_count.saturating_add(1);
+    }
+
+    /// Adds what tests pay for a list.
+    pub fn add(&mut self, lists: &Lists, list: usize, pay: u64) {
+        match lists.kind_of(list) {
+            Kind::Power => self.add_power(list, pay),
+            Kind::TurnsOn => {
+                self.add_members(lists, list, pay);
+                self.add_reached(lists, list, pay);
+            }
+            _ => self.add_members(lists, list, pay),
+        }
+    }
+
+    /// Whether any test of a wired module pays as a member of a list.
+    fn has_member(&self, facts: &Facts, module: usize) -> bool {
+        let from = item_or(&facts.first, module, 0);
+        let end = item_or(&facts.first, module.saturating_add(1), 0);
+        for at in from..end {
+            let test = item_or(&facts.order, at, NONE);
+            if item_or(&self.member, test, 0) > 0 {
+                return true;
+            }
+        }
+        false
+    }
+
+    /// Notes of all wired modules whether their tests pay anything, once all lists are added.
+    pub fn note_paying(&mut self, facts: &Facts) {
+        let all = self.power_count > 0 || self.any_rank;
+        for module in 0..facts.modules {
+            let paying = all || self.has_member(facts, module);
+            put(&mut self.paying, module, paying);
+        }
+    }
+
+    /// Whether the tests of a wired module pay anything.
+    pub fn pays(&self, module: usize) -> bool {
+        item_or(&self.paying, module, true)
+    }
+
+    /// What a test pays for each cycle on the bus of a rank, but for lists of power.
+    pub fn of_test(&self, test: usize, rank: usize) -> u64 {
+        let own = item_or(&self.member, test, 0);
+        if !item_or(&self.on_rank, rank, false) {
+            return own;
+        }
+        let place = rank.saturating_mul(self.tests).saturating_add(test);
+        own.saturating_add(item_or(&self.rank, place, 0))
+    }
+
+    /// A list of power that is paid for.
+    pub fn power_at(&self, at: usize) -> usize {
+        item_or(&self.power, at, NONE)
+    }
+
+    /// What is paid for it.
+    pub fn power_pay(&self, at: usize) -> u64 {
+        item_or(&self.power_pay, at, 0)
+    }
+}

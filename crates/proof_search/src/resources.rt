@@ -1,0 +1,262 @@
+//! The resources of the game of a case: the buses of the known ranks, the wires that are spare, and lists of tests. Each has a
+//! part of the weights.
+
+use crate::lists::{Chosen, LISTS_MOST, Lists};
+use crate::slots::{RANGES_MOST, REST, Spans};
+use crate::tables::{NONE, ONE, filled, item_or, put};
+use crate::weights::Weighing;
+use outside::NoMemory;
+use std::alloc::Global;
+
+/// A game has at most so many resources.
+pub(crate) const RESOURCES_MOST: usize = RANGES_MOST + LISTS_MOST;
+/// The greatest weight of a leaf.
+pub(crate) const WEIGHT_MOST: u64 = 999_999_999;
+/// A part for a wire, or for a cycle of a list, is taken so many times.
+const FINE: u128 = 1 << 40;
+
+/// The resources of a game. Those of the known ranks come first, then the spare wires, then the lists.
+#[derive(Drop)]
+pub(crate) struct Resources {
+    /// How many there are.
+    pub count: usize,
+    /// For each known rank its place among the resources, NONE where its bus has no wires.
+    rank_place: Vec<usize>,
+    /// The place of the spare wires, NONE where there are none.
+    pub rest: usize,
+    /// How many wires are spare.
+    pub spare: u64,
+    /// Where the lists begin.
+    pub lists_from: usize,
+    /// How many lists there are.
+    pub listed: usize,
+    /// For each of them its place among the lists of the proof.
+    list_at: Vec<usize>,
+}
+
+/// Makes all parts 0.
+pub(crate) fn clear_parts(parts: &mut [i64]) {
+    for place in 0..parts.len() {
+        parts[place] = 0;
+    }
+}
+
+/// A number as a part.
+pub(crate) fn part_of(number: u64) -> i64 {
+    i64::try_from(number).unwrap_or(i64::MAX)
+}
+
+/// A part as a number; 0 where it is less.
+pub(crate) fn number_of(part: i64) -> u64 {
+    u64::try_from(part).unwrap_or(0)
+}
+
+/// The first parts of a list, together.
+fn sum_of_parts(parts: &[i64], count: usize) -> i64 {
+    let mut sum: i64 = 0;
+    for place in 0..count {
+        sum = sum.saturating_add(item_or(parts, place, 0));
+    }
+    sum
+}
+
+/// A part of a sum of parts as one of ONE.
+fn normal_part(part: i64, sum: i64) -> i64 {
+    let product = i128::from(part).wrapping_mul(i128::from(ONE));
+    let normal = product.checked_div(i128::from(sum)).unwrap_or(0);
+    i64::try_from(normal).unwrap_or(0)
+}
+
+/// Makes the first parts of a list such that are ONE together.
+fn normalize(parts: &mut [i64], count: usize) {
+    if sum_of_parts(parts, count) == 0 {
+        put(parts, 0, ONE);
+    }
+    let sum = sum_of_parts(parts, count);
+    for place in 0..count {
+        let normal = normal_part(item_or(parts, place, 0), sum);
+        put(parts, place, normal);
+    }
+}
+
+impl Resources {
+    /// Room for the resources of games; there are none yet. `NoMemory` where there is none.
+    pub fn new(alloc: Global) -> Result<Resources, NoMemory> {
+        let rank_place = filled(alloc, NONE, RANGES_MOST)?;
+        let list_at = filled(alloc, NONE, LISTS_MOST)?;
+        Ok(Resources {
+            count: 0,
+            rank_place,
+            rest: NONE,
+            spare: 0,
+            lists_from: 0,
+            listed: 0,
+            list_at,
+        })
+    }
+
+    /// The place of the bus of a rank, NONE where that is none.
+    pub fn of_rank(&self, rank: usize) -> usize {
+        item_or(&self.rank_place, rank, NONE)
+    }
+
+    /// The place among the lists of the proof of one of its lists.
+    pub fn list(&self, at: usize) -> usize {
+        item_or(&self.list_at, at, NONE)
+    }
+
+    /// Adds a resource and answers its place.
+    fn add(&mut self) -> usize {
+        let place = self.count;
+        self.count = place.saturating_add(1);
+        place
+    }
+
+    /// Forgets all resources.
+    fn clear(&mut self) {
+        self.count = 0;
+        self.rest = NONE;
+        for rank in 0..self.rank_place.len() {
+            put(&mut self.rank_place, rank, NONE);
+        }
+    }
+
+    /// Adds the buses of the known ranks that have wires.
+    fn add_ranks(&mut self, spans: &Spans) {
+        for at in 0..spans.count {
+            let rank = spans.range(at).rank;
+            if rank != REST {
+                let place = self.add();
+                put(&mut self.rank_place, rank, place);
+            }
+        }
+    }
+
+    /// Adds the spare wires, where there are any.
+    fn add_rest(&mut self, spans: &Spans) {
+        self.spare = spans.spare as u64;
+        if self.spare > 0 {
+            self.rest = self.add();
+        }
+    }
+
+    /// Adds lists.
+    fn add_lists(&mut self, chosen: &Chosen) {
+        self.lists_from = self.count;
+        self.listed = chosen.count;
+        self.count = self.count.saturating_add(chosen.count);
+        for at in 0..chosen.count {
+            put(&mut self.list_at, at, chosen.at(at));
+        }
+    }
+
+    /// Becomes the resources of a case, with lists.
+    pub fn take(&mut self, spans: &Spans, chosen: &Chosen) {
+        self.clear();
+        self.add_ranks(spans);
+        self.add_rest(spans);
+        self.add_lists(chosen);
+    }
+
+    /// How much there is of a resource: spare wires, tests of a list that are active together at most; 1 for a bus.
+    fn room(&self, lists: &Lists, place: usize) -> u64 {
+        if place == self.rest {
+            return self.spare;
+        }
+        if place < self.lists_from {
+            return 1;
+        }
+        lists.room(self.list(place.saturating_sub(self.lists_from)))
+    }
+
+    /// The part of one unit of a resource.
+    fn ratio(&self, lists: &Lists, parts: &[i64], place: usize) -> u128 {
+        let part = u128::from(number_of(item_or(parts, place, 0)));
+        let room = u128::from(self.room(lists, place));
+        part.saturating_mul(FINE).checked_div(room).unwrap_or(0)
+    }
+
+    /// The greatest part of one unit of any resource, at least 1.
+    fn greatest(&self, lists: &Lists, parts: &[i64]) -> u128 {
+        let mut greatest: u128 = 1;
+        for place in 0..self.count {
+            greatest = greatest.max(self.ratio(lists, parts, place));
+        }
+        greatest
+    }
+
+    /// The weight of a unit of a resource, where that of the greatest part has the greatest weight.
+    fn weight(&self, lists: &Lists, parts: &[i64], place: usize, greatest: u128) -> u64 {
+        let ratio = self.ratio(lists, parts, place);
+        let product = ratio.saturating_mul(u128::from(WEIGHT_MOST));
+        let weight = product.checked_div(greatest).unwrap_or(0);
+        u64::try_from(weight).unwrap_or(WEIGHT_MOST)
+    }
+
+    /// Writes the weights of the buses of the known ranks.
+    fn weigh_ranks(
+        &self,
+        lists: &Lists,
+        parts: &[i64],
+        known: usize,
+        greatest: u128,
+        weights: &mut Weighing,
+    ) {
+        for rank in 0..known {
+            let place = self.of_rank(rank);
+            if place != NONE {
+                let weight = self.weight(lists, parts, place, greatest);
+                put(&mut weights.ranks, rank, weight);
+            }
+        }
+    }
+
+    /// Adds the weights of the lists.
+    fn weigh_lists(&self, lists: &Lists, parts: &[i64], greatest: u128, weights: &mut Weighing) {
+        for at in 0..self.listed {
+            let place = self.lists_from.saturating_add(at);
+            let weight = self.weight(lists, parts, place, greatest);
+            weights.add_list(self.list(at), weight);
+        }
+    }
+
+    /// Writes parts as the weights of a leaf that has so many known ranks.
+    pub fn weigh(&self, lists: &Lists, parts: &[i64], known: usize, weights: &mut Weighing) {
+        weights.clear();
+        let greatest = self.greatest(lists, parts);
+        self.weigh_ranks(lists, parts, known, greatest, weights);
+        if self.rest != NONE {
+            weights.wire = self.weight(lists, parts, self.rest, greatest);
+        }
+        self.weigh_lists(lists, parts, greatest, weights);
+    }
+
+    /// Writes the weights of the buses of the known ranks as parts.
+    fn part_ranks(&self, known: usize, weights: &Weighing, parts: &mut [i64]) {
+        for rank in 0..known {
+            let weight = item_or(&weights.ranks, rank, 0);
+            put(parts, self.of_rank(rank), part_of(weight));
+        }
+    }
+
+    /// Writes the weights of the lists as parts.
+    fn part_lists(&self, lists: &Lists, weights: &Weighing, parts: &mut [i64]) {
+        for at in 0..weights.count {
+            let room = lists.room(item_or(&weights.lists, at, NONE));
+            let weight = item_or(&weights.uses, at, 0).saturating_mul(room);
+            let place = self.lists_from.saturating_add(at);
+            put(parts, place, part_of(weight));
+        }
+    }
+
+    /// Writes the weights of a leaf that has so many known ranks as parts; all is the first one's where all weights are 0. The
+    /// lists of the weights are the first ones of the resources.
+    pub fn share(&self, lists: &Lists, known: usize, weights: &Weighing, parts: &mut [i64]) {
+        clear_parts(parts);
+        self.part_ranks(known, weights, parts);
+        let wires = weights.wire.saturating_mul(self.spare);
+        put(parts, self.rest, part_of(wires));
+        self.part_lists(lists, weights, parts);
+        normalize(parts, self.count);
+    }
+}

@@ -1,0 +1,106 @@
+//! What tests use of the lists of power, on each width.
+
+use crate::facts::Facts;
+use crate::lists::Lists;
+use crate::power::power_use;
+use crate::slots::short_part;
+use crate::tables::item_or;
+use outside::{NoMemory, push};
+use std::alloc::Global;
+
+/// Uses in the table, at most, where it is of more lists than one.
+const USES_MOST: usize = 1 << 22;
+
+/// What tests use of the lists of power, which are the first lists.
+#[derive(Drop)]
+pub(crate) struct Powers {
+    /// How many of the lists these are: others aren't weighed.
+    pub count: usize,
+    tests: usize,
+    wires: usize,
+    /// The use in cycles at [(list * tests + test) * wires + width - 1].
+    uses: Vec<u64>,
+    /// The same as shares.
+    shares: Vec<u32>,
+}
+
+/// The use of a list of power by a test of so many cycles.
+#[derive(Clone, Copy)]
+struct Used {
+    time: u64,
+    cycles: u64,
+    share: u32,
+}
+
+/// The use of a list by a test of so many cycles, which is the last one where that took as many.
+fn use_of(facts: &Facts, near: u64, test: usize, time: u64, last: Used) -> Used {
+    if time == last.time {
+        return last;
+    }
+    let cycles = power_use(facts, near, test, time);
+    let share = short_part(cycles, facts.cap);
+    Used {
+        time,
+        cycles,
+        share,
+    }
+}
+
+impl Powers {
+    /// The uses of lists, all of power: of the first ones, where the table would be too long for all. `NoMemory` where there is
+    /// none.
+    pub fn new(alloc: Global, facts: &Facts, lists: &Lists) -> Result<Powers, NoMemory> {
+        let rows = facts.tests.saturating_mul(facts.wires);
+        let most = USES_MOST.checked_div(rows).unwrap_or(0).max(1);
+        let count = lists.count.min(most);
+        let mut powers = Powers {
+            count,
+            tests: facts.tests,
+            wires: facts.wires,
+            uses: Vec::new(alloc),
+            shares: Vec::new(alloc),
+        };
+        for list in 0..count {
+            powers.push_list(facts, lists.number_of(list))?;
+        }
+        Ok(powers)
+    }
+
+    fn push_list(&mut self, facts: &Facts, near: u64) -> Result<(), NoMemory> {
+        for test in 0..facts.tests {
+            self.push_test(facts, near, test)?;
+        }
+        Ok(())
+    }
+
+    fn push_test(&mut self, facts: &Facts, near: u64, test: usize) -> Result<(), NoMemory> {
+        let mut last = Used {
+            time: u64::MAX,
+            cycles: 0,
+            share: 0,
+        };
+        for place in 0..facts.wires {
+            let time = facts.time_at(test, place.saturating_add(1));
+            last = use_of(facts, near, test, time, last);
+            push(&mut self.uses, last.cycles)?;
+            push(&mut self.shares, last.share)?;
+        }
+        Ok(())
+    }
+
+    fn place(&self, list: usize, test: usize, width: usize) -> usize {
+        let row = list.saturating_mul(self.tests).saturating_add(test);
+        let place = row.saturating_mul(self.wires).saturating_add(width);
+        place.saturating_sub(1)
+    }
+
+    /// The use of a list by a test on a width of at least 1, in cycles.
+    pub fn use_at(&self, list: usize, test: usize, width: usize) -> u64 {
+        item_or(&self.uses, self.place(list, test, width), 0)
+    }
+
+    /// The same as a share.
+    pub fn share_at(&self, list: usize, test: usize, width: usize) -> u64 {
+        u64::from(item_or(&self.shares, self.place(list, test, width), 0))
+    }
+}
