@@ -1,7 +1,8 @@
 //! A case of a proof: intervals of widths for the first ranks of a ranking, and the ranks that each wired module may be on.
 
-use crate::marks::{mark, marked, unmark, wipe};
-use crate::tables::{item_or, put};
+use crate::marks::{mark, marked, unmark};
+use crate::tables::{filled, item_or, put};
+use crate::weights::wipe;
 use outside::NoMemory;
 use std::alloc::Global;
 
@@ -39,11 +40,11 @@ fn allow_rest(rest: &mut [bool]) {
 impl Case {
     /// The case in which no rank is known. `NoMemory` where there is none.
     pub fn new(alloc: Global, wires: usize, modules: usize) -> Result<Case, NoMemory> {
-        let low = vec![in alloc; 0usize; RANKS_MOST].map_err(|_| NoMemory)?;
-        let high = vec![in alloc; 0usize; RANKS_MOST].map_err(|_| NoMemory)?;
+        let low = filled(alloc, 0usize, RANKS_MOST)?;
+        let high = filled(alloc, 0usize, RANKS_MOST)?;
         let room = modules.saturating_mul(WORDS);
-        let may = vec![in alloc; 0u64; room].map_err(|_| NoMemory)?;
-        let rest = vec![in alloc; true; modules].map_err(|_| NoMemory)?;
+        let may = filled(alloc, 0u64, room)?;
+        let rest = filled(alloc, true, modules)?;
         Ok(Case {
             wires,
             modules,

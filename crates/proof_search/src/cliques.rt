@@ -4,8 +4,9 @@
 use crate::facts::Facts;
 use crate::graph::Graph;
 use crate::levels::{Classes, Levels};
-use crate::marks::{first_mark, mark, marked, sum_of, unmark, wipe};
-use crate::tables::{NONE, item_or, put};
+use crate::marks::{first_mark, mark, marked, sum_of, unmark};
+use crate::tables::{NONE, filled, item_or, put};
+use crate::weights::wipe;
 use outside::NoMemory;
 use std::alloc::Global;
 
@@ -33,7 +34,7 @@ impl Cliques {
         let graph = Graph::new(alloc, facts)?;
         let levels = Levels::new(alloc, facts)?;
         let classes = Classes::new(alloc, facts)?;
-        let found = vec![in alloc; 0u64; facts.words].map_err(|_| NoMemory)?;
+        let found = filled(alloc, 0u64, facts.words)?;
         Ok(Cliques {
             graph,
             levels,

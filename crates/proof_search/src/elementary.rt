@@ -5,7 +5,7 @@ use crate::facts::Facts;
 use crate::lists::{Chosen, Kind, Lists};
 use crate::marks::{mark, marked};
 use crate::separating::Separating;
-use crate::tables::{NONE, item_or, put};
+use crate::tables::{NONE, filled, item_or, put};
 use outside::{NoMemory, copied};
 use std::alloc::Global;
 
@@ -40,7 +40,7 @@ fn least_time(facts: &Facts, test: usize) -> u64 {
 
 /// The cycles that each live test takes at least.
 fn least_times(alloc: Global, facts: &Facts) -> Result<Vec<u64>, NoMemory> {
-    let mut times = vec![in alloc; 0u64; facts.tests].map_err(|_| NoMemory)?;
+    let mut times = filled(alloc, 0u64, facts.tests)?;
     for test in 0..facts.tests {
         let time = least_time(facts, test);
         put(&mut times, test, time);
@@ -118,7 +118,7 @@ fn add_family(
     chosen: &mut Chosen,
 ) -> Result<(), NoMemory> {
     let family = longest_family(facts, times, with_parent);
-    let mut members = vec![in alloc; 0u64; facts.words].map_err(|_| NoMemory)?;
+    let mut members = filled(alloc, 0u64, facts.words)?;
     mark_family(facts, family, &mut members);
     let list = lists.add(facts, Kind::Turns, 1, &members);
     chosen.add(list);
@@ -153,7 +153,7 @@ fn lengthen_all(facts: &Facts, times: &[u64], chains: &mut Chains) -> bool {
 /// The chains that take longest.
 fn longest_chains(alloc: Global, facts: &Facts, times: &[u64]) -> Result<Chains, NoMemory> {
     let long = copied(alloc, times)?;
-    let last = vec![in alloc; NONE; facts.tests].map_err(|_| NoMemory)?;
+    let last = filled(alloc, NONE, facts.tests)?;
     let mut chains = Chains { long, last };
     for _ in 0..facts.tests {
         if !lengthen_all(facts, times, &mut chains) {
@@ -195,7 +195,7 @@ fn add_chain(
     chosen: &mut Chosen,
 ) -> Result<(), NoMemory> {
     let chains = longest_chains(alloc, facts, times)?;
-    let mut members = vec![in alloc; 0u64; facts.words].map_err(|_| NoMemory)?;
+    let mut members = filled(alloc, 0u64, facts.words)?;
     mark_chain(facts, &chains, longest_end(facts, &chains), &mut members);
     let list = lists.add(facts, Kind::Turns, 1, &members);
     chosen.add(list);
@@ -204,7 +204,7 @@ fn add_chain(
 
 /// Cycles as weights.
 fn weights_of(alloc: Global, times: &[u64]) -> Result<Vec<i64>, NoMemory> {
-    let mut weights = vec![in alloc; 0i64; times.len()].map_err(|_| NoMemory)?;
+    let mut weights = filled(alloc, 0i64, times.len())?;
     for test in 0..times.len() {
         let weight = i64::try_from(times[test]).unwrap_or(i64::MAX >> 1);
         put(&mut weights, test, weight);

@@ -4,7 +4,7 @@
 use crate::facts::Facts;
 use crate::graph::Graph;
 use crate::marks::{first_mark, unmark};
-use crate::tables::{item_or, put};
+use crate::tables::{filled, item_or, put};
 use outside::NoMemory;
 use std::alloc::Global;
 
@@ -61,14 +61,14 @@ impl Levels {
         let most = facts.tests.saturating_add(1);
         let room = most.saturating_mul(facts.words);
         let entries = most.saturating_mul(most).min(ENTRIES_MOST);
-        let allowed = vec![in alloc; 0u64; room].map_err(|_| NoMemory)?;
-        let common = vec![in alloc; 0u64; room].map_err(|_| NoMemory)?;
-        let sum = vec![in alloc; 0i64; most].map_err(|_| NoMemory)?;
-        let tried = vec![in alloc; 0usize; most].map_err(|_| NoMemory)?;
-        let first = vec![in alloc; 0usize; most].map_err(|_| NoMemory)?;
-        let left = vec![in alloc; 0usize; most].map_err(|_| NoMemory)?;
-        let vertex = vec![in alloc; 0usize; entries].map_err(|_| NoMemory)?;
-        let bound = vec![in alloc; 0i64; entries].map_err(|_| NoMemory)?;
+        let allowed = filled(alloc, 0u64, room)?;
+        let common = filled(alloc, 0u64, room)?;
+        let sum = filled(alloc, 0i64, most)?;
+        let tried = filled(alloc, 0usize, most)?;
+        let first = filled(alloc, 0usize, most)?;
+        let left = filled(alloc, 0usize, most)?;
+        let vertex = filled(alloc, 0usize, entries)?;
+        let bound = filled(alloc, 0i64, entries)?;
         Ok(Levels {
             depth: 0,
             allowed,
@@ -95,8 +95,8 @@ impl Levels {
 impl Classes {
     /// Room for the classes of a chip's graphs. `NoMemory` where there is none.
     pub fn new(alloc: Global, facts: &Facts) -> Result<Classes, NoMemory> {
-        let left = vec![in alloc; 0u64; facts.words].map_err(|_| NoMemory)?;
-        let free = vec![in alloc; 0u64; facts.words].map_err(|_| NoMemory)?;
+        let left = filled(alloc, 0u64, facts.words)?;
+        let free = filled(alloc, 0u64, facts.words)?;
         Ok(Classes {
             left,
             free,

@@ -2,7 +2,7 @@
 
 use crate::facts::Facts;
 use crate::marks::{mark, marked};
-use crate::tables::{NONE, item_or, put};
+use crate::tables::{NONE, filled, item_or, put};
 use outside::NoMemory;
 use std::alloc::Global;
 
@@ -55,10 +55,10 @@ impl Lists {
     /// Room for the lists of a chip; there are none yet. `NoMemory` where there is none.
     pub fn new(alloc: Global, facts: &Facts) -> Result<Lists, NoMemory> {
         let room = LISTS_MOST.saturating_mul(facts.words);
-        let kind = vec![in alloc; Kind::Power; LISTS_MOST].map_err(|_| NoMemory)?;
-        let number = vec![in alloc; 0u64; LISTS_MOST].map_err(|_| NoMemory)?;
-        let members = vec![in alloc; 0u64; room].map_err(|_| NoMemory)?;
-        let apart = vec![in alloc; 0u64; room].map_err(|_| NoMemory)?;
+        let kind = filled(alloc, Kind::Power, LISTS_MOST)?;
+        let number = filled(alloc, 0u64, LISTS_MOST)?;
+        let members = filled(alloc, 0u64, room)?;
+        let apart = filled(alloc, 0u64, room)?;
         Ok(Lists {
             count: 0,
             words: facts.words,
@@ -173,7 +173,7 @@ pub(crate) struct Chosen {
 impl Chosen {
     /// Room for lists; none is chosen yet. `NoMemory` where there is none.
     pub fn new(alloc: Global) -> Result<Chosen, NoMemory> {
-        let places = vec![in alloc; NONE; LISTS_MOST].map_err(|_| NoMemory)?;
+        let places = filled(alloc, NONE, LISTS_MOST)?;
         Ok(Chosen { count: 0, places })
     }
 

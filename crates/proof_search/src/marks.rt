@@ -2,11 +2,6 @@
 
 use crate::tables::{item_or, put};
 
-/// The words of a row of marks for so many places.
-pub(crate) fn words_for(places: usize) -> usize {
-    places.div_ceil(64)
-}
-
 /// Whether a place is marked in the row that begins at a word.
 pub(crate) fn marked(rows: &[u64], from: usize, place: usize) -> bool {
     let word = item_or(rows, from.saturating_add(place >> 6), 0);
@@ -50,11 +45,4 @@ pub(crate) fn sum_of(counts: &[i64], word: usize, marks: u64) -> i64 {
         left = without_first(left);
     }
     sum
-}
-
-/// Unmarks all places.
-pub(crate) fn wipe(rows: &mut [u64]) {
-    for word in 0..rows.len() {
-        rows[word] = 0;
-    }
 }

@@ -1,7 +1,7 @@
 //! A mix of slots: how long tests are tested where each module is shared out among slots.
 
 use crate::facts::Facts;
-use crate::tables::ONE;
+use crate::tables::{ONE, filled};
 use outside::NoMemory;
 use std::alloc::Global;
 
@@ -22,8 +22,8 @@ impl Mix {
     /// Room for the mixes of a chip. `NoMemory` where there is none.
     pub fn new(alloc: Global, facts: &Facts) -> Result<Mix, NoMemory> {
         let room = facts.tests.saturating_mul(facts.wires);
-        let on_all = vec![in alloc; 0i64; facts.tests].map_err(|_| NoMemory)?;
-        let on_rank = vec![in alloc; 0i64; room].map_err(|_| NoMemory)?;
+        let on_all = filled(alloc, 0i64, facts.tests)?;
+        let on_rank = filled(alloc, 0i64, room)?;
         Ok(Mix {
             on_all,
             on_rank,

@@ -2,7 +2,8 @@
 
 use crate::facts::Facts;
 use crate::lists::{Kind, LISTS_MOST, Lists};
-use crate::tables::{NONE, item_or, put};
+use crate::tables::{NONE, filled, item_or, put};
+use crate::weights::wipe;
 use outside::NoMemory;
 use std::alloc::Global;
 
@@ -31,13 +32,6 @@ pub(crate) struct Pays {
     paying: Vec<bool>,
 }
 
-/// Makes all numbers 0.
-fn clear_numbers(numbers: &mut [u64]) {
-    for place in 0..numbers.len() {
-        numbers[place] = 0;
-    }
-}
-
 /// Makes all tests false.
 fn clear_tests(tests: &mut [bool]) {
     for place in 0..tests.len() {
@@ -55,12 +49,12 @@ impl Pays {
     /// Room for the leaves of a chip. `NoMemory` where there is none.
     pub fn new(alloc: Global, facts: &Facts) -> Result<Pays, NoMemory> {
         let room = facts.tests.saturating_mul(RANKS_MOST);
-        let member = vec![in alloc; 0u64; facts.tests].map_err(|_| NoMemory)?;
-        let on_rank = vec![in alloc; false; RANKS_MOST].map_err(|_| NoMemory)?;
-        let rank = vec![in alloc; 0u64; room].map_err(|_| NoMemory)?;
-        let power = vec![in alloc; NONE; LISTS_MOST].map_err(|_| NoMemory)?;
-        let power_pay = vec![in alloc; 0u64; LISTS_MOST].map_err(|_| NoMemory)?;
-        let paying = vec![in alloc; false; facts.modules].map_err(|_| NoMemory)?;
+        let member = filled(alloc, 0u64, facts.tests)?;
+        let on_rank = filled(alloc, false, RANKS_MOST)?;
+        let rank = filled(alloc, 0u64, room)?;
+        let power = filled(alloc, NONE, LISTS_MOST)?;
+        let power_pay = filled(alloc, 0u64, LISTS_MOST)?;
+        let paying = filled(alloc, false, facts.modules)?;
         Ok(Pays {
             tests: facts.tests,
             member,
@@ -76,7 +70,7 @@ impl Pays {
 
     /// Nothing is paid.
     pub fn clear(&mut self) {
-        clear_numbers(&mut self.member);
+        wipe(&mut self.member);
         clear_tests(&mut self.on_rank);
         self.any_rank = false;
         self.power_count = 0;

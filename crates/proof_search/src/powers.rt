@@ -2,7 +2,7 @@
 
 use crate::facts::Facts;
 use crate::lists::{Chosen, Kind, Lists};
-use crate::tables::item_or;
+use crate::tables::{filled, item_or};
 use outside::{NoMemory, push};
 use std::alloc::Global;
 
@@ -82,7 +82,7 @@ pub(crate) fn first_lists(
     if facts.limit == 0 {
         return Ok(());
     }
-    let none = vec![in alloc; 0u64; facts.words].map_err(|_| NoMemory)?;
+    let none = filled(alloc, 0u64, facts.words)?;
     let list = lists.add(facts, Kind::Power, 0, &none);
     chosen.add(list);
     let nears = all_nears(alloc, facts)?;

@@ -4,9 +4,10 @@ use crate::cliques::Cliques;
 use crate::crowds::Crowds;
 use crate::facts::Facts;
 use crate::lists::{Chosen, Kind, Lists};
-use crate::marks::{mark, sum_of, wipe};
+use crate::marks::{mark, sum_of};
 use crate::mix::Mix;
-use crate::tables::{item_or, put};
+use crate::tables::{filled, item_or, put};
+use crate::weights::wipe;
 use outside::NoMemory;
 use std::alloc::Global;
 
@@ -46,8 +47,8 @@ impl Separating {
     pub fn new(alloc: Global, facts: &Facts) -> Result<Separating, NoMemory> {
         let cliques = Cliques::new(alloc, facts)?;
         let crowds = Crowds::new(alloc, facts)?;
-        let open = vec![in alloc; 0u64; facts.words].map_err(|_| NoMemory)?;
-        let near = vec![in alloc; 0u64; facts.words].map_err(|_| NoMemory)?;
+        let open = filled(alloc, 0u64, facts.words)?;
+        let near = filled(alloc, 0u64, facts.words)?;
         Ok(Separating {
             cliques,
             crowds,
