@@ -316,10 +316,10 @@ impl Room {
         self.board.hold(chip, &self.drafts.trial, claim)
     }
 
-    /// The fewest digits with which the weights hold at a claim.
-    pub fn digits_at(&mut self, chip: &Chip, claim: u64) -> u32 {
+    /// The fewest digits, `from` at least, with which the weights hold at a claim.
+    pub fn digits_at(&mut self, chip: &Chip, claim: u64, from: u32) -> u32 {
         let most = self.drafts.weights.greatest();
-        for digits in 1..DIGITS_MOST {
+        for digits in from..DIGITS_MOST {
             if self.hold_with(chip, most, digits, claim) {
                 return digits;
             }

@@ -32,6 +32,8 @@ const ROUNDS: usize = 6;
 const NODES_MOST: u64 = 180_000;
 /// Room for the weights of all nodes.
 const POOL_MOST: usize = 1 << 20;
+/// With fewer digits the weights of an open case hardly hold at all that they are worth, and are not tried.
+const OPEN_DIGITS: u32 = 4;
 /// The nodes that a division adds, at most.
 const MORE_MOST: usize = 4;
 
@@ -161,11 +163,9 @@ impl Search {
 
     /// Adds the case at hand to the tree.
     fn add(&mut self, parent: usize, second: bool, worth: Worth) {
-        let mut digits = u32::MAX;
         let open = worth.value < self.chip.facts.goal;
-        if !open {
-            digits = self.room.digits_at(&self.chip, worth.value);
-        }
+        let from = if open { OPEN_DIGITS } else { 1 };
+        let digits = self.room.digits_at(&self.chip, worth.value, from);
         let node = self.add_leaf(digits);
         let entry = Entry {
             value: worth.value,
@@ -382,6 +382,9 @@ impl Search {
 
     /// Goes on until so many nodes are made, or nothing is left to do.
     pub fn go_on(&mut self, made: u64) {
+        if self.done {
+            return;
+        }
         for _ in 0..made {
             if self.done || self.tree.made as u64 >= made {
                 break;
@@ -401,7 +404,7 @@ impl Search {
         self.make_case(node);
         self.tree.load(node, self.room.set_weights());
         if self.room.take_case(&self.chip) {
-            let digits = self.room.digits_at(&self.chip, self.claim);
+            let digits = self.room.digits_at(&self.chip, self.claim, 1);
             self.tree.set_digits(node, self.room.weights(), digits);
         }
     }
