@@ -13,7 +13,8 @@ use Rattle.arch_search.specs.States.{IsTaken}
 use Rattle.arch_search.specs.Settings.{IsSetting}
 use Rattle.arch_search.specs.Rooms.{HasRoomFor}
 
-pub record IsSearch (s : Setting) (table : TableValue) (room : Room) (taken : List Taken) (less : List ℕ) (best current next : State) : Type 0 where
+pub record IsSearch (s : Setting) (table : TableValue) (room : Room) (taken : List Taken) (less : List ℕ)
+    (best current next : State) : Type 0 where
   pub setting : IsSetting s
   pub is_problem : IsProblem table.job s.problem.now
   pub is_sound : IsSoundTable table

@@ -112,7 +112,8 @@ fn push_test(
 ) -> Result<(), NoMemory>
     requires module_there { slice_get table.now.soc.modules place ≡ Some (module_value «module».now) }
     requires test_there { (k : ℕ) × (slice_get «module».now.tests.items k ≡ Some test.now) }
-    ensures timed { (modules : ℕ) → IfSome number (λ m. m < modules) → All (IsTimed table.now.wires modules) tests.old.items → OnOk result (All (IsTimed table.now.wires modules) tests.new.items) }
+    ensures timed { (modules : ℕ) → IfSome number (λ m. m < modules) → All (IsTimed table.now.wires modules) tests.old.items →
+        OnOk result (All (IsTimed table.now.wires modules) tests.new.items) }
     ensures count { OnOk result (length tests.new.items ≡ length tests.old.items + (if is_live test.now then 1 else 0)) }
 {
     if !live(test) {
@@ -132,7 +133,8 @@ fn push_tests(
     module: &Module,
 ) -> Result<(), NoMemory>
     requires module_there { slice_get table.now.soc.modules place ≡ Some (module_value «module».now) }
-    ensures timed { (modules : ℕ) → IfSome number (λ m. m < modules) → All (IsTimed table.now.wires modules) tests.old.items → OnOk result (All (IsTimed table.now.wires modules) tests.new.items) }
+    ensures timed { (modules : ℕ) → IfSome number (λ m. m < modules) → All (IsTimed table.now.wires modules) tests.old.items →
+        OnOk result (All (IsTimed table.now.wires modules) tests.new.items) }
     ensures count { OnOk result (length tests.new.items ≡ length tests.old.items + length (filter is_live «module».now.tests.items)) }
 {
     for test in &module.tests {

@@ -308,8 +308,8 @@ impl<'a> Search<'a> {
         )
     }
 
-    /// Tries an opening, then one change, or from time to time, where none has helped for long, several changes of a good state. What comes of
-    /// them is taken on where it takes no more cycles than now, and after several changes always.
+    /// Tries an opening, then one change, or from time to time, where none has helped for long, several changes of a good state. What
+    /// comes of them is taken on where it takes no more cycles than now, and after several changes always.
     fn try_once(&mut self)
         ensures { self.new ≤ self.old }
     {

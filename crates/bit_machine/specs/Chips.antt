@@ -147,8 +147,10 @@ loads_right stimulus (Some SelfTest) chains bits = false
 -- the captures at a cycle that find their whole stimulus as the cycle begins
 abbrev pub right_loads_at : Content → List PlannedTest → ℕ → State → ℕ
 right_loads_at content tests c state =
-    count_by (λ (p : PlannedTest × List (List Bool)). loads_right (content.stimulus p.0.id) (operation_at p.0 c) p.0.chains p.1) (zip tests state)
+    count_by (λ (p : PlannedTest × List (List Bool)). loads_right (content.stimulus p.0.id) (operation_at p.0 c) p.0.chains p.1)
+    (zip tests state)
 
 -- there is a bit for each cell of each chain of each test
 abbrev pub HasAllBits : List PlannedTest → State → Type 0
-HasAllBits tests state = map (map (λ (bits : List Bool). length bits)) state ≡ map (λ (t : PlannedTest). map (λ (cells : List Cell). length cells) t.chains) tests
+HasAllBits tests state = map (map (λ (bits : List Bool). length bits)) state
+    ≡ map (λ (t : PlannedTest). map (λ (cells : List Cell). length cells) t.chains) tests

@@ -36,7 +36,8 @@ IsPageWord base page loads word = (i : ℕ) → i < 64 → is_set word i ≡ loa
 -- there is a word of its page for each chain
 pub record ArePages (lane : Lane) : Type 0 where
   pub many : length lane.pages.items ≡ length lane.paths.items
-  pub each : (page : Page) → lane.page ≡ Some page → (j : ℕ) (p : Path) → slice_get lane.paths.items j ≡ Some p → IsPageWord lane.base page p.loads (slice_index lane.pages.items j)
+  pub each : (page : Page) → lane.page ≡ Some page → (j : ℕ) (p : Path) → slice_get lane.paths.items j ≡ Some p →
+      IsPageWord lane.base page p.loads (slice_index lane.pages.items j)
 
 -- a live test that can be stepped
 pub record IsReady (lane : Lane) : Type 0 where

@@ -95,7 +95,8 @@ pub record HasWire (m : Machine) (w : ℕ) (l : Lane) : Type 0 where
 
 -- no test uses the wire at this cycle
 abbrev pub HasNoUser : Machine → ℕ → Type 0
-HasNoUser m w = (content : Content) (tests : List PlannedTest) → IsMachine content tests m → (i : ℕ) (t : PlannedTest) → IsAt tests i t → uses m.cycle w t ≡ true → ⊥
+HasNoUser m w = (content : Content) (tests : List PlannedTest) → IsMachine content tests m → (i : ℕ) (t : PlannedTest) → IsAt tests i t →
+    uses m.cycle w t ≡ true → ⊥
 
 -- what one wire's chains do in a cycle: the chain on the wire takes a step, the others stay
 pub record IsWireStep (content : Content) (tests : List PlannedTest) (c w : ℕ) (drive : Bool) (old new : State) : Type 0 where
@@ -111,7 +112,8 @@ pub record AreWireSteps (content : Content) (tests : List PlannedTest) (c w : �
 
 -- the test whose bus begins with the wire captures at the cycle, and whether it finds its stimulus; none where no such test does
 pub record IsWireCapture (content : Content) (tests : List PlannedTest) (c w : ℕ) (state : State) (found : Option Bool) : Type 0 where
-  pub some : (b : Bool) → found ≡ Some b → (i : ℕ) × (t : PlannedTest) × IsAt tests i t × (t.first_wire ≡ w) × (is_capture (operation_at t c) ≡ true)
+  pub some : (b : Bool) → found ≡ Some b → (i : ℕ) × (t : PlannedTest) × IsAt tests i t × (t.first_wire ≡ w)
+      × (is_capture (operation_at t c) ≡ true)
       × (loads_right (content.stimulus t.id) (operation_at t c) t.chains (get_or state i []) ≡ b)
   pub none : found ≡ None → (i : ℕ) (t : PlannedTest) → IsAt tests i t → t.first_wire ≡ w → is_capture (operation_at t c) ≡ true → ⊥
 
@@ -136,7 +138,8 @@ IsLaneUnchanged c change l = IsUnchanged c change l.start × IsUnchanged c chang
 -- the users among the tests below a place
 pub record AreUsersBelow (tests : List PlannedTest) (c p : ℕ) (users : List (Option ℕ)) : Type 0 where
   pub user : (w i : ℕ) → slice_get users w ≡ Some (Some i) → (t : PlannedTest) × IsAt tests i t × (uses c w t ≡ true)
-  pub every : (w i : ℕ) (t : PlannedTest) → i < p → w < length users → IsAt tests i t → uses c w t ≡ true → slice_get users w ≡ Some (Some i)
+  pub every : (w i : ℕ) (t : PlannedTest) → i < p → w < length users → IsAt tests i t → uses c w t ≡ true →
+      slice_get users w ≡ Some (Some i)
 
 -- the bit says whether a response bit is read on the wire
 pub record IsMark (tests : List PlannedTest) (c w : ℕ) (b : Bool) : Type 0 where

@@ -27,7 +27,8 @@ pub record IsPath (inputs : ℕ) (lengths : List ℕ) (cells : List Cell) (p : P
   pub loads_long : length p.loads ≡ in_length cells
   pub load : (r : ℕ) → r < in_length cells → slice_index p.loads r ≡ stimulus_place inputs lengths (get_or cells r (In 0))
   pub answers_long : length p.answers ≡ out_length cells
-  pub answer : (r q : ℕ) → r + out_length cells ≡ length cells + q → r < length cells → slice_index p.answers q ≡ response_place lengths (get_or cells r (In 0))
+  pub answer : (r q : ℕ) → r + out_length cells ≡ length cells + q → r < length cells →
+      slice_index p.answers q ≡ response_place lengths (get_or cells r (In 0))
 
 -- the bits of a path
 abbrev pub path_bits : Path → List Bool

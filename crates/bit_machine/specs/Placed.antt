@@ -25,7 +25,8 @@ pub record IsSelfLane (placed : PlacedTest) (l : Lane) : Type 0 where
   pub pages : length l.pages.items ≡ 0
 
 -- the lane of a test over the wires of a bus; `at` is its place in its module
-pub record IsWiredLane (plan : PlanValue) (seed : ℕ) (placed : PlacedTest) (bus at : ℕ) (m : ModuleValue) (test : Test) (l : Lane) : Type 0 where
+pub record IsWiredLane (plan : PlanValue) (seed : ℕ) (placed : PlacedTest) (bus at : ℕ) (m : ModuleValue) (test : Test)
+    (l : Lane) : Type 0 where
   pub tam : l.tam ≡ true
   pub base : l.base ≡ (seed + 31 * placed.place + 17 * at) % 997
   pub start_is : l.start ≡ placed.start
@@ -36,7 +37,8 @@ pub record IsWiredLane (plan : PlanValue) (seed : ℕ) (placed : PlacedTest) (bu
   pub patterns : l.phases.patterns ≡ test.patterns
   pub first_wire : l.first_wire ≡ sum (take bus (widths plan))
   pub width : l.width ≡ slice_index (widths plan) bus
-  pub paths : AreNewPaths (m.inputs + m.bidirs) (scan_lengths m test.scan) (chains_of plan m test) (length (chains_of plan m test)) l.paths.items
+  pub paths : AreNewPaths (m.inputs + m.bidirs) (scan_lengths m test.scan) (chains_of plan m test)
+      (length (chains_of plan m test)) l.paths.items
   pub page : l.page ≡ None
   pub pages : length l.pages.items ≡ length l.paths.items
 

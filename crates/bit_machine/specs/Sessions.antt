@@ -19,12 +19,14 @@ zero_bits cells = map (map (λ x. false)) cells
 
 -- a module in a wrapper of a mode, before any cycle
 abbrev pub at_rest : ModuleValue → Bool → List ChainValue → SessionValue
-at_rest m scan chains = record { lengths = scan_lengths m scan; cells = chain_cells m scan chains; bits = zero_bits (chain_cells m scan chains) }
+at_rest m scan chains =
+    record { lengths = scan_lengths m scan; cells = chain_cells m scan chains; bits = zero_bits (chain_cells m scan chains) }
 
 -- the bits of the chains after one operation of a test that answers `response`, with the bit `drive j` on the wire of chain `j`
 abbrev pub after : (response : ℕ → Cell → Bool) → Operation → (drive : ℕ → Bool) → SessionValue → List (List Bool)
 after response operation drive s =
-    map (λ j. next_bits response (slice_index_or s.cells j []) (Some operation) (drive j) (slice_index_or s.bits j [])) (range_with_len 0 (length s.cells))
+    map (λ j. next_bits response (slice_index_or s.cells j []) (Some operation) (drive j) (slice_index_or s.bits j []))
+    (range_with_len 0 (length s.cells))
 
 -- where a cell's bit stands in a response: the cells of the scan chains by scan chain and place, then the output cells
 abbrev pub response_place : (lengths : List ℕ) → Cell → ℕ

@@ -32,7 +32,8 @@ byte_at text wires row column = slice_get text (row * (2 * wires + 2) + column)
 pub record IsLineOf (content : Content) (tests : List PlannedTest) (wires cycle row : ℕ) (text : List ℕ) : Type 0 where
   pub driven : (w : ℕ) → w < wires → byte_at text wires row w ≡ Some (digit (carried content tests cycle w))
   pub space : byte_at text wires row wires ≡ Some 32
-  pub reads : (i k w : ℕ) (t : PlannedTest) (x : Cell) → IsAt tests i t → IsReadAt t k x cycle w → byte_at text wires row (wires + 1 + w) ≡ Some (digit (content.response t.id k x))
+  pub reads : (i k w : ℕ) (t : PlannedTest) (x : Cell) → IsAt tests i t → IsReadAt t k x cycle w →
+      byte_at text wires row (wires + 1 + w) ≡ Some (digit (content.response t.id k x))
   pub rest : (w : ℕ) → w < wires → (IsCompared tests cycle w → ⊥) → byte_at text wires row (wires + 1 + w) ≡ Some 45
   pub feed : byte_at text wires row (wires + 1 + wires) ≡ Some 10
 
@@ -71,7 +72,8 @@ pub record ArePutDown (wires row count column : ℕ) (byte : ℕ → ℕ) (old n
 pub record ArePutAcross (wires row column count byte : ℕ) (old new : List ℕ) : Type 0 where
   pub long : length new ≡ length old
   pub put : (c : ℕ) → column ≤ c → c < column + count → byte_at new wires row c ≡ Some byte
-  pub others : (r c : ℕ) → c < 2 * wires + 2 → (r ≢ row) ⊎ ((c < column) ⊎ (column + count ≤ c)) → byte_at new wires r c ≡ byte_at old wires r c
+  pub others : (r c : ℕ) → c < 2 * wires + 2 → (r ≢ row) ⊎ ((c < column) ⊎ (column + count ≤ c)) →
+      byte_at new wires r c ≡ byte_at old wires r c
 
 -- no other line was changed
 abbrev pub AreOtherRowsKept : (wires row : ℕ) (old new : List ℕ) → Type 0
@@ -99,19 +101,24 @@ AreShifts p n ahead behind count = (i : ℕ) → i < count → IsMoment p (n + i
 
 -- the bits that a chain loads in a stretch are driven in a column where nothing was driven
 abbrev pub IsDriven : (base : ℕ) (p : Path) (wires row count column : ℕ) (ahead : Option Turn) (old new : List ℕ) → Type 0
-IsDriven base p wires row count column ahead old new = (inputs : ℕ) (lengths : List ℕ) (cells : List Cell) → IsPath inputs lengths cells p → (i : ℕ) → i < count → byte_at old wires (row + i) column ≡ Some 48 →
-    byte_at new wires (row + i) column ≡ Some (digit (wanted_by (path_stimulus base inputs lengths) cells (option_map turn_value (earlier i ahead))))
+IsDriven base p wires row count column ahead old new = (inputs : ℕ) (lengths : List ℕ) (cells : List Cell) → IsPath inputs lengths cells p →
+    (i : ℕ) → i < count → byte_at old wires (row + i) column ≡ Some 48 →
+    byte_at new wires (row + i) column ≡ Some (digit (wanted_by (path_stimulus base inputs lengths) cells
+    (option_map turn_value (earlier i ahead))))
 
 -- the bits that are read of it stand in a column, and where none is read nothing was put
 pub record IsRead (base : ℕ) (p : Path) (wires row count column : ℕ) (behind : Option Turn) (old new : List ℕ) : Type 0 where
-  pub read : (inputs : ℕ) (lengths : List ℕ) (cells : List Cell) → IsPath inputs lengths cells p → (i s k : ℕ) → i < count → option_map turn_value (later i behind) ≡ Some (s, k) → s < out_length cells →
+  pub read : (inputs : ℕ) (lengths : List ℕ) (cells : List Cell) → IsPath inputs lengths cells p → (i s k : ℕ) → i < count →
+      option_map turn_value (later i behind) ≡ Some (s, k) → s < out_length cells →
       byte_at new wires (row + i) column ≡ Some (digit (path_response base lengths k (from_end cells s)))
-  pub unread : (inputs : ℕ) (lengths : List ℕ) (cells : List Cell) → IsPath inputs lengths cells p → (i : ℕ) → i < count → is_answered cells (option_map turn_value (later i behind)) ≡ false →
+  pub unread : (inputs : ℕ) (lengths : List ℕ) (cells : List Cell) → IsPath inputs lengths cells p → (i : ℕ) → i < count →
+      is_answered cells (option_map turn_value (later i behind)) ≡ false →
       byte_at new wires (row + i) column ≡ byte_at old wires (row + i) column
 
 -- nothing was put elsewhere than in one column of some lines
 abbrev pub IsKeptElsewhere : (wires row count column : ℕ) (old new : List ℕ) → Type 0
-IsKeptElsewhere wires row count column old new = (r c : ℕ) → c < 2 * wires + 2 → IsElsewhere row count column r c → byte_at new wires r c ≡ byte_at old wires r c
+IsKeptElsewhere wires row count column old new =
+    (r c : ℕ) → c < 2 * wires + 2 → IsElsewhere row count column r c → byte_at new wires r c ≡ byte_at old wires r c
 
 -- a column of other wires than so many, or another line
 abbrev pub IsApart : (wires row count first many r c : ℕ) → Type 0
@@ -119,10 +126,12 @@ IsApart wires row count first many r c =
     (((c < first) ⊎ (first + many ≤ c)) × ((c < wires + 1 + first) ⊎ (wires + 1 + (first + many) ≤ c))) ⊎ ((r < row) ⊎ (row + count ≤ r))
 
 -- the first chains of a test were put
-pub record AreChainsPut (base : ℕ) (paths : List Path) (many wires row count first : ℕ) (ahead behind : Option Turn) (old new : List ℕ) : Type 0 where
+pub record AreChainsPut (base : ℕ) (paths : List Path) (many wires row count first : ℕ) (ahead behind : Option Turn)
+    (old new : List ℕ) : Type 0 where
   pub long : length new ≡ length old
   pub driven : (j : ℕ) (p : Path) → j < many → slice_get paths j ≡ Some p → IsDriven base p wires row count (first + j) ahead old new
-  pub read : (j : ℕ) (p : Path) → j < many → slice_get paths j ≡ Some p → IsRead base p wires row count (wires + 1 + (first + j)) behind old new
+  pub read : (j : ℕ) (p : Path) → j < many → slice_get paths j ≡ Some p →
+      IsRead base p wires row count (wires + 1 + (first + j)) behind old new
   pub others : (r c : ℕ) → c < 2 * wires + 2 → IsApart wires row count first many r c → byte_at new wires r c ≡ byte_at old wires r c
 
 -- ---- one live test
@@ -143,10 +152,14 @@ pub record HasSomeLane (wires : ℕ) (lane : Lane) : Type 0 where
 
 -- what the test drives and compares at a cycle was put into a line
 pub record IsPlayed (content : Content) (t : PlannedTest) (wires cycle row : ℕ) (old new : List ℕ) : Type 0 where
-  pub driven : (w : ℕ) → uses cycle w t ≡ true → byte_at old wires row w ≡ Some 48 → byte_at new wires row w ≡ Some (digit (wanted (content.stimulus t.id) (chain_at t (w - t.first_wire)) (drop (cycle - t.start) t.operations)))
+  pub driven : (w : ℕ) → uses cycle w t ≡ true → byte_at old wires row w ≡ Some 48 →
+      byte_at new wires row w ≡ Some (digit (wanted (content.stimulus t.id) (chain_at t (w - t.first_wire))
+      (drop (cycle - t.start) t.operations)))
   pub idle : (w : ℕ) → w < wires → uses cycle w t ≡ false → byte_at new wires row w ≡ byte_at old wires row w
-  pub reads : (k w : ℕ) (x : Cell) → IsReadAt t k x cycle w → byte_at new wires row (wires + 1 + w) ≡ Some (digit (content.response t.id k x))
-  pub rest : (w : ℕ) → w < wires → (byte_at new wires row (wires + 1 + w) ≡ byte_at old wires row (wires + 1 + w)) ⊎ ((k : ℕ) × (x : Cell) × IsReadAt t k x cycle w)
+  pub reads : (k w : ℕ) (x : Cell) → IsReadAt t k x cycle w →
+      byte_at new wires row (wires + 1 + w) ≡ Some (digit (content.response t.id k x))
+  pub rest : (w : ℕ) → w < wires → (byte_at new wires row (wires + 1 + w) ≡ byte_at old wires row (wires + 1 + w))
+      ⊎ ((k : ℕ) × (x : Cell) × IsReadAt t k x cycle w)
   pub space : byte_at new wires row wires ≡ byte_at old wires row wires
   pub feed : byte_at new wires row (wires + 1 + wires) ≡ byte_at old wires row (wires + 1 + wires)
 
@@ -161,9 +174,12 @@ pub record ArePlayed (content : Content) (t : PlannedTest) (wires from until row
 -- the line of a cycle has what the tests below a place drive and compare
 pub record IsLineBelow (content : Content) (tests : List PlannedTest) (n wires cycle row : ℕ) (text : List ℕ) : Type 0 where
   pub driven : (i w : ℕ) (t : PlannedTest) → i < n → IsAt tests i t → uses cycle w t ≡ true →
-      byte_at text wires row w ≡ Some (digit (wanted (content.stimulus t.id) (chain_at t (w - t.first_wire)) (drop (cycle - t.start) t.operations)))
-  pub free : (w : ℕ) → w < wires → ((i : ℕ) (t : PlannedTest) → i < n → IsAt tests i t → uses cycle w t ≡ true → ⊥) → byte_at text wires row w ≡ Some 48
-  pub reads : (i k w : ℕ) (t : PlannedTest) (x : Cell) → i < n → IsAt tests i t → IsReadAt t k x cycle w → byte_at text wires row (wires + 1 + w) ≡ Some (digit (content.response t.id k x))
+      byte_at text wires row w ≡ Some (digit (wanted (content.stimulus t.id) (chain_at t (w - t.first_wire))
+      (drop (cycle - t.start) t.operations)))
+  pub free : (w : ℕ) → w < wires → ((i : ℕ) (t : PlannedTest) → i < n → IsAt tests i t → uses cycle w t ≡ true → ⊥) →
+      byte_at text wires row w ≡ Some 48
+  pub reads : (i k w : ℕ) (t : PlannedTest) (x : Cell) → i < n → IsAt tests i t → IsReadAt t k x cycle w →
+      byte_at text wires row (wires + 1 + w) ≡ Some (digit (content.response t.id k x))
   pub rest : (w : ℕ) → w < wires → (byte_at text wires row (wires + 1 + w) ≡ Some 45) ⊎ IsCompared tests cycle w
   pub space : byte_at text wires row wires ≡ Some 32
   pub feed : byte_at text wires row (wires + 1 + wires) ≡ Some 10

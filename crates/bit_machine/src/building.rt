@@ -34,7 +34,8 @@ fn push_flops(runs: &mut Vec<Run>, base: u64, layout: &Layout, scan: u64) -> Res
     requires scan { scan < length layout.now.lengths.items }
     requires fits { base + sum layout.now.lengths.items < 2 ^ 63 }
     ensures full { OnOk result (All IsFull runs.new.items) }
-    ensures numbers { OnOk result (all_numbers runs.new.items ≡ all_numbers runs.old.items ++ flop_numbers base layout.now.lengths.items scan) }
+    ensures numbers { OnOk result (all_numbers runs.new.items
+        ≡ all_numbers runs.old.items ++ flop_numbers base layout.now.lengths.items scan) }
 {
     let place = scan as usize;
     let from = base + layout.starts[place] as u64;
@@ -53,7 +54,8 @@ fn push_scans(
     requires listed { All (λ c. c < length layout.now.lengths.items) scans.now }
     requires fits { base + sum layout.now.lengths.items < 2 ^ 63 }
     ensures full { OnOk result (All IsFull runs.new.items) }
-    ensures numbers { OnOk result (all_numbers runs.new.items ≡ all_numbers runs.old.items ++ flat_map (flop_numbers base layout.now.lengths.items) scans.now) }
+    ensures numbers { OnOk result (all_numbers runs.new.items
+        ≡ all_numbers runs.old.items ++ flat_map (flop_numbers base layout.now.lengths.items) scans.now) }
 {
     for scan in scans {
         push_flops(runs, base, layout, *scan)?;
@@ -75,7 +77,8 @@ fn loads_of(
     requires long { chain_length layout.now.lengths.items chain.now ≤ 10 ^ 18 }
     requires fits { inputs + sum layout.now.lengths.items < 2 ^ 63 }
     requires ins { ins_from + chain.now.ins < 2 ^ 63 }
-    ensures { IfOk result (λ loads. loads ≡ range_with_len ins_from chain.now.ins ++ flat_map (flop_numbers inputs layout.now.lengths.items) chain.now.scans.items) }
+    ensures { IfOk result (λ loads. loads ≡ range_with_len ins_from chain.now.ins
+        ++ flat_map (flop_numbers inputs layout.now.lengths.items) chain.now.scans.items) }
 {
     let mut loads = Vec::new(alloc);
     push_numbers(&mut loads, ins_from, chain.ins)?;
@@ -95,7 +98,8 @@ fn answers_of(
     requires long { chain_length layout.now.lengths.items chain.now ≤ 10 ^ 18 }
     requires fits { sum layout.now.lengths.items < 2 ^ 63 }
     requires outs { outs_from + chain.now.outs < 2 ^ 63 }
-    ensures { IfOk result (λ answers. answers ≡ flat_map (flop_numbers 0 layout.now.lengths.items) chain.now.scans.items ++ range_with_len outs_from chain.now.outs) }
+    ensures { IfOk result (λ answers. answers ≡ flat_map (flop_numbers 0 layout.now.lengths.items) chain.now.scans.items
+        ++ range_with_len outs_from chain.now.outs) }
 {
     let mut answers = Vec::new(alloc);
     push_scans(&mut answers, 0, layout, &chain.scans)?;
@@ -118,7 +122,8 @@ fn path_of(
     requires fits { inputs + sum layout.now.lengths.items < 2 ^ 63 }
     requires ins { ins_from + chain.now.ins < 2 ^ 63 }
     requires outs { outs_from + chain.now.outs < 2 ^ 63 }
-    ensures { (o : ℕ) → outs_from ≡ sum layout.now.lengths.items + o → IfOk result (IsNewPath inputs layout.now.lengths.items (chain_of layout.now.lengths.items ins_from o (chain_value chain.now))) }
+    ensures { (o : ℕ) → outs_from ≡ sum layout.now.lengths.items + o →
+        IfOk result (IsNewPath inputs layout.now.lengths.items (chain_of layout.now.lengths.items ins_from o (chain_value chain.now))) }
 {
     let loads = loads_of(alloc, inputs, layout, chain, ins_from)?;
     let answers = answers_of(alloc, layout, chain, outs_from)?;
@@ -136,7 +141,8 @@ pub fn paths_of(alloc: Global, inputs: u64, layout: &Layout) -> Result<Vec<Path>
     requires fits { inputs + sum layout.now.lengths.items < 2 ^ 62 }
     requires ins { sum_by (λ c. c.ins) layout.now.chains.items < 2 ^ 62 }
     requires outs { sum_by (λ c. c.outs) layout.now.chains.items < 2 ^ 62 }
-    ensures { IfOk result (λ paths. AreNewPaths inputs layout.now.lengths.items (layout_cells layout.now) (length layout.now.chains.items) paths.items) }
+    ensures { IfOk result (λ paths. AreNewPaths inputs layout.now.lengths.items (layout_cells layout.now)
+        (length layout.now.chains.items) paths.items) }
 {
     let mut ins_from = 0;
     let mut outs_from = layout.flops as u64;

@@ -47,7 +47,15 @@ impl<'a> Model for Chip<'a> {
 
     ghost Value = { ChipValue };
 
-    ghost view = { λ c. record { soc = soc_value c.soc.now; plan = plan_value c.plan.now; seed = c.seed; cycle = c.machine.cycle; state = lanes_state c.machine.lanes.items; captures = c.captures; right_loads = c.right_loads } };
+    ghost view = { λ c. record {
+      soc = soc_value c.soc.now;
+      plan = plan_value c.plan.now;
+      seed = c.seed;
+      cycle = c.machine.cycle;
+      state = lanes_state c.machine.lanes.items;
+      captures = c.captures;
+      right_loads = c.right_loads;
+    } };
 
     ghost invariant = { λ c. IsChip (soc_value c.soc.now) (plan_value c.plan.now) c.seed c.machine c.captures c.right_loads };
 }
@@ -115,9 +123,11 @@ impl<'a> Chip<'a> {
         ensures plan { self.new.plan ≡ self.old.plan }
         ensures seed { self.new.seed ≡ self.old.seed }
         ensures cycle { self.new.cycle ≡ self.old.cycle + 1 }
-        ensures state { self.new.state ≡ step (chip_content self.old) (chip_tests self.old) (λ w. slice_index_or drive.now w false) self.old.cycle self.old.state }
+        ensures state { self.new.state ≡ step (chip_content self.old) (chip_tests self.old)
+            (λ w. slice_index_or drive.now w false) self.old.cycle self.old.state }
         ensures captures { self.new.captures ≡ self.old.captures + captures_at (chip_tests self.old) self.old.cycle }
-        ensures right_loads { self.new.right_loads ≡ self.old.right_loads + right_loads_at (chip_content self.old) (chip_tests self.old) self.old.cycle self.old.state }
+        ensures right_loads { self.new.right_loads ≡ self.old.right_loads + right_loads_at (chip_content self.old)
+            (chip_tests self.old) self.old.cycle self.old.state }
         ensures read { read.new ≡ shown_bits self.old }
     {
         let _cycles = cycles_of(self.plan);

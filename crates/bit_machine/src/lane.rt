@@ -106,7 +106,8 @@ impl Lane {
     /// The bit that a wire of the bus carries, counted from the first wire of the bus.
     pub fn wanted(&self, chain: usize) -> bool
         requires { IsReady self.now }
-        ensures { (content : Content) (t : PlannedTest) (cycle : ℕ) → t.tam ≡ true → IsLane content t self.now → IsNow self.now cycle → result ≡ wanted (content.stimulus t.id) (chain_at t chain) (drop (cycle - t.start) t.operations) }
+        ensures { (content : Content) (t : PlannedTest) (cycle : ℕ) → t.tam ≡ true → IsLane content t self.now → IsNow self.now cycle →
+            result ≡ wanted (content.stimulus t.id) (chain_at t chain) (drop (cycle - t.start) t.operations) }
     {
         if chain >= self.pages.len() {
             return false;
@@ -129,7 +130,8 @@ impl Lane {
 
     /// Whether a response bit is read on a wire of the bus.
     pub fn is_read(&self, chain: usize) -> bool
-        ensures { (content : Content) (t : PlannedTest) → t.tam ≡ true → IsLane content t self.now → result ≡ is_answered (chain_at t chain) (moment_behind self.now.moment) }
+        ensures { (content : Content) (t : PlannedTest) → t.tam ≡ true → IsLane content t self.now →
+            result ≡ is_answered (chain_at t chain) (moment_behind self.now.moment) }
     {
         if chain >= self.paths.len() {
             return false;
@@ -143,7 +145,8 @@ impl Lane {
     /// Whether all chains hold a pattern.
     fn holds(&self, pattern: u64) -> bool
         requires { IsReady self.now }
-        ensures { (content : Content) (t : PlannedTest) → t.tam ≡ true → IsLane content t self.now → result ≡ holds (content.stimulus t.id pattern) t.chains (lane_bits self.now) }
+        ensures { (content : Content) (t : PlannedTest) → t.tam ≡ true → IsLane content t self.now →
+            result ≡ holds (content.stimulus t.id pattern) t.chains (lane_bits self.now) }
     {
         for path in &self.paths {
             if !path.holds(self.base, pattern) {
@@ -156,7 +159,8 @@ impl Lane {
     /// Whether the test captures now, and whether its whole stimulus stands in the cells.
     pub fn capture_of(&self) -> Option<bool>
         requires { IsReady self.now }
-        ensures { (content : Content) (t : PlannedTest) (cycle : ℕ) → t.tam ≡ true → IsLane content t self.now → IsNow self.now cycle → result ≡ capture_answer (content.stimulus t.id) (slice_get t.operations (cycle - t.start)) t.chains (lane_bits self.now) }
+        ensures { (content : Content) (t : PlannedTest) (cycle : ℕ) → t.tam ≡ true → IsLane content t self.now → IsNow self.now cycle →
+            result ≡ capture_answer (content.stimulus t.id) (slice_get t.operations (cycle - t.start)) t.chains (lane_bits self.now) }
     {
         match self.moment {
             Moment::Capture { pattern } => Some(self.holds(pattern)),
@@ -168,7 +172,10 @@ impl Lane {
     pub fn step(&mut self, chain: usize, drive: bool)
         requires { IsReady self.old }
         ensures lane { (content : Content) (t : PlannedTest) → t.tam ≡ true → IsLane content t self.old → IsLane content t self.new }
-        ensures bits { (content : Content) (t : PlannedTest) (cycle : ℕ) → t.tam ≡ true → IsLane content t self.old → IsNow self.old cycle → lane_bits self.new ≡ set (lane_bits self.old) chain (next_bits (content.response t.id) (chain_at t chain) (slice_get t.operations (cycle - t.start)) drive (get_or (lane_bits self.old) chain [])) }
+        ensures bits { (content : Content) (t : PlannedTest) (cycle : ℕ) → t.tam ≡ true → IsLane content t self.old → IsNow self.old cycle →
+            lane_bits self.new ≡ set (lane_bits self.old) chain
+            (next_bits (content.response t.id) (chain_at t chain) (slice_get t.operations (cycle - t.start)) drive
+            (get_or (lane_bits self.old) chain [])) }
         ensures now { (cycle : ℕ) → IsNow self.old cycle → IsNow self.new cycle }
     {
         if chain >= self.paths.len() {

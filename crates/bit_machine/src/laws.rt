@@ -18,16 +18,20 @@ pub fn responses_are_numbered()
 /// The bits of a stimulus are numbered so too: those of the input cells, and then those of the scan chains' cells by scan
 /// chain and place.
 pub fn stimuli_are_numbered()
-    ensures { (m : ModuleValue) (scan : Bool) (x : Cell) (n : ℕ) → IsStimulusBit m scan x n → stimulus_place (m.inputs + m.bidirs) (scan_lengths m scan) x ≡ n }
+    ensures { (m : ModuleValue) (scan : Bool) (x : Cell) (n : ℕ) → IsStimulusBit m scan x n →
+        stimulus_place (m.inputs + m.bidirs) (scan_lengths m scan) x ≡ n }
 {}
 
 /// The chains of a proper wrapper have as many cells that are read as a response has bits.
 pub fn responses_have_lengths()
-    ensures { (m : ModuleValue) (scan : Bool) (chains : List ChainValue) → IsProper m scan chains → sum_by out_length (chain_cells m scan chains) ≡ length (response_cells m scan) }
+    ensures { (m : ModuleValue) (scan : Bool) (chains : List ChainValue) → IsProper m scan chains →
+        sum_by out_length (chain_cells m scan chains) ≡ length (response_cells m scan) }
 {}
 
 /// The test whose stimulus is counted as held has each of its bits in its cell.
 pub fn held_stimuli_stand()
-    ensures stands { (content : Content) (tests : List PlannedTest) (state : State) (i : ℕ) (t : PlannedTest) (k : ℕ) → IsAt tests i t → HasAllBits tests state → holds (content.stimulus t.id k) t.chains (get_or state i []) ≡ true → HoldsStimulus content state i t k }
-    ensures held { (content : Content) (tests : List PlannedTest) (state : State) (i : ℕ) (t : PlannedTest) (k : ℕ) → IsAt tests i t → HasAllBits tests state → HoldsStimulus content state i t k → holds (content.stimulus t.id k) t.chains (get_or state i []) ≡ true }
+    ensures stands { (content : Content) (tests : List PlannedTest) (state : State) (i : ℕ) (t : PlannedTest) (k : ℕ) → IsAt tests i t →
+        HasAllBits tests state → holds (content.stimulus t.id k) t.chains (get_or state i []) ≡ true → HoldsStimulus content state i t k }
+    ensures held { (content : Content) (tests : List PlannedTest) (state : State) (i : ℕ) (t : PlannedTest) (k : ℕ) → IsAt tests i t →
+        HasAllBits tests state → HoldsStimulus content state i t k → holds (content.stimulus t.id k) t.chains (get_or state i []) ≡ true }
 {}

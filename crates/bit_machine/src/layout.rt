@@ -138,7 +138,8 @@ impl Layout {
         requires layout { IsLayout self.now }
         requires scan { scan < length self.now.lengths.items }
         requires answered { sum self.now.lengths.items ≤ length response.now }
-        ensures answer { result.now ≡ take (slice_index self.now.lengths.items scan) (drop (sum (take scan self.now.lengths.items)) response.now) }
+        ensures answer { result.now ≡ take (slice_index self.now.lengths.items scan)
+            (drop (sum (take scan self.now.lengths.items)) response.now) }
         ensures long { length result.now ≡ slice_index self.now.lengths.items scan }
     {
         part(response, self.starts[scan], self.lengths[scan] as usize)
@@ -152,7 +153,9 @@ impl Layout {
         requires flops { sum self.now.lengths.items ≤ outs_from }
         requires answered { outs_from + chain.now.outs ≤ length response.now }
         requires long { length bits.old ≡ chain_length self.now.lengths.items chain.now }
-        ensures { (i o : ℕ) → sum self.now.lengths.items + o ≡ outs_from → bits.new ≡ captured (response_bit self.now.lengths.items response.now) (chain_of self.now.lengths.items i o (chain_value chain.now)) bits.old }
+        ensures { (i o : ℕ) → sum self.now.lengths.items + o ≡ outs_from →
+            bits.new ≡ captured (response_bit self.now.lengths.items response.now)
+            (chain_of self.now.lengths.items i o (chain_value chain.now)) bits.old }
     {
         let _cells = bits.len();
         let mut at = chain.ins as usize;

@@ -39,8 +39,10 @@ fn count(counts: (u64, u64), found: Option<bool>) -> (u64, u64)
 fn give(users: &mut [Option<usize>], lane: &Lane, place: usize)
     requires { lane.now.first_wire + lane.now.width ≤ length users.old }
     ensures long { length users.new ≡ length users.old }
-    ensures given { (w : ℕ) → lane.now.first_wire ≤ w → w < lane.now.first_wire + lane.now.width → slice_get users.new w ≡ Some (Some place) }
-    ensures others { (w : ℕ) → (w < lane.now.first_wire) ⊎ (lane.now.first_wire + lane.now.width ≤ w) → slice_get users.new w ≡ slice_get users.old w }
+    ensures given { (w : ℕ) → lane.now.first_wire ≤ w → w < lane.now.first_wire + lane.now.width →
+        slice_get users.new w ≡ Some (Some place) }
+    ensures others { (w : ℕ) → (w < lane.now.first_wire) ⊎ (lane.now.first_wire + lane.now.width ≤ w) →
+        slice_get users.new w ≡ slice_get users.old w }
 {
     for wire in lane.first_wire..lane.first_wire + lane.width {
         users[wire] = Some(place);
@@ -92,8 +94,10 @@ fn next_change(lanes: &[Lane], cycle: u64) -> u64
 fn give_active(users: &mut [Option<usize>], lane: &Lane, place: usize, cycle: u64)
     requires { lane.now.tam ≡ true → lane.now.first_wire + lane.now.width ≤ length users.old }
     ensures long { length users.new ≡ length users.old }
-    ensures given { lane_on lane.now cycle ≡ true → (w : ℕ) → lane.now.first_wire ≤ w → w < lane.now.first_wire + lane.now.width → slice_get users.new w ≡ Some (Some place) }
-    ensures others { lane_on lane.now cycle ≡ true → (w : ℕ) → (w < lane.now.first_wire) ⊎ (lane.now.first_wire + lane.now.width ≤ w) → slice_get users.new w ≡ slice_get users.old w }
+    ensures given { lane_on lane.now cycle ≡ true → (w : ℕ) → lane.now.first_wire ≤ w → w < lane.now.first_wire + lane.now.width →
+        slice_get users.new w ≡ Some (Some place) }
+    ensures others { lane_on lane.now cycle ≡ true → (w : ℕ) → (w < lane.now.first_wire) ⊎ (lane.now.first_wire + lane.now.width ≤ w) →
+        slice_get users.new w ≡ slice_get users.old w }
     ensures off { lane_on lane.now cycle ≡ false → users.new ≡ users.old }
 {
     if lane.is_on(cycle) {
@@ -105,7 +109,8 @@ fn give_active(users: &mut [Option<usize>], lane: &Lane, place: usize, cycle: u6
 fn assign(users: &mut [Option<usize>], lanes: &[Lane], cycle: u64)
     requires { FitLanes lanes.now (length users.old) }
     ensures long { length users.new ≡ length users.old }
-    ensures users { (content : Content) (tests : List PlannedTest) → AreLanes content tests lanes.now → AreOnWires tests (length users.old) → AreUsers tests cycle users.new }
+    ensures users { (content : Content) (tests : List PlannedTest) → AreLanes content tests lanes.now →
+        AreOnWires tests (length users.old) → AreUsers tests cycle users.new }
 {
     clear(users);
     for place in 0..lanes.len() {
@@ -163,7 +168,8 @@ impl Machine {
         ensures cycle { result.cycle ≡ 0 }
         ensures state { lanes_state result.lanes.items ≡ lanes_state lanes.items }
         ensures long { length result.users.items ≡ length users.items }
-        ensures machine { (content : Content) (tests : List PlannedTest) → AreLanes content tests lanes.items → AreOnWires tests (length users.items) → IsMachine content tests result }
+        ensures machine { (content : Content) (tests : List PlannedTest) → AreLanes content tests lanes.items →
+            AreOnWires tests (length users.items) → IsMachine content tests result }
     {
         let mut machine = Machine {
             lanes,
@@ -181,7 +187,8 @@ impl Machine {
         ensures cycle { self.new.cycle ≡ cycle }
         ensures state { lanes_state self.new.lanes.items ≡ lanes_state self.old.lanes.items }
         ensures long { length self.new.users.items ≡ length self.old.users.items }
-        ensures machine { (content : Content) (tests : List PlannedTest) → AreLanes content tests self.old.lanes.items → AreOnWires tests (length self.old.users.items) → IsMachine content tests self.new }
+        ensures machine { (content : Content) (tests : List PlannedTest) → AreLanes content tests self.old.lanes.items →
+            AreOnWires tests (length self.old.users.items) → IsMachine content tests self.new }
     {
         self.cycle = cycle;
         self.change = next_change(&self.lanes, cycle);
@@ -206,7 +213,8 @@ impl Machine {
     pub fn wanted(&self, wire: usize) -> bool
         requires machine { IsSomeMachine self.now }
         requires wire { wire < length self.now.users.items }
-        ensures { (content : Content) (tests : List PlannedTest) → IsMachine content tests self.now → result ≡ carried content tests self.now.cycle wire }
+        ensures { (content : Content) (tests : List PlannedTest) → IsMachine content tests self.now →
+            result ≡ carried content tests self.now.cycle wire }
     {
         match self.user(wire) {
             Some(lane) => lane.wanted(wire - lane.first_wire),
@@ -218,7 +226,8 @@ impl Machine {
     pub fn shown(&self, wire: usize) -> bool
         requires machine { IsSomeMachine self.now }
         requires wire { wire < length self.now.users.items }
-        ensures { (content : Content) (tests : List PlannedTest) → IsMachine content tests self.now → result ≡ shown tests (lanes_state self.now.lanes.items) self.now.cycle wire }
+        ensures { (content : Content) (tests : List PlannedTest) → IsMachine content tests self.now →
+            result ≡ shown tests (lanes_state self.now.lanes.items) self.now.cycle wire }
     {
         match self.user(wire) {
             Some(lane) => lane.shown(wire - lane.first_wire),
@@ -230,7 +239,8 @@ impl Machine {
     fn is_compared(&self, wire: usize) -> bool
         requires machine { IsSomeMachine self.now }
         requires wire { wire < length self.now.users.items }
-        ensures { (content : Content) (tests : List PlannedTest) → IsMachine content tests self.now → IsMark tests self.now.cycle wire result }
+        ensures { (content : Content) (tests : List PlannedTest) → IsMachine content tests self.now →
+            IsMark tests self.now.cycle wire result }
     {
         match self.user(wire) {
             Some(lane) => lane.is_read(wire - lane.first_wire),
@@ -243,7 +253,8 @@ impl Machine {
         requires machine { IsSomeMachine self.now }
         requires wires { length drive.old ≡ length self.now.users.items }
         ensures long { length drive.new ≡ length drive.old }
-        ensures bits { (content : Content) (tests : List PlannedTest) → IsMachine content tests self.now → (w : ℕ) → w < length drive.new → (get_or drive.new w false) ≡ carried content tests self.now.cycle w }
+        ensures bits { (content : Content) (tests : List PlannedTest) → IsMachine content tests self.now → (w : ℕ) → w < length drive.new →
+            (get_or drive.new w false) ≡ carried content tests self.now.cycle w }
     {
         for wire in 0..drive.len() {
             drive[wire] = self.wanted(wire);
@@ -255,7 +266,8 @@ impl Machine {
         requires machine { IsSomeMachine self.now }
         requires wires { length read.old ≡ length self.now.users.items }
         ensures long { length read.new ≡ length read.old }
-        ensures bits { (content : Content) (tests : List PlannedTest) → IsMachine content tests self.now → (w : ℕ) → w < length read.new → (get_or read.new w false) ≡ shown tests (lanes_state self.now.lanes.items) self.now.cycle w }
+        ensures bits { (content : Content) (tests : List PlannedTest) → IsMachine content tests self.now → (w : ℕ) → w < length read.new →
+            (get_or read.new w false) ≡ shown tests (lanes_state self.now.lanes.items) self.now.cycle w }
     {
         for wire in 0..read.len() {
             read[wire] = self.shown(wire);
@@ -267,7 +279,8 @@ impl Machine {
         requires machine { IsSomeMachine self.now }
         requires wires { length care.old ≡ length self.now.users.items }
         ensures long { length care.new ≡ length care.old }
-        ensures bits { (content : Content) (tests : List PlannedTest) → IsMachine content tests self.now → (w : ℕ) → w < length care.new → IsMark tests self.now.cycle w (get_or care.new w false) }
+        ensures bits { (content : Content) (tests : List PlannedTest) → IsMachine content tests self.now → (w : ℕ) → w < length care.new →
+            IsMark tests self.now.cycle w (get_or care.new w false) }
     {
         for wire in 0..care.len() {
             care[wire] = self.is_compared(wire);
@@ -278,7 +291,8 @@ impl Machine {
     fn capture_of(&self, wire: usize) -> Option<bool>
         requires machine { IsSomeMachine self.now }
         requires wire { wire < length self.now.users.items }
-        ensures { (content : Content) (tests : List PlannedTest) → IsMachine content tests self.now → IsWireCapture content tests self.now.cycle wire (lanes_state self.now.lanes.items) result }
+        ensures { (content : Content) (tests : List PlannedTest) → IsMachine content tests self.now →
+            IsWireCapture content tests self.now.cycle wire (lanes_state self.now.lanes.items) result }
     {
         match self.user(wire) {
             Some(lane) => {
@@ -295,8 +309,10 @@ impl Machine {
     /// How many tests capture at this cycle, and how many of these find their whole stimulus.
     pub fn captures(&self) -> (u64, u64)
         requires machine { IsSomeMachine self.now }
-        ensures captures { (content : Content) (tests : List PlannedTest) → IsMachine content tests self.now → result.0 ≡ captures_at tests self.now.cycle }
-        ensures right { (content : Content) (tests : List PlannedTest) → IsMachine content tests self.now → result.1 ≡ right_loads_at content tests self.now.cycle (lanes_state self.now.lanes.items) }
+        ensures captures { (content : Content) (tests : List PlannedTest) → IsMachine content tests self.now →
+            result.0 ≡ captures_at tests self.now.cycle }
+        ensures right { (content : Content) (tests : List PlannedTest) → IsMachine content tests self.now →
+            result.1 ≡ right_loads_at content tests self.now.cycle (lanes_state self.now.lanes.items) }
         ensures few { result.1 ≤ result.0 }
     {
         let mut counts = (0, 0);
@@ -313,8 +329,10 @@ impl Machine {
         ensures cycle { self.new.cycle ≡ self.old.cycle }
         ensures change { self.new.change ≡ self.old.change }
         ensures users { self.new.users ≡ self.old.users }
-        ensures machine { (content : Content) (tests : List PlannedTest) → IsMachine content tests self.old → IsMachine content tests self.new }
-        ensures bits { (content : Content) (tests : List PlannedTest) → IsMachine content tests self.old → IsWireStep content tests self.old.cycle wire drive (lanes_state self.old.lanes.items) (lanes_state self.new.lanes.items) }
+        ensures machine { (content : Content) (tests : List PlannedTest) → IsMachine content tests self.old →
+            IsMachine content tests self.new }
+        ensures bits { (content : Content) (tests : List PlannedTest) → IsMachine content tests self.old →
+            IsWireStep content tests self.old.cycle wire drive (lanes_state self.old.lanes.items) (lanes_state self.new.lanes.items) }
     {
         match self.users[wire] {
             Some(place) => {
@@ -333,8 +351,11 @@ impl Machine {
         ensures cycle { self.new.cycle ≡ self.old.cycle }
         ensures change { self.new.change ≡ self.old.change }
         ensures users { self.new.users ≡ self.old.users }
-        ensures machine { (content : Content) (tests : List PlannedTest) → IsMachine content tests self.old → IsMachine content tests self.new }
-        ensures state { (content : Content) (tests : List PlannedTest) → IsMachine content tests self.old → lanes_state self.new.lanes.items ≡ step content tests (λ w. slice_index_or drive.now w false) self.old.cycle (lanes_state self.old.lanes.items) }
+        ensures machine { (content : Content) (tests : List PlannedTest) → IsMachine content tests self.old →
+            IsMachine content tests self.new }
+        ensures state { (content : Content) (tests : List PlannedTest) → IsMachine content tests self.old →
+            lanes_state self.new.lanes.items ≡ step content tests (λ w. slice_index_or drive.now w false) self.old.cycle
+            (lanes_state self.old.lanes.items) }
     {
         for wire in 0..drive.len() {
             self.step_wire(wire, drive[wire]);
@@ -348,7 +369,8 @@ impl Machine {
         ensures cycle { self.new.cycle ≡ self.old.cycle + 1 }
         ensures state { lanes_state self.new.lanes.items ≡ lanes_state self.old.lanes.items }
         ensures long { length self.new.users.items ≡ length self.old.users.items }
-        ensures machine { (content : Content) (tests : List PlannedTest) → IsMachine content tests self.old → IsMachine content tests self.new }
+        ensures machine { (content : Content) (tests : List PlannedTest) → IsMachine content tests self.old →
+            IsMachine content tests self.new }
     {
         let next = self.cycle + 1;
         if next < self.change {

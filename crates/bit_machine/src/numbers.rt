@@ -138,7 +138,8 @@ fn put_back(runs: &[Run], line: &Line, last: usize, count: usize, text: &mut [u8
     requires narrow { at.wires ≤ 256 }
     requires column { at.column < 2 * at.wires + 2 }
     requires rows { (at.row + count) * (2 * at.wires + 2) ≤ length text.old }
-    ensures { ArePutDown at.wires at.row count at.column (λ i. bit_digit (bit_at_place line.now (all_numbers runs.now) (last - i))) text.old text.new }
+    ensures { ArePutDown at.wires at.row count at.column (λ i. bit_digit (bit_at_place line.now (all_numbers runs.now) (last - i)))
+        text.old text.new }
 {
     let first = last - (count - 1);
     let mut walk = walk_from(runs, line, first as u64);
@@ -211,7 +212,8 @@ impl Numbers {
         requires narrow { at.wires ≤ 256 }
         requires column { at.column < 2 * at.wires + 2 }
         requires rows { (at.row + count) * (2 * at.wires + 2) ≤ length text.old }
-        ensures { ArePutDown at.wires at.row count at.column (λ i. bit_digit (bit_at_place line.now self.now (last - i))) text.old text.new }
+        ensures { ArePutDown at.wires at.row count at.column
+            (λ i. bit_digit (bit_at_place line.now self.now (last - i))) text.old text.new }
     {
         put_back(&self.runs, line, last, count, text, at);
     }

@@ -41,7 +41,8 @@ impl Path {
     pub fn holds(&self, base: u64, pattern: u64) -> bool
         requires base { base < 997 }
         requires fits { length self.now.loads ≤ length self.now.ring }
-        ensures { (inputs : ℕ) (lengths : List ℕ) (cells : List Cell) → IsPath inputs lengths cells self.now → result ≡ chain_holds (path_stimulus base inputs lengths pattern) cells self.now.ring }
+        ensures { (inputs : ℕ) (lengths : List ℕ) (cells : List Cell) → IsPath inputs lengths cells self.now →
+            result ≡ chain_holds (path_stimulus base inputs lengths pattern) cells self.now.ring }
     {
         let line = Line::of(base, pattern, 0);
         let mut word = 0;
@@ -60,7 +61,8 @@ impl Path {
         requires fits { length self.old.answers ≤ length self.old.ring }
         ensures loads { self.new.loads ≡ self.old.loads }
         ensures answers { self.new.answers ≡ self.old.answers }
-        ensures bits { (inputs : ℕ) (lengths : List ℕ) (cells : List Cell) → IsPath inputs lengths cells self.old → self.new.ring ≡ captured (path_response base lengths pattern) cells self.old.ring }
+        ensures bits { (inputs : ℕ) (lengths : List ℕ) (cells : List Cell) → IsPath inputs lengths cells self.old →
+            self.new.ring ≡ captured (path_response base lengths pattern) cells self.old.ring }
     {
         let line = Line::of(base, pattern, 1);
         let count = self.answers.len();
@@ -78,8 +80,10 @@ impl Path {
         requires base { base < 997 }
         requires fits { length self.old.answers ≤ length self.old.ring }
         ensures loads { self.new.loads ≡ self.old.loads }
-        ensures path { (inputs : ℕ) (lengths : List ℕ) (cells : List Cell) → IsPath inputs lengths cells self.old → IsPath inputs lengths cells self.new }
-        ensures bits { (inputs : ℕ) (lengths : List ℕ) (cells : List Cell) → IsPath inputs lengths cells self.old → self.new.ring ≡ next_bits (path_response base lengths) cells (Some (moment_operation moment)) drive self.old.ring }
+        ensures path { (inputs : ℕ) (lengths : List ℕ) (cells : List Cell) → IsPath inputs lengths cells self.old →
+            IsPath inputs lengths cells self.new }
+        ensures bits { (inputs : ℕ) (lengths : List ℕ) (cells : List Cell) → IsPath inputs lengths cells self.old →
+            self.new.ring ≡ next_bits (path_response base lengths) cells (Some (moment_operation moment)) drive self.old.ring }
     {
         match moment {
             Moment::Setup => {}

@@ -89,9 +89,11 @@ impl<'a> Setting<'a> {
         requires at { at < length «module».now.tests.items }
         requires small { module_size (module_value «module».now) ≤ 10 ^ 18 }
         requires proper { IsProper (module_value «module».now) wrapper.now.scan (map chain_value wrapper.now.chains.items) }
-        requires test { (test : Test) → slice_get «module».now.tests.items at ≡ Some test → IsInWrapper (plan_value self.now.plan.now) (module_value «module».now) test wrapper.now }
+        requires test { (test : Test) → slice_get «module».now.tests.items at ≡ Some test →
+            IsInWrapper (plan_value self.now.plan.now) (module_value «module».now) test wrapper.now }
         requires bus { bus < length self.now.plan.now.buses.items }
-        ensures { (test : Test) → slice_get «module».now.tests.items at ≡ Some test → IfOk result (IsWiredLane (plan_value self.now.plan.now) self.now.seed placed.now bus at (module_value «module».now) test) }
+        ensures { (test : Test) → slice_get «module».now.tests.items at ≡ Some test →
+            IfOk result (IsWiredLane (plan_value self.now.plan.now) self.now.seed placed.now bus at (module_value «module».now) test) }
     {
         let test = &module.tests[at];
         let layout = Layout::new(alloc, module, wrapper)?;
@@ -125,8 +127,10 @@ impl<'a> Setting<'a> {
         requires good { IsGoodAlone (soc_value self.now.soc.now) (plan_value self.now.plan.now) }
         requires firsts { AreFirstWires (widths (plan_value self.now.plan.now)) self.now.firsts.now }
         requires over { placed.now.bus ≡ Some bus }
-        requires there { (i : ℕ) × (t : PlannedTest) × IsAt (planned (soc_value self.now.soc.now) (plan_value self.now.plan.now)) i t × (placed.now ≡ placed_of t) }
-        ensures { (i : ℕ) (t : PlannedTest) → IsAt (planned (soc_value self.now.soc.now) (plan_value self.now.plan.now)) i t → placed.now ≡ placed_of t → IfOk result (IsNewLane (made_content (soc_value self.now.soc.now) self.now.seed) t) }
+        requires there { (i : ℕ) × (t : PlannedTest) × IsAt (planned (soc_value self.now.soc.now) (plan_value self.now.plan.now)) i t
+            × (placed.now ≡ placed_of t) }
+        ensures { (i : ℕ) (t : PlannedTest) → IsAt (planned (soc_value self.now.soc.now) (plan_value self.now.plan.now)) i t →
+            placed.now ≡ placed_of t → IfOk result (IsNewLane (made_content (soc_value self.now.soc.now) self.now.seed) t) }
     {
         let Some((place, at)) = find_test(self.soc, placed.id) else {
             unreachable!()
@@ -146,8 +150,10 @@ impl<'a> Setting<'a> {
         requires sound { IsSoundChip (soc_value self.now.soc.now) }
         requires good { IsGoodAlone (soc_value self.now.soc.now) (plan_value self.now.plan.now) }
         requires firsts { AreFirstWires (widths (plan_value self.now.plan.now)) self.now.firsts.now }
-        requires there { (i : ℕ) × (t : PlannedTest) × IsAt (planned (soc_value self.now.soc.now) (plan_value self.now.plan.now)) i t × (placed.now ≡ placed_of t) }
-        ensures { (i : ℕ) (t : PlannedTest) → IsAt (planned (soc_value self.now.soc.now) (plan_value self.now.plan.now)) i t → placed.now ≡ placed_of t → IfOk result (IsNewLane (made_content (soc_value self.now.soc.now) self.now.seed) t) }
+        requires there { (i : ℕ) × (t : PlannedTest) × IsAt (planned (soc_value self.now.soc.now) (plan_value self.now.plan.now)) i t
+            × (placed.now ≡ placed_of t) }
+        ensures { (i : ℕ) (t : PlannedTest) → IsAt (planned (soc_value self.now.soc.now) (plan_value self.now.plan.now)) i t →
+            placed.now ≡ placed_of t → IfOk result (IsNewLane (made_content (soc_value self.now.soc.now) self.now.seed) t) }
     {
         match placed.bus {
             Some(bus) => self.wired_test(alloc, placed, bus),
@@ -161,7 +167,8 @@ impl<'a> Setting<'a> {
         requires good { IsGoodAlone (soc_value self.now.soc.now) (plan_value self.now.plan.now) }
         requires firsts { AreFirstWires (widths (plan_value self.now.plan.now)) self.now.firsts.now }
         requires placed { placed.now ≡ placed_tests (soc_value self.now.soc.now) (plan_value self.now.plan.now) }
-        ensures { IfOk result (λ lanes. AreNewLanes (made_content (soc_value self.now.soc.now) self.now.seed) (planned (soc_value self.now.soc.now) (plan_value self.now.plan.now)) lanes.items) }
+        ensures { IfOk result (λ lanes. AreNewLanes (made_content (soc_value self.now.soc.now) self.now.seed)
+            (planned (soc_value self.now.soc.now) (plan_value self.now.plan.now)) lanes.items) }
     {
         let mut lanes = Vec::new(alloc);
         for test in placed {
@@ -175,7 +182,8 @@ impl<'a> Setting<'a> {
         requires sound { IsSoundChip (soc_value self.now.soc.now) }
         requires good { IsGoodAlone (soc_value self.now.soc.now) (plan_value self.now.plan.now) }
         requires firsts { AreFirstWires (widths (plan_value self.now.plan.now)) self.now.firsts.now }
-        ensures { IfOk result (λ lanes. AreNewLanes (made_content (soc_value self.now.soc.now) self.now.seed) (planned (soc_value self.now.soc.now) (plan_value self.now.plan.now)) lanes.items) }
+        ensures { IfOk result (λ lanes. AreNewLanes (made_content (soc_value self.now.soc.now) self.now.seed)
+            (planned (soc_value self.now.soc.now) (plan_value self.now.plan.now)) lanes.items) }
     {
         let tests = tests_placed(alloc, self.soc, self.plan)?;
         self.lanes_of(alloc, &tests)

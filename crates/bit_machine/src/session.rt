@@ -55,7 +55,8 @@ impl Session {
     pub fn new(alloc: Global, module: &Module, wrapper: &Wrapper) -> Result<Session, NoMemory>
         requires proper { IsProper (module_value «module».now) wrapper.now.scan (map chain_value wrapper.now.chains.items) }
         requires small { module_size (module_value «module».now) ≤ 10 ^ 18 }
-        ensures { IfOk result (λ session. session ≡ at_rest (module_value «module».now) wrapper.now.scan (map chain_value wrapper.now.chains.items)) }
+        ensures { IfOk result (λ session. session ≡ at_rest (module_value «module».now) wrapper.now.scan
+            (map chain_value wrapper.now.chains.items)) }
     {
         let layout = Layout::new(alloc, module, wrapper)?;
         let bits = layout.zeros(alloc)?;
@@ -69,7 +70,8 @@ impl Session {
         requires shown { length read.old ≡ length self.old.cells }
         ensures lengths { self.new.lengths ≡ self.old.lengths }
         ensures cells { self.new.cells ≡ self.old.cells }
-        ensures bits { (response : ℕ → Cell → Bool) → self.new.bits ≡ after response Shift (λ j. slice_index_or drive.now j false) self.old }
+        ensures bits { (response : ℕ → Cell → Bool) → self.new.bits
+            ≡ after response Shift (λ j. slice_index_or drive.now j false) self.old }
         ensures read { read.new ≡ map last_bit self.old.bits }
     {
         shift_all(&mut self.bits, drive, read);
@@ -82,7 +84,8 @@ impl Session {
         requires { length response.now ≡ sum_by out_length self.old.cells }
         ensures lengths { self.new.lengths ≡ self.old.lengths }
         ensures cells { self.new.cells ≡ self.old.cells }
-        ensures bits { (k : ℕ) (drive : ℕ → Bool) → self.new.bits ≡ after (λ k. response_bit self.old.lengths response.now) (Capture k) drive self.old }
+        ensures bits { (k : ℕ) (drive : ℕ → Bool) → self.new.bits
+            ≡ after (λ k. response_bit self.old.lengths response.now) (Capture k) drive self.old }
     {
         self.layout.capture(response, &mut self.bits);
     }

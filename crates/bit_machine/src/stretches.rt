@@ -113,7 +113,8 @@ fn put_chains(text: &mut [u8], wires: usize, row: usize, lane: &Lane, stretch: S
     requires back { (t : Turn) → stretch.ahead ≡ Some t → stretch.count ≤ t.shifts + 1 }
     requires columns { lane.now.first_wire + length lane.now.paths.items ≤ wires }
     requires rows { (row + stretch.count) * (2 * wires + 2) ≤ length text.old }
-    ensures { AreChainsPut lane.now.base lane.now.paths.items (length lane.now.paths.items) wires row stretch.count lane.now.first_wire stretch.ahead stretch.behind text.old text.new }
+    ensures { AreChainsPut lane.now.base lane.now.paths.items
+        (length lane.now.paths.items) wires row stretch.count lane.now.first_wire stretch.ahead stretch.behind text.old text.new }
 {
     for chain in 0..lane.paths.len() {
         let path = &lane.paths[chain];
@@ -145,7 +146,8 @@ fn put_stretch(text: &mut [u8], wires: usize, row: usize, lane: &Lane, cycle: u6
     requires rows { (row + most) * (2 * wires + 2) ≤ length text.old }
     ensures some { 1 ≤ result }
     ensures few { result ≤ most }
-    ensures played { (content : Content) (tests : List PlannedTest) (i : ℕ) (t : PlannedTest) → HasLane content tests wires i t lane.now → ArePlayed content t wires cycle (cycle + result) row text.old text.new }
+    ensures played { (content : Content) (tests : List PlannedTest) (i : ℕ) (t : PlannedTest) → HasLane content tests wires i t lane.now →
+        ArePlayed content t wires cycle (cycle + result) row text.old text.new }
 {
     match lane.phases.at(cycle - lane.start) {
         Moment::Shift { ahead, behind } => {
@@ -172,7 +174,8 @@ fn put_test(text: &mut [u8], wires: usize, lane: &Lane, from: u64, count: u64)
     requires fits { from + count < 2 ^ 64 }
     requires rows { count * (2 * wires + 2) ≤ length text.old }
     ensures long { length text.new ≡ length text.old }
-    ensures played { (content : Content) (tests : List PlannedTest) (i : ℕ) (t : PlannedTest) → HasLane content tests wires i t lane.now → (r : ℕ) → r < count → IsPlayed content t wires (from + r) r text.old text.new }
+    ensures played { (content : Content) (tests : List PlannedTest) (i : ℕ) (t : PlannedTest) → HasLane content tests wires i t lane.now →
+        (r : ℕ) → r < count → IsPlayed content t wires (from + r) r text.old text.new }
 {
     if !lane.tam {
         return;
@@ -192,7 +195,8 @@ pub fn put_tests(text: &mut [u8], wires: usize, lanes: &[Lane], from: u64, count
     requires fits { from + count < 2 ^ 64 }
     requires rows { count * (2 * wires + 2) ≤ length text.old }
     ensures long { length text.new ≡ length text.old }
-    ensures lines { (content : Content) (tests : List PlannedTest) → AreLanes content tests lanes.now → AreOnWires tests wires → (r : ℕ) → r < count → IsLineOf content tests wires (from + r) r text.new }
+    ensures lines { (content : Content) (tests : List PlannedTest) → AreLanes content tests lanes.now → AreOnWires tests wires → (r : ℕ) →
+        r < count → IsLineOf content tests wires (from + r) r text.new }
 {
     put_blanks(text, wires, count as usize);
     for place in 0..lanes.len() {

@@ -77,7 +77,8 @@ impl<'a> Vectors<'a> {
         requires fits { from + count < 2 ^ 64 }
         requires rows { count * (2 * wires_of self.now.plan + 2) ≤ length text.old }
         ensures long { length text.new ≡ length text.old }
-        ensures lines { (r : ℕ) → r < count → IsLineOf (vectors_content self.now) (vectors_tests self.now) (wires_of self.now.plan) (from + r) r text.new }
+        ensures lines { (r : ℕ) → r < count → IsLineOf (vectors_content self.now) (vectors_tests self.now) (wires_of self.now.plan)
+            (from + r) r text.new }
     {
         put_tests(text, self.wires, &self.lanes, from, count);
     }

@@ -32,4 +32,5 @@ pub record IsProvedBound (files : Files) (soc limits proof : List ℕ) (old new 
 -- so where the call ends with Done, and the shelf tells what it holds
 abbrev pub Headline : Option CommandValue → Option Files → Option (List ℕ) → Status → Option (List ℕ) → Type 0
 Headline command held old end new =
-    (files : Files) (soc limits proof : List ℕ) → held ≡ Some files → command ≡ Some (Bound soc limits proof) → end ≡ Done → IsProvedBound files soc limits proof old new
+    (files : Files) (soc limits proof : List ℕ) → held ≡ Some files → command ≡ Some (Bound soc limits proof) → end ≡ Done →
+    IsProvedBound files soc limits proof old new

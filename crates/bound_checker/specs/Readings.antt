@@ -16,4 +16,5 @@ SaysBound chip bounds bytes value = SaysProof bytes value × IsAccepted chip bou
 abbrev pub RefusesProof : SocValue → LimitsValue → List ℕ → List ℕ → Type 0
 RefusesProof chip bounds bytes text =
     ((line : ℕ) × RefusesText bytes line × (text ≡ proof_line line))
-    ⊎ ((value : ProofValue) × SaysProof bytes value × ((fault : ProofFault) × IsProofFault chip bounds value fault × (text ≡ proof_fault_line fault)))
+    ⊎ ((value : ProofValue) × SaysProof bytes value × ((fault : ProofFault) × IsProofFault chip bounds value fault
+    × (text ≡ proof_fault_line fault)))

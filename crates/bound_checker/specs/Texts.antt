@@ -17,4 +17,5 @@ proof_line line = codes "refused proof line " ++ decimal line ++ codes "\n"
 abbrev pub proof_fault_line : ProofFault → List ℕ
 proof_fault_line (BadList place) = codes "refused proof list " ++ decimal place ++ codes "\n"
 proof_fault_line (BadNode place) = codes "refused proof node " ++ decimal place ++ codes "\n"
-proof_fault_line (Less place claimed shown) = codes "refused proof less " ++ decimal place ++ codes " " ++ two_numbers claimed shown ++ codes "\n"
+proof_fault_line (Less place claimed shown) =
+    codes "refused proof less " ++ decimal place ++ codes " " ++ two_numbers claimed shown ++ codes "\n"

@@ -27,7 +27,8 @@ use std::alloc::Global;
 fn answer_proof(alloc: Global, soc: &Soc, limits: &Limits, bytes: &[u8]) -> Verdict
     requires chip { IsSoundChip (soc_value soc.now) }
     requires limits { IsSoundLimits (soc_value soc.now) (limits_value limits.now) }
-    ensures { AnswersBytes (SaysBound (soc_value soc.now) (limits_value limits.now)) (RefusesProof (soc_value soc.now) (limits_value limits.now)) bound_text bytes.now result }
+    ensures { AnswersBytes (SaysBound (soc_value soc.now) (limits_value limits.now))
+        (RefusesProof (soc_value soc.now) (limits_value limits.now)) bound_text bytes.now result }
 {
     let proof = match read_proof(alloc, bytes) {
         Ok(proof) => proof,
@@ -55,7 +56,8 @@ fn answer_file<H: Shelf>(
     requires limits { IsSoundLimits (soc_value soc.now) (limits_value limits.now) }
     ensures held_stays { H.held shelf.new ≡ H.held shelf.old }
     ensures faults_never_fall { H.faults shelf.old ≤ H.faults shelf.new }
-    ensures follows { Follows (with_proof name.now (soc_value soc.now) (limits_value limits.now)) (H.held shelf.old) (H.faults shelf.old) (H.faults shelf.new) result }
+    ensures follows { Follows (with_proof name.now (soc_value soc.now) (limits_value limits.now)) (H.held shelf.old) (H.faults shelf.old)
+        (H.faults shelf.new) result }
 {
     match load_file(alloc, FileKind::Proof, name, shelf) {
         Ok(bytes) => answer_proof(alloc, soc, limits, bytes.as_slice()),
@@ -73,7 +75,8 @@ fn decide_bound<H: Shelf>(
 ) -> Verdict
     ensures held_stays { H.held shelf.new ≡ H.held shelf.old }
     ensures faults_never_fall { H.faults shelf.old ≤ H.faults shelf.new }
-    ensures follows { Follows (procedure_of (Bound soc.now limits.now proof.now)) (H.held shelf.old) (H.faults shelf.old) (H.faults shelf.new) result }
+    ensures follows { Follows (procedure_of (Bound soc.now limits.now proof.now)) (H.held shelf.old) (H.faults shelf.old)
+        (H.faults shelf.new) result }
 {
     match load_both(alloc, soc, limits, shelf) {
         Ok(both) => {
@@ -89,7 +92,8 @@ fn decide_bound<H: Shelf>(
 pub(crate) fn decide<H: Shelf>(alloc: Global, words: &[String], shelf: &mut H) -> Verdict
     ensures held_stays { H.held shelf.new ≡ H.held shelf.old }
     ensures faults_never_fall { H.faults shelf.old ≤ H.faults shelf.new }
-    ensures decides { Decides (asked procedure_of (asked_command (map string_bytes words.now))) (H.held shelf.old) (H.faults shelf.old) (H.faults shelf.new) result }
+    ensures decides { Decides (asked procedure_of (asked_command (map string_bytes words.now))) (H.held shelf.old) (H.faults shelf.old)
+        (H.faults shelf.new) result }
     ensures untouched { (IsCommand (asked procedure_of (asked_command (map string_bytes words.now))) → ⊥) → shelf.new ≡ shelf.old }
 {
     match command_of(words) {

@@ -33,19 +33,25 @@ pub fn check_bound<H: Shelf, K: Sink>(
     ensures faults_never_fall { (H.faults shelf.old ≤ H.faults shelf.new) × (K.faults out.old ≤ K.faults out.new) }
 
     // What is written is an answer to the words and files, each status where its cause is.
-    ensures ends { Ends (MayAnswer (asked procedure_of (command_of (map string_bytes words.now))) (H.held shelf.old) (H.faults shelf.old) (H.faults shelf.new)) (K.faults out.old) (K.faults out.new) (K.written out.old) result (K.written out.new) }
+    ensures ends { Ends (MayAnswer (asked procedure_of (command_of (map string_bytes words.now))) (H.held shelf.old) (H.faults shelf.old)
+        (H.faults shelf.new)) (K.faults out.old) (K.faults out.new) (K.written out.old) result (K.written out.new) }
     ensures one_line { OneLine (K.written out.old) result (K.written out.new) }
-    ensures by_words { EndsByWords (asked procedure_of (command_of (map string_bytes words.now))) (Rose (K.faults out.old) (K.faults out.new)) result }
+    ensures by_words { EndsByWords (asked procedure_of (command_of (map string_bytes words.now)))
+        (Rose (K.faults out.old) (K.faults out.new)) result }
     ensures bad_words { SaysBadWords (K.written out.old) result (K.written out.new) }
     ensures untouched { (IsCommand (asked procedure_of (command_of (map string_bytes words.now))) → ⊥) → shelf.new ≡ shelf.old }
 
     // Where the files give an answer and nothing fails, it comes, unless memory runs out.
-    ensures complete { Complete true (asked procedure_of (command_of (map string_bytes words.now))) (H.held shelf.old) (Rose (H.faults shelf.old) (H.faults shelf.new)) (Rose (K.faults out.old) (K.faults out.new)) (K.written out.old) result (K.written out.new) }
-    ensures finishes { Finishes (asked procedure_of (command_of (map string_bytes words.now))) (H.held shelf.old) (Rose (H.faults shelf.old) (H.faults shelf.new)) (Rose (K.faults out.old) (K.faults out.new)) result }
+    ensures complete { Complete true (asked procedure_of (command_of (map string_bytes words.now))) (H.held shelf.old)
+        (Rose (H.faults shelf.old) (H.faults shelf.new)) (Rose (K.faults out.old) (K.faults out.new)) (K.written out.old) result
+        (K.written out.new) }
+    ensures finishes { Finishes (asked procedure_of (command_of (map string_bytes words.now))) (H.held shelf.old)
+        (Rose (H.faults shelf.old) (H.faults shelf.new)) (Rose (K.faults out.old) (K.faults out.new)) result }
 
     // The headline: chip, limits and proof are those of the held files, the proof is accepted, no good plan has fewer cycles than
     // it claims, and that claim is written.
-    ensures headline { Headline (command_of (map string_bytes words.now)) (H.held shelf.old) (K.written out.old) result (K.written out.new) }
+    ensures headline { Headline (command_of (map string_bytes words.now)) (H.held shelf.old) (K.written out.old) result
+        (K.written out.new) }
 {
     files_say_one_thing();
     proof_texts_are_settled();

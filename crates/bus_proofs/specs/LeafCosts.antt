@@ -18,7 +18,8 @@ use Rattle.bus_proofs.specs.ListTables.{role_at}
 use Rattle.bus_proofs.specs.Leaves.{is_rank, weighed}
 use Rattle.bus_proofs.specs.Bases.{chip_of, limits_of, lists_of}
 
--- a module at its rate and with all lists costs no more: 2^40 is above every rate, 2^24 lists weigh less than 10^9 each, and no test takes more than 10^18 cycles
+-- a module at its rate and with all lists costs no more: 2^40 is above every rate, 2^24 lists weigh less than 10^9 each, and no test takes
+-- more than 10^18 cycles
 abbrev pub LEAF_COST_MOST : ℕ
 LEAF_COST_MOST = (2 ^ 40 + 2 ^ 24 * 10 ^ 9) * 10 ^ 18
 
@@ -88,7 +89,8 @@ drawn_use limits l cycles p = p.1 * power_use limits p.0 l cycles limits.power
 abbrev pub UsesAre : Basis → List (ℕ × ℕ) → Weighed → Type 0
 UsesAre g os room = (at : ℕ → Bool) (i cycles : ℕ) (l : LiveTest) → slice_get (live_tests (chip_of g)) i ≡ Some l →
     weighed_by (lists_of g) os (λ list. use_of (chip_of g) (limits_of g) at list cycles l)
-    ≡ slice_index room.sums.items i * cycles + sum_by (beside_use g.lists at i cycles) room.beside.items + sum_by (drawn_use (limits_of g) l cycles) room.power.items
+    ≡ slice_index room.sums.items i * cycles + sum_by (beside_use g.lists at i cycles) room.beside.items + sum_by
+    (drawn_use (limits_of g) l cycles) room.power.items
 
 -- the room has these lists at their weights
 pub record IsMade (g : Basis) (os : List (ℕ × ℕ)) (room : Weighed) : Type 0 where
@@ -126,8 +128,10 @@ is_over false tam = not tam
 
 -- what a test costs on the bus of a rank, at a width
 abbrev pub test_cost : SocValue → LimitsValue → List ListValue → WeightsValue → (rank : Option ℕ) → (width : ℕ) → LiveTest → ℕ
-test_cost soc limits lists weights rank width l = weighed lists weights (λ list. use_of soc limits (is_rank rank) list (packed_time l.core l.test width) l)
+test_cost soc limits lists weights rank width l =
+    weighed lists weights (λ list. use_of soc limits (is_rank rank) list (packed_time l.core l.test width) l)
 
 -- the same of a test of one kind, the others cost nothing
 abbrev pub kind_cost : Basis → WeightsValue → (wires : Bool) → (rank : Option ℕ) → (width : ℕ) → LiveTest → ℕ
-kind_cost g weights wires rank width l = if is_over wires l.test.tam then test_cost (chip_of g) (limits_of g) (lists_of g) weights rank width l else 0
+kind_cost g weights wires rank width l =
+    if is_over wires l.test.tam then test_cost (chip_of g) (limits_of g) (lists_of g) weights rank width l else 0

@@ -105,7 +105,8 @@ cost soc limits lists weights place s = s.rate * packed_tam_time soc place s.wid
 -- the least cost of the module at a place; none where it has no test over the wires
 abbrev pub least_cost : SocValue → LimitsValue → List ListValue → (claim : ℕ) → Case → WeightsValue → (place : ℕ) → ℕ
 least_cost soc limits lists claim c weights place =
-    if has_tam_at soc place then smallest (map (cost soc limits lists weights place) (slots_of soc limits.wires claim c weights place)) else 0
+    if has_tam_at soc place then smallest (map (cost soc limits lists weights place)
+    (slots_of soc limits.wires claim c weights place)) else 0
 
 -- ---- what a leaf shows
 

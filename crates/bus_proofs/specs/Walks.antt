@@ -112,7 +112,8 @@ pub record IsLaterThen (g : Basis) (c : Case) (split : SplitValue) (Rest : List 
 
 -- Behind a turn the nodes `left` are to come, where `Rest` says which come behind the split: behind its first branch its second
 -- one and then those, behind its second branch those alone.
-pub record IsWithin (g : Basis) (root : CaseRoom) (turn : Turn) (Rest : CaseRoom → List NodeCase → Type 0) (room : CaseRoom) (left : List NodeCase) : Type 0 where
+pub record IsWithin (g : Basis) (root : CaseRoom) (turn : Turn) (Rest : CaseRoom → List NodeCase → Type 0) (room : CaseRoom)
+    (left : List NodeCase) : Type 0 where
   pub before : CaseRoom
   pub c : Case
   pub split : SplitValue
@@ -140,13 +141,15 @@ GoesOn g root turns depth room left = (left ≡ []) ⊎ Begins g root turns dept
 -- ---- a node
 
 -- the node at the place comes, and then the nodes `left`
-pub record IsHere (g : Basis) (root : CaseRoom) (turns : List Turn) (depth : ℕ) (room : CaseRoom) (place : ℕ) (x : NodeCase) (left : List NodeCase) : Type 0 where
+pub record IsHere (g : Basis) (root : CaseRoom) (turns : List Turn) (depth : ℕ) (room : CaseRoom) (place : ℕ) (x : NodeCase)
+    (left : List NodeCase) : Type 0 where
   pub node : IsNodeAt g place x.node
   pub further : IsFurther root room
   pub begins : Begins g root turns depth room (x ∷ left)
 
 -- both branches of a split are left, and then what awaits behind them
-pub record IsFork (g : Basis) (root : CaseRoom) (turns : List Turn) (depth : ℕ) (room : CaseRoom) (c : Case) (split : SplitValue) (left : List NodeCase) : Type 0 where
+pub record IsFork (g : Basis) (root : CaseRoom) (turns : List Turn) (depth : ℕ) (room : CaseRoom) (c : Case) (split : SplitValue)
+    (left : List NodeCase) : Type 0 where
   pub first : CaseTree
   pub second : CaseTree
   pub rest : List NodeCase
@@ -160,18 +163,21 @@ Follows g root turns depth room c (OfSplit split) left = IsFork g root turns dep
 Follows g root turns depth room c (OfSum weights) left = Awaits g root turns depth room left
 
 -- the room has the case of the node at the place, tightened, and then the nodes `left` come
-pub record IsAt (g : Basis) (root : CaseRoom) (turns : List Turn) (depth : ℕ) (room : CaseRoom) (place : ℕ) (x : NodeCase) (left : List NodeCase) : Type 0 where
+pub record IsAt (g : Basis) (root : CaseRoom) (turns : List Turn) (depth : ℕ) (room : CaseRoom) (place : ℕ) (x : NodeCase)
+    (left : List NodeCase) : Type 0 where
   pub node : IsNodeAt g place x.node
   pub case : IsCaseOf room x.within
   pub further : IsFurther root room
   pub follows : Follows g root turns depth room x.within x.node left
 
 -- the first branch of a split that keeps its rule has begun, in the room `new`
-pub record IsBegun (g : Basis) (root : CaseRoom) (turns turns' : List Turn) (depth : ℕ) (old new : CaseRoom) (c : Case) (split : SplitValue) : Type 0 where
+pub record IsBegun (g : Basis) (root : CaseRoom) (turns turns' : List Turn) (depth : ℕ) (old new : CaseRoom) (c : Case)
+    (split : SplitValue) : Type 0 where
   pub rule : KeepsSplit (chip_of g) (limits_of g).wires c split
   pub first : IsCaseOf new (first_case (chip_of g) (limits_of g).wires c split)
   pub awaits : (tree : CaseTree) (rest : List NodeCase) → Awaits g root turns depth old rest →
-      Awaits g root turns' (depth + 1) new (cases_of (chip_of g) (limits_of g).wires (second_case (chip_of g) (limits_of g).wires c split) tree ++ rest)
+      Awaits g root turns' (depth + 1) new (cases_of (chip_of g) (limits_of g).wires
+      (second_case (chip_of g) (limits_of g).wires c split) tree ++ rest)
 
 -- the room `new` has the case of the second branch of a split, from the room before its branches
 pub record IsSecond (g : Basis) (before new : CaseRoom) (c : Case) (split : SplitValue) : Type 0 where

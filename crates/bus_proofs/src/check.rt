@@ -90,7 +90,11 @@ impl<'a> ProofRoom<'a> {
         requires sound { IsSoundChip (soc_value soc.now) }
         requires limits { IsSoundLimits (soc_value soc.now) (limits_value limits.now) }
         requires proof { MayBeSaid (proof_value proof.now) }
-        ensures { IfOk result (λ room. room ≡ record { chip = soc_value soc.now; limits = limits_value limits.now; proof = proof_value proof.now }) }
+        ensures { IfOk result (λ room. room ≡ record {
+          chip = soc_value soc.now;
+          limits = limits_value limits.now;
+          proof = proof_value proof.now;
+        }) }
     {
         let uses = most_uses(&proof.nodes);
         if uses > USES_MOST {

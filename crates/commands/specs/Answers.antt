@@ -11,7 +11,8 @@ use Rattle.commands.specs.Procedures.{Procedure, Read, Unless, Answer, NoCommand
 
 -- The stage of one file, by what its name holds. Where it isn't held no text is allowed; where it is too long or refused
 -- a line says so; else the answer is that of what comes next, for the value that was read.
-abbrev pub Stage : {V : Type 0} → FileKind → (List ℕ → V → Type 0) → (List ℕ → List ℕ → Type 0) → (V → Status → List ℕ → Type 0) → Option (List ℕ) → Status → List ℕ → Type 0
+abbrev pub Stage : {V : Type 0} → FileKind → (List ℕ → V → Type 0) → (List ℕ → List ℕ → Type 0) → (V → Status → List ℕ → Type 0) →
+    Option (List ℕ) → Status → List ℕ → Type 0
 Stage file Says Refuses Next None status text = ⊥
 Stage {V} file Says Refuses Next (Some bytes) status text =
     MatchBool (nat_lt (most_of file) (length bytes)) ((status ≡ TooLong) × (text ≡ too_long_line file))
@@ -23,4 +24,5 @@ Answers NoCommand files status text = (status ≡ BadWords) × (text ≡ bad_wor
 Answers (Unless None next) files status text = Answers next files status text
 Answers (Unless (Some line) next) files status text = (status ≡ Refused) × (text ≡ line)
 Answers (Answer May) files status text = May status text
-Answers (Read file Says Refuses name next) files status text = Stage file Says Refuses (λ value. Answers (next value) files) (get files name) status text
+Answers (Read file Says Refuses name next) files status text =
+    Stage file Says Refuses (λ value. Answers (next value) files) (get files name) status text

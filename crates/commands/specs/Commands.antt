@@ -139,7 +139,8 @@ with_four word soc limits plan last =
 -- with five more words
 unfoldable pub with_five : (word soc limits plan tries seed : List ℕ) → Option CommandValue
 with_five word soc limits plan tries seed =
-    if pointwise nat_eq word (codes "improve") then improve_of soc limits plan (number_of tries TRIES_MOST) (number_of seed NUMBER_WORD_MOST) else None
+    if pointwise nat_eq word (codes "improve") then improve_of soc limits plan (number_of tries TRIES_MOST)
+    (number_of seed NUMBER_WORD_MOST) else None
 
 -- `print SOC`, `widths SOC WIRES`, `plan SOC LIMITS`, `check SOC LIMITS PLAN`, `chart SOC LIMITS PLAN`,
 -- `vectors SOC LIMITS PLAN SEED`, `sample N SEED`, `locate SOC LIMITS PLAN LOG`, `tree SOC LIMITS TREE`, `split SOC LIMITS MOST`,

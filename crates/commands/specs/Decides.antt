@@ -64,7 +64,8 @@ Decided May Unread OutOfMemory = Unit {0}
 
 -- How a procedure ends. Where the shelf tells nothing, any text is allowed.
 abbrev pub Follows : Procedure → Option Files → ℕ → ℕ → Verdict → Type 0
-Follows steps held before after verdict = Decided (λ status text. IfSome held (λ files. Answers steps files status text)) (IsUnread steps held before after) verdict
+Follows steps held before after verdict =
+    Decided (λ status text. IfSome held (λ files. Answers steps files status text)) (IsUnread steps held before after) verdict
 
 -- a verdict has this status and text, or wants memory
 abbrev pub Gives : Status → List ℕ → Verdict → Type 0
@@ -96,13 +97,16 @@ LoadsChip soc held before after (Err verdict) = Follows (with_chip soc (λ chip.
 
 -- and so limits for a chip
 abbrev pub LoadsLimits : SocValue → (limits : List ℕ) → Option Files → ℕ → ℕ → Result LimitsModel Verdict → Type 0
-LoadsLimits chip limits held before after (Ok bounds) = IfSome held (λ files. IsRead Limits (SaysLimits chip) (get files limits) (limits_value bounds))
+LoadsLimits chip limits held before after (Ok bounds) =
+    IfSome held (λ files. IsRead Limits (SaysLimits chip) (get files limits) (limits_value bounds))
 LoadsLimits chip limits held before after (Err verdict) = Follows (with_limits chip limits (λ bounds. nothing)) held before after verdict
 
 -- and so a plan that is accepted for a chip under limits
 abbrev pub LoadsAccepted : SocValue → LimitsValue → (plan : List ℕ) → Option Files → ℕ → ℕ → Result PlanModel Verdict → Type 0
-LoadsAccepted chip bounds plan held before after (Ok value) = IfSome held (λ files. IsRead Plan (SaysAccepted chip bounds) (get files plan) (plan_value value))
-LoadsAccepted chip bounds plan held before after (Err verdict) = Follows (with_accepted chip bounds plan (λ value. nothing)) held before after verdict
+LoadsAccepted chip bounds plan held before after (Ok value) =
+    IfSome held (λ files. IsRead Plan (SaysAccepted chip bounds) (get files plan) (plan_value value))
+LoadsAccepted chip bounds plan held before after (Err verdict) =
+    Follows (with_accepted chip bounds plan (λ value. nothing)) held before after verdict
 
 -- a chip and limits for it, both read from these files
 pub record BothRead (files : Files) (soc limits : List ℕ) (both : Both) : Type 0 where
@@ -123,12 +127,14 @@ pub record AreRead (files : Files) (soc limits plan : List ℕ) (all : Accepted)
 -- all three, or a verdict without them
 abbrev pub LoadsAll : (soc limits plan : List ℕ) → Option Files → ℕ → ℕ → Result Accepted Verdict → Type 0
 LoadsAll soc limits plan held before after (Ok all) = IfSome held (λ files. AreRead files soc limits plan all)
-LoadsAll soc limits plan held before after (Err verdict) = Follows (with_all soc limits plan (λ chip bounds value. nothing)) held before after verdict
+LoadsAll soc limits plan held before after (Err verdict) =
+    Follows (with_all soc limits plan (λ chip bounds value. nothing)) held before after verdict
 
 -- ---- a file of a command's own
 
 -- The verdict on the bytes of such a file: the answer to what they say, or the line that refuses them, or out of memory.
-abbrev pub AnswersBytes : {V : Type 0} → (Says : List ℕ → V → Type 0) → (Refused' : List ℕ → List ℕ → Type 0) → (answer : V → List ℕ) → List ℕ → Verdict → Type 0
+abbrev pub AnswersBytes : {V : Type 0} → (Says : List ℕ → V → Type 0) → (Refused' : List ℕ → List ℕ → Type 0) → (answer : V → List ℕ) →
+    List ℕ → Verdict → Type 0
 AnswersBytes {V} Says Refused' answer bytes (Answered status text) =
     ((status ≡ Done) × ((value : V) × Says bytes value × (text.items ≡ answer value)))
     ⊎ ((status ≡ Refused) × Refused' bytes text.items × IsTrue (is_line text.items))
@@ -172,4 +178,5 @@ RefusesValue plan_fault.NoMemory verdict = verdict ≡ OutOfMemory
 -- the plan where it is accepted, or the answer to its fault
 abbrev pub AnswersCheck : SocValue → LimitsValue → PlanValue → Result PlanModel Verdict → Type 0
 AnswersCheck chip bounds value (Ok plan) = (plan_value plan ≡ value) × IsFaultless chip bounds value
-AnswersCheck chip bounds value (Err verdict) = ((fault : FaultValue) × IsFault chip bounds value fault × Refuses (fault_line fault) verdict) ⊎ (verdict ≡ OutOfMemory)
+AnswersCheck chip bounds value (Err verdict) =
+    ((fault : FaultValue) × IsFault chip bounds value fault × Refuses (fault_line fault) verdict) ⊎ (verdict ≡ OutOfMemory)

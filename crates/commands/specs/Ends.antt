@@ -26,7 +26,8 @@ status_number NoMemory = 6
 
 -- A text was written for its status; or the output failed, and some front of the text is written.
 abbrev pub IsWritten : Status → List ℕ → ℕ → ℕ → Option (List ℕ) → Status → Option (List ℕ) → Type 0
-IsWritten status text before after old end new = ((end ≡ status) × Appended old text new) ⊎ ((end ≡ WriteFault) × Rose before after × AppendedFront old text new)
+IsWritten status text before after old end new =
+    ((end ≡ status) × Appended old text new) ⊎ ((end ≡ WriteFault) × Rose before after × AppendedFront old text new)
 
 -- what is written of a verdict, by the count of the output's faults, and how the call then ends
 abbrev pub Writes : Verdict → ℕ → ℕ → Option (List ℕ) → Status → Option (List ℕ) → Type 0
@@ -37,7 +38,8 @@ Writes OutOfMemory before after old end new = (end ≡ NoMemory) × (new ≡ old
 -- The line that refuses is written, or else the text, by the count of the output's faults; or nothing where memory runs out.
 abbrev pub WritesUnless : Option (List ℕ) → List ℕ → ℕ → ℕ → Option (List ℕ) → Status → Option (List ℕ) → Type 0
 WritesUnless None text before after old end new = ((end ≡ NoMemory) × (new ≡ old)) ⊎ IsWritten Done text before after old end new
-WritesUnless (Some line) text before after old end new = ((end ≡ NoMemory) × (new ≡ old)) ⊎ (IsTrue (is_line line) × IsWritten Refused line before after old end new)
+WritesUnless (Some line) text before after old end new =
+    ((end ≡ NoMemory) × (new ≡ old)) ⊎ (IsTrue (is_line line) × IsWritten Refused line before after old end new)
 
 -- ---- what may be answered
 
@@ -57,7 +59,8 @@ MayUnless steps held (Some line) text = IfSome held (λ files. Answers steps fil
 -- status that it was for, with a prefix of that text.
 abbrev pub Ends : (Status → List ℕ → Type 0) → ℕ → ℕ → Option (List ℕ) → Status → Option (List ℕ) → Type 0
 Ends May before after old NoMemory new = new ≡ old
-Ends May before after old WriteFault new = Rose before after × ((status : Status) × (text : List ℕ) × May status text × AppendedFront old text new)
+Ends May before after old WriteFault new =
+    Rose before after × ((status : Status) × (text : List ℕ) × May status text × AppendedFront old text new)
 Ends May before after old status new = (text : List ℕ) × May status text × Appended old text new
 
 -- the statuses that come with exactly one line, and with nothing
@@ -92,7 +95,8 @@ EndsAsWanted fixed wanted text old end new = ((end ≡ wanted) × (IsTrue fixed 
 
 abbrev pub Complete : (fixed : Bool) → Procedure → Option Files → Type 0 → Type 0 → Option (List ℕ) → Status → Option (List ℕ) → Type 0
 Complete fixed steps held shelf_failed sink_failed old end new =
-    (files : Files) (wanted : Status) (text : List ℕ) → held ≡ Some files → ¬ shelf_failed → ¬ sink_failed → Answers steps files wanted text → EndsAsWanted fixed wanted text old end new
+    (files : Files) (wanted : Status) (text : List ℕ) → held ≡ Some files → ¬ shelf_failed → ¬ sink_failed →
+    Answers steps files wanted text → EndsAsWanted fixed wanted text old end new
 
 -- every file of a procedure is held within its limit and says a value, and the command has no refusal of its own
 abbrev pub AreTaken : Procedure → Files → Type 0

@@ -13,7 +13,8 @@ use Rattle.commands.specs.Readings.{RefusesChip, SaysLimits, RefusesLimits, Says
 -- Where they say none, a line says why (`Refuses bytes line`). `Unless refusal next` goes on unless a command has a refusal of
 -- its own, a line. At the end stands which statuses and texts are an answer. Words that are no command are `NoCommand`.
 pub data Procedure : Type 1 where
-  Read : {V : Type 0} → FileKind → (Says : List ℕ → V → Type 0) → (Refuses : List ℕ → List ℕ → Type 0) → (name : List ℕ) → (V → Procedure) → Procedure
+  Read : {V : Type 0} → FileKind → (Says : List ℕ → V → Type 0) → (Refuses : List ℕ → List ℕ → Type 0) → (name : List ℕ) →
+      (V → Procedure) → Procedure
   Unless : (refusal : Option (List ℕ)) → Procedure → Procedure
   Answer : (Status → List ℕ → Type 0) → Procedure
   NoCommand : Procedure

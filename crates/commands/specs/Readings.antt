@@ -34,7 +34,8 @@ pub record IsRead {V : Type 0} (file : FileKind) (Says : List ℕ → V → Type
 -- the chip's text is refused at a line, or for a limit on the size of a chip
 abbrev pub RefusesChip : List ℕ → List ℕ → Type 0
 RefusesChip bytes text =
-    ((line : ℕ) × IsRefusedLine bytes line × (text ≡ chip_line line)) ⊎ ((limit : SocLimit) × IsTooLarge bytes limit × (text ≡ chip_limit_line limit))
+    ((line : ℕ) × IsRefusedLine bytes line × (text ≡ chip_line line))
+    ⊎ ((limit : SocLimit) × IsTooLarge bytes limit × (text ≡ chip_limit_line limit))
 
 -- ---- limits for a chip
 
@@ -61,4 +62,5 @@ SaysAccepted chip bounds bytes value = SaysPlan bytes value × IsFaultless chip 
 -- the plan's text is refused at a line, or says a plan with a fault
 abbrev pub RefusesPlan : SocValue → LimitsValue → List ℕ → List ℕ → Type 0
 RefusesPlan chip bounds bytes text =
-    ((line : ℕ) × RefusesText bytes line × (text ≡ plan_line line)) ⊎ ((value : PlanValue) × SaysPlan bytes value × ((fault : FaultValue) × IsFault chip bounds value fault × (text ≡ fault_line fault)))
+    ((line : ℕ) × RefusesText bytes line × (text ≡ plan_line line))
+    ⊎ ((value : PlanValue) × SaysPlan bytes value × ((fault : FaultValue) × IsFault chip bounds value fault × (text ≡ fault_line fault)))

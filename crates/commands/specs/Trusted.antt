@@ -29,7 +29,8 @@ IsMade value = Unit {0}
 -- What a plan is that is printed or accepted: it runs right for every content and ends in exactly the cycles that it states, no
 -- good plan of its chip under its limits ends before its bound, and what is written is a text of it. Where the chip, the limits
 -- and the plan come from, and which texts are the plan's, is said of each command.
-pub record IsTrustworthy (IsChip : SocValue → Type 0) (AreLimits : SocValue → LimitsValue → Type 0) (IsPlan : PlanValue → Type 0) (Tells : SocValue → PlanValue → List ℕ → Type 0) (old new : Option (List ℕ)) : Type 0 where
+pub record IsTrustworthy (IsChip : SocValue → Type 0) (AreLimits : SocValue → LimitsValue → Type 0) (IsPlan : PlanValue → Type 0)
+    (Tells : SocValue → PlanValue → List ℕ → Type 0) (old new : Option (List ℕ)) : Type 0 where
   pub chip : SocValue
   pub bounds : LimitsValue
   pub value : PlanValue

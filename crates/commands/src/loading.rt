@@ -216,7 +216,8 @@ pub fn load_accepted_plan<H: Shelf>(
     ensures held_stays { H.held shelf.new ≡ H.held shelf.old }
     ensures faults_never_fall { H.faults shelf.old ≤ H.faults shelf.new }
     ensures accepted { IfOk result (λ plan. IsFaultless (soc_value soc.now) (limits_value limits.now) (plan_value plan)) }
-    ensures loads { LoadsAccepted (soc_value soc.now) (limits_value limits.now) name.now (H.held shelf.old) (H.faults shelf.old) (H.faults shelf.new) result }
+    ensures loads { LoadsAccepted (soc_value soc.now) (limits_value limits.now) name.now (H.held shelf.old) (H.faults shelf.old)
+        (H.faults shelf.new) result }
 {
     let bytes = load_file(alloc, FileKind::Plan, name, shelf)?;
     match read_plan(alloc, bytes.as_slice()) {

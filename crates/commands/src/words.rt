@@ -77,7 +77,8 @@ fn improve<'a>(
     tries: &str,
     seed: &str,
 ) -> Option<Command<'a>>
-    ensures value { option_map command_value result ≡ improve_of soc.now limits.now plan.now (number_of tries.now TRIES_MOST) (number_of seed.now NUMBER_WORD_MOST) }
+    ensures value { option_map command_value result ≡ improve_of soc.now limits.now plan.now (number_of tries.now TRIES_MOST)
+        (number_of seed.now NUMBER_WORD_MOST) }
     ensures range { IfSome result (λ c. IsInRange (command_value c)) }
 {
     let tries = number(tries.as_bytes(), TRIES_MOST)?;

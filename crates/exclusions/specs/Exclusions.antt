@@ -13,7 +13,8 @@ pub data Leads (pairs : List (ℕ × ℕ)) : ℕ → ℕ → Type 0 where
 
 -- the least power of a test's profile, or its own power where it has none
 abbrev pub least_power_of : LimitsValue → TestId → (own : ℕ) → ℕ
-least_power_of limits id own = of_first (λ (p : ProfileValue). same_test p.test id) (λ p. smallest (map (λ (s : ℕ × ℕ). s.1) p.steps)) own limits.profiles
+least_power_of limits id own =
+    of_first (λ (p : ProfileValue). same_test p.test id) (λ p. smallest (map (λ (s : ℕ × ℕ). s.1) p.steps)) own limits.profiles
 
 -- that of a live test
 abbrev pub least_power : LimitsValue → LiveTest → ℕ
@@ -74,4 +75,5 @@ both_pass p (Some a) (Some b) = p a b
 
 -- the live tests at the two places exclude each other
 unfoldable pub excludes : SocValue → LimitsValue → (i j : ℕ) → Bool
-excludes soc limits i j = not (nat_eq i j) && both_pass (has_reason soc limits i j) (slice_get (live_tests soc) i) (slice_get (live_tests soc) j)
+excludes soc limits i j =
+    not (nat_eq i j) && both_pass (has_reason soc limits i j) (slice_get (live_tests soc) i) (slice_get (live_tests soc) j)

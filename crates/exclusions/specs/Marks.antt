@@ -46,7 +46,8 @@ pub record IsFlood (lists : List (List ℕ)) (from : ℕ) (marks : List Bool) (s
   pub within : (j : ℕ) → is_in j stack ≡ true → j < length lists
   pub seen : (j : ℕ) → is_in j stack ≡ true → (j ≡ from) ⊎ LedTo lists from j
   pub sound : (j : ℕ) → is_marked marks j ≡ true → LedTo lists from j
-  pub closed : (i : ℕ) → (i ≡ from) ⊎ (is_marked marks i ≡ true) → (is_in i stack ≡ true) ⊎ ((j : ℕ) → is_in j (next_of lists i) ≡ true → is_marked marks j ≡ true)
+  pub closed : (i : ℕ) → (i ≡ from) ⊎ (is_marked marks i ≡ true) →
+      (is_in i stack ≡ true) ⊎ ((j : ℕ) → is_in j (next_of lists i) ≡ true → is_marked marks j ≡ true)
 
 -- for each test the lists have those that the pairs set behind it
 pub record AreAfter (pairs : List (ℕ × ℕ)) (lists : List Neighbours) : Type 0 where

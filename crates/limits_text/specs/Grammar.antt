@@ -56,7 +56,8 @@ Comes form earlier (profile_item line id steps) ws = ProfileComes form earlier l
 -- the words are these items, the latest first
 abbrev pub AreItems : Bool → List Item → List Word → Type 0
 AreItems form [] ws = ws ≡ []
-AreItems form (x ∷ earlier) ws = (front : List Word) × (own : List Word) × (ws ≡ front ++ own) × AreItems form earlier front × Comes form earlier x own
+AreItems form (x ∷ earlier) ws =
+    (front : List Word) × (own : List Word) × (ws ≡ front ++ own) × AreItems form earlier front × Comes form earlier x own
 
 -- the number of the form: 2 where there may be profiles, and otherwise 1
 abbrev pub form_number : Bool → ℕ

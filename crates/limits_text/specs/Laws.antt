@@ -18,22 +18,26 @@ TextsHaveOneAnswer = (bytes : List ℕ) (soc : SocValue) (a b : Reading) → IsR
 
 -- a text of less than 10 ^ 12 bytes is one of these for a chip
 abbrev pub EachTextHasAnAnswer : Type 0
-EachTextHasAnAnswer = (bytes : List ℕ) (soc : SocValue) → length bytes ≤ NUMBER_WORD_MOST → (reading : Reading) × IsReading bytes soc reading
+EachTextHasAnAnswer =
+    (bytes : List ℕ) (soc : SocValue) → length bytes ≤ NUMBER_WORD_MOST → (reading : Reading) × IsReading bytes soc reading
 
 -- what a text is for a chip is what is answered of it, unless memory runs out
 abbrev pub TextsAreAnswered : Type 0
 TextsAreAnswered =
-    (bytes : List ℕ) (soc : SocValue) (answer : Result Limits LimFault) (reading : Reading) → LimitsRead bytes soc answer → IsReading bytes soc reading
+    (bytes : List ℕ) (soc : SocValue) (answer : Result Limits LimFault) (reading : Reading) → LimitsRead bytes soc answer →
+    IsReading bytes soc reading
     → (reading_of answer ≡ Some reading) ⊎ (reading_of answer ≡ None)
 
 -- the printed text of limits that are sound for a sound chip is read as these limits
 abbrev pub PrintedLimitsAreRead : Type 0
-PrintedLimitsAreRead = (soc : SocValue) (limits : LimitsValue) → IsSoundChip soc → IsSoundLimits soc limits → IsReading (limits_text limits) soc (read_as limits)
+PrintedLimitsAreRead = (soc : SocValue) (limits : LimitsValue) → IsSoundChip soc → IsSoundLimits soc limits →
+    IsReading (limits_text limits) soc (read_as limits)
 
 -- so it is answered with them, unless memory runs out
 abbrev pub PrintedLimitsAreAnswered : Type 0
 PrintedLimitsAreAnswered =
-    (soc : SocValue) (limits : LimitsValue) (answer : Result Limits LimFault) → IsSoundChip soc → IsSoundLimits soc limits → LimitsRead (limits_text limits) soc answer
+    (soc : SocValue) (limits : LimitsValue) (answer : Result Limits LimFault) → IsSoundChip soc → IsSoundLimits soc limits →
+    LimitsRead (limits_text limits) soc answer
     → (reading_of answer ≡ Some (read_as limits)) ⊎ (reading_of answer ≡ None)
 
 -- the tests of a shown cycle go round

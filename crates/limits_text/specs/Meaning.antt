@@ -56,14 +56,16 @@ first_unknown soc items = first_line soc (reverse items)
 
 -- the powers of a test: of the steps of its profile, or its own where it has none
 abbrev pub powers_named : List ProfileValue → TestId → (own : ℕ) → List ℕ
-powers_named profiles id own = of_first (λ (p : ProfileValue). same_test p.test id) (λ p. map (λ (s : ℕ × ℕ). s.1) p.steps) (own ∷ []) profiles
+powers_named profiles id own =
+    of_first (λ (p : ProfileValue). same_test p.test id) (λ p. map (λ (s : ℕ × ℕ). s.1) p.steps) (own ∷ []) profiles
 
 abbrev pub powers_of : List ProfileValue → LiveTest → List ℕ
 powers_of profiles l = powers_named profiles (id_of l) l.test.power
 
 -- no live test has a power above the limit
 abbrev pub NonePasses : SocValue → LimitsValue → Type 0
-NonePasses soc limits = IfSome limits.power (λ most. (n : ℕ) (l : LiveTest) → slice_get (live_tests soc) n ≡ Some l → find (nat_lt most) (powers_of limits.profiles l) ≡ None)
+NonePasses soc limits = IfSome limits.power (λ most. (n : ℕ) (l : LiveTest) → slice_get (live_tests soc) n ≡ Some l →
+    find (nat_lt most) (powers_of limits.profiles l) ≡ None)
 
 -- The first live test that passes the limit: it stands at this place, this is the first of its powers above the limit, and no
 -- earlier live test has one.
@@ -75,4 +77,5 @@ pub record IsFirstPassing (soc : SocValue) (limits : LimitsValue) (test : TestId
   pub there : slice_get (live_tests soc) place ≡ Some live
   pub named : test ≡ id_of live
   pub passes : find (nat_lt most) (powers_of limits.profiles live) ≡ Some power
-  pub earlier : (n : ℕ) (l : LiveTest) → n < place → slice_get (live_tests soc) n ≡ Some l → find (nat_lt most) (powers_of limits.profiles l) ≡ None
+  pub earlier : (n : ℕ) (l : LiveTest) → n < place → slice_get (live_tests soc) n ≡ Some l →
+      find (nat_lt most) (powers_of limits.profiles l) ≡ None

@@ -22,7 +22,8 @@ use Rattle.limits_text.specs.Meaning.{unknown_line, first_line, limits_of}
 -- What is noted of a number beside a module's: where the name of these two stands among the names. Nothing where none of the
 -- tests has that number.
 abbrev pub entry_of : List TestId → ℕ → List Test → ℕ → Option (Option ℕ)
-entry_of ids number tests n = if list_any (λ (t : Test). nat_eq n t.number) tests then Some (position (same_test (record { «module» = number; test = n })) ids) else None
+entry_of ids number tests n = if list_any (λ (t : Test). nat_eq n t.number) tests
+    then Some (position (same_test (record { «module» = number; test = n })) ids) else None
 
 -- the same for each number up to the count of the module's tests
 abbrev pub row_of : List TestId → ℕ × Module → List (Option (Option ℕ))
@@ -77,5 +78,6 @@ names_test (profile_item line id steps) = true
 -- The items name tests of the chip alone, and the limits that they say have this first cycle, or none.
 abbrev pub HasFirstCycle : SocValue → List Item → Result (Option (Vec TestId)) LimFault → Type 0
 HasFirstCycle soc items (Ok found) = (first_line soc items ≡ None)
-    × ((limits : LimitsValue) → limits ≡ limits_of (reverse items) → MatchOption found (IsAcyclic soc limits) (λ cycle. IsCycleOf soc limits cycle.items))
+    × ((limits : LimitsValue) → limits ≡ limits_of (reverse items) →
+    MatchOption found (IsAcyclic soc limits) (λ cycle. IsCycleOf soc limits cycle.items))
 HasFirstCycle soc items (Err f) = StopsAt soc items f

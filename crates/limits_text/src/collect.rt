@@ -81,7 +81,8 @@ pub fn has_profile(items: &Items, test: TestId) -> bool
 }
 
 fn mark(tests: &mut IndexSet<TestId>, test: TestId) -> Result<(), Stop>
-    ensures ok { OnOk result ((id : TestId) → list_any (same_test id) tests.new.keys ≡ (same_test id test || list_any (same_test id) tests.old.keys)) }
+    ensures ok { OnOk result ((id : TestId) → list_any (same_test id) tests.new.keys
+        ≡ (same_test id test || list_any (same_test id) tests.old.keys)) }
     ensures memory { OnErr result (result ≡ Err Stop.NoMemory) }
 {
     tests.insert(test)?;
@@ -90,7 +91,8 @@ fn mark(tests: &mut IndexSet<TestId>, test: TestId) -> Result<(), Stop>
 
 /// Marks the test of an item that is a profile.
 fn mark_item(tests: &mut IndexSet<TestId>, item: &Item) -> Result<(), Stop>
-    ensures ok { OnOk result ((id : TestId) → list_any (same_test id) tests.new.keys ≡ (gives_profile id (item_of item.now) || list_any (same_test id) tests.old.keys)) }
+    ensures ok { OnOk result ((id : TestId) → list_any (same_test id) tests.new.keys
+        ≡ (gives_profile id (item_of item.now) || list_any (same_test id) tests.old.keys)) }
     ensures memory { OnErr result (result ≡ Err Stop.NoMemory) }
 {
     match item {

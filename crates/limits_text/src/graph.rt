@@ -62,7 +62,8 @@ fn release(counts: &mut Vec<usize>, order: &mut Vec<usize>, tests: &[usize]) -> 
     requires held { (j : ℕ) → j < length counts.old.items → copies tests.now j ≤ slice_index counts.old.items j }
     requires kept { IsKept counts.old.items (length counts.old.items) order.old.items }
     ensures long { OnOk result (length counts.new.items ≡ length counts.old.items) }
-    ensures counts { OnOk result ((j : ℕ) → j < length counts.old.items → slice_index counts.new.items j + copies tests.now j ≡ slice_index counts.old.items j) }
+    ensures counts { OnOk result ((j : ℕ) → j < length counts.old.items →
+        slice_index counts.new.items j + copies tests.now j ≡ slice_index counts.old.items j) }
     ensures kept { OnOk result (IsKept counts.new.items (length counts.old.items) order.new.items) }
     ensures goes_on { OnOk result (GoesOn order.old.items order.new.items) }
 {
@@ -116,7 +117,8 @@ fn unmarked(alloc: Global, count: usize) -> Result<Vec<bool>, NoMemory>
 /// Makes the number of a test no greater than one that is not gone.
 fn lower(least: &mut Vec<usize>, test: usize, to: usize, is_gone: bool)
     requires { test < length least.old.items }
-    ensures { least.new.items ≡ (if is_gone then least.old.items else slice_set least.old.items test (min (slice_index least.old.items test) to)) }
+    ensures { least.new.items ≡ (if is_gone then least.old.items
+        else slice_set least.old.items test (min (slice_index least.old.items test) to)) }
 {
     if is_gone {
         return;

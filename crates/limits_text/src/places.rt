@@ -41,7 +41,8 @@ impl<'a> Model for ChipTests<'a> {
 
     ghost view = { λ t. soc_value t.soc.now };
 
-    ghost invariant = { λ t. (t.live.now ≡ live_ids (soc_value t.soc.now)) × AreRows (live_ids (soc_value t.soc.now)) t.soc.now t.rows.items };
+    ghost invariant = { λ t. (t.live.now ≡ live_ids (soc_value t.soc.now))
+        × AreRows (live_ids (soc_value t.soc.now)) t.soc.now t.rows.items };
 }
 
 impl<'a> ChipTests<'a> {

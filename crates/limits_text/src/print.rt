@@ -119,7 +119,8 @@ fn text_of(alloc: Global, limits: &Limits) -> Result<Vec<u8>, NoMemory>
 /// The text of limits, one item a line. Where the limits are sound for a sound chip, it is read for it as these limits.
 pub fn print_limits(alloc: Global, limits: &Limits) -> Result<Vec<u8>, NoMemory>
     ensures text { IfOk result (λ text. text.items ≡ limits_text (limits_value limits.now)) }
-    ensures read { IfOk result (λ text. (soc : SocValue) → IsSoundChip soc → IsSoundLimits soc (limits_value limits.now) → AreReadLimits text.items soc (limits_value limits.now)) }
+    ensures read { IfOk result (λ text. (soc : SocValue) → IsSoundChip soc → IsSoundLimits soc (limits_value limits.now) →
+        AreReadLimits text.items soc (limits_value limits.now)) }
 {
     let text = text_of(alloc, limits)?;
     Ok(text)

@@ -178,7 +178,8 @@ fn end_profile(
     word: Word<'_>,
 ) -> Result<(), Stop>
     requires { InStep items.old }
-    ensures { Steps (goes_on items.old.second (done_of items.old) line test steps.items (word.entry.bytes.now, word.entry.line)) result part.new items.new }
+    ensures { Steps (goes_on items.old.second (done_of items.old) line test steps.items (word.entry.bytes.now, word.entry.line)) result
+        part.new items.new }
 {
     if steps.is_empty() {
         return Err(Stop::Refused);
@@ -197,7 +198,8 @@ fn step_steps(
     word: Word<'_>,
 ) -> Result<(), Stop>
     requires { InStep items.old }
-    ensures { Steps (goes_after_step items.old.second (done_of items.old) line test steps.items (word.entry.bytes.now, word.entry.line) (number_in word.entry.bytes.now)) result part.new items.new }
+    ensures { Steps (goes_after_step items.old.second (done_of items.old) line test steps.items (word.entry.bytes.now, word.entry.line)
+        (number_in word.entry.bytes.now)) result part.new items.new }
 {
     let Some(from) = number_of(word.bytes) else {
         return end_profile(items, part, line, test, steps, word);
@@ -225,7 +227,8 @@ fn step_power(
     word: &[u8],
 ) -> Result<(), Stop>
     requires { InStep items.now }
-    ensures { Steps (goes_after_power items.now.second (done_of items.now) line test steps.items from (number_in word.now)) result part.new items.now }
+    ensures { Steps (goes_after_power items.now.second (done_of items.now) line test steps.items from (number_in word.now)) result
+        part.new items.now }
 {
     let Some(power) = number_of(word) else {
         return Err(Stop::Refused);
@@ -241,7 +244,8 @@ fn step_power(
 /// The next word.
 pub fn step(alloc: Global, items: &mut Items, part: &mut Part, word: Word<'_>) -> Result<(), Stop>
     requires { InStep items.old }
-    ensures { Steps (step_at items.old.second (done_of items.old) (part_of part.old) (word.entry.bytes.now, word.entry.line)) result part.new items.new }
+    ensures { Steps (step_at items.old.second (done_of items.old) (part_of part.old) (word.entry.bytes.now, word.entry.line)) result
+        part.new items.new }
 {
     match part {
         Part::Title => step_title(items, part, word.bytes),

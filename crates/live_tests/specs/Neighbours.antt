@@ -9,7 +9,8 @@ tests_of n = n.tests.items
 -- of the pairs that have one side at a test, the other sides
 abbrev pub other_sides : (side other : ℕ × ℕ → ℕ) → ℕ → List (ℕ × ℕ) → List ℕ
 other_sides side other i [] = []
-other_sides side other i (e ∷ pairs) = if nat_eq i (side e) then other e ∷ other_sides side other i pairs else other_sides side other i pairs
+other_sides side other i (e ∷ pairs) =
+    if nat_eq i (side e) then other e ∷ other_sides side other i pairs else other_sides side other i pairs
 
 -- the tests that pairs of an earlier and a later test have after a test
 abbrev pub after : ℕ → List (ℕ × ℕ) → List ℕ

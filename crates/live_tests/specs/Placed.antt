@@ -13,7 +13,8 @@ bus_over tam bus = if tam then Some bus else None
 
 -- a test of that name of the module at a place, from a start on for so many cycles
 abbrev pub placed_at : TestId → (place : ℕ) → Test → (bus start cycles : ℕ) → PlacedTest
-placed_at id place t bus start cycles = record { id = id; place = place; bus = bus_over t.tam bus; start = start; end = start + cycles; power = t.power }
+placed_at id place t bus start cycles =
+    record { id = id; place = place; bus = bus_over t.tam bus; start = start; end = start + cycles; power = t.power }
 
 -- what a placed test has of its planned one
 abbrev pub placed_of : PlannedTest → PlacedTest

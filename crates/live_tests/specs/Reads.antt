@@ -12,7 +12,8 @@ since_capture t c = ahead (reverse (take (c - t.start) t.operations))
 -- the pattern and the cell whose bit a chain shows: the cell that stands so many places from the end, within the out-length
 abbrev pub bit_shown : List Cell → Option (ℕ × ℕ) → Option (ℕ × Cell)
 bit_shown cells None = None
-bit_shown cells (Some since) = if nat_lt since.0 (out_length cells) then option_map (λ x. (since.1, x)) (slice_get (reverse cells) since.0) else None
+bit_shown cells (Some since) =
+    if nat_lt since.0 (out_length cells) then option_map (λ x. (since.1, x)) (slice_get (reverse cells) since.0) else None
 
 -- the pattern and the cell whose bit of the response is read of a test on a wire that it uses
 abbrev pub read_of : (cycle wire : ℕ) → PlannedTest → Option (ℕ × Cell)

@@ -102,7 +102,8 @@ fn note_modules(
     modules: &[u64],
     bus: usize,
 ) -> Result<(), NoMemory>
-    ensures { OnOk result ((m : ℕ) → lookup (nat_eq m) buses.new.entries ≡ (if list_any (nat_eq m) modules.now then Some bus else lookup (nat_eq m) buses.old.entries)) }
+    ensures { OnOk result ((m : ℕ) → lookup (nat_eq m) buses.new.entries
+        ≡ (if list_any (nat_eq m) modules.now then Some bus else lookup (nat_eq m) buses.old.entries)) }
 {
     for module in modules {
         buses.insert(*module, bus)?;
@@ -138,7 +139,8 @@ pub fn wrappers_by_mode(
     alloc: Global,
     wrappers: &[Wrapper],
 ) -> Result<IndexMap<(u64, bool), usize>, NoMemory>
-    ensures { IfOk result (λ named. (m : ℕ) (scan : Bool) → lookup (is_pair m scan) named.entries ≡ position (wraps m scan) (map wrapper_value wrappers.now)) }
+    ensures { IfOk result (λ named. (m : ℕ) (scan : Bool) →
+        lookup (is_pair m scan) named.entries ≡ position (wraps m scan) (map wrapper_value wrappers.now)) }
 {
     let mut named = IndexMap::new(alloc);
     for place in (0..wrappers.len()).rev() {

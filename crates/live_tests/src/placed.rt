@@ -183,7 +183,8 @@ impl<'a> PlannedChip<'a> {
         requires sound { IsSoundChip (soc_value self.now.soc.now) }
         requires good { IsGoodAlone (soc_value self.now.soc.now) self.now.index.now }
         requires module_there { slice_get (soc_value self.now.soc.now).modules place ≡ Some (module_value «module».now) }
-        ensures { OnOk result (tests.new.items ≡ tests.old.items ++ placed_in self.now.index.now place (module_value «module».now) «module».now.tests.items) }
+        ensures { OnOk result (tests.new.items ≡ tests.old.items
+            ++ placed_in self.now.index.now place (module_value «module».now) «module».now.tests.items) }
     {
         let wrappers = ModeWrappers::new(self.soc, self.index, place, module);
         for test in &module.tests {

@@ -59,7 +59,8 @@ fn wrapper_at(
     requires proper { Each (HasProperCells (soc_value soc.now)) (map wrapper_value wrappers.now) }
     requires there { slice_get (soc_value soc.now).modules place ≡ Some (module_value «module».now) }
     requires found { found ≡ position (wraps «module».now.number scan) (map wrapper_value wrappers.now) }
-    ensures { (plan : PlanValue) → plan.wrappers ≡ map wrapper_value wrappers.now → MayBeWrapper plan (module_value «module».now) scan result }
+    ensures { (plan : PlanValue) → plan.wrappers ≡ map wrapper_value wrappers.now →
+        MayBeWrapper plan (module_value «module».now) scan result }
 {
     match found {
         Some(at) => Some(walked(module, &wrappers[at], at)),
@@ -83,7 +84,8 @@ impl ModeWrappers {
         requires there { slice_get (soc_value soc.now).modules place ≡ Some (module_value «module».now) }
         requires scan { scan ≡ position (wraps «module».now.number true) (map wrapper_value wrappers.now) }
         requires terminals { terminals ≡ position (wraps «module».now.number false) (map wrapper_value wrappers.now) }
-        ensures { (plan : PlanValue) → plan.wrappers ≡ map wrapper_value wrappers.now → AreModeWrappers plan (module_value «module».now) result }
+        ensures { (plan : PlanValue) → plan.wrappers ≡ map wrapper_value wrappers.now →
+            AreModeWrappers plan (module_value «module».now) result }
     {
         ModeWrappers {
             scan: wrapper_at(soc, wrappers, place, module, true, scan),
@@ -107,7 +109,8 @@ impl ModeWrappers {
     /// The cycles of a live test of the module that has these wrappers.
     pub fn cycles(&self, module: &Module, test: &Test) -> u64
         requires { (plan : PlanValue) × IsWrappedTest plan (module_value «module».now) test.now self.now }
-        ensures cycles { (plan : PlanValue) → AreModeWrappers plan (module_value «module».now) self.now → result ≡ length (operations_of (module_value «module».now) test.now (chains_of plan (module_value «module».now) test.now)) }
+        ensures cycles { (plan : PlanValue) → AreModeWrappers plan (module_value «module».now) self.now →
+            result ≡ length (operations_of (module_value «module».now) test.now (chains_of plan (module_value «module».now) test.now)) }
         ensures small { result ≤ 10 ^ 18 }
     {
         if !test.tam {

@@ -171,7 +171,8 @@ impl<'a> PackedTimes<'a> {
         requires few_wires { width ≤ self.now.wires }
         ensures wider { width < result }
         ensures within { result ≤ self.now.wires + 1 }
-        ensures same { (w : ℕ) → width ≤ w → w < result → packed_tam_time self.now.chip place w ≡ packed_tam_time self.now.chip place width }
+        ensures same { (w : ℕ) → width ≤ w → w < result → packed_tam_time self.now.chip place w
+            ≡ packed_tam_time self.now.chip place width }
         ensures other { result ≤ self.now.wires →
             packed_tam_time self.now.chip place result ≡ packed_tam_time self.now.chip place width → ⊥ }
     {

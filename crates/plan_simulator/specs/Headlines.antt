@@ -31,4 +31,5 @@ pub record IsSimulated (files : Files) (soc limits plan : List ℕ) (old new : O
 -- so where the call ends with Done, and the shelf tells what it holds
 abbrev pub Headline : Option CommandValue → Option Files → Option (List ℕ) → Status → Option (List ℕ) → Type 0
 Headline command held old end new =
-    (files : Files) (soc limits plan : List ℕ) (seed : ℕ) → held ≡ Some files → command ≡ Some (Simulate soc limits plan seed) → end ≡ Done → IsSimulated files soc limits plan old new
+    (files : Files) (soc limits plan : List ℕ) (seed : ℕ) → held ≡ Some files → command ≡ Some (Simulate soc limits plan seed) →
+    end ≡ Done → IsSimulated files soc limits plan old new

@@ -13,5 +13,6 @@ long_run value = option_map run_line (too_many value)
 
 -- the line of the run of a plan that is accepted; all other commands are none here
 abbrev pub procedure_of : CommandValue → Procedure
-procedure_of (Simulate soc limits plan seed) = with_all soc limits plan (λ chip bounds value. Unless (long_run value) (done_with (simulated_text chip value seed)))
+procedure_of (Simulate soc limits plan seed) =
+    with_all soc limits plan (λ chip bounds value. Unless (long_run value) (done_with (simulated_text chip value seed)))
 procedure_of other = NoCommand

@@ -21,8 +21,10 @@ wired_patterns chip = sum_by (λ (l : LiveTest). l.test.patterns) (filter (λ (l
 
 -- `cycles C captures N loaded M`
 abbrev pub counts_line : (cycles captures loaded : ℕ) → List ℕ
-counts_line cycles captures loaded = codes "cycles " ++ decimal cycles ++ codes " captures " ++ decimal captures ++ codes " loaded " ++ decimal loaded ++ codes "\n"
+counts_line cycles captures loaded =
+    codes "cycles " ++ decimal cycles ++ codes " captures " ++ decimal captures ++ codes " loaded " ++ decimal loaded ++ codes "\n"
 
 -- the line of the plan's own run with the made contents of a seed
 abbrev pub simulated_text : SocValue → PlanValue → (seed : ℕ) → List ℕ
-simulated_text chip value seed = counts_line value.cycles (captures_in (planned chip value) value.cycles) (right_loads_in (made_content chip seed) (planned chip value) value.cycles)
+simulated_text chip value seed = counts_line value.cycles (captures_in (planned chip value) value.cycles)
+    (right_loads_in (made_content chip seed) (planned chip value) value.cycles)

@@ -40,7 +40,8 @@ fn simulated(alloc: Global, soc: &Soc, plan: &Plan, seed: u64) -> Verdict
     requires sound { IsSoundChip (soc_value soc.now) }
     requires good { IsGoodAlone (soc_value soc.now) (plan_value plan.now) }
     requires narrow { wires_of (plan_value plan.now) ≤ 256 }
-    ensures { GivesAny (long_run (plan_value plan.now)) (λ text. text ≡ simulated_text (soc_value soc.now) (plan_value plan.now) seed) result }
+    ensures { GivesAny (long_run (plan_value plan.now)) (λ text. text
+        ≡ simulated_text (soc_value soc.now) (plan_value plan.now) seed) result }
 {
     match too_many_cells(plan) {
         Some(cells) => refused_with(run_line(alloc, cells)),
@@ -59,7 +60,8 @@ fn decide_simulate<H: Shelf>(
 ) -> Verdict
     ensures held_stays { H.held shelf.new ≡ H.held shelf.old }
     ensures faults_never_fall { H.faults shelf.old ≤ H.faults shelf.new }
-    ensures follows { Follows (procedure_of (Simulate soc.now limits.now plan.now seed)) (H.held shelf.old) (H.faults shelf.old) (H.faults shelf.new) result }
+    ensures follows { Follows (procedure_of (Simulate soc.now limits.now plan.now seed)) (H.held shelf.old) (H.faults shelf.old)
+        (H.faults shelf.new) result }
 {
     match load_all(alloc, soc, limits, plan, shelf) {
         Ok(all) => {
@@ -76,7 +78,8 @@ fn decide_simulate<H: Shelf>(
 pub(crate) fn decide<H: Shelf>(alloc: Global, words: &[String], shelf: &mut H) -> Verdict
     ensures held_stays { H.held shelf.new ≡ H.held shelf.old }
     ensures faults_never_fall { H.faults shelf.old ≤ H.faults shelf.new }
-    ensures decides { Decides (asked procedure_of (asked_command (map string_bytes words.now))) (H.held shelf.old) (H.faults shelf.old) (H.faults shelf.new) result }
+    ensures decides { Decides (asked procedure_of (asked_command (map string_bytes words.now))) (H.held shelf.old) (H.faults shelf.old)
+        (H.faults shelf.new) result }
     ensures untouched { (IsCommand (asked procedure_of (asked_command (map string_bytes words.now))) → ⊥) → shelf.new ≡ shelf.old }
 {
     match command_of(words) {

@@ -29,7 +29,8 @@ fn run_cycle(chip: &mut Chip<'_>, drive: &mut [bool], read: &mut [bool])
     requires left { chip.old.cycle < chip.old.plan.cycles }
     requires driven { length drive.old ≡ wires_of chip.old.plan }
     requires shown { length read.old ≡ wires_of chip.old.plan }
-    ensures { (soc : SocValue) (plan : PlanValue) (seed cycle : ℕ) → IsGoodAlone soc plan → IsAfter soc plan seed cycle chip.old → IsAfter soc plan seed (cycle + 1) chip.new }
+    ensures { (soc : SocValue) (plan : PlanValue) (seed cycle : ℕ) → IsGoodAlone soc plan → IsAfter soc plan seed cycle chip.old →
+        IsAfter soc plan seed (cycle + 1) chip.new }
 {
     chip.want(drive);
     chip.cycle(drive, read);
@@ -41,8 +42,11 @@ pub(crate) fn run(alloc: Global, soc: &Soc, plan: &Plan, seed: u64) -> Result<Re
     requires good { IsGoodAlone (soc_value soc.now) (plan_value plan.now) }
     requires narrow { wires_of (plan_value plan.now) ≤ 256 }
     ensures cycle { IfOk result (λ report. report.cycle ≡ (plan_value plan.now).cycles) }
-    ensures captures { IfOk result (λ report. report.captures ≡ captures_in (planned (soc_value soc.now) (plan_value plan.now)) (plan_value plan.now).cycles) }
-    ensures right_loads { IfOk result (λ report. report.right_loads ≡ right_loads_in (made_content (soc_value soc.now) seed) (planned (soc_value soc.now) (plan_value plan.now)) (plan_value plan.now).cycles) }
+    ensures captures { IfOk result (λ report. report.captures
+        ≡ captures_in (planned (soc_value soc.now) (plan_value plan.now)) (plan_value plan.now).cycles) }
+    ensures right_loads { IfOk result (λ report. report.right_loads
+        ≡ right_loads_in (made_content (soc_value soc.now) seed) (planned (soc_value soc.now) (plan_value plan.now))
+        (plan_value plan.now).cycles) }
 {
     let wires = all_wires(plan) as usize;
     let mut drive = zero_bits(alloc, wires)?;

@@ -2,11 +2,11 @@
 //! together, which is a cut of the game.
 
 use crate::facts::Facts;
-use crate::lists::{Kind, LISTS_MOST};
+use crate::lists::{LISTS_MOST, ListForm};
 use crate::picks::{NO_PICK, Pick, Prices, test_share};
 use crate::resources::{RESOURCES_MOST, Resources, clear_parts, number_of, part_of};
 use crate::tables::{NONE, filled, item_or, put};
-use crate::values::Chip;
+use crate::values::LeafChip;
 use outside::NoMemory;
 use std::alloc::Global;
 
@@ -37,8 +37,8 @@ fn add_part(parts: &mut [i64], place: usize, more: u64) {
 }
 
 /// What a self test uses of a list.
-fn own_share(chip: &Chip, list: usize, test: usize) -> u64 {
-    if chip.lists.kind_of(list) == Kind::Power {
+fn own_share(chip: &LeafChip, list: usize, test: usize) -> u64 {
+    if chip.lists.kind_of(list) == ListForm::Power {
         return chip.powers.share_at(list, test, 1);
     }
     if chip.lists.has(list, test) {
@@ -48,7 +48,7 @@ fn own_share(chip: &Chip, list: usize, test: usize) -> u64 {
 }
 
 /// What the self tests use of a list, together.
-fn own_use(chip: &Chip, list: usize) -> u64 {
+fn own_use(chip: &LeafChip, list: usize) -> u64 {
     let mut sum: u64 = 0;
     for test in 0..chip.facts.tests {
         if !item_or(&chip.facts.tam, test, true) {
@@ -84,7 +84,7 @@ impl Answers {
     }
 
     /// Notes what self tests use of the lists of a game.
-    pub fn take_own(&mut self, chip: &Chip, resources: &Resources) {
+    pub fn take_own(&mut self, chip: &LeafChip, resources: &Resources) {
         for at in 0..resources.listed {
             let used = own_use(chip, resources.list(at));
             put(&mut self.own, at, part_of(used));
@@ -121,7 +121,7 @@ impl Answers {
     }
 
     /// Whether a test counts in a list of turns on the bus of a rank.
-    fn is_reached(&self, chip: &Chip, list: usize, test: usize) -> bool {
+    fn is_reached(&self, chip: &LeafChip, list: usize, test: usize) -> bool {
         if chip.lists.has(list, test) {
             return true;
         }
@@ -130,17 +130,17 @@ impl Answers {
     }
 
     /// Whether a test counts in a list of a kind other than power.
-    fn counts(&self, chip: &Chip, kind: Kind, list: usize, test: usize) -> bool {
-        if kind == Kind::TurnsOn {
+    fn counts(&self, chip: &LeafChip, kind: ListForm, list: usize, test: usize) -> bool {
+        if kind == ListForm::TurnsOn {
             return self.is_reached(chip, list, test);
         }
         chip.lists.has(list, test)
     }
 
     /// What a test over the wires uses of a list of a kind.
-    fn share_in(&self, chip: &Chip, kind: Kind, list: usize, test: usize) -> u64 {
+    fn share_in(&self, chip: &LeafChip, kind: ListForm, list: usize, test: usize) -> u64 {
         let width = item_or(&self.width, test, 1);
-        if kind == Kind::Power {
+        if kind == ListForm::Power {
             return chip.powers.share_at(list, test, width);
         }
         if self.counts(chip, kind, list, test) {
@@ -150,7 +150,7 @@ impl Answers {
     }
 
     /// What the tests over the wires use of a list, together.
-    fn list_use(&self, chip: &Chip, list: usize) -> u64 {
+    fn list_use(&self, chip: &LeafChip, list: usize) -> u64 {
         let kind = chip.lists.kind_of(list);
         let mut sum: u64 = 0;
         for test in 0..chip.facts.tests {
@@ -162,7 +162,7 @@ impl Answers {
     }
 
     /// Notes what all tests use of the lists.
-    fn take_lists(&mut self, chip: &Chip, resources: &Resources) {
+    fn take_lists(&mut self, chip: &LeafChip, resources: &Resources) {
         for at in 0..resources.listed {
             let list = resources.list(at);
             let own = number_of(item_or(&self.own, at, 0));

@@ -4,11 +4,11 @@ use crate::board::Board;
 use crate::cases::{Case, RANKS_MOST};
 use crate::slots::REST;
 use crate::tables::{ONE, item_or, put};
-use crate::values::Chip;
+use crate::values::LeafChip;
 
 /// How a case is divided.
 #[derive(Clone, Copy, PartialEq, Eq)]
-pub(crate) enum Cut {
+pub(crate) enum CaseCut {
     /// It can't be.
     Nothing,
     /// By the width of a rank.
@@ -34,14 +34,14 @@ struct Loss {
 }
 
 /// The last rank of more than one width is divided at the middle.
-fn middle_cut(case: &Case) -> Cut {
-    let mut cut = Cut::Nothing;
+fn middle_cut(case: &Case) -> CaseCut {
+    let mut cut = CaseCut::Nothing;
     for rank in 0..case.known {
         let low = case.low_of(rank);
         let high = case.high_of(rank);
         if low < high {
             let width = low.saturating_add(high) >> 1;
-            cut = Cut::Width { rank, width };
+            cut = CaseCut::Width { rank, width };
         }
     }
     cut
@@ -53,7 +53,7 @@ fn part_of(board: &Board, cut: usize) -> u64 {
 }
 
 /// Adds the slots of the rest of one cut.
-fn add_rest(chip: &Chip, board: &Board, cut: usize, means: Means) -> Means {
+fn add_rest(chip: &LeafChip, board: &Board, cut: usize, means: Means) -> Means {
     let part = u128::from(part_of(board, cut));
     let mut means = means;
     for module in 0..chip.facts.modules {
@@ -68,7 +68,7 @@ fn add_rest(chip: &Chip, board: &Board, cut: usize, means: Means) -> Means {
 }
 
 /// The mean width of the slots of the rest in the mix, rounded; 0 where it has none.
-fn rest_mean(chip: &Chip, board: &Board) -> usize {
+fn rest_mean(chip: &LeafChip, board: &Board) -> usize {
     let mut means = Means { count: 0, wires: 0 };
     for cut in 0..board.play.cuts {
         if part_of(board, cut) > 0 {
@@ -84,15 +84,15 @@ fn rest_mean(chip: &Chip, board: &Board) -> usize {
 }
 
 /// One more rank, where the mix has slots on the rest.
-fn rank_cut(chip: &Chip, case: &Case, board: &Board) -> Cut {
+fn rank_cut(chip: &LeafChip, case: &Case, board: &Board) -> CaseCut {
     let mean = rest_mean(chip, board);
     let far = case.rest_high();
     let rank = case.known;
     if mean == 0 || far == 0 || rank >= RANKS_MOST {
-        return Cut::Nothing;
+        return CaseCut::Nothing;
     }
     let width = mean.min(far.saturating_sub(1));
-    Cut::Rank { rank, width }
+    CaseCut::Rank { rank, width }
 }
 
 /// Makes the shares of all ranks 0.
@@ -125,7 +125,7 @@ fn greatest_share(shares: &[u64], known: usize) -> usize {
 }
 
 /// What a module loses on its rank.
-fn loss_of(chip: &Chip, case: &Case, board: &Board, module: usize, shares: &mut [u64]) -> Loss {
+fn loss_of(chip: &LeafChip, case: &Case, board: &Board, module: usize, shares: &mut [u64]) -> Loss {
     take_shares(board, case.known, module, shares);
     let rank = greatest_share(shares, case.known);
     let rest = (ONE as u64).saturating_sub(item_or(shares, rank, 0));
@@ -135,28 +135,33 @@ fn loss_of(chip: &Chip, case: &Case, board: &Board, module: usize, shares: &mut 
 }
 
 /// The module that loses most is placed.
-fn place_cut(chip: &Chip, case: &Case, board: &Board, shares: &mut [u64]) -> Cut {
+fn place_cut(chip: &LeafChip, case: &Case, board: &Board, shares: &mut [u64]) -> CaseCut {
     let mut most: u128 = 0;
-    let mut cut = Cut::Nothing;
+    let mut cut = CaseCut::Nothing;
     for module in 0..chip.facts.modules {
         let loss = loss_of(chip, case, board, module, shares);
         if loss.lost > most {
             most = loss.lost;
             let rank = loss.rank;
-            cut = Cut::Place { module, rank };
+            cut = CaseCut::Place { module, rank };
         }
     }
     cut
 }
 
 /// How a case is divided whose game was played. `shares` is room for as many ranks as there may be.
-pub(crate) fn choose_cut(chip: &Chip, case: &Case, board: &Board, shares: &mut [u64]) -> Cut {
+pub(crate) fn choose_cut(
+    chip: &LeafChip,
+    case: &Case,
+    board: &Board,
+    shares: &mut [u64],
+) -> CaseCut {
     let cut = middle_cut(case);
-    if cut != Cut::Nothing {
+    if cut != CaseCut::Nothing {
         return cut;
     }
     let cut = rank_cut(chip, case, board);
-    if cut != Cut::Nothing {
+    if cut != CaseCut::Nothing {
         return cut;
     }
     place_cut(chip, case, board, shares)

@@ -2,7 +2,7 @@
 //! module and its parent, and of a chain of precedences; and the one that takes longest, as far as a search finds it.
 
 use crate::facts::Facts;
-use crate::lists::{Chosen, Kind, Lists};
+use crate::lists::{Chosen, ListForm, Lists};
 use crate::marks::{mark, marked};
 use crate::separating::Separating;
 use crate::tables::{NONE, filled, item_or, put};
@@ -120,7 +120,7 @@ fn add_family(
     let family = longest_family(facts, times, with_parent);
     let mut members = filled(alloc, 0u64, facts.words)?;
     mark_family(facts, family, &mut members);
-    let list = lists.add(facts, Kind::Turns, 1, &members);
+    let list = lists.add(facts, ListForm::Turns, 1, &members);
     chosen.add(list);
     Ok(())
 }
@@ -197,7 +197,7 @@ fn add_chain(
     let chains = longest_chains(alloc, facts, times)?;
     let mut members = filled(alloc, 0u64, facts.words)?;
     mark_chain(facts, &chains, longest_end(facts, &chains), &mut members);
-    let list = lists.add(facts, Kind::Turns, 1, &members);
+    let list = lists.add(facts, ListForm::Turns, 1, &members);
     chosen.add(list);
     Ok(())
 }
@@ -223,7 +223,7 @@ fn add_longest(
 ) -> Result<(), NoMemory> {
     let weights = weights_of(alloc, times)?;
     if room.make_graph(facts, &weights, 0, false) && room.cliques.search(0, STEPS) {
-        room.add_found(facts, Kind::Turns, 1, lists, chosen);
+        room.add_found(facts, ListForm::Turns, 1, lists, chosen);
     }
     Ok(())
 }

@@ -28,7 +28,7 @@ const STALLED: usize = 40;
 
 /// The basic columns of a game: as many as resources. A column is a cut, or `cuts_most` and a resource that is left over.
 #[derive(Drop)]
-struct Basis {
+struct BasicColumns {
     /// The inverse at [row * count + resource].
     inverse: Vec<i64>,
     /// The value of the basic column of each row.
@@ -55,7 +55,7 @@ pub(crate) struct Game {
     /// The use of resource i by cut c at [c * count + i].
     uses: Vec<i64>,
     /// The basic columns.
-    basis: Basis,
+    basis: BasicColumns,
     /// The entering column over the rows.
     column: Vec<i64>,
     /// The pivot's row.
@@ -79,7 +79,7 @@ struct Scale {
 
 /// A column that would enter, and by how much it improves the sum.
 #[derive(Clone, Copy)]
-struct Entry {
+struct EnteringColumn {
     column: usize,
     gain: i64,
     drift: i64,
@@ -208,15 +208,15 @@ impl Scale {
     }
 }
 
-impl Basis {
+impl BasicColumns {
     /// Room for a basis of so many resources, beside so many cuts.
-    fn new(alloc: Global, count_most: usize, cuts_most: usize) -> Result<Basis, NoMemory> {
+    fn new(alloc: Global, count_most: usize, cuts_most: usize) -> Result<BasicColumns, NoMemory> {
         let inverse = filled(alloc, 0i64, count_most.saturating_mul(count_most))?;
         let level = filled(alloc, 0i64, count_most)?;
         let price = filled(alloc, 0i64, count_most)?;
         let basic = filled(alloc, NONE, count_most)?;
         let row_of = filled(alloc, NONE, count_most.saturating_add(cuts_most))?;
-        Ok(Basis {
+        Ok(BasicColumns {
             inverse,
             level,
             price,
@@ -230,7 +230,7 @@ impl Game {
     /// Room for a game of so many resources and cuts. `NoMemory` where there is none.
     pub fn new(alloc: Global, count_most: usize, cuts_most: usize) -> Result<Game, NoMemory> {
         let uses = filled(alloc, 0i64, count_most.saturating_mul(cuts_most))?;
-        let basis = Basis::new(alloc, count_most, cuts_most)?;
+        let basis = BasicColumns::new(alloc, count_most, cuts_most)?;
         let column = filled(alloc, 0i64, count_most)?;
         let pivot_row = filled(alloc, 0i64, count_most)?;
         let kept = filled(alloc, NONE, count_most)?;
@@ -303,8 +303,8 @@ impl Game {
     }
 
     /// The cut that would improve the sum most, and how far the prices of basic cuts are from a whole.
-    fn best_cut(&self, first: bool) -> Entry {
-        let mut best = Entry {
+    fn best_cut(&self, first: bool) -> EnteringColumn {
+        let mut best = EnteringColumn {
             column: NONE,
             gain: SLACK,
             drift: 0,
@@ -327,7 +327,7 @@ impl Game {
     }
 
     /// The same, or a resource that would rather be left over.
-    fn best_column(&self, first: bool) -> Entry {
+    fn best_column(&self, first: bool) -> EnteringColumn {
         let mut best = self.best_cut(first);
         if first && best.column != NONE {
             return best;

@@ -11,7 +11,7 @@ pub(crate) const LISTS_MOST: usize = 256;
 
 /// What the rule of a list says.
 #[derive(Clone, Copy, PartialEq, Eq, Drop)]
-pub(crate) enum Kind {
+pub(crate) enum ListForm {
     /// Its tests exclude each other.
     Turns,
     /// So do its tests, and those on the bus of a rank that exclude each of them count too.
@@ -30,7 +30,7 @@ pub(crate) struct Lists {
     /// The words of a row of marks.
     pub words: usize,
     /// For each list its kind.
-    pub kind: Vec<Kind>,
+    pub kind: Vec<ListForm>,
     /// For each list its rank (TurnsOn), how many are active at most (Crowd), or from what power on a test counts (Power).
     pub number: Vec<u64>,
     /// For each list a row of marks: its tests.
@@ -55,7 +55,7 @@ impl Lists {
     /// Room for the lists of a chip; there are none yet. `NoMemory` where there is none.
     pub fn new(alloc: Global, facts: &Facts) -> Result<Lists, NoMemory> {
         let room = LISTS_MOST.saturating_mul(facts.words);
-        let kind = filled(alloc, Kind::Power, LISTS_MOST)?;
+        let kind = filled(alloc, ListForm::Power, LISTS_MOST)?;
         let number = filled(alloc, 0u64, LISTS_MOST)?;
         let members = filled(alloc, 0u64, room)?;
         let apart = filled(alloc, 0u64, room)?;
@@ -70,8 +70,8 @@ impl Lists {
     }
 
     /// The kind of a list.
-    pub fn kind_of(&self, list: usize) -> Kind {
-        item_or(&self.kind, list, Kind::Power)
+    pub fn kind_of(&self, list: usize) -> ListForm {
+        item_or(&self.kind, list, ListForm::Power)
     }
 
     /// The number of a list.
@@ -82,7 +82,7 @@ impl Lists {
     /// How much of a list there is at each cycle.
     pub fn room(&self, list: usize) -> u64 {
         match self.kind_of(list) {
-            Kind::Crowd => self.number_of(list),
+            ListForm::Crowd => self.number_of(list),
             _ => 1,
         }
     }
@@ -110,7 +110,7 @@ impl Lists {
     }
 
     /// The place of a list, NONE where it isn't there.
-    fn place_of(&self, kind: Kind, number: u64, members: &[u64]) -> usize {
+    fn place_of(&self, kind: ListForm, number: u64, members: &[u64]) -> usize {
         for list in 0..self.count {
             if self.kind_of(list) == kind && self.number_of(list) == number {
                 if self.has_all(list, members) {
@@ -141,7 +141,7 @@ impl Lists {
     }
 
     /// Answers the place of a list, which is added where it isn't there yet; NONE where there is no room for it.
-    pub fn add(&mut self, facts: &Facts, kind: Kind, number: u64, members: &[u64]) -> usize {
+    pub fn add(&mut self, facts: &Facts, kind: ListForm, number: u64, members: &[u64]) -> usize {
         let found = self.place_of(kind, number, members);
         if found != NONE {
             return found;
@@ -153,7 +153,7 @@ impl Lists {
         put(&mut self.kind, list, kind);
         put(&mut self.number, list, number);
         self.write_members(list, members);
-        if kind == Kind::TurnsOn {
+        if kind == ListForm::TurnsOn {
             self.write_apart(facts, list, members);
         }
         self.count = list.saturating_add(1);

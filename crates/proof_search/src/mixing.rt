@@ -6,7 +6,7 @@ use crate::play::Play;
 use crate::resources::{number_of, part_of};
 use crate::slots::{REST, Spans};
 use crate::tables::{NONE, item_or, put};
-use crate::values::Chip;
+use crate::values::LeafChip;
 
 /// Adds to the part at a place.
 fn add_part(parts: &mut [i64], place: usize, more: i64) {
@@ -15,7 +15,7 @@ fn add_part(parts: &mut [i64], place: usize, more: i64) {
 }
 
 /// Begins a mix with what self tests take.
-fn begin(chip: &Chip, mix: &mut Mix) {
+fn begin(chip: &LeafChip, mix: &mut Mix) {
     for test in 0..chip.facts.tests {
         let mut own = 0;
         if !item_or(&chip.facts.tam, test, true) {
@@ -26,14 +26,14 @@ fn begin(chip: &Chip, mix: &mut Mix) {
 }
 
 /// Says that nothing is tested on the buses of the known ranks yet.
-fn clear_ranks(chip: &Chip, mix: &mut Mix) {
+fn clear_ranks(chip: &LeafChip, mix: &mut Mix) {
     for place in 0..mix.known.saturating_mul(chip.facts.tests) {
         put(&mut mix.on_rank, place, 0);
     }
 }
 
 /// Adds a test on a slot of a rank, which has a part of the mix.
-fn add_test(chip: &Chip, mix: &mut Mix, test: usize, pick: Pick, rank: usize, part: u64) {
+fn add_test(chip: &LeafChip, mix: &mut Mix, test: usize, pick: Pick, rank: usize, part: u64) {
     if !item_or(&chip.facts.tam, test, false) {
         return;
     }
@@ -47,7 +47,7 @@ fn add_test(chip: &Chip, mix: &mut Mix, test: usize, pick: Pick, rank: usize, pa
 }
 
 /// Adds a module on a slot of a rank, which has a part of the mix.
-fn add_module(chip: &Chip, mix: &mut Mix, module: usize, pick: Pick, rank: usize, part: u64) {
+fn add_module(chip: &LeafChip, mix: &mut Mix, module: usize, pick: Pick, rank: usize, part: u64) {
     let from = item_or(&chip.facts.first, module, 0);
     let end = item_or(&chip.facts.first, module.saturating_add(1), 0);
     for at in from..end {
@@ -58,7 +58,7 @@ fn add_module(chip: &Chip, mix: &mut Mix, module: usize, pick: Pick, rank: usize
 
 impl Play {
     /// Adds an answer, as its part says.
-    fn add_answer(&self, chip: &Chip, spans: &Spans, mix: &mut Mix, answer: usize) {
+    fn add_answer(&self, chip: &LeafChip, spans: &Spans, mix: &mut Mix, answer: usize) {
         let part = number_of(item_or(&self.mix, answer, 0));
         if part == 0 {
             return;
@@ -71,7 +71,7 @@ impl Play {
     }
 
     /// Writes the mix of all answers.
-    pub fn mixed(&self, chip: &Chip, spans: &Spans, mix: &mut Mix) {
+    pub fn mixed(&self, chip: &LeafChip, spans: &Spans, mix: &mut Mix) {
         mix.known = spans.known;
         mix.value = self.best;
         begin(chip, mix);
@@ -82,7 +82,7 @@ impl Play {
     }
 
     /// What a test uses of a list of power in an answer.
-    fn power_share(&self, chip: &Chip, list: usize, answer: usize, test: usize) -> u64 {
+    fn power_share(&self, chip: &LeafChip, list: usize, answer: usize, test: usize) -> u64 {
         if !item_or(&chip.facts.tam, test, false) {
             return chip.powers.share_at(list, test, 1);
         }
@@ -92,7 +92,7 @@ impl Play {
     }
 
     /// What all tests use of a list of power in an answer.
-    fn power_of(&self, chip: &Chip, list: usize, answer: usize) -> u64 {
+    fn power_of(&self, chip: &LeafChip, list: usize, answer: usize) -> u64 {
         let mut sum: u64 = 0;
         for test in 0..chip.facts.tests {
             sum = sum.saturating_add(self.power_share(chip, list, answer, test));
@@ -101,7 +101,7 @@ impl Play {
     }
 
     /// What the mix uses of a list of power.
-    pub fn power_mixed(&self, chip: &Chip, list: usize) -> i64 {
+    pub fn power_mixed(&self, chip: &LeafChip, list: usize) -> i64 {
         let mut sum: u128 = 0;
         for answer in 0..self.cuts {
             let part = u128::from(number_of(item_or(&self.mix, answer, 0)));

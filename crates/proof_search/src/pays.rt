@@ -1,7 +1,7 @@
 //! What tests pay for the lists of a leaf, as its weights say.
 
 use crate::facts::Facts;
-use crate::lists::{Kind, LISTS_MOST, Lists};
+use crate::lists::{LISTS_MOST, ListForm, Lists};
 use crate::tables::{NONE, filled, item_or, put};
 use crate::weights::wipe;
 use outside::NoMemory;
@@ -125,8 +125,8 @@ impl Pays {
     /// Adds what tests pay for a list.
     pub fn add(&mut self, lists: &Lists, list: usize, pay: u64) {
         match lists.kind_of(list) {
-            Kind::Power => self.add_power(list, pay),
-            Kind::TurnsOn => {
+            ListForm::Power => self.add_power(list, pay),
+            ListForm::TurnsOn => {
                 self.add_members(lists, list, pay);
                 self.add_reached(lists, list, pay);
             }

@@ -2,9 +2,9 @@
 
 use crate::pays::Pays;
 use crate::resources::{Resources, number_of};
-use crate::slots::{Range, Span, Spans};
+use crate::slots::{Range, Spans, StepRange};
 use crate::tables::{NONE, item_or};
-use crate::values::Chip;
+use crate::values::LeafChip;
 
 /// The slot that a module takes.
 #[derive(Clone, Copy, Drop)]
@@ -26,7 +26,7 @@ pub(crate) const NO_PICK: Pick = Pick {
 
 /// A slot with its cost.
 #[derive(Clone, Copy)]
-struct Best {
+struct PickedSlot {
     cost: u64,
     pick: Pick,
 }
@@ -35,7 +35,7 @@ struct Best {
 #[derive(Clone, Copy)]
 pub(crate) struct Prices<'a> {
     /// The chip with its lists.
-    pub chip: &'a Chip,
+    pub chip: &'a LeafChip,
     /// The slots.
     pub spans: &'a Spans,
     /// The resources of the game.
@@ -49,7 +49,7 @@ pub(crate) struct Prices<'a> {
 }
 
 /// The time of a test over the wires on a width, in parts of the cap.
-pub(crate) fn test_share(chip: &Chip, test: usize, width: usize) -> u64 {
+pub(crate) fn test_share(chip: &LeafChip, test: usize, width: usize) -> u64 {
     let row = test.saturating_mul(chip.slots.wires).saturating_add(width);
     u64::from(item_or(&chip.slots.test_share, row.saturating_sub(1), 0))
 }
@@ -91,7 +91,14 @@ impl Prices<'_> {
     }
 
     /// The better one of a slot and another, where a bus of the range has a part.
-    fn try_slot(&self, module: usize, range: Range, base: u64, pick: Pick, best: Best) -> Best {
+    fn try_slot(
+        &self,
+        module: usize,
+        range: Range,
+        base: u64,
+        pick: Pick,
+        best: PickedSlot,
+    ) -> PickedSlot {
         let wires = pick.width.saturating_sub(range.low) as u64;
         let rate = base.wrapping_add(self.wire.wrapping_mul(wires));
         let mut cost = rate.wrapping_mul(self.chip.slots.share_of(pick.step));
@@ -104,11 +111,18 @@ impl Prices<'_> {
         if cost >= best.cost {
             return best;
         }
-        Best { cost, pick }
+        PickedSlot { cost, pick }
     }
 
     /// The best one of the slots of a span and another, where a bus of the range has a part.
-    fn try_span(&self, module: usize, range: Range, base: u64, span: Span, best: Best) -> Best {
+    fn try_span(
+        &self,
+        module: usize,
+        range: Range,
+        base: u64,
+        span: StepRange,
+        best: PickedSlot,
+    ) -> PickedSlot {
         let mut better = best;
         for step in span.from..span.end {
             let width = self.chip.slots.width_of(step).max(range.first);
@@ -124,7 +138,7 @@ impl Prices<'_> {
 
     /// The first slot of a module that costs least.
     pub fn least(&self, module: usize) -> Pick {
-        let mut best = Best {
+        let mut best = PickedSlot {
             cost: u64::MAX,
             pick: NO_PICK,
         };

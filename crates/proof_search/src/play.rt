@@ -10,7 +10,7 @@ use crate::picks::{Pick, Prices};
 use crate::resources::{RESOURCES_MOST, Resources, clear_parts, number_of};
 use crate::slots::Spans;
 use crate::tables::{ONE, filled, item_or};
-use crate::values::{Chip, Values};
+use crate::values::{LeafChip, Values};
 use crate::weights::{Weighing, copy_all};
 use outside::NoMemory;
 use std::alloc::Global;
@@ -22,7 +22,7 @@ const NEARLY: i64 = 65_536;
 
 /// How a turn of the play ends.
 #[derive(Clone, Copy, PartialEq, Eq)]
-enum Turn {
+enum PlayEnd {
     /// There is another turn.
     GoesOn,
     /// Neither side gains by more turns.
@@ -84,7 +84,7 @@ impl Play {
     }
 
     /// Takes what tests pay for the lists.
-    fn take_pays(&mut self, chip: &Chip) {
+    fn take_pays(&mut self, chip: &LeafChip) {
         self.pays.clear();
         for at in 0..self.resources.listed {
             let list = self.resources.list(at);
@@ -98,7 +98,7 @@ impl Play {
     }
 
     /// All modules answer the parts at hand. Answers what these are worth.
-    fn respond(&mut self, chip: &Chip, spans: &Spans, answer: usize) -> i64 {
+    fn respond(&mut self, chip: &LeafChip, spans: &Spans, answer: usize) -> i64 {
         self.take_pays(chip);
         let rest = self.part(self.resources.rest);
         let wire = rest.checked_div(self.resources.spare).unwrap_or(0);
@@ -125,7 +125,7 @@ impl Play {
     /// Whether the parts at hand hold as weights at the goal; the weights are written.
     fn holds(
         &self,
-        chip: &Chip,
+        chip: &LeafChip,
         spans: &Spans,
         values: &mut Values,
         weights: &mut Weighing,
@@ -152,30 +152,30 @@ impl Play {
     /// A turn of the play.
     fn turn(
         &mut self,
-        chip: &Chip,
+        chip: &LeafChip,
         spans: &Spans,
         game: &mut Game,
         values: &mut Values,
         weights: &mut Weighing,
-    ) -> Turn {
+    ) -> PlayEnd {
         let answer = self.cuts;
         let worth = self.respond(chip, spans, answer);
         self.cuts = answer.saturating_add(1);
         self.keep_best(worth);
         let nearly = ONE.saturating_sub(ONE / NEARLY);
         if worth >= nearly && self.holds(chip, spans, values, weights) {
-            return Turn::Holds;
+            return PlayEnd::Holds;
         }
         if self.improve(game) {
-            return Turn::GoesOn;
+            return PlayEnd::GoesOn;
         }
-        Turn::Ends
+        PlayEnd::Ends
     }
 
     /// Plays from the parts at hand. Whether parts were found that hold as weights at the goal, which are written then.
     pub fn play(
         &mut self,
-        chip: &Chip,
+        chip: &LeafChip,
         spans: &Spans,
         game: &mut Game,
         values: &mut Values,
@@ -186,10 +186,10 @@ impl Play {
         self.cuts = 0;
         for _ in 0..CUTS_MOST {
             let turn = self.turn(chip, spans, game, values, weights);
-            if turn == Turn::Holds {
+            if turn == PlayEnd::Holds {
                 return true;
             }
-            if turn == Turn::Ends {
+            if turn == PlayEnd::Ends {
                 break;
             }
         }
@@ -198,13 +198,13 @@ impl Play {
     }
 
     /// Takes the resources of a case, with lists.
-    fn take_resources(&mut self, chip: &Chip, spans: &Spans, chosen: &Chosen) {
+    fn take_resources(&mut self, chip: &LeafChip, spans: &Spans, chosen: &Chosen) {
         self.resources.take(spans, chosen);
         self.answers.take_own(chip, &self.resources);
     }
 
     /// Begins the game of a case with lists, from the weights of a case above; their lists are the first ones.
-    pub fn begin(&mut self, chip: &Chip, spans: &Spans, chosen: &Chosen, above: &Weighing) {
+    pub fn begin(&mut self, chip: &LeafChip, spans: &Spans, chosen: &Chosen, above: &Weighing) {
         self.take_resources(chip, spans, chosen);
         self.resources
             .share(&chip.lists, spans.known, above, &mut self.parts);
@@ -212,13 +212,13 @@ impl Play {
     }
 
     /// Goes on with more lists, from the best parts so far.
-    pub fn go_on(&mut self, chip: &Chip, spans: &Spans, chosen: &Chosen) {
+    pub fn go_on(&mut self, chip: &LeafChip, spans: &Spans, chosen: &Chosen) {
         self.take_resources(chip, spans, chosen);
         copy_all(&mut self.parts, &self.best_parts);
     }
 
     /// Writes the best parts as weights.
-    pub fn weigh_best(&self, chip: &Chip, spans: &Spans, weights: &mut Weighing) {
+    pub fn weigh_best(&self, chip: &LeafChip, spans: &Spans, weights: &mut Weighing) {
         self.resources
             .weigh(&chip.lists, &self.best_parts, spans.known, weights);
     }

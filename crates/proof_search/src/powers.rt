@@ -1,7 +1,7 @@
 //! The lists of power that a search begins with.
 
 use crate::facts::Facts;
-use crate::lists::{Chosen, Kind, Lists};
+use crate::lists::{Chosen, ListForm, Lists};
 use crate::tables::{filled, item_or};
 use outside::{NoMemory, push};
 use std::alloc::Global;
@@ -67,7 +67,7 @@ fn add_nears(facts: &Facts, nears: &[u64], none: &[u64], lists: &mut Lists, chos
         let scaled = index.saturating_mul(nears.len());
         let place = scaled.checked_div(count).unwrap_or(0);
         let near = item_or(nears, place, 0);
-        let list = lists.add(facts, Kind::Power, near, none);
+        let list = lists.add(facts, ListForm::Power, near, none);
         chosen.add(list);
     }
 }
@@ -83,7 +83,7 @@ pub(crate) fn first_lists(
         return Ok(());
     }
     let none = filled(alloc, 0u64, facts.words)?;
-    let list = lists.add(facts, Kind::Power, 0, &none);
+    let list = lists.add(facts, ListForm::Power, 0, &none);
     chosen.add(list);
     let nears = all_nears(alloc, facts)?;
     add_nears(facts, &nears, &none, lists, chosen);

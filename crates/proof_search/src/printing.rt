@@ -1,8 +1,8 @@
 //! Makes the proof that a tree of cases is.
 
-use crate::lists::{Kind, LISTS_MOST};
+use crate::lists::{LISTS_MOST, ListForm};
 use crate::tables::{NONE, filled, item_or, put};
-use crate::tree::{Names, Rule, Tree, whole_count};
+use crate::tree::{GrownTree, Names, Rule, whole_count};
 use crate::weights::Weighing;
 use bus_proofs::{Node, Proof, TestList, Weights};
 use outside::{NoMemory, push};
@@ -11,12 +11,12 @@ use std::alloc::Global;
 
 /// Nodes that are still to be walked, the next one last.
 #[derive(Drop)]
-struct Walk {
+struct NodeStack {
     stack: Vec<usize>,
     height: usize,
 }
 
-impl Walk {
+impl NodeStack {
     fn push(&mut self, node: usize) {
         put(&mut self.stack, self.height, node);
         self.height = self.height.saturating_add(1);
@@ -50,14 +50,14 @@ fn members(alloc: Global, names: Names<'_>, list: usize) -> Result<Vec<TestId>, 
 fn list_of(alloc: Global, names: Names<'_>, list: usize) -> Result<TestList, NoMemory> {
     let number = names.lists.number_of(list);
     let kind = names.lists.kind_of(list);
-    if kind == Kind::Power {
+    if kind == ListForm::Power {
         return Ok(TestList::Power { near: number });
     }
     let tests = members(alloc, names, list)?;
-    if kind == Kind::Turns {
+    if kind == ListForm::Turns {
         return Ok(TestList::Turns { tests });
     }
-    if kind == Kind::TurnsOn {
+    if kind == ListForm::TurnsOn {
         return Ok(TestList::TurnsOn {
             rank: number,
             tests,
@@ -72,7 +72,7 @@ fn list_of(alloc: Global, names: Names<'_>, list: usize) -> Result<TestList, NoM
 /// The weights of ranks of a leaf, as the text has them.
 fn rank_weights(
     alloc: Global,
-    tree: &Tree,
+    tree: &GrownTree,
     node: usize,
     weighing: &Weighing,
 ) -> Result<Vec<u64>, NoMemory> {
@@ -91,7 +91,7 @@ fn rank_weights(
 /// The weights of lists of a leaf, as the text has them.
 fn list_weights(
     alloc: Global,
-    tree: &Tree,
+    tree: &GrownTree,
     node: usize,
     weighing: &Weighing,
     places: &[usize],
@@ -111,7 +111,7 @@ fn list_weights(
 /// The weights of a leaf, as the text has them.
 fn leaf_of(
     alloc: Global,
-    tree: &Tree,
+    tree: &GrownTree,
     node: usize,
     weighing: &Weighing,
     places: &[usize],
@@ -124,7 +124,12 @@ fn leaf_of(
 }
 
 /// So many twins, from a place of the pool on.
-fn twins_of(alloc: Global, tree: &Tree, start: usize, count: usize) -> Result<Vec<u64>, NoMemory> {
+fn twins_of(
+    alloc: Global,
+    tree: &GrownTree,
+    start: usize,
+    count: usize,
+) -> Result<Vec<u64>, NoMemory> {
     let mut twins = Vec::new(alloc);
     for at in 0..count {
         push(&mut twins, tree.pool_at(start.saturating_add(at)))?;
@@ -142,7 +147,7 @@ struct Printing {
     /// The weights of the leaf at hand.
     weighing: Weighing,
     /// The nodes that are still to come.
-    walk: Walk,
+    walk: NodeStack,
 }
 
 impl Printing {
@@ -150,7 +155,7 @@ impl Printing {
         let places = filled(alloc, NONE, LISTS_MOST)?;
         let weighing = Weighing::new(alloc)?;
         let stack = filled(alloc, NONE, nodes.saturating_add(1))?;
-        let walk = Walk { stack, height: 0 };
+        let walk = NodeStack { stack, height: 0 };
         Ok(Printing {
             nodes,
             places,
@@ -160,7 +165,7 @@ impl Printing {
     }
 
     /// Goes on to the next node; its branches come behind it.
-    fn next(&mut self, tree: &Tree) -> usize {
+    fn next(&mut self, tree: &GrownTree) -> usize {
         let node = self.walk.pop();
         if node != NONE && tree.rule_among(node, self.nodes) != Rule::Leaf {
             let (first, second) = tree.branches(node);
@@ -171,7 +176,7 @@ impl Printing {
     }
 
     /// Marks the lists of a leaf.
-    fn mark(&mut self, tree: &Tree, node: usize) {
+    fn mark(&mut self, tree: &GrownTree, node: usize) {
         if tree.rule_among(node, self.nodes) != Rule::Leaf {
             return;
         }
@@ -186,7 +191,7 @@ impl Printing {
     }
 
     /// Marks the lists of all leaves.
-    fn mark_all(&mut self, tree: &Tree) {
+    fn mark_all(&mut self, tree: &GrownTree) {
         self.walk.push(0);
         for _ in 0..self.nodes {
             let node = self.next(tree);
@@ -211,7 +216,7 @@ impl Printing {
     fn node_of(
         &mut self,
         alloc: Global,
-        tree: &Tree,
+        tree: &GrownTree,
         names: Names<'_>,
         node: usize,
     ) -> Result<Node, NoMemory> {
@@ -256,7 +261,7 @@ impl Printing {
     fn all_nodes(
         &mut self,
         alloc: Global,
-        tree: &Tree,
+        tree: &GrownTree,
         names: Names<'_>,
     ) -> Result<Vec<Node>, NoMemory> {
         let mut nodes = Vec::new(alloc);
@@ -276,7 +281,7 @@ impl Printing {
 /// names are left out. `NoMemory` where there is none.
 pub(crate) fn proof_of(
     alloc: Global,
-    tree: &Tree,
+    tree: &GrownTree,
     names: Names<'_>,
     claimed: u64,
     nodes: usize,

@@ -1,17 +1,17 @@
 //! The open cases of a search, the weakest first.
 
-use crate::cuts::Cut;
+use crate::cuts::CaseCut;
 use crate::tables::{NONE, filled, item_or, put};
 use outside::NoMemory;
 use std::alloc::Global;
 
 /// What is kept of each node of a tree.
 #[derive(Clone, Copy)]
-pub(crate) struct Entry {
+pub(crate) struct EnteringColumn {
     /// The claim that its case is worth, in cycles.
     pub value: u64,
     /// How its case can be divided.
-    pub cut: Cut,
+    pub cut: CaseCut,
     /// The node that it is a branch of.
     pub parent: usize,
     /// Whether it is the second branch.
@@ -19,9 +19,9 @@ pub(crate) struct Entry {
 }
 
 /// A node of which nothing is known.
-pub(crate) const NO_ENTRY: Entry = Entry {
+pub(crate) const NO_ENTRY: EnteringColumn = EnteringColumn {
     value: 0,
-    cut: Cut::Nothing,
+    cut: CaseCut::Nothing,
     parent: 0,
     second: false,
 };
@@ -35,7 +35,7 @@ pub(crate) struct Queue {
 }
 
 /// Whether a node comes before another one.
-fn is_before(entries: &[Entry], a: usize, b: usize) -> bool {
+fn is_before(entries: &[EnteringColumn], a: usize, b: usize) -> bool {
     let x = item_or(entries, a, NO_ENTRY).value;
     let y = item_or(entries, b, NO_ENTRY).value;
     x < y || (x == y && a < b)
@@ -61,7 +61,7 @@ impl Queue {
     }
 
     /// Adds an open node.
-    pub fn push(&mut self, entries: &[Entry], node: usize) {
+    pub fn push(&mut self, entries: &[EnteringColumn], node: usize) {
         let mut at = self.count;
         self.count = at.saturating_add(1);
         for _ in 0..64 {
@@ -77,7 +77,7 @@ impl Queue {
     }
 
     /// The place below another one that comes first; as many as there are where there is none.
-    fn below(&self, entries: &[Entry], at: usize) -> usize {
+    fn below(&self, entries: &[EnteringColumn], at: usize) -> usize {
         let left = at.saturating_mul(2).saturating_add(1);
         let right = left.saturating_add(1);
         if right < self.count && is_before(entries, self.at(right), self.at(left)) {
@@ -87,7 +87,7 @@ impl Queue {
     }
 
     /// Takes the first open node away.
-    pub fn drop_first(&mut self, entries: &[Entry]) {
+    pub fn drop_first(&mut self, entries: &[EnteringColumn]) {
         self.count = self.count.saturating_sub(1);
         let node = self.at(self.count);
         let mut at: usize = 0;

@@ -3,7 +3,7 @@
 use crate::above::Above;
 use crate::board::Board;
 use crate::cases::{Case, RANKS_MOST};
-use crate::cuts::{Cut, choose_cut};
+use crate::cuts::{CaseCut, choose_cut};
 use crate::elementary::elementary;
 use crate::facts::Facts;
 use crate::lists::Chosen;
@@ -11,7 +11,7 @@ use crate::mix::Mix;
 use crate::separating::{Separating, separate};
 use crate::tables::{filled, item_or};
 use crate::text::{DIGITS_MOST, nines};
-use crate::values::Chip;
+use crate::values::LeafChip;
 use crate::weights::Weighing;
 use outside::NoMemory;
 use std::alloc::Global;
@@ -23,7 +23,7 @@ const PARTS: i64 = 2_000;
 #[derive(Clone, Copy)]
 pub(crate) struct Worth {
     pub value: u64,
-    pub cut: Cut,
+    pub cut: CaseCut,
 }
 
 /// Where lists are looked for.
@@ -47,7 +47,7 @@ struct Drafts {
 
 /// A case, and the room to weigh it.
 #[derive(Drop)]
-pub(crate) struct Room {
+pub(crate) struct WeighingRoom {
     /// The case at hand.
     pub case: Case,
     /// What is known of the case that is divided.
@@ -80,7 +80,7 @@ impl Finder {
     }
 
     /// Chooses the lists of power that the mix passes: whether one is new.
-    fn choose_powers(&mut self, chip: &Chip, board: &Board) -> bool {
+    fn choose_powers(&mut self, chip: &LeafChip, board: &Board) -> bool {
         let more = self.mix.value.checked_div(PARTS).unwrap_or(0);
         let most = self.mix.value.saturating_add(more);
         let mut any = false;
@@ -93,7 +93,7 @@ impl Finder {
     }
 
     /// Chooses lists that the mix of the game passes: whether one is new.
-    fn find(&mut self, chip: &mut Chip, board: &Board) -> bool {
+    fn find(&mut self, chip: &mut LeafChip, board: &Board) -> bool {
         board.play.mixed(chip, &board.spans, &mut self.mix);
         let powers = self.choose_powers(chip, board);
         let lists = separate(
@@ -107,7 +107,7 @@ impl Finder {
     }
 
     /// Chooses the elementary lists. `NoMemory` where there is none.
-    fn choose_elementary(&mut self, alloc: Global, chip: &mut Chip) -> Result<(), NoMemory> {
+    fn choose_elementary(&mut self, alloc: Global, chip: &mut LeafChip) -> Result<(), NoMemory> {
         self.chosen.clear();
         if chip.powers.count > 0 {
             self.chosen.add(0);
@@ -163,16 +163,16 @@ impl Drafts {
     }
 }
 
-impl Room {
+impl WeighingRoom {
     /// Room for the cases of a chip. `NoMemory` where there is none.
-    pub fn new(alloc: Global, facts: &Facts) -> Result<Room, NoMemory> {
+    pub fn new(alloc: Global, facts: &Facts) -> Result<WeighingRoom, NoMemory> {
         let case = Case::new(alloc, facts.wires, facts.modules)?;
         let above = Above::new(alloc)?;
         let board = Board::new(alloc, facts)?;
         let finder = Finder::new(alloc, facts)?;
         let drafts = Drafts::new(alloc)?;
         let shares = filled(alloc, 0u64, RANKS_MOST)?;
-        Ok(Room {
+        Ok(WeighingRoom {
             case,
             above,
             board,
@@ -188,7 +188,7 @@ impl Room {
     }
 
     /// Takes the slots of the case: whether there may be a plan in it, as far as these say.
-    pub fn take_case(&mut self, chip: &Chip) -> bool {
+    pub fn take_case(&mut self, chip: &LeafChip) -> bool {
         self.case.tighten();
         if self.case.is_empty() {
             return false;
@@ -197,7 +197,7 @@ impl Room {
     }
 
     /// Takes the lists of the weights above, and plays with them: whether weights hold at the goal.
-    fn play_hint(&mut self, chip: &Chip) -> bool {
+    fn play_hint(&mut self, chip: &LeafChip) -> bool {
         self.finder.choose_of(&self.drafts.hint);
         self.board
             .begin(chip, &self.finder.chosen, &self.drafts.hint);
@@ -205,13 +205,13 @@ impl Room {
     }
 
     /// Plays on with the lists that were found: whether weights hold at the goal.
-    fn play_on(&mut self, chip: &Chip) -> bool {
+    fn play_on(&mut self, chip: &LeafChip) -> bool {
         self.board.go_on(chip, &self.finder.chosen);
         self.board.play(chip, &mut self.drafts.weights)
     }
 
     /// Plays the game with more and more lists: whether weights hold at the goal.
-    fn play(&mut self, chip: &mut Chip, rounds: usize) -> bool {
+    fn play(&mut self, chip: &mut LeafChip, rounds: usize) -> bool {
         if self.play_hint(chip) {
             return true;
         }
@@ -227,7 +227,7 @@ impl Room {
     }
 
     /// Keeps the better ones of the game's weights and those above: what they are worth.
-    fn keep_better(&mut self, chip: &Chip) -> u64 {
+    fn keep_better(&mut self, chip: &LeafChip) -> u64 {
         self.board.best(chip, &mut self.drafts.weights);
         let value = self.board.value(chip, &self.drafts.weights);
         let hinted = self.board.value(chip, &self.drafts.hint);
@@ -244,7 +244,7 @@ impl Room {
     }
 
     /// Whether weights hold at the goal: those above, or others that the game finds.
-    fn closes(&mut self, chip: &mut Chip, rounds: usize) -> bool {
+    fn closes(&mut self, chip: &mut LeafChip, rounds: usize) -> bool {
         self.above.hint(&self.case, &mut self.drafts.hint);
         if self.board.hold(chip, &self.drafts.hint, chip.facts.goal) {
             self.drafts.keep_hint();
@@ -254,12 +254,12 @@ impl Room {
     }
 
     /// What the case is worth, with lists of at most so many rounds.
-    pub fn weigh(&mut self, chip: &mut Chip, rounds: usize) -> Worth {
+    pub fn weigh(&mut self, chip: &mut LeafChip, rounds: usize) -> Worth {
         self.drafts.weights.clear();
         if !self.take_case(chip) || self.closes(chip, rounds) {
             return Worth {
                 value: chip.facts.goal,
-                cut: Cut::Nothing,
+                cut: CaseCut::Nothing,
             };
         }
         let value = self.keep_better(chip);
@@ -268,7 +268,7 @@ impl Room {
     }
 
     /// Keeps the weights that are tried where they are worth more.
-    fn keep_trial(&mut self, chip: &Chip, worth: Worth) -> Worth {
+    fn keep_trial(&mut self, chip: &LeafChip, worth: Worth) -> Worth {
         let value = self.board.value(chip, &self.drafts.trial);
         if value <= worth.value {
             return worth;
@@ -281,7 +281,7 @@ impl Room {
     }
 
     /// Tries each chosen list alone, and the wires alone.
-    fn try_alone(&mut self, chip: &Chip, worth: Worth) -> Worth {
+    fn try_alone(&mut self, chip: &LeafChip, worth: Worth) -> Worth {
         self.drafts.try_wires();
         let mut best = self.keep_trial(chip, worth);
         for at in 0..self.finder.chosen.count {
@@ -296,7 +296,7 @@ impl Room {
     pub fn weigh_first(
         &mut self,
         alloc: Global,
-        chip: &mut Chip,
+        chip: &mut LeafChip,
         rounds: usize,
     ) -> Result<Worth, NoMemory> {
         let worth = self.weigh(chip, rounds);
@@ -308,7 +308,7 @@ impl Room {
     }
 
     /// Whether the weights hold at a claim with so many digits.
-    fn hold_with(&mut self, chip: &Chip, most: u64, digits: u32, claim: u64) -> bool {
+    fn hold_with(&mut self, chip: &LeafChip, most: u64, digits: u32, claim: u64) -> bool {
         if nines(digits) >= most {
             return true;
         }
@@ -317,7 +317,7 @@ impl Room {
     }
 
     /// The fewest digits, `from` at least, with which the weights hold at a claim.
-    pub fn digits_at(&mut self, chip: &Chip, claim: u64, from: u32) -> u32 {
+    pub fn digits_at(&mut self, chip: &LeafChip, claim: u64, from: u32) -> u32 {
         let most = self.drafts.weights.greatest();
         for digits in from..DIGITS_MOST {
             if self.hold_with(chip, most, digits, claim) {

@@ -5,19 +5,19 @@ ghost use Rattle.plan_model.specs.Views.{limits_value};
 ghost use Rattle.plan_model.specs.SoundLimits.{IsSoundLimits};
 
 use crate::cases::RANKS_MOST;
-use crate::cuts::Cut;
+use crate::cuts::CaseCut;
 use crate::facts::Facts;
 use crate::lists::{Chosen, LISTS_MOST, Lists};
 use crate::powers::first_lists;
 use crate::printing::proof_of;
-use crate::queue::{Entry, NO_ENTRY, Queue};
-use crate::room::{Room, Worth};
+use crate::queue::{EnteringColumn, NO_ENTRY, Queue};
+use crate::room::{WeighingRoom, Worth};
 use crate::slots::Slots;
 use crate::tables::{NONE, filled, item_or, put};
 use crate::text::TEXT_MOST;
-use crate::tree::{Names, Rule, Tree};
+use crate::tree::{GrownTree, Names, Rule};
 use crate::uses::Powers;
-use crate::values::Chip;
+use crate::values::LeafChip;
 use bus_proofs::Proof;
 use outside::NoMemory;
 use plan_model::Limits;
@@ -41,12 +41,12 @@ const MORE_MOST: usize = 4;
 /// proof checked.
 #[derive(Drop)]
 pub struct Search {
-    chip: Chip,
-    room: Room,
-    tree: Tree,
+    chip: LeafChip,
+    room: WeighingRoom,
+    tree: GrownTree,
     queue: Queue,
     /// What is kept of each node.
-    entries: Vec<Entry>,
+    entries: Vec<EnteringColumn>,
     /// Nodes on the way to one.
     path: Vec<usize>,
     /// A rank and its twins.
@@ -60,7 +60,7 @@ pub struct Search {
 }
 
 /// The tables of a chip.
-fn chip_of(alloc: Global, soc: &Soc, limits: &Limits, goal: u64) -> Result<Chip, NoMemory>
+fn chip_of(alloc: Global, soc: &Soc, limits: &Limits, goal: u64) -> Result<LeafChip, NoMemory>
     requires sound { IsSoundChip (soc_value soc.now) }
     requires limits { IsSoundLimits (soc_value soc.now) (limits_value limits.now) }
 {
@@ -68,7 +68,7 @@ fn chip_of(alloc: Global, soc: &Soc, limits: &Limits, goal: u64) -> Result<Chip,
     let slots = Slots::new(alloc, &facts)?;
     let lists = power_lists(alloc, &facts)?;
     let powers = Powers::new(alloc, &facts, &lists)?;
-    Ok(Chip {
+    Ok(LeafChip {
         facts,
         slots,
         powers,
@@ -98,9 +98,9 @@ fn front(list: &[usize], count: usize) -> &[usize] {
 }
 
 /// How many nodes a division adds.
-fn more_nodes(cut: Cut) -> usize {
+fn more_nodes(cut: CaseCut) -> usize {
     match cut {
-        Cut::Rank { rank: _, width } => { if width > 0 { 4 } else { 2 } }
+        CaseCut::Rank { rank: _, width } => { if width > 0 { 4 } else { 2 } }
         _ => 2,
     }
 }
@@ -119,8 +119,8 @@ impl Search {
         requires limits { IsSoundLimits (soc_value soc.now) (limits_value limits.now) }
     {
         let chip = chip_of(alloc, soc, limits, goal)?;
-        let room = Room::new(alloc, &chip.facts)?;
-        let tree = Tree::new(alloc, room_for(nodes), POOL_MOST)?;
+        let room = WeighingRoom::new(alloc, &chip.facts)?;
+        let tree = GrownTree::new(alloc, room_for(nodes), POOL_MOST)?;
         let mut search = Search::with(alloc, chip, room, tree, nodes)?;
         search.begin(alloc)?;
         Ok(search)
@@ -129,9 +129,9 @@ impl Search {
     /// A search of no nodes yet. `NoMemory` where there is none.
     fn with(
         alloc: Global,
-        chip: Chip,
-        room: Room,
-        tree: Tree,
+        chip: LeafChip,
+        room: WeighingRoom,
+        tree: GrownTree,
         nodes: u64,
     ) -> Result<Search, NoMemory> {
         let queue = Queue::new(alloc, room_for(nodes))?;
@@ -167,7 +167,7 @@ impl Search {
         let from = if open { OPEN_DIGITS } else { 1 };
         let digits = self.room.digits_at(&self.chip, worth.value, from);
         let node = self.add_leaf(digits);
-        let entry = Entry {
+        let entry = EnteringColumn {
             value: worth.value,
             cut: worth.cut,
             parent,
@@ -291,9 +291,9 @@ impl Search {
     fn add_inner(&mut self, parent: usize) -> usize {
         self.room.clear_weights();
         let node = self.add_leaf(1);
-        let entry = Entry {
+        let entry = EnteringColumn {
             value: 0,
-            cut: Cut::Nothing,
+            cut: CaseCut::Nothing,
             parent,
             second: false,
         };
@@ -344,20 +344,20 @@ impl Search {
     }
 
     /// Divides a node.
-    fn divide(&mut self, node: usize, cut: Cut) {
+    fn divide(&mut self, node: usize, cut: CaseCut) {
         self.make_case(node);
         self.room.above.take_low(&self.room.case);
         self.tree.load(node, &mut self.room.above.weights);
         match cut {
-            Cut::Nothing => {}
-            Cut::Width { rank, width } => self.divide_width(node, rank, width),
-            Cut::Rank { rank, width } => self.divide_rank(node, rank, width),
-            Cut::Place { module, rank } => self.divide_place(node, module, rank),
+            CaseCut::Nothing => {}
+            CaseCut::Width { rank, width } => self.divide_width(node, rank, width),
+            CaseCut::Rank { rank, width } => self.divide_rank(node, rank, width),
+            CaseCut::Place { module, rank } => self.divide_place(node, module, rank),
         }
     }
 
     /// Whether there is room for the nodes of a division.
-    fn has_room(&self, cut: Cut) -> bool {
+    fn has_room(&self, cut: CaseCut) -> bool {
         let more = more_nodes(cut);
         let made = self.tree.made.saturating_add(more) as u64;
         if made > self.nodes || self.tree.length > TEXT_MOST {
@@ -371,7 +371,7 @@ impl Search {
     fn step(&mut self) {
         let node = self.queue.first();
         let cut = item_or(&self.entries, node, NO_ENTRY).cut;
-        if cut == Cut::Nothing || !self.has_room(cut) {
+        if cut == CaseCut::Nothing || !self.has_room(cut) {
             self.done = true;
             return;
         }

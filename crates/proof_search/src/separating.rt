@@ -3,7 +3,7 @@
 use crate::cliques::Cliques;
 use crate::crowds::Crowds;
 use crate::facts::Facts;
-use crate::lists::{Chosen, Kind, Lists};
+use crate::lists::{Chosen, ListForm, Lists};
 use crate::marks::{mark, sum_of};
 use crate::mix::Mix;
 use crate::tables::{filled, item_or, put};
@@ -111,7 +111,7 @@ impl Separating {
     pub fn add_found(
         &self,
         facts: &Facts,
-        kind: Kind,
+        kind: ListForm,
         number: u64,
         lists: &mut Lists,
         chosen: &mut Chosen,
@@ -131,7 +131,7 @@ impl Separating {
         if !self.cliques.search(more_than, TURNS_STEPS) {
             return false;
         }
-        self.add_found(facts, Kind::Turns, 1, lists, chosen)
+        self.add_found(facts, ListForm::Turns, 1, lists, chosen)
     }
 
     /// Adds a list of turns on the bus of a rank that the mix passes by more than a bound. Whether one is new to those that are
@@ -150,7 +150,7 @@ impl Separating {
         if !self.cliques.graph.any_beside || !self.cliques.search(more_than, TURNS_ON_STEPS) {
             return false;
         }
-        self.add_found(facts, Kind::TurnsOn, rank as u64, lists, chosen)
+        self.add_found(facts, ListForm::TurnsOn, rank as u64, lists, chosen)
     }
 
     /// Adds lists of turns that a mix passes by more than a bound. Whether any is new to those that are chosen.

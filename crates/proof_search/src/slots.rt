@@ -169,7 +169,7 @@ pub(crate) const NO_RANGE: Range = Range {
 
 /// Steps of a module on one range.
 #[derive(Clone, Copy)]
-pub(crate) struct Span {
+pub(crate) struct StepRange {
     /// The place of the range.
     pub range: usize,
     /// The first step.
@@ -179,7 +179,7 @@ pub(crate) struct Span {
 }
 
 /// No steps.
-pub(crate) const NO_SPAN: Span = Span {
+pub(crate) const NO_SPAN: StepRange = StepRange {
     range: 0,
     from: 0,
     end: 0,
@@ -197,7 +197,7 @@ pub(crate) struct Spans {
     ranges: Vec<Range>,
     /// Where the spans of each module begin; behind them where the last ones end.
     first: Vec<usize>,
-    spans: Vec<Span>,
+    spans: Vec<StepRange>,
 }
 
 impl Spans {
@@ -267,7 +267,7 @@ impl Spans {
         }
         let from = slots.step_at(module, first);
         let last = slots.step_at(module, range.high);
-        let span = Span {
+        let span = StepRange {
             range: place,
             from,
             end: last.saturating_add(1),
@@ -305,7 +305,7 @@ impl Spans {
     }
 
     /// The span at a place.
-    pub fn span(&self, place: usize) -> Span {
+    pub fn span(&self, place: usize) -> StepRange {
         item_or(&self.spans, place, NO_SPAN)
     }
 }

@@ -1,7 +1,7 @@
 //! The tree of cases as a text has it: which node is divided how, and the weights of each leaf.
 
 use crate::facts::Facts;
-use crate::lists::{Kind, LISTS_MOST, Lists};
+use crate::lists::{LISTS_MOST, ListForm, Lists};
 use crate::tables::{NONE, filled, item_or, put};
 use crate::text::{head_length, nines, place_length, spaced, wide_length};
 use crate::weights::{Weighing, scaled};
@@ -71,7 +71,7 @@ const NO_KNOT: Knot = Knot {
 
 /// A tree of cases. Nodes go by the order in which they were made.
 #[derive(Drop)]
-pub(crate) struct Tree {
+pub(crate) struct GrownTree {
     /// How many nodes there are.
     pub made: usize,
     /// The bytes of the text of the tree as it is.
@@ -171,20 +171,20 @@ fn list_length(names: Names<'_>, list: usize) -> u64 {
     let number = spaced(names.lists.number_of(list));
     let members = members_length(names, list);
     match names.lists.kind_of(list) {
-        Kind::Turns => members.saturating_add(6),
-        Kind::TurnsOn => members.saturating_add(number).saturating_add(8),
-        Kind::Crowd => members.saturating_add(number).saturating_add(6),
-        Kind::Power => number.saturating_add(6),
+        ListForm::Turns => members.saturating_add(6),
+        ListForm::TurnsOn => members.saturating_add(number).saturating_add(8),
+        ListForm::Crowd => members.saturating_add(number).saturating_add(6),
+        ListForm::Power => number.saturating_add(6),
     }
 }
 
-impl Tree {
+impl GrownTree {
     /// Room for a tree of so many nodes, with so many weights and twins. `NoMemory` where there is none.
-    pub fn new(alloc: Global, nodes_most: usize, pool_most: usize) -> Result<Tree, NoMemory> {
+    pub fn new(alloc: Global, nodes_most: usize, pool_most: usize) -> Result<GrownTree, NoMemory> {
         let knots = filled(alloc, NO_KNOT, nodes_most)?;
         let pool = filled(alloc, 0u32, pool_most)?;
         let used = filled(alloc, false, LISTS_MOST)?;
-        Ok(Tree {
+        Ok(GrownTree {
             made: 0,
             length: head_length(),
             knots,

@@ -3,7 +3,7 @@
 use crate::facts::Facts;
 use crate::lists::Lists;
 use crate::pays::Pays;
-use crate::slots::{REST, Range, Slots, Span, Spans};
+use crate::slots::{REST, Range, Slots, Spans, StepRange};
 use crate::tables::item_or;
 use crate::uses::Powers;
 use crate::weights::Weighing;
@@ -12,7 +12,7 @@ use std::alloc::Global;
 
 /// What a chip, its slots and lists are for a leaf.
 #[derive(Drop)]
-pub(crate) struct Chip {
+pub(crate) struct LeafChip {
     /// The tables of the chip.
     pub facts: Facts,
     /// The widths at which times fall.
@@ -95,7 +95,7 @@ impl Values {
     }
 
     /// Takes the weights of a leaf over the spans of its case.
-    pub fn take(&mut self, chip: &Chip, spans: &Spans, weights: &Weighing) {
+    pub fn take(&mut self, chip: &LeafChip, spans: &Spans, weights: &Weighing) {
         self.den = weighed(weights.wire, spans.spare as u64);
         self.add_ranks(spans, weights);
         self.pays.clear();
@@ -120,7 +120,7 @@ impl Values {
     }
 
     /// What the self tests pay.
-    fn take_own(&mut self, chip: &Chip) {
+    fn take_own(&mut self, chip: &LeafChip) {
         self.own = 0;
         for test in 0..chip.facts.tests {
             if !item_or(&chip.facts.tam, test, true) {
@@ -132,7 +132,14 @@ impl Values {
     }
 
     /// What a test of so many cycles pays on a rank, on a width.
-    fn cost_of(&self, chip: &Chip, test: usize, rank: usize, width: usize, cycles: u64) -> u128 {
+    fn cost_of(
+        &self,
+        chip: &LeafChip,
+        test: usize,
+        rank: usize,
+        width: usize,
+        cycles: u64,
+    ) -> u128 {
         let cost = weighed(self.pays.of_test(test, rank), cycles);
         if self.pays.power_count == 0 {
             return cost;
@@ -151,7 +158,7 @@ impl Values {
     }
 
     /// What the tests of a module over the wires pay on a rank, on a width.
-    fn lists_cost(&self, chip: &Chip, module: usize, rank: usize, width: usize) -> u128 {
+    fn lists_cost(&self, chip: &LeafChip, module: usize, rank: usize, width: usize) -> u128 {
         let mut cost: u128 = 0;
         let from = item_or(&chip.facts.first, module, 0);
         let end = item_or(&chip.facts.first, module.saturating_add(1), 0);
@@ -166,7 +173,14 @@ impl Values {
     }
 
     /// The lesser of a cost and that of a step of a module.
-    fn try_step(&self, chip: &Chip, module: usize, rated: Rated, step: usize, best: Cost) -> Cost {
+    fn try_step(
+        &self,
+        chip: &LeafChip,
+        module: usize,
+        rated: Rated,
+        step: usize,
+        best: Cost,
+    ) -> Cost {
         let cycles = chip.slots.time_of(step);
         if cycles >= rated.most {
             return best;
@@ -185,7 +199,14 @@ impl Values {
         Cost { cost, cycles }
     }
 
-    fn try_span(&self, chip: &Chip, module: usize, rated: Rated, span: Span, best: Cost) -> Cost {
+    fn try_span(
+        &self,
+        chip: &LeafChip,
+        module: usize,
+        rated: Rated,
+        span: StepRange,
+        best: Cost,
+    ) -> Cost {
         let mut best = best;
         for step in span.from..span.end {
             best = self.try_step(chip, module, rated, step, best);
@@ -196,7 +217,7 @@ impl Values {
     /// The least cost of a module over its slots of fewer than `most` cycles.
     fn least(
         &self,
-        chip: &Chip,
+        chip: &LeafChip,
         spans: &Spans,
         weights: &Weighing,
         module: usize,
@@ -218,7 +239,7 @@ impl Values {
     }
 
     /// What the weights taken show where only slots of fewer cycles than a claim count.
-    fn shown(&self, chip: &Chip, spans: &Spans, weights: &Weighing, claim: u64) -> Shown {
+    fn shown(&self, chip: &LeafChip, spans: &Spans, weights: &Weighing, claim: u64) -> Shown {
         let mut shown = Shown {
             num: self.own,
             den: self.den,
@@ -240,12 +261,12 @@ impl Values {
     }
 
     /// Whether the weights taken hold at a claim.
-    pub fn hold_at(&self, chip: &Chip, spans: &Spans, weights: &Weighing, claim: u64) -> bool {
+    pub fn hold_at(&self, chip: &LeafChip, spans: &Spans, weights: &Weighing, claim: u64) -> bool {
         self.shown(chip, spans, weights, claim).holds(claim)
     }
 
     /// The greatest claim up to the goal at which the weights taken hold.
-    pub fn value(&self, chip: &Chip, spans: &Spans, weights: &Weighing) -> u64 {
+    pub fn value(&self, chip: &LeafChip, spans: &Spans, weights: &Weighing) -> u64 {
         let goal = chip.facts.goal;
         let shown = self.shown(chip, spans, weights, goal);
         if shown.holds(goal) {
@@ -258,7 +279,14 @@ impl Values {
 
     /// The greatest claim from `low` on, at which the weights hold, and below `end`, at which they don't where it is above
     /// `low`: the slots only get fewer as the claim falls.
-    fn between(&self, chip: &Chip, spans: &Spans, weights: &Weighing, low: u64, end: u64) -> u64 {
+    fn between(
+        &self,
+        chip: &LeafChip,
+        spans: &Spans,
+        weights: &Weighing,
+        low: u64,
+        end: u64,
+    ) -> u64 {
         let mut low = low;
         let mut end = end;
         for _ in 0..64 {

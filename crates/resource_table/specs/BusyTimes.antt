@@ -19,7 +19,8 @@ IsClear length start s = (s.to ≤ start) ⊎ (start + length ≤ s.from)
 
 -- it meets nothing of the timeline at a place, where there is one
 abbrev pub AreFree : List Timeline → Option ℕ → (length start : ℕ) → Type 0
-AreFree lines place length start = (k : ℕ) (line : Timeline) → place ≡ Some k → slice_get lines k ≡ Some line → All (IsClear length start) line.spans.items
+AreFree lines place length start =
+    (k : ℕ) (line : Timeline) → place ≡ Some k → slice_get lines k ≡ Some line → All (IsClear length start) line.spans.items
 
 -- a time stands where none before it starts as late as it does, and none after it earlier
 pub record IsPut (span : Span) (old new : List Span) : Type 0 where
@@ -38,26 +39,33 @@ pub record IsTaken (span : Span) (old new : List Span) : Type 0 where
 -- the timeline at a place has room for a time
 pub record MayFill (place : Option ℕ) (lines : List Timeline) : Type 0 where
   pub inside : IfSome place (λ k. k < length lines)
-  pub starts : (k : ℕ) (line : Timeline) → place ≡ Some k → slice_get lines k ≡ Some line → IsNonDecreasingBy (λ (s : Span). s.from) line.spans.items
+  pub starts : (k : ℕ) (line : Timeline) → place ≡ Some k → slice_get lines k ≡ Some line →
+      IsNonDecreasingBy (λ (s : Span). s.from) line.spans.items
   pub room : (k : ℕ) (line : Timeline) → place ≡ Some k → slice_get lines k ≡ Some line → length line.spans.items < vec_capacity line.spans
 
 -- the timeline at a place has one time more
 pub record ArePut (place : Option ℕ) (span : Span) (old new : List Timeline) : Type 0 where
   pub long : length new ≡ length old
   pub others : (k : ℕ) (line : Timeline) → (place ≡ Some k → ⊥) → slice_get new k ≡ Some line → slice_get old k ≡ Some line
-  pub here : (k : ℕ) (line : Timeline) → place ≡ Some k → slice_get new k ≡ Some line → (was : Timeline) × (slice_get old k ≡ Some was) × IsPut span was.spans.items line.spans.items × (vec_capacity line.spans ≡ vec_capacity was.spans)
+  pub here : (k : ℕ) (line : Timeline) → place ≡ Some k → slice_get new k ≡ Some line →
+      (was : Timeline) × (slice_get old k ≡ Some was) × IsPut span was.spans.items line.spans.items
+      × (vec_capacity line.spans ≡ vec_capacity was.spans)
 
 -- the timeline at a place has this time
 pub record MayClear (place : Option ℕ) (span : Span) (lines : List Timeline) : Type 0 where
   pub inside : IfSome place (λ k. k < length lines)
-  pub starts : (k : ℕ) (line : Timeline) → place ≡ Some k → slice_get lines k ≡ Some line → IsNonDecreasingBy (λ (s : Span). s.from) line.spans.items
-  pub there : (k : ℕ) (line : Timeline) → place ≡ Some k → slice_get lines k ≡ Some line → (i : ℕ) × (slice_get line.spans.items i ≡ Some span)
+  pub starts : (k : ℕ) (line : Timeline) → place ≡ Some k → slice_get lines k ≡ Some line →
+      IsNonDecreasingBy (λ (s : Span). s.from) line.spans.items
+  pub there : (k : ℕ) (line : Timeline) → place ≡ Some k → slice_get lines k ≡ Some line →
+      (i : ℕ) × (slice_get line.spans.items i ≡ Some span)
 
 -- the timeline at a place has one time less
 pub record AreTaken (place : Option ℕ) (span : Span) (old new : List Timeline) : Type 0 where
   pub long : length new ≡ length old
   pub others : (k : ℕ) (line : Timeline) → (place ≡ Some k → ⊥) → slice_get new k ≡ Some line → slice_get old k ≡ Some line
-  pub here : (k : ℕ) (line : Timeline) → place ≡ Some k → slice_get new k ≡ Some line → (was : Timeline) × (slice_get old k ≡ Some was) × IsTaken span was.spans.items line.spans.items × (vec_capacity line.spans ≡ vec_capacity was.spans)
+  pub here : (k : ℕ) (line : Timeline) → place ≡ Some k → slice_get new k ≡ Some line →
+      (was : Timeline) × (slice_get old k ≡ Some was) × IsTaken span was.spans.items line.spans.items
+      × (vec_capacity line.spans ≡ vec_capacity was.spans)
 
 -- ---- the timelines of a table
 
@@ -126,11 +134,17 @@ pub record IsFree (times : Timelines) (t : TestValue) (start : ℕ) : Type 0 whe
 
 -- the timelines can be searched up to a last end
 pub record AreOrdered (times : Timelines) (last : ℕ) : Type 0 where
-  pub buses : (k : ℕ) (line : Timeline) → slice_get times.buses.items k ≡ Some line → IsNonDecreasingBy (λ (s : Span). s.from) line.spans.items × IsNonDecreasingBy (λ (s : Span). s.to) line.spans.items × All (λ (s : Span). s.to ≤ last) line.spans.items
-  pub modules : (k : ℕ) (line : Timeline) → slice_get times.modules.items k ≡ Some line → IsNonDecreasingBy (λ (s : Span). s.from) line.spans.items × IsNonDecreasingBy (λ (s : Span). s.to) line.spans.items × All (λ (s : Span). s.to ≤ last) line.spans.items
-  pub children : (k : ℕ) (line : Timeline) → slice_get times.children.items k ≡ Some line → IsNonDecreasingBy (λ (s : Span). s.from) line.spans.items × All (λ (s : Span). s.to ≤ last) line.spans.items
+  pub buses : (k : ℕ) (line : Timeline) → slice_get times.buses.items k ≡ Some line →
+      IsNonDecreasingBy (λ (s : Span). s.from) line.spans.items × IsNonDecreasingBy (λ (s : Span). s.to) line.spans.items
+      × All (λ (s : Span). s.to ≤ last) line.spans.items
+  pub modules : (k : ℕ) (line : Timeline) → slice_get times.modules.items k ≡ Some line →
+      IsNonDecreasingBy (λ (s : Span). s.from) line.spans.items × IsNonDecreasingBy (λ (s : Span). s.to) line.spans.items
+      × All (λ (s : Span). s.to ≤ last) line.spans.items
+  pub children : (k : ℕ) (line : Timeline) → slice_get times.children.items k ≡ Some line →
+      IsNonDecreasingBy (λ (s : Span). s.from) line.spans.items × All (λ (s : Span). s.to ≤ last) line.spans.items
   -- the children of a module end by what stands at its place
-  pub latest : (k end : ℕ) (line : Timeline) → slice_get times.children.items k ≡ Some line → slice_get times.latest.ends.items k ≡ Some end → All (λ (s : Span). s.to ≤ end) line.spans.items
+  pub latest : (k end : ℕ) (line : Timeline) → slice_get times.children.items k ≡ Some line →
+      slice_get times.latest.ends.items k ≡ Some end → All (λ (s : Span). s.to ≤ end) line.spans.items
 
 -- room for the time of one test more
 pub record MayAdd (times : Timelines) (t : TestValue) : Type 0 where
@@ -166,7 +180,8 @@ pub record IsRemoved (t : TestValue) (span : Span) (old new : Timelines) : Type 
 pub record AreCleared (old new : List Timeline) : Type 0 where
   pub long : length new ≡ length old
   pub empty : (k : ℕ) (line : Timeline) → slice_get new k ≡ Some line → line.spans.items ≡ []
-  pub room : (k : ℕ) (line : Timeline) → slice_get new k ≡ Some line → (was : Timeline) × (slice_get old k ≡ Some was) × (vec_capacity line.spans ≡ vec_capacity was.spans)
+  pub room : (k : ℕ) (line : Timeline) → slice_get new k ≡ Some line →
+      (was : Timeline) × (slice_get old k ≡ Some was) × (vec_capacity line.spans ≡ vec_capacity was.spans)
 
 -- timelines of a kind without times, with room for those of all tests
 pub record AreEmpty (kind : Kind) (tests : List TestValue) (lines : List Timeline) : Type 0 where

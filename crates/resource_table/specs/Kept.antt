@@ -35,7 +35,8 @@ pub record IsProfiled (job : JobValue) (trail : SmallVec Placement) (draws : Vec
 pub record AreNotes (job : JobValue) (placed : List Placement) (notes : List Note) : Type 0 where
   pub bound : (test start : ℕ) → test < length job.tests → Fits job placed test start → (slice_index_or notes test no_note).start ≤ start
   pub depth : (test : ℕ) → (slice_index_or notes test no_note).depth ≤ length placed + 1
-  pub found : (test : ℕ) → test < length job.tests → (slice_index_or notes test no_note).depth ≡ length placed + 1 → IsEarliest job placed test (slice_index_or notes test no_note).start
+  pub found : (test : ℕ) → test < length job.tests → (slice_index_or notes test no_note).depth ≡ length placed + 1 →
+      IsEarliest job placed test (slice_index_or notes test no_note).start
 
 -- notes beside the placed tests, and those that there were before each was placed
 pub record IsBounded (job : JobValue) (placed : List Placement) (bounds : History) : Type 0 where

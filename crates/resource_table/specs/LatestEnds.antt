@@ -38,5 +38,6 @@ pub record AreLatestEnds (job : JobValue) (placed : List Placement) (modules : �
   pub long : length latest.ends.items ≡ modules
   pub now : (k n : ℕ) (p : Placement) → IsChildAt job placed k n p → end_of job p ≤ slice_index_or latest.ends.items k 0
   pub levels : length latest.before.items ≡ length placed
-  pub past : (k n later : ℕ) (p q : Placement) → n < later → IsChildAt job placed k n p → IsChildAt job placed k later q → end_of job p ≤ slice_index_or latest.before.items later 0
+  pub past : (k n later : ℕ) (p q : Placement) → n < later → IsChildAt job placed k n p → IsChildAt job placed k later q →
+      end_of job p ≤ slice_index_or latest.before.items later 0
   pub room : length job.tests ≤ vec_capacity latest.before

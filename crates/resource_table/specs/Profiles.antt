@@ -51,7 +51,8 @@ pub record AreMarked (draws : List Draw) (cycles : List ℕ) : Type 0 where
 
 -- the points of some draws have a mark more
 abbrev pub HaveMarkMore : (cycle : ℕ) → (old new : List Point) → Type 0
-HaveMarkMore cycle old new = (draws : List Draw) (cycles : List ℕ) → AreMarked draws cycles → ArePoints draws cycles old → ArePoints draws (cycle ∷ cycles) new
+HaveMarkMore cycle old new =
+    (draws : List Draw) (cycles : List ℕ) → AreMarked draws cycles → ArePoints draws cycles old → ArePoints draws (cycle ∷ cycles) new
 
 -- a point, with a draw that begins to be taken
 abbrev pub raised_by : Draw → Point → Point

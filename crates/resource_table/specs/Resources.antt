@@ -16,7 +16,8 @@ step_end length (s ∷ next) = min s.0 length
 -- the draws of a test that starts there
 abbrev pub draws_from : (start length : ℕ) → List (ℕ × ℕ) → List Draw
 draws_from start length [] = []
-draws_from start length (s ∷ next) = (record { from = start + s.0; to = start + step_end length next; power = s.1 }) ∷ draws_from start length next
+draws_from start length (s ∷ next) =
+    (record { from = start + s.0; to = start + step_end length next; power = s.1 }) ∷ draws_from start length next
 
 abbrev pub draws_of : JobValue → Placement → List Draw
 draws_of job p = draws_from p.start (cycles_of job p.test) (test_at job p.test).steps
@@ -44,7 +45,8 @@ StepsFit load most start length (s ∷ next) =
 -- beside a load, the step at a place stays within a limit at each of its cycles, if its test starts there
 abbrev pub StepFits : (load : ℕ → ℕ) (most start length place : ℕ) → List (ℕ × ℕ) → Type 0
 StepFits load most start length place steps =
-    (c : ℕ) → start + (slice_index_or steps place (0, 0)).0 ≤ c → c < start + step_end length (drop (place + 1) steps) → load c + (slice_index_or steps place (0, 0)).1 ≤ most
+    (c : ℕ) → start + (slice_index_or steps place (0, 0)).0 ≤ c → c < start + step_end length (drop (place + 1) steps) →
+    load c + (slice_index_or steps place (0, 0)).1 ≤ most
 
 -- ---- ends
 

@@ -60,11 +60,13 @@ power_at job placed c = sum_by (drawn job c) placed
 -- at no cycle a test from a start is active together with a placed test that excludes it
 abbrev pub MeetsNone : JobValue → List Placement → (test start : ℕ) → Type 0
 MeetsNone job placed test start =
-    (n : ℕ) (p : Placement) (c : ℕ) → slice_get placed n ≡ Some p → exclude (test_at job p.test) (test_at job test) ≡ true → IsActive job p c → IsActive job (at_start test start) c → ⊥
+    (n : ℕ) (p : Placement) (c : ℕ) → slice_get placed n ≡ Some p → exclude (test_at job p.test) (test_at job test) ≡ true →
+    IsActive job p c → IsActive job (at_start test start) c → ⊥
 
 -- at each of its cycles it draws, together with the placed tests, no more than the limit
 abbrev pub StaysWithin : JobValue → List Placement → (test start : ℕ) → Type 0
-StaysWithin job placed test start = (c : ℕ) → IsActive job (at_start test start) c → IfSome job.power (λ most. power_at job placed c + power_of job test (c - start) ≤ most)
+StaysWithin job placed test start =
+    (c : ℕ) → IsActive job (at_start test start) c → IfSome job.power (λ most. power_at job placed c + power_of job test (c - start) ≤ most)
 
 -- the placed tests that precede it have ended
 abbrev pub ComesAfter : JobValue → List Placement → (test start : ℕ) → Type 0

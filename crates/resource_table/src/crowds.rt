@@ -67,7 +67,8 @@ pub fn after_crowds(
     ensures from { from ≤ result }
     ensures most { (result ≡ from) ⊎ (result ≤ last) }
     ensures free { (load : ℕ → ℕ) → IsEndedProfile load points.now last → IsFreeFor load free width result }
-    ensures least { (load : ℕ → ℕ) → IsEndedProfile load points.now last → (other : ℕ) → from ≤ other → IsFreeFor load free width other → result ≤ other }
+    ensures least { (load : ℕ → ℕ) → IsEndedProfile load points.now last → (other : ℕ) → from ≤ other → IsFreeFor load free width other →
+        result ≤ other }
 {
     let mut place = places_before_near(points, near, from + 1);
     let mut calm = place;

@@ -55,7 +55,8 @@ fn count_timelines(tests: &[JobTest], kind: Kind) -> Option<usize>
 fn count_one(counts: &mut [usize], place: Option<usize>)
     requires inside { IfSome place (λ k. k < length counts.old) }
     requires fits { IfSome place (λ k. slice_index_or counts.old k 0 + 1 < 2 ^ 64) }
-    ensures { (k : ℕ) → k < length counts.old → slice_index_or counts.new k 0 ≡ slice_index_or counts.old k 0 + (if is_at place k then 1 else 0) }
+    ensures { (k : ℕ) → k < length counts.old → slice_index_or counts.new k 0
+        ≡ slice_index_or counts.old k 0 + (if is_at place k then 1 else 0) }
 {
     if let Some(at) = place {
         counts[at] += 1;
@@ -71,7 +72,8 @@ fn count_takers(
 ) -> Result<Vec<usize>, NoMemory>
     requires { All (λ (t : JobTest). IfSome (timeline_of_value kind (test_value t)) (λ k. k < count)) tests.now }
     ensures long { IfOk result (λ counts. length counts.items ≡ count) }
-    ensures counts { IfOk result (λ counts. (k : ℕ) → k < count → slice_index_or counts.items k 0 ≡ sum_by (λ (t : JobTest). if takes kind k (test_value t) then 1 else 0) tests.now) }
+    ensures counts { IfOk result (λ counts. (k : ℕ) → k < count →
+        slice_index_or counts.items k 0 ≡ sum_by (λ (t : JobTest). if takes kind k (test_value t) then 1 else 0) tests.now) }
 {
     let mut counts = vec![in alloc; 0; count].map_err(|_| NoMemory)?;
     for test in tests {
@@ -93,7 +95,8 @@ fn empty_timeline(alloc: Global, room: usize) -> Result<Timeline, NoMemory>
 fn timelines_of_rooms(alloc: Global, rooms: &[usize]) -> Result<Vec<Timeline>, NoMemory>
     ensures long { IfOk result (λ lines. length lines.items ≡ length rooms.now) }
     ensures empty { IfOk result (λ lines. (k : ℕ) (line : Timeline) → slice_get lines.items k ≡ Some line → line.spans.items ≡ []) }
-    ensures room { IfOk result (λ lines. (k : ℕ) (line : Timeline) → slice_get lines.items k ≡ Some line → slice_index_or rooms.now k 0 ≤ vec_capacity line.spans) }
+    ensures room { IfOk result (λ lines. (k : ℕ) (line : Timeline) → slice_get lines.items k ≡ Some line →
+        slice_index_or rooms.now k 0 ≤ vec_capacity line.spans) }
 {
     let mut lines = Vec::new(alloc);
     for room in rooms {

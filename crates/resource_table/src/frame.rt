@@ -47,7 +47,8 @@ impl<'t, J> FrameOf<'t, J> {
     /// Takes back the placement, and all that were made after it: those before stay.
     pub fn undo(self)
         requires { before_of self ≤ length (table_of self).placed }
-        ensures table { self.exit.0.now ≡ record (table_of self.entry) { placed = take (before_of self.entry) (table_of self.entry).placed } }
+        ensures table { self.exit.0.now ≡ record (table_of self.entry)
+            { placed = take (before_of self.entry) (table_of self.entry).placed } }
         ensures sound { IsSoundTable self.exit.0.now }
     {
         let FrameOf { table, before } = self;

@@ -82,7 +82,8 @@ pub fn renew(history: &mut History, place: usize, value: Note)
     requires history { IsHistory history.old }
     requires place { place < length history.old.values.items }
     ensures history { IsHistory history.new }
-    ensures values { (history.new.values.items ≡ history.old.values.items) ⊎ (history.new.values.items ≡ slice_set history.old.values.items place value) }
+    ensures values { (history.new.values.items ≡ history.old.values.items)
+        ⊎ (history.new.values.items ≡ slice_set history.old.values.items place value) }
     ensures past { past_of history.new ≡ past_of history.old }
     ensures marks { history.new.marks ≡ history.old.marks }
 {

@@ -30,9 +30,11 @@ fn mark_at(draws: &[Draw], from: usize, start: u64, at: usize) -> u64
 /// Adds a mark at a cycle if its point stands at a place, and tells whether it does.
 fn add_standing_mark(points: &mut Vec<Point>, place: usize, cycle: u64) -> bool
     requires fits { all_uses points.old.items + 1 < 2 ^ 64 }
-    ensures added { result ≡ true → (held : List Draw) (cycles : List ℕ) → ArePoints held cycles points.old.items → ArePoints held (cycle ∷ cycles) points.new.items }
+    ensures added { result ≡ true → (held : List Draw) (cycles : List ℕ) → ArePoints held cycles points.old.items →
+        ArePoints held (cycle ∷ cycles) points.new.items }
     ensures same { result ≡ false → points.new.items ≡ points.old.items }
-    ensures missing { result ≡ false → place < length points.old.items → (slice_index_or points.old.items place no_point).cycle ≡ cycle → ⊥ }
+    ensures missing { result ≡ false → place < length points.old.items →
+        (slice_index_or points.old.items place no_point).cycle ≡ cycle → ⊥ }
     ensures capacity { vec_capacity points.new ≡ vec_capacity points.old }
 {
     if stands_at(points, place, cycle) {
@@ -78,7 +80,8 @@ fn add_mark(points: &mut Vec<Point>, near: usize, cycle: u64) -> usize
 fn remove_mark(points: &mut Vec<Point>, near: usize, cycle: u64) -> usize
     requires ordered { IsNonDecreasingBy (λ (p : Point). p.cycle) points.old.items }
     requires there { 1 ≤ sum_by (uses_at cycle) points.old.items }
-    ensures points { (held : List Draw) (cycles : List ℕ) → ArePoints held (cycle ∷ cycles) points.old.items → ArePoints held cycles points.new.items }
+    ensures points { (held : List Draw) (cycles : List ℕ) → ArePoints held (cycle ∷ cycles) points.old.items →
+        ArePoints held cycles points.new.items }
     ensures capacity { vec_capacity points.new ≡ vec_capacity points.old }
 {
     let mut place = places_before_near(points, near, cycle);
@@ -92,7 +95,8 @@ fn remove_mark(points: &mut Vec<Point>, near: usize, cycle: u64) -> usize
 /// Sees to room for so many points more, where the marks leave it.
 fn make_room(points: &mut Vec<Point>, more: usize)
     requires room { all_uses points.old.items + more ≤ vec_capacity points.old }
-    ensures points { (held : List Draw) (cycles : List ℕ) → ArePoints held cycles points.old.items → ArePoints held cycles points.new.items }
+    ensures points { (held : List Draw) (cycles : List ℕ) → ArePoints held cycles points.old.items →
+        ArePoints held cycles points.new.items }
     ensures room { length points.new.items + more ≤ vec_capacity points.new }
     ensures capacity { vec_capacity points.new ≡ vec_capacity points.old }
 {
@@ -131,7 +135,8 @@ fn open_gap(points: &mut Vec<Point>, draws: &[Draw], from: usize, start: u64, fi
     requires first { first ≤ length draws.now - from + 1 }
     requires ordered { IsNonDecreasingBy (λ (p : Point). p.cycle) points.old.items }
     requires room { length points.old.items + first ≤ vec_capacity points.old }
-    ensures points { (held : List Draw) (cycles : List ℕ) → ArePoints held cycles points.old.items → ArePoints held cycles points.new.items }
+    ensures points { (held : List Draw) (cycles : List ℕ) → ArePoints held cycles points.old.items →
+        ArePoints held cycles points.new.items }
     ensures capacity { vec_capacity points.new ≡ vec_capacity points.old }
 {
     if first < 3 {
@@ -152,7 +157,8 @@ fn open_gap(points: &mut Vec<Point>, draws: &[Draw], from: usize, start: u64, fi
 fn add_next_mark(points: &mut Vec<Point>, near: usize, spare: usize, cycle: u64) -> (usize, usize)
     requires room { all_uses points.old.items + 1 ≤ vec_capacity points.old }
     requires points { (held : List Draw) × (cycles : List ℕ) × ArePoints held cycles points.old.items }
-    ensures points { (held : List Draw) (cycles : List ℕ) → AreMarked held cycles → ArePoints held cycles points.old.items → ArePoints held (cycle ∷ cycles) points.new.items }
+    ensures points { (held : List Draw) (cycles : List ℕ) → AreMarked held cycles → ArePoints held cycles points.old.items →
+        ArePoints held (cycle ∷ cycles) points.new.items }
     ensures capacity { vec_capacity points.new ≡ vec_capacity points.old }
 {
     let place = places_before_near(points, near, cycle);
@@ -176,7 +182,8 @@ fn add_standing(points: &mut Vec<Point>, draws: &[Draw], from: usize, start: u64
     requires room { all_uses points.old.items + (length draws.now - from + 1) ≤ vec_capacity points.old }
     requires points { (held : List Draw) × (cycles : List ℕ) × ArePoints held cycles points.old.items }
     ensures left { result.0 ≤ length draws.now - from + 1 }
-    ensures points { (held : List Draw) (cycles : List ℕ) → ArePoints held cycles points.old.items → ArePoints held (drop result.0 (marks_from start (drop from draws.now)) ++ cycles) points.new.items }
+    ensures points { (held : List Draw) (cycles : List ℕ) → ArePoints held cycles points.old.items →
+        ArePoints held (drop result.0 (marks_from start (drop from draws.now)) ++ cycles) points.new.items }
     ensures capacity { vec_capacity points.new ≡ vec_capacity points.old }
 {
     let mut left = draws.len() - from + 1;
@@ -205,8 +212,11 @@ fn add_first(
     requires from { from ≤ length draws.now }
     requires first { first ≤ length draws.now - from + 1 }
     requires room { all_uses points.old.items + first ≤ vec_capacity points.old }
-    requires points { (held : List Draw) × (cycles : List ℕ) × AreMarked held cycles × ArePoints held (drop first (marks_from start (drop from draws.now)) ++ cycles) points.old.items }
-    ensures points { (held : List Draw) (cycles : List ℕ) → AreMarked held cycles → ArePoints held (drop first (marks_from start (drop from draws.now)) ++ cycles) points.old.items → ArePoints held (marks_from start (drop from draws.now) ++ cycles) points.new.items }
+    requires points { (held : List Draw) × (cycles : List ℕ) × AreMarked held cycles
+        × ArePoints held (drop first (marks_from start (drop from draws.now)) ++ cycles) points.old.items }
+    ensures points { (held : List Draw) (cycles : List ℕ) → AreMarked held cycles →
+        ArePoints held (drop first (marks_from start (drop from draws.now)) ++ cycles) points.old.items →
+        ArePoints held (marks_from start (drop from draws.now) ++ cycles) points.new.items }
     ensures capacity { vec_capacity points.new ≡ vec_capacity points.old }
 {
     make_room(points, first);
@@ -227,7 +237,8 @@ pub fn add_marks(points: &mut Vec<Point>, draws: &[Draw], from: usize, start: u6
     requires from { from ≤ length draws.now }
     requires room { all_uses points.old.items + (length draws.now - from + 1) ≤ vec_capacity points.old }
     requires points { (held : List Draw) × (cycles : List ℕ) × AreMarked held cycles × ArePoints held cycles points.old.items }
-    ensures points { (held : List Draw) (cycles : List ℕ) → AreMarked held cycles → ArePoints held cycles points.old.items → ArePoints held (marks_from start (drop from draws.now) ++ cycles) points.new.items }
+    ensures points { (held : List Draw) (cycles : List ℕ) → AreMarked held cycles → ArePoints held cycles points.old.items →
+        ArePoints held (marks_from start (drop from draws.now) ++ cycles) points.new.items }
     ensures capacity { vec_capacity points.new ≡ vec_capacity points.old }
 {
     let (left, near) = add_standing(points, draws, from, start);
@@ -240,8 +251,10 @@ pub fn add_marks(points: &mut Vec<Point>, draws: &[Draw], from: usize, start: u6
 /// Takes away the marks of a test with the draws from a place on. The first one is sought from a near place.
 pub fn remove_marks(points: &mut Vec<Point>, first: usize, draws: &[Draw], from: usize, start: u64)
     requires from { from ≤ length draws.now }
-    requires points { (held : List Draw) × (cycles : List ℕ) × ArePoints held (marks_from start (drop from draws.now) ++ cycles) points.old.items }
-    ensures points { (held : List Draw) (cycles : List ℕ) → ArePoints held (marks_from start (drop from draws.now) ++ cycles) points.old.items → ArePoints held cycles points.new.items }
+    requires points { (held : List Draw) × (cycles : List ℕ)
+        × ArePoints held (marks_from start (drop from draws.now) ++ cycles) points.old.items }
+    ensures points { (held : List Draw) (cycles : List ℕ) →
+        ArePoints held (marks_from start (drop from draws.now) ++ cycles) points.old.items → ArePoints held cycles points.new.items }
     ensures capacity { vec_capacity points.new ≡ vec_capacity points.old }
 {
     let count = draws.len() - from + 1;

@@ -152,7 +152,12 @@ pub fn put_point(points: &mut Vec<Point>, place: usize, point: Point)
 pub fn use_more(points: &mut Vec<Point>, place: usize)
     requires place { place < length points.old.items }
     requires fits { (slice_index_or points.old.items place no_point).uses + 1 < 2 ^ 64 }
-    ensures items { points.new.items ≡ slice_set points.old.items place (record { cycle = (slice_index_or points.old.items place no_point).cycle; load = (slice_index_or points.old.items place no_point).load; uses = (slice_index_or points.old.items place no_point).uses + 1 }) }
+    ensures items { points.new.items ≡ slice_set points.old.items place
+        (record {
+          cycle = (slice_index_or points.old.items place no_point).cycle;
+          load = (slice_index_or points.old.items place no_point).load;
+          uses = (slice_index_or points.old.items place no_point).uses + 1;
+        }) }
     ensures capacity { vec_capacity points.new ≡ vec_capacity points.old }
 {
     points[place].uses += 1;
@@ -162,7 +167,12 @@ pub fn use_more(points: &mut Vec<Point>, place: usize)
 pub fn use_less(points: &mut Vec<Point>, place: usize)
     requires place { place < length points.old.items }
     requires some { 1 ≤ (slice_index_or points.old.items place no_point).uses }
-    ensures items { points.new.items ≡ slice_set points.old.items place (record { cycle = (slice_index_or points.old.items place no_point).cycle; load = (slice_index_or points.old.items place no_point).load; uses = (slice_index_or points.old.items place no_point).uses - 1 }) }
+    ensures items { points.new.items ≡ slice_set points.old.items place
+        (record {
+          cycle = (slice_index_or points.old.items place no_point).cycle;
+          load = (slice_index_or points.old.items place no_point).load;
+          uses = (slice_index_or points.old.items place no_point).uses - 1;
+        }) }
     ensures capacity { vec_capacity points.new ≡ vec_capacity points.old }
 {
     points[place].uses -= 1;

@@ -67,7 +67,8 @@ fn after_step(
     ensures from { start ≤ result }
     ensures most { result ≤ last }
     ensures fits { (load : ℕ → ℕ) → IsEndedProfile load points.now last → (c : ℕ) → result + offset ≤ c → c < result + end → load c ≤ free }
-    ensures least { (load : ℕ → ℕ) → IsEndedProfile load points.now last → (other : ℕ) → start ≤ other → ((c : ℕ) → other + offset ≤ c → c < other + end → load c ≤ free) → result ≤ other }
+    ensures least { (load : ℕ → ℕ) → IsEndedProfile load points.now last → (other : ℕ) → start ≤ other →
+        ((c : ℕ) → other + offset ≤ c → c < other + end → load c ≤ free) → result ≤ other }
 {
     if end <= offset {
         return start;
@@ -118,9 +119,12 @@ fn looked_at(
     ensures from { start ≤ result.start }
     ensures most { result.start ≤ last }
     ensures moved { result.place < to → start < result.start }
-    ensures there { result.place < to → (load : ℕ → ℕ) → IsEndedProfile load points.now last → StepFits load limit result.start length result.place steps.now }
-    ensures before { (load : ℕ → ℕ) → IsEndedProfile load points.now last → (k : ℕ) → from ≤ k → k < result.place → StepFits load limit start length k steps.now }
-    ensures least { (load : ℕ → ℕ) → IsEndedProfile load points.now last → (other : ℕ) → start ≤ other → StepsFit load limit other length steps.now → result.start ≤ other }
+    ensures there { result.place < to → (load : ℕ → ℕ) → IsEndedProfile load points.now last →
+        StepFits load limit result.start length result.place steps.now }
+    ensures before { (load : ℕ → ℕ) → IsEndedProfile load points.now last → (k : ℕ) → from ≤ k → k < result.place →
+        StepFits load limit start length k steps.now }
+    ensures least { (load : ℕ → ℕ) → IsEndedProfile load points.now last → (other : ℕ) → start ≤ other →
+        StepsFit load limit other length steps.now → result.start ≤ other }
 {
     let mut near = first;
     for place in from..to {
@@ -151,7 +155,8 @@ fn after_only(
     ensures from { start ≤ result }
     ensures most { result ≤ last }
     ensures fits { (load : ℕ → ℕ) → IsEndedProfile load points.now last → StepsFit load limit result length (step ∷ []) }
-    ensures least { (load : ℕ → ℕ) → IsEndedProfile load points.now last → (other : ℕ) → start ≤ other → StepsFit load limit other length (step ∷ []) → result ≤ other }
+    ensures least { (load : ℕ → ℕ) → IsEndedProfile load points.now last → (other : ℕ) → start ≤ other →
+        StepsFit load limit other length (step ∷ []) → result ≤ other }
 {
     let (offset, power) = step;
     after_step(
@@ -183,7 +188,8 @@ fn after_steps(
     ensures from { start ≤ result }
     ensures most { result ≤ last }
     ensures fits { (load : ℕ → ℕ) → IsEndedProfile load points.now last → StepsFit load limit result length steps.now }
-    ensures least { (load : ℕ → ℕ) → IsEndedProfile load points.now last → (other : ℕ) → start ≤ other → StepsFit load limit other length steps.now → result ≤ other }
+    ensures least { (load : ℕ → ℕ) → IsEndedProfile load points.now last → (other : ℕ) → start ≤ other →
+        StepsFit load limit other length steps.now → result ≤ other }
 {
     let mut near = points.len();
     let mut found = start;
@@ -231,7 +237,8 @@ pub fn after_power(
     ensures from { start ≤ result }
     ensures most { result ≤ last }
     ensures fits { (load : ℕ → ℕ) → IsEndedProfile load points.now last → StepsFit load limit result length steps.now }
-    ensures least { (load : ℕ → ℕ) → IsEndedProfile load points.now last → (other : ℕ) → start ≤ other → StepsFit load limit other length steps.now → result ≤ other }
+    ensures least { (load : ℕ → ℕ) → IsEndedProfile load points.now last → (other : ℕ) → start ≤ other →
+        StepsFit load limit other length steps.now → result ≤ other }
 {
     if steps.len() == 1 {
         return after_only(points, limit, steps[0], length, start, last);

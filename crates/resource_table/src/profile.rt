@@ -15,7 +15,13 @@ use crate::power::Draw;
 fn raise_at(points: &mut Vec<Point>, place: usize, power: u64)
     requires place { place < length points.old.items }
     requires fits { (slice_index_or points.old.items place no_point).load + power < 2 ^ 64 }
-    ensures items { points.new.items ≡ slice_set points.old.items place (record { cycle = (slice_index_or points.old.items place no_point).cycle; load = (slice_index_or points.old.items place no_point).load + power; uses = (slice_index_or points.old.items place no_point).uses }) }
+    ensures items { points.new.items ≡ slice_set points.old.items place
+        (record {
+          cycle = (slice_index_or points.old.items place no_point).cycle;
+          load = (slice_index_or points.old.items place no_point).load + power;
+          uses =
+              (slice_index_or points.old.items place no_point).uses;
+        }) }
     ensures capacity { vec_capacity points.new ≡ vec_capacity points.old }
 {
     points[place].load += power;
@@ -25,7 +31,13 @@ fn raise_at(points: &mut Vec<Point>, place: usize, power: u64)
 fn lower_at(points: &mut Vec<Point>, place: usize, power: u64)
     requires place { place < length points.old.items }
     requires covers { power ≤ (slice_index_or points.old.items place no_point).load }
-    ensures items { points.new.items ≡ slice_set points.old.items place (record { cycle = (slice_index_or points.old.items place no_point).cycle; load = (slice_index_or points.old.items place no_point).load - power; uses = (slice_index_or points.old.items place no_point).uses }) }
+    ensures items { points.new.items ≡ slice_set points.old.items place
+        (record {
+          cycle = (slice_index_or points.old.items place no_point).cycle;
+          load = (slice_index_or points.old.items place no_point).load - power;
+          uses =
+              (slice_index_or points.old.items place no_point).uses;
+        }) }
     ensures capacity { vec_capacity points.new ≡ vec_capacity points.old }
 {
     points[place].load -= power;
@@ -88,7 +100,8 @@ fn add_draws(points: &mut Vec<Point>, draws: &[Draw], from: usize, start: u64, l
     requires room { all_uses points.old.items + (length draws.now - from + 1) ≤ vec_capacity points.old }
     requires within { (c : ℕ) → load_of draws.now c ≤ limit }
     requires points { (cycles : List ℕ) × AreMarked (take from draws.now) cycles × ArePoints (take from draws.now) cycles points.old.items }
-    ensures points { (cycles : List ℕ) → AreMarked (take from draws.now) cycles → ArePoints (take from draws.now) cycles points.old.items → ArePoints draws.now (marks_from start (drop from draws.now) ++ cycles) points.new.items }
+    ensures points { (cycles : List ℕ) → AreMarked (take from draws.now) cycles → ArePoints (take from draws.now) cycles points.old.items →
+        ArePoints draws.now (marks_from start (drop from draws.now) ++ cycles) points.new.items }
     ensures capacity { vec_capacity points.new ≡ vec_capacity points.old }
 {
     let mut near = add_marks(points, draws, from, start);
@@ -101,7 +114,8 @@ fn add_draws(points: &mut Vec<Point>, draws: &[Draw], from: usize, start: u64, l
 fn take_draws(points: &mut Vec<Point>, draws: &[Draw], count: usize, start: u64)
     requires count { count ≤ length draws.now }
     requires points { (cycles : List ℕ) × ArePoints draws.now (marks_from start (drop count draws.now) ++ cycles) points.old.items }
-    ensures points { (cycles : List ℕ) → ArePoints draws.now (marks_from start (drop count draws.now) ++ cycles) points.old.items → ArePoints (take count draws.now) cycles points.new.items }
+    ensures points { (cycles : List ℕ) → ArePoints draws.now (marks_from start (drop count draws.now) ++ cycles) points.old.items →
+        ArePoints (take count draws.now) cycles points.new.items }
     ensures capacity { vec_capacity points.new ≡ vec_capacity points.old }
 {
     let mut near = points.len();
@@ -125,8 +139,11 @@ pub fn add_drawn(
     requires from { from ≤ length draws.now }
     requires room { IfSome limit (λ _. all_uses points.old.items + (length draws.now - from + 1) ≤ vec_capacity points.old) }
     requires within { IfSome limit (λ most. (c : ℕ) → load_of draws.now c ≤ most) }
-    requires points { IfSome limit (λ _. (cycles : List ℕ) × AreMarked (take from draws.now) cycles × ArePoints (take from draws.now) cycles points.old.items) }
-    ensures points { IfSome limit (λ _. (cycles : List ℕ) → AreMarked (take from draws.now) cycles → ArePoints (take from draws.now) cycles points.old.items → ArePoints draws.now (marks_from start (drop from draws.now) ++ cycles) points.new.items) }
+    requires points { IfSome limit (λ _. (cycles : List ℕ) × AreMarked (take from draws.now) cycles
+        × ArePoints (take from draws.now) cycles points.old.items) }
+    ensures points { IfSome limit (λ _. (cycles : List ℕ) → AreMarked (take from draws.now) cycles →
+        ArePoints (take from draws.now) cycles points.old.items →
+        ArePoints draws.now (marks_from start (drop from draws.now) ++ cycles) points.new.items) }
     ensures capacity { vec_capacity points.new ≡ vec_capacity points.old }
 {
     if let Some(most) = limit {
@@ -144,8 +161,11 @@ pub fn take_drawn(
     start: u64,
 )
     requires count { count ≤ length draws.now }
-    requires points { IfSome limit (λ _. (cycles : List ℕ) × ArePoints draws.now (marks_from start (drop count draws.now) ++ cycles) points.old.items) }
-    ensures points { IfSome limit (λ _. (cycles : List ℕ) → ArePoints draws.now (marks_from start (drop count draws.now) ++ cycles) points.old.items → ArePoints (take count draws.now) cycles points.new.items) }
+    requires points { IfSome limit (λ _. (cycles : List ℕ) × ArePoints draws.now
+        (marks_from start (drop count draws.now) ++ cycles) points.old.items) }
+    ensures points { IfSome limit (λ _. (cycles : List ℕ) →
+        ArePoints draws.now (marks_from start (drop count draws.now) ++ cycles) points.old.items →
+        ArePoints (take count draws.now) cycles points.new.items) }
     ensures capacity { vec_capacity points.new ≡ vec_capacity points.old }
 {
     if let Some(_) = limit {

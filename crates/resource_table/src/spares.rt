@@ -24,7 +24,12 @@ pub fn put_spares(points: &mut Vec<Point>, place: usize, more: usize)
     requires first { 1 ≤ place }
     requires place { place ≤ length points.old.items }
     requires room { length points.old.items + more ≤ vec_capacity points.old }
-    ensures items { points.new.items ≡ take place points.old.items ++ (replicate more (record { cycle = (slice_index_or points.old.items (place - 1) no_point).cycle; load = (slice_index_or points.old.items (place - 1) no_point).load; uses = 0 }) ++ drop place points.old.items) }
+    ensures items { points.new.items ≡ take place points.old.items
+        ++ (replicate more (record {
+          cycle = (slice_index_or points.old.items (place - 1) no_point).cycle;
+          load = (slice_index_or points.old.items (place - 1) no_point).load;
+          uses = 0;
+        }) ++ drop place points.old.items) }
     ensures capacity { vec_capacity points.new ≡ vec_capacity points.old }
 {
     let mut spare = points[place - 1];

@@ -72,7 +72,9 @@ impl<J> Model for TableOf<J> {
 
     ghost view = { λ t. record { job = job_value t.own; placed = t.trail.items } };
 
-    ghost invariant = { λ t. IsKept (job_value t.own) t.trail t.ends t.lasts t.draws × AreListed (job_value t.own) (map listed t.before.items) × IsProfiled (job_value t.own) t.trail t.draws t.points × AreTimes (job_value t.own) t.trail.items t.times × IsBounded (job_value t.own) t.trail.items t.bounds };
+    ghost invariant = { λ t. IsKept (job_value t.own) t.trail t.ends t.lasts t.draws
+        × AreListed (job_value t.own) (map listed t.before.items) × IsProfiled (job_value t.own) t.trail t.draws t.points
+        × AreTimes (job_value t.own) t.trail.items t.times × IsBounded (job_value t.own) t.trail.items t.bounds };
 }
 
 /// The end of a test, where it is placed and ends after `latest`; else `latest`.

@@ -101,7 +101,8 @@ fn starts_before(spans: &[Span], cycle: u64) -> usize
 fn last_only_runs(spans: &[Span], cycle: u64) -> bool
     requires { IsNonDecreasingBy (λ (s : Span). s.to) spans.now }
     ensures some { result ≡ true → 1 ≤ length_of spans.now }
-    ensures parts { result ≡ true → IsPartitionPoint (λ (s : Span). s.to ≤ cycle) (λ (s : Span). cycle < s.to) spans.now (length_of spans.now - 1) }
+    ensures parts { result ≡ true → IsPartitionPoint (λ (s : Span). s.to ≤ cycle) (λ (s : Span). cycle < s.to) spans.now
+        (length_of spans.now - 1) }
 {
     let count = spans.len();
     if count < 2 {
@@ -229,8 +230,10 @@ fn after_spans(spans: &[Span], first: usize, length: u64, start: u64, last: u64)
 fn after_alone(lines: &[Timeline], place: Option<usize>, length: u64, start: u64, last: u64) -> u64
     requires start { start ≤ last }
     requires last { last + length < 2 ^ 63 }
-    requires starts { (k : ℕ) (line : Timeline) → slice_get lines.now k ≡ Some line → IsNonDecreasingBy (λ (s : Span). s.from) line.spans.items }
-    requires turns { (k : ℕ) (line : Timeline) → slice_get lines.now k ≡ Some line → IsNonDecreasingBy (λ (s : Span). s.to) line.spans.items }
+    requires starts { (k : ℕ) (line : Timeline) → slice_get lines.now k ≡ Some line →
+        IsNonDecreasingBy (λ (s : Span). s.from) line.spans.items }
+    requires turns { (k : ℕ) (line : Timeline) → slice_get lines.now k ≡ Some line →
+        IsNonDecreasingBy (λ (s : Span). s.to) line.spans.items }
     requires ends { (k : ℕ) (line : Timeline) → slice_get lines.now k ≡ Some line → All (λ (s : Span). s.to ≤ last) line.spans.items }
     ensures from { start ≤ result }
     ensures most { result ≤ last }
@@ -256,7 +259,8 @@ fn after_alone(lines: &[Timeline], place: Option<usize>, length: u64, start: u64
 fn after_together(lines: &[Timeline], place: usize, length: u64, start: u64, last: u64) -> u64
     requires start { start ≤ last }
     requires last { last + length < 2 ^ 63 }
-    requires starts { (k : ℕ) (line : Timeline) → slice_get lines.now k ≡ Some line → IsNonDecreasingBy (λ (s : Span). s.from) line.spans.items }
+    requires starts { (k : ℕ) (line : Timeline) → slice_get lines.now k ≡ Some line →
+        IsNonDecreasingBy (λ (s : Span). s.from) line.spans.items }
     requires ends { (k : ℕ) (line : Timeline) → slice_get lines.now k ≡ Some line → All (λ (s : Span). s.to ≤ last) line.spans.items }
     ensures from { start ≤ result }
     ensures most { result ≤ last }

@@ -36,4 +36,5 @@ Refuses bytes NoMemory = Unit {0}
 
 -- The bytes say a chip, or are refused at a line, or pass a limit.
 abbrev pub HasAnswer : List ℕ → Type 0
-HasAnswer bytes = ((soc : SocValue) × SaysChip bytes soc) ⊎ (((line : ℕ) × IsRefusedLine bytes line) ⊎ ((limit : SocLimit) × IsTooLarge bytes limit))
+HasAnswer bytes =
+    ((soc : SocValue) × SaysChip bytes soc) ⊎ (((line : ℕ) × IsRefusedLine bytes line) ⊎ ((limit : SocLimit) × IsTooLarge bytes limit))

@@ -70,4 +70,5 @@ Closes whole (Err NoMemory) items = Unit {0}
 
 -- this word goes on with a list, and makes this part of that one
 abbrev pub AddsLength : ReadPart → List ℕ → ReadPart → Type 0
-AddsLength old bytes new = (done : List Item) (line : ℕ) → step_at done (part_of old) (bytes, line) ≡ Some (record { done = done; part = part_of new })
+AddsLength old bytes new =
+    (done : List Item) (line : ℕ) → step_at done (part_of old) (bytes, line) ≡ Some (record { done = done; part = part_of new })

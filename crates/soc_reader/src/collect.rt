@@ -128,7 +128,8 @@ fn may_repeat(key: Key) -> bool
 
 /// Marks what an item gives, where it may be given once.
 fn mark_item(given: &mut Marks, item: &ReadItem<'_>) -> Result<(), Stop>
-    ensures ok { OnOk result ((s : Subject) (k : Key) → repeats k ≡ false → is_marked s k given.new ≡ (gives_this s k (item_of item.now) || is_marked s k given.old)) }
+    ensures ok { OnOk result ((s : Subject) (k : Key) → repeats k ≡ false →
+        is_marked s k given.new ≡ (gives_this s k (item_of item.now) || is_marked s k given.old)) }
     ensures memory { OnErr result (result ≡ Err Stop.NoMemory) }
 {
     match item {
@@ -149,7 +150,8 @@ fn mark_item(given: &mut Marks, item: &ReadItem<'_>) -> Result<(), Stop>
 /// Notes the name that an item gives a module.
 fn note_name<'a>(names: &mut IndexMap<u64, &'a [u8]>, item: &ReadItem<'a>) -> Result<(), Stop>
     requires { KeepsNames names.old (item_of item.now) }
-    ensures noted { OnOk result ((m : ℕ) (w : List ℕ) → is_other_name (name_in names.new m) w ≡ (gives_other m w (item_of item.now) || is_other_name (name_in names.old m) w)) }
+    ensures noted { OnOk result ((m : ℕ) (w : List ℕ) → is_other_name (name_in names.new m) w
+        ≡ (gives_other m w (item_of item.now) || is_other_name (name_in names.old m) w)) }
     ensures memory { OnErr result (result ≡ Err Stop.NoMemory) }
 {
     match item {

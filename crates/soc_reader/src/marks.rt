@@ -94,7 +94,9 @@ fn add_to_last(marks: &mut Marks, subject: Subject, bit: u32) -> bool
 /// Notes a row of a subject, found by its hash. It stands apart, since most rows are of the last subject.
 #[inline(never)]
 fn add_by_hash(marks: &mut Marks, subject: Subject, bit: u32) -> Result<(), Stop>
-    ensures ok { OnOk result ((s : Subject) → bits_of marks.new s ≡ (if is_same subject s then Some (option_map_or (λ rows. bit_or rows bit) (bits_of marks.old subject) bit) else bits_of marks.old s)) }
+    ensures ok { OnOk result ((s : Subject) → bits_of marks.new s
+        ≡ (if is_same subject s then Some (option_map_or (λ rows. bit_or rows bit) (bits_of marks.old subject) bit)
+        else bits_of marks.old s)) }
     ensures memory { OnErr result (result ≡ Err Stop.NoMemory) }
 {
     match marks.insert(subject, bit)? {
@@ -108,7 +110,8 @@ fn add_by_hash(marks: &mut Marks, subject: Subject, bit: u32) -> Result<(), Stop
 
 /// Notes that this was given.
 pub fn mark(marks: &mut Marks, given: Given) -> Result<(), Stop>
-    ensures ok { OnOk result ((s : Subject) (k : Key) → is_marked s k marks.new ≡ ((same_subject s given.subject && nat_eq (row k) (row given.key)) || is_marked s k marks.old)) }
+    ensures ok { OnOk result ((s : Subject) (k : Key) → is_marked s k marks.new
+        ≡ ((same_subject s given.subject && nat_eq (row k) (row given.key)) || is_marked s k marks.old)) }
     ensures memory { OnErr result (result ≡ Err Stop.NoMemory) }
 {
     let bit = row_bit(given.key);

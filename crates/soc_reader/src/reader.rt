@@ -142,7 +142,8 @@ fn name_module<'a>(
     name: &'a [u8],
 ) -> Result<(), Stop>
     requires { InStep items.old }
-    ensures { Steps (begin_if (may_be_named number name.now (done_of items.old)) (at (named_item number name.now ∷ done_of items.old) between)) result part.new items.new }
+    ensures { Steps (begin_if (may_be_named number name.now (done_of items.old))
+        (at (named_item number name.now ∷ done_of items.old) between)) result part.new items.new }
 {
     if !may_name(items, number, name) {
         return Err(Stop::Refused);
@@ -176,7 +177,8 @@ fn begin_free<'a>(
     word: &'a [u8],
 ) -> Result<(), Stop>
     requires { InStep items.old }
-    ensures { Steps (begins_free (done_of items.old) word.now (after_done (done_of items.old)) (open_after (done_of items.old))) result part.new items.new }
+    ensures { Steps (begins_free (done_of items.old) word.now (after_done (done_of items.old)) (open_after (done_of items.old))) result
+        part.new items.new }
 {
     let is_data = items.xy && is_letter_word(word);
     match (items.after, items.opened) {

@@ -21,7 +21,8 @@ use Rattle.soctest.specs.declared.ending.Ending.TheVariants as ending
 abbrev pub Closes : Procedure → Option Files → ℕ → ℕ → Ending → Type 0
 Closes steps held before after (ending.Decided verdict) = Decides steps held before after verdict
 Closes steps held before after (ending.Run all seed) =
-    IsCommand steps × MayUnless steps held (long_run (plan_value all.plan)) (vector_text (soc_value all.soc) (plan_value all.plan) (made_content (soc_value all.soc) seed))
+    IsCommand steps × MayUnless steps held (long_run (plan_value all.plan))
+    (vector_text (soc_value all.soc) (plan_value all.plan) (made_content (soc_value all.soc) seed))
 
 -- a chip, limits and a plan that is accepted
 pub record IsTaken (all : Accepted) : Type 0 where
@@ -38,4 +39,5 @@ IsRunnable (ending.Run all seed) = IsTaken all
 abbrev pub WritesEnding : Ending → ℕ → ℕ → Option (List ℕ) → Status → Option (List ℕ) → Type 0
 WritesEnding (ending.Decided verdict) before after old end new = Writes verdict before after old end new
 WritesEnding (ending.Run all seed) before after old end new =
-    WritesUnless (long_run (plan_value all.plan)) (vector_text (soc_value all.soc) (plan_value all.plan) (made_content (soc_value all.soc) seed)) before after old end new
+    WritesUnless (long_run (plan_value all.plan)) (vector_text (soc_value all.soc) (plan_value all.plan)
+    (made_content (soc_value all.soc) seed)) before after old end new

@@ -33,28 +33,37 @@ AreFailsIn files log fails = IsRead Log SaysLog (get files log) fails
 -- the text has a line for each fail of a file's log, by the bit that the run reads at that cycle on that wire, for every content
 abbrev pub TellsFails : Files → (log : List ℕ) → SocValue → PlanValue → List ℕ → Type 0
 TellsFails files log chip value text =
-    (fails : List (ℕ × ℕ)) × AreFailsIn files log fails × (text ≡ locate_text chip value fails) × ((content : Content) (cycle wire : ℕ) → FindsReads chip value content cycle wire)
+    (fails : List (ℕ × ℕ)) × AreFailsIn files log fails × (text ≡ locate_text chip value fails)
+    × ((content : Content) (cycle wire : ℕ) → FindsReads chip value content cycle wire)
 
 -- the text is that of a file's program, which is right for its test in the plan and takes at least the test's cycles
 abbrev pub TellsProgram : Files → (program : List ℕ) → SocValue → PlanValue → List ℕ → Type 0
-TellsProgram files program chip value text = (shifts : ProgramValue) × IsRead Program (SaysRight chip value) (get files program) shifts × (text ≡ accepted_program chip value shifts)
+TellsProgram files program chip value text =
+    (shifts : ProgramValue) × IsRead Program (SaysRight chip value) (get files program) shifts × (text ≡ accepted_program chip value shifts)
 
 -- the plan that is summed up is one of the made chip under the limits for it
 abbrev pub IsSummedUp : (n seed : ℕ) → Option (List ℕ) → Option (List ℕ) → Type 0
-IsSummedUp n seed old new = IsTrustworthy (λ chip. chip ≡ made_chip n seed) (λ chip bounds. bounds ≡ sample_limits) IsMade (λ chip value text. text ≡ sample_text n seed chip value) old new
+IsSummedUp n seed old new = IsTrustworthy (λ chip. chip ≡ made_chip n seed) (λ chip bounds. bounds ≡ sample_limits) IsMade
+    (λ chip value text. text ≡ sample_text n seed chip value) old new
 
 -- What the commands over a plan or a bound promise of it, over the files that they name. Those of other top calls never end
 -- with an answer here.
 abbrev pub Trusts : CommandValue → Files → Option (List ℕ) → Option (List ℕ) → Type 0
 Trusts (Print soc) files old new = Unit {0}
 Trusts (Widths soc wires) files old new = Unit {0}
-Trusts (Plan soc limits) files old new = IsTrustworthy (IsChipIn files soc) (AreLimitsIn files limits) IsMade (λ chip value text. text ≡ plan_text value) old new
-Trusts (Check soc limits plan) files old new = IsTrustworthy (IsChipIn files soc) (AreLimitsIn files limits) (IsPlanIn files plan) (λ chip value text. text ≡ accepted_line value) old new
-Trusts (Chart soc limits plan) files old new = IsTrustworthy (IsChipIn files soc) (AreLimitsIn files limits) (IsPlanIn files plan) (λ chip value text. text ≡ chart_text chip value) old new
-Trusts (Vectors soc limits plan seed) files old new = IsTrustworthy (IsChipIn files soc) (AreLimitsIn files limits) (IsPlanIn files plan) (λ chip value text. text ≡ vector_text chip value (made_content chip seed)) old new
+Trusts (Plan soc limits) files old new =
+    IsTrustworthy (IsChipIn files soc) (AreLimitsIn files limits) IsMade (λ chip value text. text ≡ plan_text value) old new
+Trusts (Check soc limits plan) files old new = IsTrustworthy (IsChipIn files soc) (AreLimitsIn files limits) (IsPlanIn files plan)
+    (λ chip value text. text ≡ accepted_line value) old new
+Trusts (Chart soc limits plan) files old new = IsTrustworthy (IsChipIn files soc) (AreLimitsIn files limits) (IsPlanIn files plan)
+    (λ chip value text. text ≡ chart_text chip value) old new
+Trusts (Vectors soc limits plan seed) files old new = IsTrustworthy (IsChipIn files soc) (AreLimitsIn files limits) (IsPlanIn files plan)
+    (λ chip value text. text ≡ vector_text chip value (made_content chip seed)) old new
 Trusts (Sample n seed) files old new = IsSummedUp n seed old new
-Trusts (Shift soc limits plan program) files old new = IsTrustworthy (IsChipIn files soc) (AreLimitsIn files limits) (IsPlanIn files plan) (TellsProgram files program) old new
-Trusts (Locate soc limits plan log) files old new = IsTrustworthy (IsChipIn files soc) (AreLimitsIn files limits) (IsPlanIn files plan) (TellsFails files log) old new
+Trusts (Shift soc limits plan program) files old new =
+    IsTrustworthy (IsChipIn files soc) (AreLimitsIn files limits) (IsPlanIn files plan) (TellsProgram files program) old new
+Trusts (Locate soc limits plan log) files old new =
+    IsTrustworthy (IsChipIn files soc) (AreLimitsIn files limits) (IsPlanIn files plan) (TellsFails files log) old new
 Trusts (Tree soc limits tree) files old new = IsShownBound files soc limits tree old new
 Trusts (Split soc limits most) files old new = IsTrustworthySplit files soc limits most old new
 Trusts (Improve soc limits plan tries seed) files old new = ⊥

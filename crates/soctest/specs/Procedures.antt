@@ -37,7 +37,8 @@ long_run value = option_map run_line (too_many value)
 
 -- the answer is the summary of a made chip and of any plan that the planner may make for it
 abbrev pub done_with_sample : (n seed : ℕ) → Procedure
-done_with_sample n seed = done_with_any (λ text. (value : PlanValue) × IsPlanned (made_chip n seed) sample_limits value × (text ≡ sample_text n seed (made_chip n seed) value))
+done_with_sample n seed = done_with_any (λ text. (value : PlanValue) × IsPlanned (made_chip n seed) sample_limits value
+    × (text ≡ sample_text n seed (made_chip n seed) value))
 
 -- the line that refuses a number of modules
 abbrev pub sample_refusal : (n : ℕ) → Option (List ℕ)
@@ -45,7 +46,8 @@ sample_refusal n = if nat_eq n 0 || nat_lt SAMPLE_MODULES_MOST n then Some (samp
 
 -- the answer is the text of the parts of a chip and of any plan that the planner may make for them
 abbrev pub done_with_split : SocValue → LimitsValue → (most : ℕ) → Procedure
-done_with_split chip bounds most = done_with_any (λ text. (value : PlanValue) × IsPlanned (split_chip bounds most chip) (split_limits bounds most chip) value × (text ≡ split_text (split_of chip bounds most) value))
+done_with_split chip bounds most = done_with_any (λ text. (value : PlanValue)
+    × IsPlanned (split_chip bounds most chip) (split_limits bounds most chip) value × (text ≡ split_text (split_of chip bounds most) value))
 
 -- ---- files of one command
 
@@ -69,12 +71,16 @@ procedure_of (Widths soc wires) = with_chip soc (λ chip. done_with (widths_text
 procedure_of (Plan soc limits) = with_both soc limits done_with_plan
 procedure_of (Check soc limits plan) = with_all soc limits plan (λ chip bounds value. done_with (accepted_line value))
 procedure_of (Chart soc limits plan) = with_all soc limits plan (λ chip bounds value. done_with (chart_text chip value))
-procedure_of (Vectors soc limits plan seed) = with_all soc limits plan (λ chip bounds value. Unless (long_run value) (done_with (vector_text chip value (made_content chip seed))))
+procedure_of (Vectors soc limits plan seed) =
+    with_all soc limits plan (λ chip bounds value. Unless (long_run value) (done_with (vector_text chip value (made_content chip seed))))
 procedure_of (Sample n seed) = Unless (sample_refusal n) (done_with_sample n seed)
 procedure_of (Tree soc limits tree) = with_both soc limits (with_bound tree)
-procedure_of (Split soc limits most) = with_both soc limits (λ chip bounds. Unless (split_refusal chip bounds most) (done_with_split chip bounds most))
-procedure_of (Shift soc limits plan program) = with_all soc limits plan (λ chip bounds value. with_program chip value program (λ shifts. done_with (accepted_program chip value shifts)))
-procedure_of (Locate soc limits plan log) = with_all soc limits plan (λ chip bounds value. with_log log (λ fails. done_with (locate_text chip value fails)))
+procedure_of (Split soc limits most) =
+    with_both soc limits (λ chip bounds. Unless (split_refusal chip bounds most) (done_with_split chip bounds most))
+procedure_of (Shift soc limits plan program) = with_all soc limits plan
+    (λ chip bounds value. with_program chip value program (λ shifts. done_with (accepted_program chip value shifts)))
+procedure_of (Locate soc limits plan log) =
+    with_all soc limits plan (λ chip bounds value. with_log log (λ fails. done_with (locate_text chip value fails)))
 procedure_of (Improve soc limits plan tries seed) = NoCommand
 procedure_of (Picture soc limits plan) = NoCommand
 procedure_of (Simulate soc limits plan seed) = NoCommand

@@ -38,7 +38,11 @@ named_test chip id = test_at chip (test_places chip id)
 
 -- the wrapper of a plan for a test of a module
 abbrev pub wrapper_for : PlanValue → ModuleValue → Test → WrapperValue
-wrapper_for plan m t = record { «module» = m.number; scan = t.scan; chains = of_first (wraps m.number t.scan) (λ (w : WrapperValue). w.chains) [] plan.wrappers }
+wrapper_for plan m t = record {
+  «module» = m.number;
+  scan = t.scan;
+  chains = of_first (wraps m.number t.scan) (λ (w : WrapperValue). w.chains) [] plan.wrappers;
+}
 
 -- the test in that wrapper
 abbrev pub planned_for : PlanValue → ModuleValue → Test → WrappedTest
@@ -101,12 +105,14 @@ program_fault_line f = codes "refused program entry " ++ decimal (place_of f) ++
 
 abbrev pub RefusedIn : PlanValue → ProgramValue → Option (ModuleValue × Test) → List ℕ → Type 0
 RefusedIn plan program None text = text ≡ program_test_line program.test
-RefusedIn plan program (Some found) text = (f : ProgramFault) × IsFault (needed_for (planned_for plan found.0 found.1)) program.entries f × (text ≡ program_fault_line f)
+RefusedIn plan program (Some found) text =
+    (f : ProgramFault) × IsFault (needed_for (planned_for plan found.0 found.1)) program.entries f × (text ≡ program_fault_line f)
 
 -- the program's text is refused at a line; or it names no live test over the wires; or it has a fault
 abbrev pub RefusesProgram : SocValue → PlanValue → List ℕ → List ℕ → Type 0
 RefusesProgram chip plan bytes text =
-    ((line : ℕ) × RefusesText bytes line × (text ≡ program_line line)) ⊎ ((program : ProgramValue) × IsReadProgram bytes program × RefusedIn plan program (named_test chip program.test) text)
+    ((line : ℕ) × RefusesText bytes line × (text ≡ program_line line))
+    ⊎ ((program : ProgramValue) × IsReadProgram bytes program × RefusedIn plan program (named_test chip program.test) text)
 
 -- ---- what is answered
 

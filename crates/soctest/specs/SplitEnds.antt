@@ -20,12 +20,16 @@ use Rattle.soctest.specs.SplitText.{split_text}
 
 -- Pattern `n` of a test is loaded and read: Capture `k` of the part at place `i` comes at one cycle and finds the stimulus, and
 -- each bit of the response is shown at one cycle on one wire.
-pub record IsLoadedAndRead (whole content : Content) (tests : List PlannedTest) (i : ℕ) (t : PlannedTest) (id : TestId) (n k : ℕ) : Type 0 where
+pub record IsLoadedAndRead (whole content : Content) (tests : List PlannedTest) (i : ℕ) (t : PlannedTest) (id : TestId)
+    (n k : ℕ) : Type 0 where
   pub cycle : ℕ
   pub captures : operation_at t cycle ≡ Some (Capture k)
   pub once : (c : ℕ) → operation_at t c ≡ Some (Capture k) → c ≡ cycle
-  pub holds : (j r : ℕ) (cells : List Cell) (x : Cell) → slice_get t.chains j ≡ Some cells → slice_get cells r ≡ Some x → is_loaded x ≡ true → slice_get (bits_at (state_at content tests cycle) i j) r ≡ Some (whole.stimulus id n x)
-  pub reads : (x : Cell) → Contains t.cells x → is_read x ≡ true → (c w : ℕ) × IsReadAt t k x c w × (shown tests (state_at content tests c) c w ≡ whole.response id n x) × ((c' w' : ℕ) → IsReadAt t k x c' w' → (c' ≡ c) × (w' ≡ w))
+  pub holds : (j r : ℕ) (cells : List Cell) (x : Cell) → slice_get t.chains j ≡ Some cells → slice_get cells r ≡ Some x →
+      is_loaded x ≡ true → slice_get (bits_at (state_at content tests cycle) i j) r ≡ Some (whole.stimulus id n x)
+  pub reads : (x : Cell) → Contains t.cells x → is_read x ≡ true →
+      (c w : ℕ) × IsReadAt t k x c w × (shown tests (state_at content tests c) c w ≡ whole.response id n x)
+      × ((c' w' : ℕ) → IsReadAt t k x c' w' → (c' ≡ c) × (w' ≡ w))
 
 -- Pattern `n` of a live test is in exactly one part, which loads and reads it; a self test runs for its cycles.
 pub record IsServedOnce (whole content : Content) (tests : List PlannedTest) (parts : List PatternRun) (l : LiveTest) (n : ℕ) : Type 0 where
@@ -56,7 +60,9 @@ pub record IsTrustworthySplit (files : Files) (soc limits : List ℕ) (most : �
   pub chip_read : IsChipIn files soc chip
   pub limits_read : AreLimitsIn files limits chip bounds
   pub right : (content : Content) → IsRight (split_chip bounds most chip) (split_limits bounds most chip) value content
-  pub each : (whole content : Content) → HasPatternsOf (split_parts bounds most chip) whole content → (i : ℕ) (l : LiveTest) (n : ℕ) → slice_get (live_tests chip) i ≡ Some l → 1 ≤ n → n ≤ l.test.patterns → IsServedOnce whole content (planned (split_chip bounds most chip) value) (split_parts bounds most chip) l n
+  pub each : (whole content : Content) → HasPatternsOf (split_parts bounds most chip) whole content → (i : ℕ) (l : LiveTest) (n : ℕ) →
+      slice_get (live_tests chip) i ≡ Some l → 1 ≤ n → n ≤ l.test.patterns →
+      IsServedOnce whole content (planned (split_chip bounds most chip) value) (split_parts bounds most chip) l n
   pub contents : EachContentInParts (split_parts bounds most chip)
   pub bound : IsBound (split_chip bounds most chip) (split_limits bounds most chip) value.bound.cycles
   pub written : Appended old (split_text (split_of chip bounds most) value) new

@@ -39,7 +39,8 @@ passed_as soc which = option_map (λ (n : ℕ). record { which = which; value = 
 -- the first limit that a chip passes
 abbrev pub first_passed : SocValue → Option SocLimit
 first_passed soc =
-    option_or (passed_as soc Modules) (option_or (passed_as soc Tests) (option_or (passed_as soc Chains) (option_or (passed_as soc Power) (passed_as soc Work))))
+    option_or (passed_as soc Modules) (option_or (passed_as soc Tests)
+    (option_or (passed_as soc Chains) (option_or (passed_as soc Power) (passed_as soc Work))))
 
 abbrev pub split_line : SocLimit → List ℕ
 split_line limit = codes "refused split limit " ++ limit_name limit.which ++ decimal limit.value ++ codes "\n"

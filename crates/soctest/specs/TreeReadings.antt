@@ -15,4 +15,6 @@ SaysBound chip bounds bytes value = Says bytes value × IsAcceptedTree chip boun
 -- the tree's text is refused at a line, or says a tree with a fault
 abbrev pub RefusesTree : SocValue → LimitsValue → List ℕ → List ℕ → Type 0
 RefusesTree chip bounds bytes text =
-    ((line : ℕ) × RefusesText bytes line × (text ≡ tree_line line)) ⊎ ((value : TreeValue) × Says bytes value × ((fault : TreeFault) × IsTreeFault chip bounds value fault × (text ≡ tree_fault_line fault)))
+    ((line : ℕ) × RefusesText bytes line × (text ≡ tree_line line))
+    ⊎ ((value : TreeValue) × Says bytes value × ((fault : TreeFault) × IsTreeFault chip bounds value fault
+    × (text ≡ tree_fault_line fault)))

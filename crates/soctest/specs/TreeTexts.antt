@@ -16,4 +16,5 @@ tree_line line = codes "refused tree line " ++ decimal line ++ codes "\n"
 -- refused for a fault: the place of the node, and what it shows where that is less than the claim
 abbrev pub tree_fault_line : TreeFault → List ℕ
 tree_fault_line (BadNode place) = codes "refused tree node " ++ decimal place ++ codes "\n"
-tree_fault_line (Less place claimed shown) = codes "refused tree less " ++ decimal place ++ codes " " ++ two_numbers claimed shown ++ codes "\n"
+tree_fault_line (Less place claimed shown) =
+    codes "refused tree less " ++ decimal place ++ codes " " ++ two_numbers claimed shown ++ codes "\n"

@@ -7,7 +7,8 @@ use Rattle.width_table.specs.Times.{time}
 
 -- `module m width w time t`, the width in wires and the time in cycles
 abbrev pub width_line : (number width cycles : ℕ) → List ℕ
-width_line number width cycles = codes "module " ++ decimal number ++ codes " width " ++ decimal width ++ codes " time " ++ decimal cycles ++ codes "\n"
+width_line number width cycles =
+    codes "module " ++ decimal number ++ codes " width " ++ decimal width ++ codes " time " ++ decimal cycles ++ codes "\n"
 
 -- the lines of a module at so many widths, from this one on
 abbrev pub lines_from : ModuleValue → (width count : ℕ) → List ℕ

@@ -104,7 +104,8 @@ fn text_of_plan(
     requires chip { IsSoundChip (soc_value soc.now) }
     requires limits { IsSoundLimits (soc_value soc.now) (limits_value limits.now) }
     requires live { IfSome live (λ tests. tests ≡ live_ids (soc_value soc.now)) }
-    ensures { IfOk result (λ text. (value : PlanValue) × IsPlanned (soc_value soc.now) (limits_value limits.now) value × (text.items ≡ plan_text value)) }
+    ensures { IfOk result (λ text. (value : PlanValue) × IsPlanned (soc_value soc.now) (limits_value limits.now) value
+        × (text.items ≡ plan_text value)) }
 {
     let plan = planned(alloc, soc, limits, live)?;
     print_plan(alloc, &plan)
@@ -114,7 +115,8 @@ fn text_of_plan(
 fn decide_plan<H: Shelf>(alloc: Global, soc: &str, limits: &str, shelf: &mut H) -> Verdict
     ensures held_stays { H.held shelf.new ≡ H.held shelf.old }
     ensures faults_never_fall { H.faults shelf.old ≤ H.faults shelf.new }
-    ensures follows { Follows (procedure_of (MakePlan soc.now limits.now)) (H.held shelf.old) (H.faults shelf.old) (H.faults shelf.new) result }
+    ensures follows { Follows (procedure_of (MakePlan soc.now limits.now)) (H.held shelf.old) (H.faults shelf.old)
+        (H.faults shelf.new) result }
 {
     match load_both(alloc, soc, limits, shelf) {
         Ok(both) => {
@@ -135,7 +137,8 @@ fn decide_check<H: Shelf>(
 ) -> Verdict
     ensures held_stays { H.held shelf.new ≡ H.held shelf.old }
     ensures faults_never_fall { H.faults shelf.old ≤ H.faults shelf.new }
-    ensures follows { Follows (procedure_of (Check soc.now limits.now plan.now)) (H.held shelf.old) (H.faults shelf.old) (H.faults shelf.new) result }
+    ensures follows { Follows (procedure_of (Check soc.now limits.now plan.now)) (H.held shelf.old) (H.faults shelf.old)
+        (H.faults shelf.new) result }
 {
     match load_all(alloc, soc, limits, plan, shelf) {
         Ok(all) => answered_with(Status::Done, accepted_line(alloc, &all.plan)),
@@ -169,7 +172,8 @@ fn decide_chart<H: Shelf>(
 ) -> Verdict
     ensures held_stays { H.held shelf.new ≡ H.held shelf.old }
     ensures faults_never_fall { H.faults shelf.old ≤ H.faults shelf.new }
-    ensures follows { Follows (procedure_of (Chart soc.now limits.now plan.now)) (H.held shelf.old) (H.faults shelf.old) (H.faults shelf.new) result }
+    ensures follows { Follows (procedure_of (Chart soc.now limits.now plan.now)) (H.held shelf.old) (H.faults shelf.old)
+        (H.faults shelf.new) result }
 {
     match load_all(alloc, soc, limits, plan, shelf) {
         Ok(all) => {
@@ -197,7 +201,8 @@ fn decide_vectors<H: Shelf>(
 ) -> Ending
     ensures held_stays { H.held shelf.new ≡ H.held shelf.old }
     ensures faults_never_fall { H.faults shelf.old ≤ H.faults shelf.new }
-    ensures closes { Closes (procedure_of (Vectors soc.now limits.now plan.now seed)) (H.held shelf.old) (H.faults shelf.old) (H.faults shelf.new) result }
+    ensures closes { Closes (procedure_of (Vectors soc.now limits.now plan.now seed)) (H.held shelf.old) (H.faults shelf.old)
+        (H.faults shelf.new) result }
     ensures runnable { IsRunnable result }
 {
     match load_all(alloc, soc, limits, plan, shelf) {
@@ -216,7 +221,8 @@ fn decide_tree<H: Shelf>(
 ) -> Verdict
     ensures held_stays { H.held shelf.new ≡ H.held shelf.old }
     ensures faults_never_fall { H.faults shelf.old ≤ H.faults shelf.new }
-    ensures follows { Follows (procedure_of (Tree soc.now limits.now tree.now)) (H.held shelf.old) (H.faults shelf.old) (H.faults shelf.new) result }
+    ensures follows { Follows (procedure_of (Tree soc.now limits.now tree.now)) (H.held shelf.old) (H.faults shelf.old)
+        (H.faults shelf.new) result }
 {
     match load_both(alloc, soc, limits, shelf) {
         Ok(both) => {
@@ -243,7 +249,8 @@ fn decide_locate<H: Shelf>(
 ) -> Verdict
     ensures held_stays { H.held shelf.new ≡ H.held shelf.old }
     ensures faults_never_fall { H.faults shelf.old ≤ H.faults shelf.new }
-    ensures follows { Follows (procedure_of (Locate soc.now limits.now plan.now log.now)) (H.held shelf.old) (H.faults shelf.old) (H.faults shelf.new) result }
+    ensures follows { Follows (procedure_of (Locate soc.now limits.now plan.now log.now)) (H.held shelf.old) (H.faults shelf.old)
+        (H.faults shelf.new) result }
 {
     match load_all(alloc, soc, limits, plan, shelf) {
         Ok(all) => {
@@ -271,7 +278,8 @@ fn decide_shift<H: Shelf>(
 ) -> Verdict
     ensures held_stays { H.held shelf.new ≡ H.held shelf.old }
     ensures faults_never_fall { H.faults shelf.old ≤ H.faults shelf.new }
-    ensures follows { Follows (procedure_of (Shift soc.now limits.now plan.now program.now)) (H.held shelf.old) (H.faults shelf.old) (H.faults shelf.new) result }
+    ensures follows { Follows (procedure_of (Shift soc.now limits.now plan.now program.now)) (H.held shelf.old) (H.faults shelf.old)
+        (H.faults shelf.new) result }
 {
     match load_all(alloc, soc, limits, plan, shelf) {
         Ok(all) => {
@@ -292,11 +300,13 @@ fn decide_shift<H: Shelf>(
 pub fn decide<H: Shelf>(alloc: Global, words: &[String], shelf: &mut H) -> Ending
     ensures held_stays { H.held shelf.new ≡ H.held shelf.old }
     ensures faults_never_fall { H.faults shelf.old ≤ H.faults shelf.new }
-    ensures closes { Closes (asked procedure_of (asked_command (map string_bytes words.now))) (H.held shelf.old) (H.faults shelf.old) (H.faults shelf.new) result }
+    ensures closes { Closes (asked procedure_of (asked_command (map string_bytes words.now))) (H.held shelf.old) (H.faults shelf.old)
+        (H.faults shelf.new) result }
     ensures runnable { IsRunnable result }
     ensures untouched { (IsCommand (asked procedure_of (asked_command (map string_bytes words.now))) → ⊥) → shelf.new ≡ shelf.old }
     ensures range { IfSome (asked_command (map string_bytes words.now)) IsInRange }
-    ensures sampled { (n seed : ℕ) → asked_command (map string_bytes words.now) ≡ Some (Sample n seed) → (held : Option Files) → Closes (procedure_of (Sample n seed)) held (H.faults shelf.old) (H.faults shelf.new) result }
+    ensures sampled { (n seed : ℕ) → asked_command (map string_bytes words.now) ≡ Some (Sample n seed) → (held : Option Files) →
+        Closes (procedure_of (Sample n seed)) held (H.faults shelf.old) (H.faults shelf.new) result }
 {
     match command_of(words) {
         Some(Command::Print { soc }) => Ending::Decided(decide_print(alloc, soc, shelf)),

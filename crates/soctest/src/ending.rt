@@ -33,7 +33,9 @@ fn write_run<K: Sink>(alloc: Global, soc: &Soc, plan: &Plan, seed: u64, out: &mu
     requires good { IsGoodAlone (soc_value soc.now) (plan_value plan.now) }
     requires narrow { wires_of (plan_value plan.now) ≤ 256 }
     ensures faults_never_fall { K.faults out.old ≤ K.faults out.new }
-    ensures written { WritesUnless (long_run (plan_value plan.now)) (vector_text (soc_value soc.now) (plan_value plan.now) (made_content (soc_value soc.now) seed)) (K.faults out.old) (K.faults out.new) (K.written out.old) result (K.written out.new) }
+    ensures written { WritesUnless (long_run (plan_value plan.now))
+        (vector_text (soc_value soc.now) (plan_value plan.now) (made_content (soc_value soc.now) seed)) (K.faults out.old)
+        (K.faults out.new) (K.written out.old) result (K.written out.new) }
 {
     match write_vectors(alloc, soc, plan, seed, out) {
         Outcome::Written => Status::Done,

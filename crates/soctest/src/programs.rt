@@ -101,7 +101,8 @@ fn accepted_program(alloc: Global, done: u128, cycles: u64) -> Result<Vec<u8>, N
 /// The places of the module and of the live test over the wires of this name, where the chip has one.
 fn tam_test(soc: &Soc, id: TestId) -> Option<(usize, usize)>
     requires { IsSoundChip (soc_value soc.now) }
-    ensures found { IfSome result (λ at. (m : ModuleValue) × (t : Test) × (slice_get (soc_value soc.now).modules at.0 ≡ Some m) × (slice_get m.tests at.1 ≡ Some t) × (is_tam t ≡ true) × (named_test (soc_value soc.now) id ≡ Some (m, t))) }
+    ensures found { IfSome result (λ at. (m : ModuleValue) × (t : Test) × (slice_get (soc_value soc.now).modules at.0 ≡ Some m)
+        × (slice_get m.tests at.1 ≡ Some t) × (is_tam t ≡ true) × (named_test (soc_value soc.now) id ≡ Some (m, t))) }
     ensures none { IfNone result (named_test (soc_value soc.now) id ≡ None) }
 {
     let (place, at) = find_test(soc, id)?;
@@ -116,7 +117,8 @@ fn tam_test(soc: &Soc, id: TestId) -> Option<(usize, usize)>
 fn wrapper_for<'a>(plan: &'a Plan, module: &Module, test: &Test) -> &'a Wrapper
     requires { IsWrapped (module_value «module».now) test.now (map wrapper_value plan.now.wrappers.items) }
     ensures proper { IsProper (module_value «module».now) result.now.scan (map chain_value result.now.chains.items) }
-    ensures same { wrapped_test (module_value «module».now) test.now (wrapper_value result.now) ≡ planned_for (plan_value plan.now) (module_value «module».now) test.now }
+    ensures same { wrapped_test (module_value «module».now) test.now (wrapper_value result.now)
+        ≡ planned_for (plan_value plan.now) (module_value «module».now) test.now }
 {
     match wrapper_of(&plan.wrappers, module.number, test.scan) {
         Some(place) => &plan.wrappers[place],
@@ -173,7 +175,8 @@ pub(crate) fn answer_program(
 ) -> Verdict
     requires chip { IsSoundChip (soc_value soc.now) }
     requires good { IsGood (soc_value soc.now) (limits_value limits.now) (plan_value plan.now) }
-    ensures { AnswersBytes (SaysRight (soc_value soc.now) (plan_value plan.now)) (RefusesProgram (soc_value soc.now) (plan_value plan.now)) (text_of_program (soc_value soc.now) (plan_value plan.now)) bytes.now result }
+    ensures { AnswersBytes (SaysRight (soc_value soc.now) (plan_value plan.now)) (RefusesProgram (soc_value soc.now) (plan_value plan.now))
+        (text_of_program (soc_value soc.now) (plan_value plan.now)) bytes.now result }
 {
     match read_program(alloc, bytes) {
         Ok(program) => judge_named(alloc, soc, limits, plan, &program),

@@ -81,7 +81,8 @@ fn kind(why: &Why) -> &'static [u8]
 /// Appends the lines of a made chip: its numbers, its modules and its live tests.
 fn push_made(text: &mut Vec<u8>, n: u64, seed: u64, soc: &Soc) -> Result<(), NoMemory>
     requires { IsSoundChip (soc_value soc.now) }
-    ensures { OnOk result (text.new.items ≡ text.old.items ++ codes "sample " ++ two_numbers n seed ++ codes "\nmodules " ++ decimal (length (soc_value soc.now).modules) ++ codes "\ntests " ++ decimal (length (live_tests (soc_value soc.now)))) }
+    ensures { OnOk result (text.new.items ≡ text.old.items ++ codes "sample " ++ two_numbers n seed ++ codes "\nmodules "
+        ++ decimal (length (soc_value soc.now).modules) ++ codes "\ntests " ++ decimal (length (live_tests (soc_value soc.now)))) }
 {
     push(text, b"sample ")?;
     push_two(text, u128::from(n), u128::from(seed))?;
@@ -93,7 +94,8 @@ fn push_made(text: &mut Vec<u8>, n: u64, seed: u64, soc: &Soc) -> Result<(), NoM
 
 /// Appends the lines of a plan: its cycles, and its bound with the kind of its certificate.
 fn push_planned(text: &mut Vec<u8>, plan: &Plan) -> Result<(), NoMemory>
-    ensures { OnOk result (text.new.items ≡ text.old.items ++ codes "\ncycles " ++ decimal plan.now.cycles ++ codes "\nbound " ++ decimal plan.now.bound.cycles ++ codes " " ++ kind_text (why_value plan.now.bound.why)) }
+    ensures { OnOk result (text.new.items ≡ text.old.items ++ codes "\ncycles " ++ decimal plan.now.cycles ++ codes "\nbound "
+        ++ decimal plan.now.bound.cycles ++ codes " " ++ kind_text (why_value plan.now.bound.why)) }
 {
     push(text, b"\ncycles ")?;
     push_decimal(text, u128::from(plan.cycles))?;
@@ -132,7 +134,8 @@ pub(crate) fn checked_plan(alloc: Global, soc: &Soc, limits: &Limits) -> Result<
 fn plan_sample(alloc: Global, n: u64, seed: u64, soc: &Soc) -> Result<Vec<u8>, NoMemory>
     requires chip { IsSoundChip (soc_value soc.now) }
     requires limits { IsSoundLimits (soc_value soc.now) sample_limits }
-    ensures { IfOk result (λ text. (value : PlanValue) × IsPlanned (soc_value soc.now) sample_limits value × (text.items ≡ sample_text n seed (soc_value soc.now) value)) }
+    ensures { IfOk result (λ text. (value : PlanValue) × IsPlanned (soc_value soc.now) sample_limits value
+        × (text.items ≡ sample_text n seed (soc_value soc.now) value)) }
 {
     let limits = make_limits(alloc);
     let plan = checked_plan(alloc, soc, &limits)?;

@@ -79,7 +79,8 @@ fn split_text(alloc: Global, split: &Split, plan: &Plan) -> Result<Vec<u8>, NoMe
 fn planned_split(alloc: Global, split: &Split) -> Result<Vec<u8>, NoMemory>
     requires chip { IsSoundChip (soc_value split.now.soc) }
     requires limits { IsSoundLimits (soc_value split.now.soc) (limits_value split.now.limits) }
-    ensures { IfOk result (λ text. (value : PlanValue) × IsPlanned (soc_value split.now.soc) (limits_value split.now.limits) value × (text.items ≡ text_of_parts (split_value split.now) value)) }
+    ensures { IfOk result (λ text. (value : PlanValue) × IsPlanned (soc_value split.now.soc) (limits_value split.now.limits) value
+        × (text.items ≡ text_of_parts (split_value split.now) value)) }
 {
     let plan = checked_plan(alloc, &split.soc, &split.limits)?;
     split_text(alloc, split, &plan)
@@ -103,7 +104,10 @@ fn answer_split(alloc: Global, soc: &Soc, limits: &Limits, most: u64) -> Verdict
     requires chip { IsSoundChip (soc_value soc.now) }
     requires limits { IsSoundLimits (soc_value soc.now) (limits_value limits.now) }
     requires most { 1 ≤ most }
-    ensures { GivesAny (split_refusal (soc_value soc.now) (limits_value limits.now) most) (λ (text : List ℕ). (value : PlanValue) × IsPlanned (split_chip (limits_value limits.now) most (soc_value soc.now)) (split_limits (limits_value limits.now) most (soc_value soc.now)) value × (text ≡ text_of_parts (parts_of (soc_value soc.now) (limits_value limits.now) most) value)) result }
+    ensures { GivesAny (split_refusal (soc_value soc.now) (limits_value limits.now) most)
+        (λ (text : List ℕ). (value : PlanValue) × IsPlanned (split_chip (limits_value limits.now) most (soc_value soc.now))
+        (split_limits (limits_value limits.now) most (soc_value soc.now)) value
+        × (text ≡ text_of_parts (parts_of (soc_value soc.now) (limits_value limits.now) most) value)) result }
 {
     match split_soc(alloc, soc, limits, most) {
         Ok(split) => answered_with(Status::Done, planned_split(alloc, &split)),
@@ -126,7 +130,8 @@ pub(crate) fn decide_split<H: Shelf>(
     requires { 1 ≤ most }
     ensures held_stays { H.held shelf.new ≡ H.held shelf.old }
     ensures faults_never_fall { H.faults shelf.old ≤ H.faults shelf.new }
-    ensures follows { Follows (procedure_of (SplitTests soc.now limits.now most)) (H.held shelf.old) (H.faults shelf.old) (H.faults shelf.new) result }
+    ensures follows { Follows (procedure_of (SplitTests soc.now limits.now most)) (H.held shelf.old) (H.faults shelf.old)
+        (H.faults shelf.new) result }
 {
     match load_both(alloc, soc, limits, shelf) {
         Ok(both) => answer_split(alloc, &both.soc, &both.limits, most),

@@ -32,21 +32,27 @@ pub fn soctest<H: Shelf, K: Sink>(
     ensures faults_never_fall { (H.faults shelf.old ≤ H.faults shelf.new) × (K.faults out.old ≤ K.faults out.new) }
 
     // What is written is an answer to the words and files, each status where its cause is.
-    ensures ends { Ends (MayAnswer (asked procedure_of (command_of (map string_bytes words.now))) (H.held shelf.old) (H.faults shelf.old) (H.faults shelf.new)) (K.faults out.old) (K.faults out.new) (K.written out.old) result (K.written out.new) }
+    ensures ends { Ends (MayAnswer (asked procedure_of (command_of (map string_bytes words.now))) (H.held shelf.old) (H.faults shelf.old)
+        (H.faults shelf.new)) (K.faults out.old) (K.faults out.new) (K.written out.old) result (K.written out.new) }
     ensures one_line { OneLine (K.written out.old) result (K.written out.new) }
-    ensures by_words { EndsByWords (asked procedure_of (command_of (map string_bytes words.now))) (Rose (K.faults out.old) (K.faults out.new)) result }
+    ensures by_words { EndsByWords (asked procedure_of (command_of (map string_bytes words.now)))
+        (Rose (K.faults out.old) (K.faults out.new)) result }
     ensures untouched { (IsCommand (asked procedure_of (command_of (map string_bytes words.now))) → ⊥) → shelf.new ≡ shelf.old }
 
     // Where the files give an answer and nothing fails, it comes, unless memory runs out.
-    ensures complete { Complete (fixes_text (command_of (map string_bytes words.now))) (asked procedure_of (command_of (map string_bytes words.now))) (H.held shelf.old) (Rose (H.faults shelf.old) (H.faults shelf.new)) (Rose (K.faults out.old) (K.faults out.new)) (K.written out.old) result (K.written out.new) }
+    ensures complete { Complete (fixes_text (command_of (map string_bytes words.now)))
+        (asked procedure_of (command_of (map string_bytes words.now))) (H.held shelf.old) (Rose (H.faults shelf.old) (H.faults shelf.new))
+        (Rose (K.faults out.old) (K.faults out.new)) (K.written out.old) result (K.written out.new) }
 
-    ensures finishes { Finishes (asked procedure_of (command_of (map string_bytes words.now))) (H.held shelf.old) (Rose (H.faults shelf.old) (H.faults shelf.new)) (Rose (K.faults out.old) (K.faults out.new)) result }
+    ensures finishes { Finishes (asked procedure_of (command_of (map string_bytes words.now))) (H.held shelf.old)
+        (Rose (H.faults shelf.old) (H.faults shelf.new)) (Rose (K.faults out.old) (K.faults out.new)) result }
 
     ensures bad_words { SaysBadWords (K.written out.old) result (K.written out.new) }
 
     // The headline: a plan that is printed or accepted, by any command, runs right, and its bound is one; so is the bound of a
     // tree that is accepted, and a plan of parts loads and reads each pattern of the chip that was cut exactly once.
-    ensures headline { Headline (command_of (map string_bytes words.now)) (H.held shelf.old) (K.written out.old) result (K.written out.new) }
+    ensures headline { Headline (command_of (map string_bytes words.now)) (H.held shelf.old) (K.written out.old) result
+        (K.written out.new) }
 
     // That of `sample` asks nothing of the shelf.
     ensures headline_of_sample { SampleHeadline (command_of (map string_bytes words.now)) (K.written out.old) result (K.written out.new) }

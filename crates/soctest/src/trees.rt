@@ -18,7 +18,8 @@ use width_tree::{TreeRoom, TreeTextFault, check_tree, read_tree};
 pub(crate) fn answer_tree(alloc: Global, soc: &Soc, limits: &Limits, bytes: &[u8]) -> Verdict
     requires chip { IsSoundChip (soc_value soc.now) }
     requires limits { IsSoundLimits (soc_value soc.now) (limits_value limits.now) }
-    ensures { AnswersBytes (SaysBound (soc_value soc.now) (limits_value limits.now)) (RefusesTree (soc_value soc.now) (limits_value limits.now)) bound_text bytes.now result }
+    ensures { AnswersBytes (SaysBound (soc_value soc.now) (limits_value limits.now))
+        (RefusesTree (soc_value soc.now) (limits_value limits.now)) bound_text bytes.now result }
 {
     let tree = match read_tree(alloc, bytes) {
         Ok(tree) => tree,

@@ -18,7 +18,8 @@ line_begin plan c = length (head_line (wires_of plan) plan.cycles) + c * (wires_
 
 -- the bits that are driven are those that the text shows
 abbrev pub IsDriven : PlanValue → List ℕ → (drive : ℕ → ℕ → Bool) → Type 0
-IsDriven plan text drive = (c w : ℕ) → c < plan.cycles → w < wires_of plan → slice_get text (line_begin plan c + w) ≡ Some (digit (drive c w))
+IsDriven plan text drive =
+    (c w : ℕ) → c < plan.cycles → w < wires_of plan → slice_get text (line_begin plan c + w) ≡ Some (digit (drive c w))
 
 -- the content with other bits at first
 abbrev pub with_initial : Content → (TestId → Cell → Bool) → Content
@@ -29,8 +30,12 @@ with_initial content initial = record content { initial = initial }
 -- read.
 pub record RunsAsShown (soc : SocValue) (plan : PlanValue) (content : Content) (text : List ℕ) : Type 0 where
   pub driven : IsDriven plan text (carried content (planned soc plan))
-  pub loads : (drive : ℕ → ℕ → Bool) (initial : TestId → Cell → Bool) → IsDriven plan text drive → (i k c : ℕ) (t : PlannedTest) → IsAt (planned soc plan) i t → operation_at t c ≡ Some (Capture k) →
+  pub loads : (drive : ℕ → ℕ → Bool) (initial : TestId → Cell → Bool) → IsDriven plan text drive → (i k c : ℕ) (t : PlannedTest) →
+      IsAt (planned soc plan) i t → operation_at t c ≡ Some (Capture k) →
       HoldsStimulus content (run_with (with_initial content initial) (planned soc plan) drive c) i t k
-  pub reads : (drive : ℕ → ℕ → Bool) (initial : TestId → Cell → Bool) → IsDriven plan text drive → (c w : ℕ) → c < plan.cycles → w < wires_of plan → IsCompared (planned soc plan) c w →
-      slice_get text (line_begin plan c + (wires_of plan + 1 + w)) ≡ Some (digit (shown (planned soc plan) (run_with (with_initial content initial) (planned soc plan) drive c) c w))
-  pub rest : (c w : ℕ) → c < plan.cycles → w < wires_of plan → (IsCompared (planned soc plan) c w → ⊥) → slice_get text (line_begin plan c + (wires_of plan + 1 + w)) ≡ Some 45
+  pub reads : (drive : ℕ → ℕ → Bool) (initial : TestId → Cell → Bool) → IsDriven plan text drive → (c w : ℕ) → c < plan.cycles →
+      w < wires_of plan → IsCompared (planned soc plan) c w →
+      slice_get text (line_begin plan c + (wires_of plan + 1 + w))
+      ≡ Some (digit (shown (planned soc plan) (run_with (with_initial content initial) (planned soc plan) drive c) c w))
+  pub rest : (c w : ℕ) → c < plan.cycles → w < wires_of plan → (IsCompared (planned soc plan) c w → ⊥) →
+      slice_get text (line_begin plan c + (wires_of plan + 1 + w)) ≡ Some 45

@@ -20,5 +20,6 @@ mark content tests c w = of_first (uses c w) (λ (t : PlannedTest). mark_of (con
 
 -- In a good plan a wire is marked with the response bit that is read there, and with `-` exactly where none is read.
 pub record MarksReads (soc : SocValue) (plan : PlanValue) (content : Content) : Type 0 where
-  pub bits : (i : ℕ) (t : PlannedTest) (k : ℕ) (x : Cell) (c w : ℕ) → IsAt (planned soc plan) i t → IsReadAt t k x c w → mark content (planned soc plan) c w ≡ digit (content.response t.id k x)
+  pub bits : (i : ℕ) (t : PlannedTest) (k : ℕ) (x : Cell) (c w : ℕ) → IsAt (planned soc plan) i t → IsReadAt t k x c w →
+      mark content (planned soc plan) c w ≡ digit (content.response t.id k x)
   pub only : (c w : ℕ) → (mark content (planned soc plan) c w ≡ 45) ⊎ IsCompared (planned soc plan) c w

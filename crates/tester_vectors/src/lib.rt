@@ -59,17 +59,21 @@ pub fn write_vectors<K: Sink>(
     requires good { IsGoodAlone (soc_value soc.now) (plan_value plan.now) }
     requires narrow { wires_of (plan_value plan.now) ≤ 256 }
     ensures faults_never_fall { K.faults out.old ≤ K.faults out.new }
-    ensures written { result ≡ Outcome.Written → Appended (K.written out.old) (whole_text (soc_value soc.now) (plan_value plan.now) (made_content (soc_value soc.now) seed)) (K.written out.new) }
-    ensures run { RunsAsShown (soc_value soc.now) (plan_value plan.now) (made_content (soc_value soc.now) seed) (whole_text (soc_value soc.now) (plan_value plan.now) (made_content (soc_value soc.now) seed)) }
+    ensures written { result ≡ Outcome.Written → Appended (K.written out.old)
+        (whole_text (soc_value soc.now) (plan_value plan.now) (made_content (soc_value soc.now) seed)) (K.written out.new) }
+    ensures run { RunsAsShown (soc_value soc.now) (plan_value plan.now) (made_content (soc_value soc.now) seed)
+        (whole_text (soc_value soc.now) (plan_value plan.now) (made_content (soc_value soc.now) seed)) }
     ensures marks { MarksReads (soc_value soc.now) (plan_value plan.now) (made_content (soc_value soc.now) seed) }
 
-    ensures too_long { RUN_MOST < cycles_by_wires (plan_value plan.now) → result ≡ Outcome.RunTooLong (cycles_by_wires (plan_value plan.now)) }
+    ensures too_long { RUN_MOST < cycles_by_wires (plan_value plan.now) →
+        result ≡ Outcome.RunTooLong (cycles_by_wires (plan_value plan.now)) }
     ensures only { (cells : ℕ) → result ≡ Outcome.RunTooLong cells → RUN_MOST < cycles_by_wires (plan_value plan.now) }
     ensures too_long_writes_nothing { (cells : ℕ) → result ≡ Outcome.RunTooLong cells → out.new ≡ out.old }
     ensures no_memory_writes_nothing { result ≡ Outcome.NoMemory → out.new ≡ out.old }
 
     ensures fault { result ≡ Outcome.WriteFault → Rose (K.faults out.old) (K.faults out.new) }
-    ensures front { result ≡ Outcome.WriteFault → AppendedFront (K.written out.old) (whole_text (soc_value soc.now) (plan_value plan.now) (made_content (soc_value soc.now) seed)) (K.written out.new) }
+    ensures front { result ≡ Outcome.WriteFault → AppendedFront (K.written out.old)
+        (whole_text (soc_value soc.now) (plan_value plan.now) (made_content (soc_value soc.now) seed)) (K.written out.new) }
 {
     if let Some(cells) = too_many_cells(plan) {
         return Outcome::RunTooLong { cells };

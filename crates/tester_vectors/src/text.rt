@@ -153,8 +153,10 @@ impl<'a> Run<'a> {
         ensures run { IsRun self.new }
         ensures vectors { self.new.vectors ≡ self.old.vectors }
         ensures faults_never_fall { K.faults out.old ≤ K.faults out.new }
-        ensures all { OnOk result (Appended (K.written out.old) (vector_text self.old.vectors.soc self.old.vectors.plan (vectors_content self.old.vectors)) (K.written out.new)) }
-        ensures front { OnErr result (AppendedFront (K.written out.old) (vector_text self.old.vectors.soc self.old.vectors.plan (vectors_content self.old.vectors)) (K.written out.new)) }
+        ensures all { OnOk result (Appended (K.written out.old)
+            (vector_text self.old.vectors.soc self.old.vectors.plan (vectors_content self.old.vectors)) (K.written out.new)) }
+        ensures front { OnErr result (AppendedFront (K.written out.old)
+            (vector_text self.old.vectors.soc self.old.vectors.plan (vectors_content self.old.vectors)) (K.written out.new)) }
         ensures fault { OnErr result (Rose (K.faults out.old) (K.faults out.new)) }
     {
         put_all(out, &self.head)?;
