@@ -1,11 +1,11 @@
 -- The table of the kinds of change.
 use Rattle.std.proofs.Common.{[], ◌∷◌, arith, refl}
-use Rattle.arch_search.specs.declared.kinds.Kind.{Kind}
-use Rattle.arch_search.specs.declared.kinds.Kind.TheVariants.{Move, Merge, Split, DealModules, DealBuses}
+use Rattle.arch_search.specs.declared.kinds.ChangeKind.{ChangeKind}
+use Rattle.arch_search.specs.declared.kinds.ChangeKind.TheVariants.{Move, Merge, Split, DealModules, DealBuses}
 use Rattle.arch_search.specs.declared.kinds.Weighted.{Weighted}
 use Rattle.arch_search.specs.Kinds.{HasEachKind}
 
-abbrev one : Kind → Weighted
+abbrev one : ChangeKind → Weighted
 one kind = record { kind = kind; weight = 1 }
 
 pub each_kind : HasEachKind (one Move ∷ one Merge ∷ one Split ∷ one DealModules ∷ one DealBuses ∷ [])

@@ -6,7 +6,7 @@ use Rattle.resource_table.specs.Schedules.{TableValue, IsSoundTable}
 use Rattle.arch_search.specs.declared.dealing.Taken.{Taken}
 use Rattle.arch_search.specs.declared.problem.Problem.{Problem}
 use Rattle.arch_search.specs.declared.room.Room.{Room}
-use Rattle.arch_search.specs.declared.setting.Setting.{Setting}
+use Rattle.arch_search.specs.declared.setting.SearchSetting.{SearchSetting}
 use Rattle.arch_search.specs.declared.state.State.{State}
 use Rattle.arch_search.specs.Problems.{IsProblem, IsStateOf}
 use Rattle.arch_search.specs.Rooms.{HasRoomFor}
@@ -14,7 +14,7 @@ use Rattle.arch_search.specs.Searches.{IsSearch}
 use Rattle.arch_search.specs.Settings.{IsSetting}
 use Rattle.arch_search.specs.States.{IsTaken}
 
-pub is_search : (s : Setting) (p : Problem) (table : TableValue) (room : Room) (taken : List Taken) (less : List ℕ) (best current next : State) → s.problem.now ≡ p →
+pub is_search : (s : SearchSetting) (p : Problem) (table : TableValue) (room : Room) (taken : List Taken) (less : List ℕ) (best current next : State) → s.problem.now ≡ p →
     IsSetting s → IsProblem table.job p → IsSoundTable table → HasRoomFor p room → All (IsTaken p.wires (length p.modules.items)) taken → length less ≡ p.wires → IsStateOf p best → IsStateOf p current → IsStateOf p next →
     IsSearch s table room taken less best current next
 is_search s p table room taken less best current next is setting problem sound has are long b c n = record {

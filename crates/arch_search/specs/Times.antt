@@ -2,13 +2,13 @@
 use Rattle.std.specs.Prelude.{◌≡◌, ℕ, ◌+◌, ◌<◌, length}
 use Rattle.std.specs.List.{All}
 use Rattle.arch_search.specs.declared.problem.Problem.{Problem}
-use Rattle.arch_search.specs.declared.times.Row.{Row}
+use Rattle.arch_search.specs.declared.times.ModuleCycles.{ModuleCycles}
 use Rattle.arch_search.specs.declared.times.Column.{Column}
 use Rattle.arch_search.specs.declared.times.Ranking.{Ranking}
 use Rattle.arch_search.specs.declared.times.Times.{Times}
 
 -- the cycles of a module on up to so many wires
-abbrev pub IsRow : ℕ → Row → Type 0
+abbrev pub IsRow : ℕ → ModuleCycles → Type 0
 IsRow wires r = length r.cycles.items ≡ wires + 1
 
 -- the cycles of so many modules

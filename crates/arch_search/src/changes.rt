@@ -6,7 +6,7 @@ ghost use Rattle.arch_search.specs.States.{AreBuses, AreAlike, AreTimesOn, IsTak
 use crate::buses::Buses;
 use crate::dealing::{Taken, deal_modules};
 use crate::draws::{below, coin};
-use crate::kinds::{Kind, drawn_kind};
+use crate::kinds::{ChangeKind, drawn_kind};
 use crate::moves::{merge, move_module};
 use crate::pairs::deal_buses;
 use crate::splits::split;
@@ -54,10 +54,10 @@ pub(crate) fn change(
     let from = buses.slot_of(one);
     let to = buses.slot_of(other);
     match kind {
-        Kind::Move => move_module(times, buses, one, to),
-        Kind::Merge => merge(times, buses, from, to),
-        Kind::Split => split(times, buses, one, rng),
-        Kind::DealModules => deal_modules(times, buses, taken, one, rng),
-        Kind::DealBuses => deal_buses(times, buses, from, to, rng),
+        ChangeKind::Move => move_module(times, buses, one, to),
+        ChangeKind::Merge => merge(times, buses, from, to),
+        ChangeKind::Split => split(times, buses, one, rng),
+        ChangeKind::DealModules => deal_modules(times, buses, taken, one, rng),
+        ChangeKind::DealBuses => deal_buses(times, buses, from, to, rng),
     }
 }

@@ -7,7 +7,7 @@ use rand_xoshiro::Xoshiro256PlusPlus;
 
 /// What is changed. Two modules are drawn for it, a first one and a second one.
 #[derive(Clone, Copy, PartialEq, Eq, Debug)]
-pub enum Kind {
+pub enum ChangeKind {
     /// The first module goes to the bus of the second.
     Move,
     /// The first module's bus goes to the second one's, with its wires.
@@ -24,7 +24,7 @@ pub enum Kind {
 #[derive(Clone, Copy, Debug)]
 pub struct Weighted {
     /// The kind.
-    pub kind: Kind,
+    pub kind: ChangeKind,
     /// Of as many draws as all weights together it comes in so many.
     pub weight: usize,
 }
@@ -35,23 +35,23 @@ fn table() -> [Weighted; 5]
 {
     [
         Weighted {
-            kind: Kind::Move,
+            kind: ChangeKind::Move,
             weight: 1,
         },
         Weighted {
-            kind: Kind::Merge,
+            kind: ChangeKind::Merge,
             weight: 1,
         },
         Weighted {
-            kind: Kind::Split,
+            kind: ChangeKind::Split,
             weight: 1,
         },
         Weighted {
-            kind: Kind::DealModules,
+            kind: ChangeKind::DealModules,
             weight: 1,
         },
         Weighted {
-            kind: Kind::DealBuses,
+            kind: ChangeKind::DealBuses,
             weight: 1,
         },
     ]
@@ -69,7 +69,7 @@ fn all_weights(kinds: &[Weighted]) -> usize
 }
 
 /// A kind that is drawn, each by its weight.
-pub(crate) fn drawn_kind(rng: &mut Xoshiro256PlusPlus) -> Kind {
+pub(crate) fn drawn_kind(rng: &mut Xoshiro256PlusPlus) -> ChangeKind {
     let kinds = table();
     let mut left = below(rng, all_weights(&kinds));
     for one in kinds {
@@ -78,5 +78,5 @@ pub(crate) fn drawn_kind(rng: &mut Xoshiro256PlusPlus) -> Kind {
         }
         left -= one.weight;
     }
-    Kind::Move
+    ChangeKind::Move
 }

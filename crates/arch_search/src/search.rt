@@ -15,7 +15,7 @@ use crate::problem::Problem;
 use crate::repair::fits;
 use crate::room::Room;
 use crate::scheduling::zeros;
-use crate::setting::Setting;
+use crate::setting::SearchSetting;
 use crate::state::{State, first_state};
 use crate::weighing::{finish, weigh};
 use live_tests::LiveTests;
@@ -41,7 +41,7 @@ const NEAR: u64 = 64;
 #[derive(Drop)]
 pub struct Search<'a> {
     /// What it goes by.
-    setting: Setting<'a>,
+    setting: SearchSetting<'a>,
     /// The table in which schedules are made.
     table: Table<'a>,
     /// Room for schedules.
@@ -147,7 +147,7 @@ impl<'a> Search<'a> {
         requires current { IsStateOf problem.now current }
         requires next { IsStateOf problem.now next }
     {
-        let setting = Setting::new(alloc, problem, job)?;
+        let setting = SearchSetting::new(alloc, problem, job)?;
         let room = Room::new(alloc, problem.tests.len())?;
         let taken = no_modules(alloc, problem)?;
         let less = zeros(alloc, problem.wires)?;

@@ -12,7 +12,7 @@ use std::alloc::Global;
 
 /// What a search goes by.
 #[derive(Drop)]
-pub struct Setting<'a> {
+pub struct SearchSetting<'a> {
     /// The tests with their cycles, and the wires.
     pub problem: &'a Problem,
     /// The tests with their powers, and what binds them.
@@ -80,20 +80,20 @@ fn longest_self_test(job: &Job) -> u64 {
     longest
 }
 
-impl<'a> Setting<'a> {
+impl<'a> SearchSetting<'a> {
     /// What a search for the tests of a job goes by. `NoMemory` where there is none.
     pub(crate) fn new(
         alloc: Global,
         problem: &'a Problem,
         job: &'a Job,
-    ) -> Result<Setting<'a>, NoMemory>
+    ) -> Result<SearchSetting<'a>, NoMemory>
         requires sound { IsSoundJob (job_value job.now) }
         requires problem { IsProblem (job_value job.now) problem.now }
         ensures setting { IfOk result IsSetting }
         ensures problem { IfOk result (λ s. s.problem.now ≡ problem.now) }
     {
         let times = times_of(alloc, problem)?;
-        Ok(Setting {
+        Ok(SearchSetting {
             problem,
             job,
             times,

@@ -13,7 +13,7 @@ use std::alloc::Global;
 
 /// The cycles of a module.
 #[derive(Drop)]
-pub struct Row {
+pub struct ModuleCycles {
     /// Its tests over the wires take so many cycles together on a bus of so many wires, from none on. On none it can't be
     /// tested, which stands as the greatest number.
     pub cycles: Vec<u64>,
@@ -39,7 +39,7 @@ pub struct Times {
     /// The greatest width.
     pub wires: usize,
     /// For each module its cycles.
-    pub rows: Vec<Row>,
+    pub rows: Vec<ModuleCycles>,
     /// The same once more, for each width, from none on, so that a sum over the modules goes through one list.
     pub columns: Vec<Column>,
     /// For each width, from none on, the modules, those of the most cycles first.
@@ -76,17 +76,17 @@ impl Times {
 }
 
 /// The cycles of a module without tests.
-fn empty_row(alloc: Global, wires: usize) -> Result<Row, NoMemory>
+fn empty_row(alloc: Global, wires: usize) -> Result<ModuleCycles, NoMemory>
     requires { wires ≤ 256 }
     ensures { IfOk result (IsRow wires) }
 {
     let mut cycles = zeros(alloc, wires + 1)?;
     cycles[0] = u64::MAX;
-    Ok(Row { cycles })
+    Ok(ModuleCycles { cycles })
 }
 
 /// So many modules without tests.
-fn empty_rows(alloc: Global, modules: usize, wires: usize) -> Result<Vec<Row>, NoMemory>
+fn empty_rows(alloc: Global, modules: usize, wires: usize) -> Result<Vec<ModuleCycles>, NoMemory>
     requires { wires ≤ 256 }
     ensures long { IfOk result (λ rows. length rows.items ≡ modules) }
     ensures rows { IfOk result (λ rows. All (IsRow wires) rows.items) }
@@ -110,7 +110,7 @@ fn add_cycles(sums: &mut [u64], cycles: &[u64])
 }
 
 /// Adds a test to its module, where it is over the wires.
-fn add_test(rows: &mut Vec<Row>, problem: &Problem, test: usize)
+fn add_test(rows: &mut Vec<ModuleCycles>, problem: &Problem, test: usize)
     requires problem { (job : JobValue) × IsProblem job problem.now }
     requires test { test < length problem.now.tests.items }
     requires long { length rows.old.items ≡ length problem.now.modules.items }
@@ -125,7 +125,7 @@ fn add_test(rows: &mut Vec<Row>, problem: &Problem, test: usize)
 }
 
 /// For each module its cycles.
-fn rows_of(alloc: Global, problem: &Problem) -> Result<Vec<Row>, NoMemory>
+fn rows_of(alloc: Global, problem: &Problem) -> Result<Vec<ModuleCycles>, NoMemory>
     requires { (job : JobValue) × IsProblem job problem.now }
     ensures long { IfOk result (λ rows. length rows.items ≡ length problem.now.modules.items) }
     ensures rows { IfOk result (λ rows. All (IsRow problem.now.wires) rows.items) }
@@ -141,7 +141,7 @@ fn rows_of(alloc: Global, problem: &Problem) -> Result<Vec<Row>, NoMemory>
 fn column_of(
     alloc: Global,
     problem: &Problem,
-    rows: &[Row],
+    rows: &[ModuleCycles],
     width: usize,
 ) -> Result<Column, NoMemory>
     requires rows { All (IsRow problem.now.wires) rows.now }
@@ -157,7 +157,11 @@ fn column_of(
 }
 
 /// For each width the cycles of the modules.
-fn columns_of(alloc: Global, problem: &Problem, rows: &[Row]) -> Result<Vec<Column>, NoMemory>
+fn columns_of(
+    alloc: Global,
+    problem: &Problem,
+    rows: &[ModuleCycles],
+) -> Result<Vec<Column>, NoMemory>
     requires few_wires { problem.now.wires ≤ 256 }
     requires rows { All (IsRow problem.now.wires) rows.now }
     requires long { length rows.now ≡ length problem.now.modules.items }
@@ -173,7 +177,12 @@ fn columns_of(alloc: Global, problem: &Problem, rows: &[Row]) -> Result<Vec<Colu
 }
 
 /// What the modules are sorted by for a width: the fewer, the more cycles they take.
-fn ranks(alloc: Global, problem: &Problem, rows: &[Row], width: usize) -> Result<Vec<u64>, NoMemory>
+fn ranks(
+    alloc: Global,
+    problem: &Problem,
+    rows: &[ModuleCycles],
+    width: usize,
+) -> Result<Vec<u64>, NoMemory>
     requires rows { All (IsRow problem.now.wires) rows.now }
     requires long { length rows.now ≡ length problem.now.modules.items }
     requires width { width ≤ problem.now.wires }
@@ -190,7 +199,7 @@ fn ranks(alloc: Global, problem: &Problem, rows: &[Row], width: usize) -> Result
 fn ranking_of(
     alloc: Global,
     problem: &Problem,
-    rows: &[Row],
+    rows: &[ModuleCycles],
     width: usize,
 ) -> Result<Ranking, NoMemory>
     requires rows { All (IsRow problem.now.wires) rows.now }
@@ -204,7 +213,11 @@ fn ranking_of(
 }
 
 /// For each width the modules, those of the most cycles first.
-fn rankings_of(alloc: Global, problem: &Problem, rows: &[Row]) -> Result<Vec<Ranking>, NoMemory>
+fn rankings_of(
+    alloc: Global,
+    problem: &Problem,
+    rows: &[ModuleCycles],
+) -> Result<Vec<Ranking>, NoMemory>
     requires few_wires { problem.now.wires ≤ 256 }
     requires rows { All (IsRow problem.now.wires) rows.now }
     requires long { length rows.now ≡ length problem.now.modules.items }

@@ -13,7 +13,7 @@ use crate::order::advance_drawn;
 use crate::problem::Problem;
 use crate::room::Room;
 use crate::scheduling::{Ends, place_order, send};
-use crate::setting::Setting;
+use crate::setting::SearchSetting;
 use crate::state::State;
 use plan_model::START_MOST;
 use rand_xoshiro::Xoshiro256PlusPlus;
@@ -21,7 +21,7 @@ use resource_table::TableOf;
 use std::mem;
 
 /// The cycles that all tests take together, where nothing but the wires binds.
-fn all_cycles(setting: &Setting<'_>, buses: &Buses) -> u64 {
+fn all_cycles(setting: &SearchSetting<'_>, buses: &Buses) -> u64 {
     let mut sum = setting.longest_self_test;
     for load in &buses.loads {
         sum = sum.saturating_add(*load);
@@ -31,7 +31,7 @@ fn all_cycles(setting: &Setting<'_>, buses: &Buses) -> u64 {
 
 /// When the tests end, where nothing but the wires binds: with the fullest bus, or the longest self test. None where that is after
 /// `most` cycles.
-fn load_ends(setting: &Setting<'_>, buses: &Buses, most: u64) -> Option<Ends>
+fn load_ends(setting: &SearchSetting<'_>, buses: &Buses, most: u64) -> Option<Ends>
     requires { AreBuses buses.now }
 {
     let late = buses.fullest();
@@ -47,7 +47,7 @@ fn load_ends(setting: &Setting<'_>, buses: &Buses, most: u64) -> Option<Ends>
 }
 
 /// Whether the tests, as they were sent, could end within so many cycles, by their chains of precedences and by their power.
-fn could_end(setting: &Setting<'_>, order: &[usize], room: &mut Room, most: u64) -> bool
+fn could_end(setting: &SearchSetting<'_>, order: &[usize], room: &mut Room, most: u64) -> bool
     requires setting { IsSetting setting.now }
     requires order { All (λ test. test < length setting.now.problem.now.tests.items) order.now }
     requires room { HasRoomFor setting.now.problem.now room.old }
@@ -133,7 +133,7 @@ fn place_somehow<J>(
 
 /// When the tests of a state end; None where that is after `most` cycles.
 pub(crate) fn weigh<J>(
-    setting: &Setting<'_>,
+    setting: &SearchSetting<'_>,
     table: &mut TableOf<J>,
     state: &mut State,
     room: &mut Room,

@@ -17,17 +17,17 @@ use Rattle.plan_model.proofs.Lists.{from_append}
 use Rattle.bit_machine.specs.Building.{flop_numbers, IsNewPath, AreNewPaths}
 use Rattle.bit_machine.specs.Paths.{IsChain, path_bits}
 use Rattle.bit_machine.specs.Numbers.{run_numbers, all_numbers, IsFull}
-use Rattle.bit_machine.specs.declared.numbers.Run.{Run}
+use Rattle.bit_machine.specs.declared.numbers.NumberRun.{NumberRun}
 use Rattle.bit_machine.specs.declared.path.Path.{Path}
 use Rattle.bit_machine.proofs.PathBits.{any_default}
 
 -- ---- pushed numbers
 
-pub pushed_run : (runs new : List Run) (from count : ℕ) → new ≡ runs ++ record { from = from; count = count } ∷ [] → all_numbers new ≡ all_numbers runs ++ range_with_len from count
+pub pushed_run : (runs new : List NumberRun) (from count : ℕ) → new ≡ runs ++ record { from = from; count = count } ∷ [] → all_numbers new ≡ all_numbers runs ++ range_with_len from count
 pushed_run runs new from count pushed =
     ap all_numbers pushed ∙ flat_map-append run_numbers runs (record { from = from; count = count } ∷ []) ∙ ap (λ v. all_numbers runs ++ v) (append-nil (range_with_len from count))
 
-pub pushed_full : (runs new : List Run) (from count : ℕ) → new ≡ runs ++ record { from = from; count = count } ∷ [] → 1 ≤ count → from + count < 2 ^ 64 → All IsFull runs → All IsFull new
+pub pushed_full : (runs new : List NumberRun) (from count : ℕ) → new ≡ runs ++ record { from = from; count = count } ∷ [] → 1 ≤ count → from + count < 2 ^ 64 → All IsFull runs → All IsFull new
 pushed_full runs new from count pushed some fits full =
     subst (All IsFull) (sym pushed) (All-append IsFull runs (record { from = from; count = count } ∷ []) full one)
   where
@@ -242,7 +242,7 @@ paths_more inputs lengths chains n paths new p are pushed is = rw pushed (record
     the_last j q (suc k) place at = absurd cc
 
 -- how many numbers a chain loads, and how many it answers
-pub long_loads : (none first all : List Run) (from ins base : ℕ) (lengths scans : List ℕ) → none ≡ [] → all_numbers first ≡ all_numbers none ++ range_with_len from ins → all_numbers all ≡ all_numbers first ++ flat_map (flop_numbers base lengths) scans →
+pub long_loads : (none first all : List NumberRun) (from ins base : ℕ) (lengths scans : List ℕ) → none ≡ [] → all_numbers first ≡ all_numbers none ++ range_with_len from ins → all_numbers all ≡ all_numbers first ++ flat_map (flop_numbers base lengths) scans →
     length (all_numbers all) ≡ ins + sum_by (slice_index lengths) scans
 long_loads none first all from ins base lengths scans empty a b =
     let start : length (all_numbers none) ≡ 0 = ap (λ runs. length (all_numbers runs)) empty in
@@ -250,7 +250,7 @@ long_loads none first all from ins base lengths scans empty a b =
     let y = ap length b ∙ length-append (all_numbers first) (flat_map (flop_numbers base lengths) scans) in
     omega (arith, x, y, start, length-range_with_len from ins, length-flop_numbers base lengths scans)
 
-pub long_answers : (none first all : List Run) (from outs : ℕ) (lengths scans : List ℕ) → none ≡ [] → all_numbers first ≡ all_numbers none ++ flat_map (flop_numbers 0 lengths) scans → all_numbers all ≡ all_numbers first ++ range_with_len from outs →
+pub long_answers : (none first all : List NumberRun) (from outs : ℕ) (lengths scans : List ℕ) → none ≡ [] → all_numbers first ≡ all_numbers none ++ flat_map (flop_numbers 0 lengths) scans → all_numbers all ≡ all_numbers first ++ range_with_len from outs →
     length (all_numbers all) ≡ outs + sum_by (slice_index lengths) scans
 long_answers none first all from outs lengths scans empty a b =
     let start : length (all_numbers none) ≡ 0 = ap (λ runs. length (all_numbers runs)) empty in

@@ -15,7 +15,7 @@ use Rattle.bit_machine.specs.Packed.{is_set}
 use Rattle.bit_machine.specs.Paths.{made_from}
 use Rattle.bit_machine.specs.Numbers.{run_numbers, all_numbers, line_value, line_bit, bit_at_place, IsFull, IsWalk, HasNext, IsLineWord}
 use Rattle.bit_machine.specs.declared.made.Line.{Line}
-use Rattle.bit_machine.specs.declared.numbers.Run.{Run}
+use Rattle.bit_machine.specs.declared.numbers.NumberRun.{NumberRun}
 use Rattle.bit_machine.specs.declared.numbers.Walk.{Walk}
 use Rattle.bit_machine.proofs.MadeBits.{pattern_rest, rest_of, same_rest}
 
@@ -57,7 +57,7 @@ value_small l n v at = omega (arith, at)
 -- ---- walks
 
 -- no run
-abbrev pub nothing : Run
+abbrev pub nothing : NumberRun
 nothing = record { from = 0; count = 0 }
 
 drop_range : (b a n : ℕ) → b ≤ n → drop b (range_with_len a n) ≡ range_with_len (a + b) (n - b)
@@ -71,21 +71,21 @@ drop_range (suc b) a (suc n) h =
     let f : suc n - suc b ≡ n - b = omega arith in
     rw f (drop_range b (a + 1) n (omega arith) ∙ rw e refl)
 
-pub next_run : (runs : List Run) (i : ℕ) (r : Run) → i < length runs → r ≡ get_or runs i r → all_numbers (drop i runs) ≡ run_numbers r ++ all_numbers (drop (i + 1) runs)
+pub next_run : (runs : List NumberRun) (i : ℕ) (r : NumberRun) → i < length runs → r ≡ get_or runs i r → all_numbers (drop i runs) ≡ run_numbers r ++ all_numbers (drop (i + 1) runs)
 next_run runs i r h at = ap all_numbers (drop_more runs i r h ∙ ap (λ x. x ∷ drop (i + 1) runs) (sym at))
 
-pub full_at : (runs : List Run) (i : ℕ) (r : Run) → All IsFull runs → i < length runs → r ≡ get_or runs i r → IsFull r
+pub full_at : (runs : List NumberRun) (i : ℕ) (r : NumberRun) → All IsFull runs → i < length runs → r ≡ get_or runs i r → IsFull r
 full_at runs i r full h at = subst IsFull (sym at) (full i r h)
 
 -- where the numbers of the runs from one on begin
-pub record IsReached (runs : List Run) (place run before : ℕ) : Type 0 where
+pub record IsReached (runs : List NumberRun) (place run before : ℕ) : Type 0 where
   pub within : before < length (all_numbers (drop run runs))
   pub rest : drop before (all_numbers (drop run runs)) ≡ drop place (all_numbers runs)
 
-pub reached_first : (runs : List Run) (place : ℕ) → place < length (all_numbers runs) → IsReached runs place 0 place
+pub reached_first : (runs : List NumberRun) (place : ℕ) → place < length (all_numbers runs) → IsReached runs place 0 place
 reached_first runs place h = record { within = h; rest = refl }
 
-pub reached_next : (runs : List Run) (place run before : ℕ) (r : Run) → run < length runs → r ≡ get_or runs run r → r.count ≤ before → IsReached runs place run before → IsReached runs place (run + 1) (before - r.count)
+pub reached_next : (runs : List NumberRun) (place run before : ℕ) (r : NumberRun) → run < length runs → r ≡ get_or runs run r → r.count ≤ before → IsReached runs place run before → IsReached runs place (run + 1) (before - r.count)
 reached_next runs place run before r h at past is =
     let whole = next_run runs run r h at in
     let long : length (run_numbers r) ≡ r.count = length-range_with_len r.from r.count in
@@ -96,13 +96,13 @@ reached_next runs place run before r h at past is =
       rest = sym (drop-append-add (run_numbers r) (all_numbers (drop (run + 1) runs)) (before - r.count)) ∙ ap (λ n. drop n (run_numbers r ++ all_numbers (drop (run + 1) runs))) there ∙ ap (drop before) (sym whole) ∙ is.rest;
     }
 
-pub reached_past : (runs : List Run) (place run before : ℕ) → length runs ≤ run → IsReached runs place run before → ⊥
+pub reached_past : (runs : List NumberRun) (place run before : ℕ) → length runs ≤ run → IsReached runs place run before → ⊥
 reached_past runs place run before past is =
     let none : drop run runs ≡ [] = drop_all run runs past in
     let less = rw none at is.within in
     absurd (omega (arith, less))
 
-pub walk_begun : (runs : List Run) (line : Line) (place run before v : ℕ) (r : Run) → run < length runs → r ≡ get_or runs run r → before < r.count → v ≡ line_value line (r.from + before) → IsReached runs place run before →
+pub walk_begun : (runs : List NumberRun) (line : Line) (place run before v : ℕ) (r : NumberRun) → run < length runs → r ≡ get_or runs run r → before < r.count → v ≡ line_value line (r.from + before) → IsReached runs place run before →
     IsWalk runs line (record { run = run + 1; left = r.count - before; value = v }) (drop place (all_numbers runs))
 walk_begun runs line place run before v r h at less value is =
     let long : length (run_numbers r) ≡ r.count = length-range_with_len r.from r.count in
@@ -113,7 +113,7 @@ walk_begun runs line place run before v r h at less value is =
     }
 
 -- a walk at the end of its run is at the next one
-pub run_there : (runs : List Run) (line : Line) (w : Walk) → w.left ≡ 0 → HasNext runs line w → w.run < length runs
+pub run_there : (runs : List NumberRun) (line : Line) (w : Walk) → w.left ≡ 0 → HasNext runs line w → w.run < length runs
 run_there runs line w none next = go (cases_lt w.run (length runs)) where
   go : (w.run < length runs) ⊎ (length runs ≤ w.run) → w.run < length runs
   go (inl less) = less
@@ -123,7 +123,7 @@ run_there runs line w none next = go (cases_lt w.run (length runs)) where
       let e' = rw (none, over) at e in
       absurd cc
 
-pub walk_refilled : (runs : List Run) (line : Line) (w : Walk) (r : Run) (v : ℕ) → w.left ≡ 0 → w.run < length runs → r ≡ get_or runs w.run r → v ≡ line_value line r.from → (rest : List ℕ) → IsWalk runs line w rest → IsWalk runs line (record { run = w.run + 1; left = r.count; value = v }) rest
+pub walk_refilled : (runs : List NumberRun) (line : Line) (w : Walk) (r : NumberRun) (v : ℕ) → w.left ≡ 0 → w.run < length runs → r ≡ get_or runs w.run r → v ≡ line_value line r.from → (rest : List ℕ) → IsWalk runs line w rest → IsWalk runs line (record { run = w.run + 1; left = r.count; value = v }) rest
 walk_refilled runs line w r v none h at value rest is = record {
   number = r.from;
   value = value;
@@ -139,19 +139,19 @@ first_of number (suc left) n tail more h e = let one : suc left - 1 ≡ left = o
   tail_is : n ∷ more ≡ number ∷ (range_with_len (number + 1) left ++ tail) → more ≡ range_with_len (number + 1) left ++ tail
   tail_is e = cc
 
-pub walk_value : (runs : List Run) (line : Line) (w : Walk) (n : ℕ) (more : List ℕ) → 1 ≤ w.left → IsWalk runs line w (n ∷ more) → w.value ≡ line_value line n
+pub walk_value : (runs : List NumberRun) (line : Line) (w : Walk) (n : ℕ) (more : List ℕ) → 1 ≤ w.left → IsWalk runs line w (n ∷ more) → w.value ≡ line_value line n
 walk_value runs line w n more some is =
     let f = first_of is.number w.left n (all_numbers (drop w.run runs)) more some is.rest_is in
     is.value ∙ ap (line_value line) (sym f.0)
 
-pub walk_next : (runs : List Run) (line : Line) (w : Walk) (n v : ℕ) (more : List ℕ) → 1 ≤ w.left → IsWalk runs line w (n ∷ more) → v ≡ (w.value + line.step) % 997 → IsWalk runs line (record { run = w.run; left = w.left - 1; value = v }) more
+pub walk_next : (runs : List NumberRun) (line : Line) (w : Walk) (n v : ℕ) (more : List ℕ) → 1 ≤ w.left → IsWalk runs line w (n ∷ more) → v ≡ (w.value + line.step) % 997 → IsWalk runs line (record { run = w.run; left = w.left - 1; value = v }) more
 walk_next runs line w n v more some is next =
     let f = first_of is.number w.left n (all_numbers (drop w.run runs)) more some is.rest_is in
     record { number = is.number + 1; value = value_next line is.number w.value v is.value next; rest_is = f.1 }
 
 -- ---- a word
 
-pub has_next : (runs : List Run) (line : Line) (w : Walk) (place : ℕ) → place < length (all_numbers runs) → IsWalk runs line w (drop place (all_numbers runs)) → HasNext runs line w
+pub has_next : (runs : List NumberRun) (line : Line) (w : Walk) (place : ℕ) → place < length (all_numbers runs) → IsWalk runs line w (drop place (all_numbers runs)) → HasNext runs line w
 has_next runs line w place h is = record {
   next = get_or (all_numbers runs) place 0;
   more = drop (place + 1) (all_numbers runs);
@@ -205,9 +205,9 @@ word_stays line numbers i word is some =
     subst (λ n. IsLineWord line numbers n word) same is
 
 -- the numbers of one run more
-pub count_more : (runs : List Run) (i : ℕ) (d : Run) → i < length runs → (length (all_numbers (take i runs)) + (get_or runs i d).count ≡ length (all_numbers (take (i + 1) runs))) × (length (all_numbers (take (i + 1) runs)) ≤ length (all_numbers runs))
+pub count_more : (runs : List NumberRun) (i : ℕ) (d : NumberRun) → i < length runs → (length (all_numbers (take i runs)) + (get_or runs i d).count ≡ length (all_numbers (take (i + 1) runs))) × (length (all_numbers (take (i + 1) runs)) ≤ length (all_numbers runs))
 count_more runs i d h =
-    let r : Run = get_or runs i d in
+    let r : NumberRun = get_or runs i d in
     let own : length (run_numbers r) ≡ r.count = length-range_with_len r.from r.count in
     let more : all_numbers (take (i + 1) runs) ≡ all_numbers (take i runs) ++ (run_numbers r ++ []) = ap all_numbers (take_more runs i d h) ∙ flat_map-append run_numbers (take i runs) (r ∷ []) in
     let sum : length (all_numbers (take (i + 1) runs)) ≡ length (all_numbers (take i runs)) + length (run_numbers r) =

@@ -4,18 +4,18 @@ use Rattle.std.specs.List.{flat_map, range_with_len}
 use Rattle.bit_machine.specs.Chips.{has_odd_square}
 use Rattle.bit_machine.specs.Packed.{is_set}
 use Rattle.bit_machine.specs.declared.made.Line.{Line}
-use Rattle.bit_machine.specs.declared.numbers.Run.{Run}
+use Rattle.bit_machine.specs.declared.numbers.NumberRun.{NumberRun}
 use Rattle.bit_machine.specs.declared.numbers.Walk.{Walk}
 
 -- the numbers of a run, and of all runs
-abbrev pub run_numbers : Run → List ℕ
+abbrev pub run_numbers : NumberRun → List ℕ
 run_numbers r = range_with_len r.from r.count
 
-abbrev pub all_numbers : List Run → List ℕ
+abbrev pub all_numbers : List NumberRun → List ℕ
 all_numbers runs = flat_map run_numbers runs
 
 -- a run has a number, and all are a machine's numbers
-pub record IsFull (r : Run) : Type 0 where
+pub record IsFull (r : NumberRun) : Type 0 where
   pub some : 1 ≤ r.count
   pub fits : r.from + r.count < 2 ^ 64
 
@@ -27,13 +27,13 @@ abbrev pub line_bit : Line → ℕ → Bool
 line_bit l n = has_odd_square (line_value l n)
 
 -- the walk has these numbers before it
-pub record IsWalk (runs : List Run) (line : Line) (w : Walk) (rest : List ℕ) : Type 0 where
+pub record IsWalk (runs : List NumberRun) (line : Line) (w : Walk) (rest : List ℕ) : Type 0 where
   pub number : ℕ
   pub value : w.value ≡ line_value line number
   pub rest_is : rest ≡ range_with_len number w.left ++ all_numbers (drop w.run runs)
 
 -- there is a number before it
-pub record HasNext (runs : List Run) (line : Line) (w : Walk) : Type 0 where
+pub record HasNext (runs : List NumberRun) (line : Line) (w : Walk) : Type 0 where
   pub next : ℕ
   pub more : List ℕ
   pub is : IsWalk runs line w (next ∷ more)

@@ -7,7 +7,7 @@ ghost use Rattle.bit_machine.specs.Numbers.{all_numbers, IsFull};
 ghost use Rattle.bit_machine.specs.Building.{flop_numbers, IsNewPath, AreNewPaths};
 
 use crate::layout::Layout;
-use crate::numbers::{Numbers, Run};
+use crate::numbers::{NumberRun, Numbers};
 use crate::path::Path;
 use crate::ring::Ring;
 use outside::{NoMemory, push};
@@ -15,7 +15,7 @@ use plan_model::ChainPlan;
 use std::alloc::Global;
 
 /// Appends so many numbers from one on.
-fn push_numbers(runs: &mut Vec<Run>, from: u64, count: u64) -> Result<(), NoMemory>
+fn push_numbers(runs: &mut Vec<NumberRun>, from: u64, count: u64) -> Result<(), NoMemory>
     requires full { All IsFull runs.old.items }
     requires fits { from + count < 2 ^ 64 }
     ensures full { OnOk result (All IsFull runs.new.items) }
@@ -24,11 +24,16 @@ fn push_numbers(runs: &mut Vec<Run>, from: u64, count: u64) -> Result<(), NoMemo
     if count == 0 {
         return Ok(());
     }
-    push(runs, Run { from, count })
+    push(runs, NumberRun { from, count })
 }
 
 /// Appends the numbers of the cells of a scan chain.
-fn push_flops(runs: &mut Vec<Run>, base: u64, layout: &Layout, scan: u64) -> Result<(), NoMemory>
+fn push_flops(
+    runs: &mut Vec<NumberRun>,
+    base: u64,
+    layout: &Layout,
+    scan: u64,
+) -> Result<(), NoMemory>
     requires full { All IsFull runs.old.items }
     requires layout { IsLayout layout.now }
     requires scan { scan < length layout.now.lengths.items }
@@ -44,7 +49,7 @@ fn push_flops(runs: &mut Vec<Run>, base: u64, layout: &Layout, scan: u64) -> Res
 
 /// Appends the numbers of the cells of scan chains.
 fn push_scans(
-    runs: &mut Vec<Run>,
+    runs: &mut Vec<NumberRun>,
     base: u64,
     layout: &Layout,
     scans: &[u64],

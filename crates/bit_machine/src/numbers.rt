@@ -12,7 +12,7 @@ use std::marker::Model;
 
 /// So many numbers from one on, at least one.
 #[derive(Clone, Copy, Drop)]
-pub struct Run {
+pub struct NumberRun {
     pub from: u64,
     pub count: u64,
 }
@@ -20,7 +20,7 @@ pub struct Run {
 /// A list of numbers, as runs one after another.
 #[derive(Drop)]
 pub struct Numbers {
-    runs: Vec<Run>,
+    runs: Vec<NumberRun>,
     count: usize,
 }
 
@@ -46,7 +46,7 @@ pub struct Walk {
 }
 
 /// Begins a walk at a place.
-fn walk_from(runs: &[Run], line: &Line, place: u64) -> Walk
+fn walk_from(runs: &[NumberRun], line: &Line, place: u64) -> Walk
     requires first { line.now.first < 997 }
     requires step { line.now.step < 997 }
     requires full { All IsFull runs.now }
@@ -69,7 +69,7 @@ fn walk_from(runs: &[Run], line: &Line, place: u64) -> Walk
 }
 
 /// The walk with numbers left of its run.
-fn refilled(runs: &[Run], line: &Line, walk: Walk) -> Walk
+fn refilled(runs: &[NumberRun], line: &Line, walk: Walk) -> Walk
     requires first { line.now.first < 997 }
     requires step { line.now.step < 997 }
     requires full { All IsFull runs.now }
@@ -89,7 +89,7 @@ fn refilled(runs: &[Run], line: &Line, walk: Walk) -> Walk
 }
 
 /// The bit of the number that a walk is at. It goes on to the next number.
-fn step(runs: &[Run], line: &Line, walk: &mut Walk) -> bool
+fn step(runs: &[NumberRun], line: &Line, walk: &mut Walk) -> bool
     requires first { line.now.first < 997 }
     requires step { line.now.step < 997 }
     requires full { All IsFull runs.now }
@@ -107,7 +107,7 @@ fn step(runs: &[Run], line: &Line, walk: &mut Walk) -> bool
 }
 
 /// The made bits of so many numbers from a place on.
-fn word_of(runs: &[Run], line: &Line, first: usize, count: usize) -> u64
+fn word_of(runs: &[NumberRun], line: &Line, first: usize, count: usize) -> u64
     requires first { line.now.first < 997 }
     requires step { line.now.step < 997 }
     requires full { All IsFull runs.now }
@@ -128,7 +128,7 @@ fn word_of(runs: &[Run], line: &Line, first: usize, count: usize) -> u64
 
 /// Writes the made bits of so many numbers as digits into a column, one a line: that of the number at the place `last`, and then those
 /// of the numbers before it.
-fn put_back(runs: &[Run], line: &Line, last: usize, count: usize, text: &mut [u8], at: Place)
+fn put_back(runs: &[NumberRun], line: &Line, last: usize, count: usize, text: &mut [u8], at: Place)
     requires first { line.now.first < 997 }
     requires step { line.now.step < 997 }
     requires full { All IsFull runs.now }
@@ -150,7 +150,7 @@ fn put_back(runs: &[Run], line: &Line, last: usize, count: usize, text: &mut [u8
 }
 
 /// The numbers of all runs together.
-fn count_of(runs: &[Run]) -> usize
+fn count_of(runs: &[NumberRun]) -> usize
     requires { length (all_numbers runs.now) < 2 ^ 63 }
     ensures { result ≡ length (all_numbers runs.now) }
 {
@@ -163,7 +163,7 @@ fn count_of(runs: &[Run]) -> usize
 
 impl Numbers {
     /// The numbers of runs that aren't empty.
-    pub fn new(runs: Vec<Run>) -> Numbers
+    pub fn new(runs: Vec<NumberRun>) -> Numbers
         requires full { All IsFull runs.items }
         requires long { length (all_numbers runs.items) < 2 ^ 63 }
         ensures { result ≡ all_numbers runs.items }

@@ -15,7 +15,7 @@ use Rattle.bus_proofs.specs.declared.ProofFault.TheVariants.{BadList, BadNode, L
 use Rattle.bus_proofs.specs.declared.basis.Basis.{Basis}
 use Rattle.bus_proofs.specs.declared.case.CaseRoom.{CaseRoom}
 use Rattle.bus_proofs.specs.declared.leaf.LeafRoom.{LeafRoom}
-use Rattle.bus_proofs.specs.declared.walk.Turn.{Turn}
+use Rattle.bus_proofs.specs.declared.walk.OpenSplit.{OpenSplit}
 use Rattle.bus_proofs.specs.Proofs.{ListValue, WeightsValue, OfSum, CaseTree, nodes_of, node_value, ProofValue}
 use Rattle.bus_proofs.specs.Cases.{root_case}
 use Rattle.bus_proofs.specs.Grammar.{MayBeSaid}
@@ -56,7 +56,7 @@ checked_faulty g (Err (Less p c s)) kept said h = record { lists = kept; tree = 
 -- ---- the room
 
 -- in the case of the root again
-pub room_back : (g : Basis) (a b : CaseRoom) (leaf leaf' : LeafRoom) (turns turns' : List Turn) → IsProofRoom g a leaf turns → IsSame a b → FitsLeaves g leaf' → length turns' ≡ length turns →
+pub room_back : (g : Basis) (a b : CaseRoom) (leaf leaf' : LeafRoom) (turns turns' : List OpenSplit) → IsProofRoom g a leaf turns → IsSame a b → FitsLeaves g leaf' → length turns' ≡ length turns →
     IsProofRoom g b leaf' turns'
 room_back g a b leaf leaf' turns turns' room same fits long = record {
   basis_is = room.basis_is;
@@ -98,7 +98,7 @@ few_modules soc size = go (nat_lt MODULES_MOST (length soc.modules)) refl (size 
     go true is e = absurd (some e)
     go false is e = ltb-false MODULES_MOST (length soc.modules) is
 
-pub new_room : (g : Basis) (soc : SocValue) (limits : LimitsValue) (p : ProofValue) (room : CaseRoom) (leaf : LeafRoom) (turns : List Turn) (uses : ℕ) → IsBasis g →
+pub new_room : (g : Basis) (soc : SocValue) (limits : LimitsValue) (p : ProofValue) (room : CaseRoom) (leaf : LeafRoom) (turns : List OpenSplit) (uses : ℕ) → IsBasis g →
     chip_of g ≡ soc → limits_of g ≡ limits → proof_of g ≡ p → MayBeSaid p → HasCase room → IsCaseOf room root_case → room.modules ≡ length soc.modules → room.widths.wires ≡ limits.wires →
     room.widths.most ≡ 256 → HasLeafSpace g leaf → uses ≤ 2 ^ 24 →
     ((place : ℕ) (w : WeightsValue) → slice_get p.nodes place ≡ Some (OfSum w) → length w.lists ≤ uses) → length p.nodes ≤ length turns → IsProofRoom g room leaf turns

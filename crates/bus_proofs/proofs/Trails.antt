@@ -7,8 +7,8 @@ use Rattle.std.proofs.lemmas.List.{append-nil, set-set, set-get_or, length-appen
 use Rattle.std.proofs.lemmas.List.Sums.{get_or-le-sum_by}
 use Rattle.std.proofs.lemmas.List.Edits.{map_over_more}
 use Rattle.bus_proofs.specs.declared.widths.Interval.{Interval}
-use Rattle.bus_proofs.specs.declared.widths.Change.{Change}
-use Rattle.bus_proofs.specs.declared.widths.Change.TheVariants.{Was}
+use Rattle.bus_proofs.specs.declared.widths.IntervalChange.{IntervalChange}
+use Rattle.bus_proofs.specs.declared.widths.IntervalChange.TheVariants.{Was}
 use Rattle.bus_proofs.specs.declared.widths.Widths.{Widths}
 use Rattle.bus_proofs.specs.Cases.{Case, IsEmpty, least_wires, interval, interval_of, at_most, at_least, tightened_below, tightened_by}
 use Rattle.bus_proofs.proofs.Intervals.{front_length}
@@ -16,7 +16,7 @@ use Rattle.bus_proofs.specs.Trails.{undone, undone_once, IsPart, IsLater, IsFew,
 
 -- ---- what is undone
 
-undone-append : (is : List Interval) (cs ds : List Change) → undone is (cs ++ ds) ≡ undone (undone is ds) cs
+undone-append : (is : List Interval) (cs ds : List IntervalChange) → undone is (cs ++ ds) ≡ undone (undone is ds) cs
 undone-append is [] ds = refl
 undone-append is (c ∷ cs) ds = ap (λ (js : List Interval). undone_once js c) (undone-append is cs ds)
 
@@ -34,7 +34,7 @@ later_none v = record {
 pub later_then : (a b c : Widths) → IsLater a b → IsLater b c → IsLater a c
 later_then a b c x y = record {
   changes = x.changes ++ y.changes;
-  trail = y.trail ∙ ap (λ (t : List Change). t ++ y.changes) x.trail ∙ append_assoc a.trail.items x.changes y.changes;
+  trail = y.trail ∙ ap (λ (t : List IntervalChange). t ++ y.changes) x.trail ∙ append_assoc a.trail.items x.changes y.changes;
   undone_is = undone-append c.intervals.items x.changes y.changes ∙ ap (λ (is : List Interval). undone is x.changes) y.undone_is ∙ x.undone_is;
   wires = y.wires ∙ x.wires;
   most = y.most ∙ x.most;
@@ -189,13 +189,13 @@ tight_first more (i ∷ is) few =
 
 -- ---- the last change is taken back
 
-split_last : (xs ys zs : List Change) (c : Change) → xs ++ ys ≡ zs ++ c ∷ [] → length xs ≤ length zs →
+split_last : (xs ys zs : List IntervalChange) (c : IntervalChange) → xs ++ ys ≡ zs ++ c ∷ [] → length xs ≤ length zs →
     (ys ≡ drop (length xs) zs ++ c ∷ []) × (zs ≡ xs ++ drop (length xs) zs)
 split_last [] ys zs c e less = (e, refl)
 split_last (x ∷ xs) ys [] c e less = absurd (omega arith)
 split_last (x ∷ xs) ys (z ∷ zs) c e less =
     let rest = split_last xs ys zs c (tails e) (omega arith) in
-    (rest.0, ap (λ (l : List Change). z ∷ l) rest.1 ∙ ap (λ (y : Change). y ∷ (xs ++ drop (length xs) zs)) (sym (heads e)))
+    (rest.0, ap (λ (l : List IntervalChange). z ∷ l) rest.1 ∙ ap (λ (y : IntervalChange). y ∷ (xs ++ drop (length xs) zs)) (sym (heads e)))
   where
     heads : x ∷ (xs ++ ys) ≡ z ∷ (zs ++ c ∷ []) → x ≡ z
     heads h = cc
@@ -203,7 +203,7 @@ split_last (x ∷ xs) ys (z ∷ zs) c e less =
     tails : x ∷ (xs ++ ys) ≡ z ∷ (zs ++ c ∷ []) → xs ++ ys ≡ zs ++ c ∷ []
     tails h = cc
 
-pub later_popped : (before v w : Widths) (c : Change) → IsLater before v → length before.trail.items < length v.trail.items →
+pub later_popped : (before v w : Widths) (c : IntervalChange) → IsLater before v → length before.trail.items < length v.trail.items →
     v.trail.items ≡ w.trail.items ++ c ∷ [] → w.intervals.items ≡ undone_once v.intervals.items c →
     w.wires ≡ v.wires → w.most ≡ v.most → vec_capacity w.intervals ≡ vec_capacity v.intervals → vec_capacity w.trail ≡ vec_capacity v.trail → IsLater before w
 later_popped before v w c later more popped undone' wires most room trail_room =
@@ -222,7 +222,7 @@ later_popped before v w c later more popped undone' wires most room trail_room =
       trail_room = trail_room ∙ later.trail_room;
     }
 
-gone : (xs ys cs : List Change) → ys ≡ xs ++ cs → length ys ≡ length xs → cs ≡ []
+gone : (xs ys cs : List IntervalChange) → ys ≡ xs ++ cs → length ys ≡ length xs → cs ≡ []
 gone xs ys [] e long = refl
 gone xs ys (c ∷ cs) e long =
     let more : length ys ≡ length xs + length (c ∷ cs) = ap length e ∙ length-append xs (c ∷ cs) in
@@ -237,7 +237,7 @@ back_here before v later roomy long =
     record {
       intervals = same;
       later = later;
-      trail = later.trail ∙ ap (λ (cs : List Change). before.trail.items ++ cs) none ∙ append-nil before.trail.items;
+      trail = later.trail ∙ ap (λ (cs : List IntervalChange). before.trail.items ++ cs) none ∙ append-nil before.trail.items;
       roomy = record {
         wires = omega (arith, later.wires, roomy.wires);
         ranks = omega (arith, later.most, roomy.ranks);

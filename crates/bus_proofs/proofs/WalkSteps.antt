@@ -11,7 +11,7 @@ use Rattle.bus_proofs.specs.declared.ProofFault.TheVariants.{BadList, BadNode, L
 use Rattle.bus_proofs.specs.declared.basis.Basis.{Basis}
 use Rattle.bus_proofs.specs.declared.case.CaseRoom.{CaseRoom}
 use Rattle.bus_proofs.specs.declared.case.Mark.{Mark}
-use Rattle.bus_proofs.specs.declared.walk.Turn.{Turn}
+use Rattle.bus_proofs.specs.declared.walk.OpenSplit.{OpenSplit}
 use Rattle.bus_proofs.specs.Proofs.{WeightsValue, SplitValue, OfWide, OfPlace, NodeValue, OfSplit, OfSum, CaseTree, Leaf, Branches, nodes_of}
 use Rattle.bus_proofs.specs.Cases.{Case, Interval, interval_of, known_ranks, narrow, placed_on, tightened, with_rank, case_by, first_case, second_case, NodeCase, in_case, cases_of, root_case, KeepsSplit}
 use Rattle.bus_proofs.specs.Bounds.{IsEnough, HasFault, KeepsNode, NodeHolds, all_cases}
@@ -24,7 +24,7 @@ use Rattle.bus_proofs.proofs.RoomSteps.{further_none, further_then, room_next, w
 
 -- ---- what awaits behind the splits that are under way
 
-behind_same : (g : Basis) (turn : Turn) (c : Case) (split : SplitValue) (P Q : List NodeCase → Type 0) → ((l : List NodeCase) → P l → Q l) → (left : List NodeCase) →
+behind_same : (g : Basis) (turn : OpenSplit) (c : Case) (split : SplitValue) (P Q : List NodeCase → Type 0) → ((l : List NodeCase) → P l → Q l) → (left : List NodeCase) →
     MatchBool turn.second (P left) (IsLaterThen g c split P left) → MatchBool turn.second (Q left) (IsLaterThen g c split Q left)
 behind_same g turn c split P Q goes left h = go turn.second h
   where
@@ -32,7 +32,7 @@ behind_same g turn c split P Q goes left h = go turn.second h
     go true h = goes left h
     go false h = record { tree = h.tree; rest = h.rest; left_is = h.left_is; then = goes h.rest h.then }
 
-turn_further : (g : Basis) (root a b : CaseRoom) (turn : Turn) (before : CaseRoom) (c : Case) (split : SplitValue) → IsFurther a b → IsTurn g root a turn before c split → IsTurn g root b turn before c split
+turn_further : (g : Basis) (root a b : CaseRoom) (turn : OpenSplit) (before : CaseRoom) (c : Case) (split : SplitValue) → IsFurther a b → IsTurn g root a turn before c split → IsTurn g root b turn before c split
 turn_further g root a b turn before c split more t = record {
   mark = t.mark;
   room = t.room;
@@ -43,7 +43,7 @@ turn_further g root a b turn before c split more t = record {
   further = further_then before a b t.further more;
 }
 
-within_same : (g : Basis) (root : CaseRoom) (turn : Turn) (P Q : CaseRoom → List NodeCase → Type 0) (a b : CaseRoom) (left : List NodeCase) → IsFurther a b →
+within_same : (g : Basis) (root : CaseRoom) (turn : OpenSplit) (P Q : CaseRoom → List NodeCase → Type 0) (a b : CaseRoom) (left : List NodeCase) → IsFurther a b →
     ((r : CaseRoom) (l : List NodeCase) → P r l → Q r l) → IsWithin g root turn P a left → IsWithin g root turn Q b left
 within_same g root turn P Q a b left more goes h = record {
   before = h.before;
@@ -53,49 +53,49 @@ within_same g root turn P Q a b left more goes h = record {
   behind = behind_same g turn h.c h.split (P h.before) (Q h.before) (goes h.before) left h.behind;
 }
 
-pub awaits_further : (g : Basis) (root : CaseRoom) (turns : List Turn) (depth : ℕ) (a b : CaseRoom) (left : List NodeCase) → IsFurther a b → Awaits g root turns depth a left → Awaits g root turns depth b left
+pub awaits_further : (g : Basis) (root : CaseRoom) (turns : List OpenSplit) (depth : ℕ) (a b : CaseRoom) (left : List NodeCase) → IsFurther a b → Awaits g root turns depth a left → Awaits g root turns depth b left
 unfolding Awaits
 awaits_further g root turns zero a b left more h = h
 awaits_further g root turns (suc d) a b left more h = within_same g root (turn_at turns d) (Awaits g root turns d) (Awaits g root turns d) a b left more (λ r l x. x) h
 
 -- the splits below the depth alone matter
-awaits_same : (g : Basis) (root : CaseRoom) (turns turns' : List Turn) (depth : ℕ) (room : CaseRoom) (left : List NodeCase) → ((k : ℕ) → k < depth → turn_at turns' k ≡ turn_at turns k) →
+awaits_same : (g : Basis) (root : CaseRoom) (turns turns' : List OpenSplit) (depth : ℕ) (room : CaseRoom) (left : List NodeCase) → ((k : ℕ) → k < depth → turn_at turns' k ≡ turn_at turns k) →
     Awaits g root turns depth room left → Awaits g root turns' depth room left
 unfolding Awaits
 awaits_same g root turns turns' zero room left same h = h
 awaits_same g root turns turns' (suc d) room left same h =
-    subst (λ (t : Turn). IsWithin g root t (Awaits g root turns' d) room left) (sym (same d (omega arith)))
+    subst (λ (t : OpenSplit). IsWithin g root t (Awaits g root turns' d) room left) (sym (same d (omega arith)))
     (within_same g root (turn_at turns d) (Awaits g root turns d) (Awaits g root turns' d) room room left (further_none room)
     (λ r l x. awaits_same g root turns turns' d r l (λ k less. same k (omega (arith, less))) x) h)
 
-pub awaits_none : (g : Basis) (root : CaseRoom) (turns : List Turn) (depth : ℕ) (room : CaseRoom) (left : List NodeCase) → depth ≡ 0 → Awaits g root turns depth room left → left ≡ []
+pub awaits_none : (g : Basis) (root : CaseRoom) (turns : List OpenSplit) (depth : ℕ) (room : CaseRoom) (left : List NodeCase) → depth ≡ 0 → Awaits g root turns depth room left → left ≡ []
 unfolding Awaits
 awaits_none g root turns depth room left none h = (rw none at h)
 
-pub awaits_start : (g : Basis) (root : CaseRoom) (turns : List Turn) (room : CaseRoom) → Awaits g root turns 0 room []
+pub awaits_start : (g : Basis) (root : CaseRoom) (turns : List OpenSplit) (room : CaseRoom) → Awaits g root turns 0 room []
 unfolding Awaits
 awaits_start g root turns room = refl
 
-pub awaits_open : (g : Basis) (root : CaseRoom) (turns : List Turn) (depth last : ℕ) (room : CaseRoom) (left : List NodeCase) → depth ≡ suc last → Awaits g root turns depth room left →
+pub awaits_open : (g : Basis) (root : CaseRoom) (turns : List OpenSplit) (depth last : ℕ) (room : CaseRoom) (left : List NodeCase) → depth ≡ suc last → Awaits g root turns depth room left →
     IsWithin g root (turn_at turns last) (Awaits g root turns last) room left
 unfolding Awaits
 awaits_open g root turns depth last room left is h = (rw is at h)
 
-awaits_shut : (g : Basis) (root : CaseRoom) (turns : List Turn) (last : ℕ) (room : CaseRoom) (left : List NodeCase) → IsWithin g root (turn_at turns last) (Awaits g root turns last) room left →
+awaits_shut : (g : Basis) (root : CaseRoom) (turns : List OpenSplit) (last : ℕ) (room : CaseRoom) (left : List NodeCase) → IsWithin g root (turn_at turns last) (Awaits g root turns last) room left →
     Awaits g root turns (suc last) room left
 unfolding Awaits
 awaits_shut g root turns last room left h = h
 
-awaits_close : (g : Basis) (root : CaseRoom) (turns : List Turn) (depth last : ℕ) (room : CaseRoom) (turn : Turn) (left : List NodeCase) → suc last ≡ depth → turn_at turns last ≡ turn →
+awaits_close : (g : Basis) (root : CaseRoom) (turns : List OpenSplit) (depth last : ℕ) (room : CaseRoom) (turn : OpenSplit) (left : List NodeCase) → suc last ≡ depth → turn_at turns last ≡ turn →
     IsWithin g root turn (Awaits g root turns last) room left → Awaits g root turns depth room left
 awaits_close g root turns depth last room turn left is same h =
     subst (λ (n : ℕ). Awaits g root turns n room left) is
-    (awaits_shut g root turns last room left (subst (λ (t : Turn). IsWithin g root t (Awaits g root turns last) room left) (sym same) h))
+    (awaits_shut g root turns last room left (subst (λ (t : OpenSplit). IsWithin g root t (Awaits g root turns last) room left) (sym same) h))
 
-turn_same : (turns : List Turn) (n : ℕ) (turn : Turn) → n < length turns → turn_at (slice_set turns n turn) n ≡ turn
+turn_same : (turns : List OpenSplit) (n : ℕ) (turn : OpenSplit) → n < length turns → turn_at (slice_set turns n turn) n ≡ turn
 turn_same turns n turn within = get_or-set_same turns n turn no_turn within
 
-turn_other : (turns : List Turn) (n k : ℕ) (turn : Turn) → k < n → turn_at (slice_set turns n turn) k ≡ turn_at turns k
+turn_other : (turns : List OpenSplit) (n k : ℕ) (turn : OpenSplit) → k < n → turn_at (slice_set turns n turn) k ≡ turn_at turns k
 turn_other turns n k turn less = get_or-set_other turns n k turn no_turn (λ e. omega (arith, less, e))
 
 -- ---- a first branch begins
@@ -105,11 +105,11 @@ second_is soc w c (OfWide rank width) = refl
 second_is soc w c (OfPlace m rank twins) = refl
 
 -- the turn of a split whose first branch begins
-abbrev first_turn : Mark → (node : ℕ) → Turn
+abbrev first_turn : Mark → (node : ℕ) → OpenSplit
 first_turn mark node = record { mark = mark; node = node; second = false }
 
 -- the room before the branches is `b`, and the one of the first branch `d`
-first_awaits : (g : Basis) (root : CaseRoom) (turns turns' : List Turn) (depth node : ℕ) (a b d : CaseRoom) (c : Case) (split : SplitValue) (mark : Mark) →
+first_awaits : (g : Basis) (root : CaseRoom) (turns turns' : List OpenSplit) (depth node : ℕ) (a b d : CaseRoom) (c : Case) (split : SplitValue) (mark : Mark) →
     IsFurther root a → depth < length turns → turns' ≡ slice_set turns depth (first_turn mark node) → IsMark mark b → IsRoomFor g b →
     IsCaseOf b (split_case (limits_of g).wires c split) → IsForked (chip_of g) (split_case (limits_of g).wires c split) split → IsNodeAt g node (OfSplit split) →
     IsFurther a b → IsFurther b d → (tree : CaseTree) (rest : List NodeCase) → Awaits g root turns depth a rest →
@@ -117,7 +117,7 @@ first_awaits : (g : Basis) (root : CaseRoom) (turns turns' : List Turn) (depth n
 first_awaits g root turns turns' depth node a b d c split mark from room is marked for case forked at more next tree rest h =
     awaits_close g root turns' (depth + 1) depth d (first_turn mark node)
     (cases_of (chip_of g) (limits_of g).wires (second_case (chip_of g) (limits_of g).wires c split) tree ++ rest) (omega arith)
-    (ap (λ (l : List Turn). turn_at l depth) is ∙ turn_same turns depth (first_turn mark node) room)
+    (ap (λ (l : List OpenSplit). turn_at l depth) is ∙ turn_same turns depth (first_turn mark node) room)
     (record {
       before = b;
       c = split_case (limits_of g).wires c split;
@@ -136,7 +136,7 @@ first_awaits g root turns turns' depth node a b d c split mark from room is mark
         rest = rest;
         left_is = ap (λ (e : Case). cases_of (chip_of g) (limits_of g).wires e tree ++ rest) (second_is (chip_of g) (limits_of g).wires c split);
         then = awaits_same g root turns turns' depth b rest
-            (λ k less. ap (λ (l : List Turn). turn_at l k) is ∙ turn_other turns depth k (first_turn mark node) less)
+            (λ k less. ap (λ (l : List OpenSplit). turn_at l k) is ∙ turn_other turns depth k (first_turn mark node) less)
             (awaits_further g root turns depth a b rest more h);
       };
     })
@@ -156,7 +156,7 @@ pub wide_room : (g : Basis) (a b : CaseRoom) (c : Case) (rank width : ℕ) → I
 wide_room g a b c rank width for has more is now =
     room_next g a b c (with_rank (limits_of g).wires c rank) for has more is (wide_now_for g a b c rank width for now).case (with_rank_within (limits_of g).wires c rank)
 
-pub wide_begun : (g : Basis) (root : CaseRoom) (turns turns' : List Turn) (depth node : ℕ) (a b d : CaseRoom) (c : Case) (rank width : ℕ) (mark : Mark) →
+pub wide_begun : (g : Basis) (root : CaseRoom) (turns turns' : List OpenSplit) (depth node : ℕ) (a b d : CaseRoom) (c : Case) (rank width : ℕ) (mark : Mark) →
     IsFurther root a → IsCaseOf a c → IsRoomFor g a → depth < length turns → turns' ≡ slice_set turns depth (first_turn mark node) → IsMark mark b →
     HasCase b → IsFurther a b → IsWideNow b a.widths.wires c rank width → IsNodeAt g node (OfSplit (OfWide rank width)) → IsFurther b d →
     ((e : Case) → IsCaseOf b e → IsCaseOf d (narrow e rank width)) → IsBegun g root turns turns' depth a d c (OfWide rank width)
@@ -169,7 +169,7 @@ wide_begun g root turns turns' depth node a b d c rank width mark from is for ro
           (wide_forked b (limits_of g).wires c rank width has now') at more next;
     }
 
-pub place_begun : (g : Basis) (root : CaseRoom) (turns turns' : List Turn) (depth node : ℕ) (a d : CaseRoom) (c : Case) (m rank : ℕ) (twins : List ℕ) (place : ℕ) (mark : Mark) →
+pub place_begun : (g : Basis) (root : CaseRoom) (turns turns' : List OpenSplit) (depth node : ℕ) (a d : CaseRoom) (c : Case) (m rank : ℕ) (twins : List ℕ) (place : ℕ) (mark : Mark) →
     IsFurther root a → IsCaseOf a c → IsRoomFor g a → depth < length turns → turns' ≡ slice_set turns depth (first_turn mark node) → IsMark mark a →
     IsPlaceAt (chip_of g) c m rank twins place → IsNodeAt g node (OfSplit (OfPlace m rank twins)) → IsFurther a d →
     ((e : Case) → IsCaseOf a e → IsCaseOf d (placed_on e rank place)) → IsBegun g root turns turns' depth a d c (OfPlace m rank twins)
@@ -186,16 +186,16 @@ one_node : (g : Basis) (place : ℕ) (m n : NodeValue) → IsNodeAt g place m �
 one_node g place m n a b = cc
 
 -- the second branch, and what comes behind it
-behind_first : (g : Basis) (turn : Turn) (c : Case) (split : SplitValue) (P : List NodeCase → Type 0) (left : List NodeCase) → turn.second ≡ false →
+behind_first : (g : Basis) (turn : OpenSplit) (c : Case) (split : SplitValue) (P : List NodeCase → Type 0) (left : List NodeCase) → turn.second ≡ false →
     MatchBool turn.second (P left) (IsLaterThen g c split P left) → IsLaterThen g c split P left
 behind_first g turn c split P left first h = (rw first at h)
 
-behind_second : (g : Basis) (turn : Turn) (c : Case) (split : SplitValue) (P : List NodeCase → Type 0) (left : List NodeCase) → turn.second ≡ true →
+behind_second : (g : Basis) (turn : OpenSplit) (c : Case) (split : SplitValue) (P : List NodeCase → Type 0) (left : List NodeCase) → turn.second ≡ true →
     MatchBool turn.second (P left) (IsLaterThen g c split P left) → P left
 behind_second g turn c split P left second h = (rw second at h)
 
 -- a split of which both branches are over is left
-pub awaits_second : (g : Basis) (root : CaseRoom) (turns : List Turn) (depth last : ℕ) (room : CaseRoom) (left : List NodeCase) → depth ≡ suc last → (turn_at turns last).second ≡ true →
+pub awaits_second : (g : Basis) (root : CaseRoom) (turns : List OpenSplit) (depth last : ℕ) (room : CaseRoom) (left : List NodeCase) → depth ≡ suc last → (turn_at turns last).second ≡ true →
     Awaits g root turns depth room left → Awaits g root turns last room left
 awaits_second g root turns depth last room left is second h =
     let x = awaits_open g root turns depth last room left is h in
@@ -203,7 +203,7 @@ awaits_second g root turns depth last room left is second h =
     (behind_second g (turn_at turns last) x.c x.split (Awaits g root turns last x.before) left second x.behind)
 
 -- the second branch of the last split
-pub second_goes : (g : Basis) (root : CaseRoom) (turns turns' : List Turn) (depth last : ℕ) (room new : CaseRoom) (left : List NodeCase) → depth ≡ suc last → last < length turns →
+pub second_goes : (g : Basis) (root : CaseRoom) (turns turns' : List OpenSplit) (depth last : ℕ) (room new : CaseRoom) (left : List NodeCase) → depth ≡ suc last → last < length turns →
     (turn_at turns last).second ≡ false → turns' ≡ slice_set turns last (record (turn_at turns last) { second = true }) →
     ((before : CaseRoom) (c : Case) (split : SplitValue) → IsTurn g root room (turn_at turns last) before c split → IsSecond g before new c split) →
     Awaits g root turns depth room left → Begins g root turns' depth new left
@@ -219,7 +219,7 @@ second_goes g root turns turns' depth last room new left is within first turns_i
       rest = l.rest;
       left_is = l.left_is;
       awaits = awaits_close g root turns' depth last new (record (turn_at turns last) { second = true }) l.rest (sym is)
-          (ap (λ (k : List Turn). turn_at k last) turns_is ∙ turn_same turns last (record (turn_at turns last) { second = true }) within)
+          (ap (λ (k : List OpenSplit). turn_at k last) turns_is ∙ turn_same turns last (record (turn_at turns last) { second = true }) within)
           (record {
             before = x.before;
             c = x.c;
@@ -234,11 +234,11 @@ second_goes g root turns turns' depth last room new left is within first turns_i
               further = s.further;
             };
             behind = awaits_same g root turns turns' last x.before l.rest
-                (λ k less. ap (λ (m : List Turn). turn_at m k) turns_is ∙ turn_other turns last k (record (turn_at turns last) { second = true }) less) l.then;
+                (λ k less. ap (λ (m : List OpenSplit). turn_at m k) turns_is ∙ turn_other turns last k (record (turn_at turns last) { second = true }) less) l.then;
           });
     }
 
-pub second_further : (g : Basis) (root : CaseRoom) (turns : List Turn) (depth last : ℕ) (room new : CaseRoom) (left : List NodeCase) → depth ≡ suc last →
+pub second_further : (g : Basis) (root : CaseRoom) (turns : List OpenSplit) (depth last : ℕ) (room new : CaseRoom) (left : List NodeCase) → depth ≡ suc last →
     ((before : CaseRoom) (c : Case) (split : SplitValue) → IsTurn g root room (turn_at turns last) before c split → IsSecond g before new c split) →
     Awaits g root turns depth room left → IsFurther root new
 second_further g root turns depth last room new left is goes h =
@@ -248,11 +248,11 @@ second_further g root turns depth last room new left is goes h =
 -- ---- the node that comes
 
 -- a node, and what follows it, where the nodes of a tree come
-record IsFront (g : Basis) (root : CaseRoom) (turns : List Turn) (depth : ℕ) (room : CaseRoom) (c : Case) (x : NodeCase) (left : List NodeCase) : Type 0 where
+record IsFront (g : Basis) (root : CaseRoom) (turns : List OpenSplit) (depth : ℕ) (room : CaseRoom) (c : Case) (x : NodeCase) (left : List NodeCase) : Type 0 where
   within : x.within ≡ c
   follows : Follows g root turns depth room c x.node left
 
-front_from : (g : Basis) (root : CaseRoom) (turns : List Turn) (depth : ℕ) (room : CaseRoom) (c : Case) (x : NodeCase) (left rest : List NodeCase) (tree : CaseTree) →
+front_from : (g : Basis) (root : CaseRoom) (turns : List OpenSplit) (depth : ℕ) (room : CaseRoom) (c : Case) (x : NodeCase) (left rest : List NodeCase) (tree : CaseTree) →
     x ∷ left ≡ cases_of (chip_of g) (limits_of g).wires c tree ++ rest → Awaits g root turns depth room rest →
     IsFront g root turns depth room (tightened (limits_of g).wires c) x left
 unfolding cases_of
@@ -282,7 +282,7 @@ front_from g root turns depth room c x left rest (Branches split a b) e h =
     }
 
 -- its case is tightened
-pub at_here : (g : Basis) (root : CaseRoom) (turns : List Turn) (depth : ℕ) (a b : CaseRoom) (place : ℕ) (x : NodeCase) (left : List NodeCase) →
+pub at_here : (g : Basis) (root : CaseRoom) (turns : List OpenSplit) (depth : ℕ) (a b : CaseRoom) (place : ℕ) (x : NodeCase) (left : List NodeCase) →
     IsRoomFor g a → IsFurther a b → ((c : Case) → IsCaseOf a c → IsCaseOf b (tightened a.widths.wires c)) →
     IsHere g root turns depth a place x left → IsAt g root turns depth b place x left
 at_here g root turns depth a b place x left for more goes here =
@@ -297,7 +297,7 @@ at_here g root turns depth a b place x left for more goes here =
       follows = subst (λ (c : Case). Follows g root turns depth b c x.node left) (sym front.within) front.follows;
     }
 
-pub split_goes : (g : Basis) (root : CaseRoom) (turns turns' : List Turn) (depth next : ℕ) (a d : CaseRoom) (place : ℕ) (x : NodeCase) (left : List NodeCase) (split : SplitValue) →
+pub split_goes : (g : Basis) (root : CaseRoom) (turns turns' : List OpenSplit) (depth next : ℕ) (a d : CaseRoom) (place : ℕ) (x : NodeCase) (left : List NodeCase) (split : SplitValue) →
     IsNodeAt g place (OfSplit split) → next ≡ depth + 1 → IsAt g root turns depth a place x left → IsBegun g root turns turns' depth a d x.within split →
     GoesOn g root turns' next d left
 split_goes g root turns turns' depth next a d place x left split node is at begun =
@@ -313,7 +313,7 @@ split_goes g root turns turns' depth next a d place x left split node is at begu
           (sym is) (begun.awaits fork.second fork.rest fork.awaits);
     })
 
-pub leaf_awaits : (g : Basis) (root : CaseRoom) (turns : List Turn) (depth : ℕ) (a : CaseRoom) (place : ℕ) (x : NodeCase) (left : List NodeCase) (weights : WeightsValue) →
+pub leaf_awaits : (g : Basis) (root : CaseRoom) (turns : List OpenSplit) (depth : ℕ) (a : CaseRoom) (place : ℕ) (x : NodeCase) (left : List NodeCase) (weights : WeightsValue) →
     IsNodeAt g place (OfSum weights) → IsAt g root turns depth a place x left → Awaits g root turns depth a left
 leaf_awaits g root turns depth a place x left weights node at =
     subst (λ (n : NodeValue). Follows g root turns depth a x.within n left) (one_node g place x.node (OfSum weights) at.node node) at.follows
@@ -323,13 +323,13 @@ leaf_awaits g root turns depth a place x left weights node at =
 node_is : (x : NodeCase) (n : NodeValue) → x.node ≡ n → in_case x.within n ≡ x
 node_is x n e = ap (in_case x.within) (sym e)
 
-pub split_judged : (g : Basis) (root : CaseRoom) (turns : List Turn) (depth next : ℕ) (a : CaseRoom) (place : ℕ) (x : NodeCase) (left : List NodeCase) (split : SplitValue) →
+pub split_judged : (g : Basis) (root : CaseRoom) (turns : List OpenSplit) (depth next : ℕ) (a : CaseRoom) (place : ℕ) (x : NodeCase) (left : List NodeCase) (split : SplitValue) →
     IsNodeAt g place (OfSplit split) → IsAt g root turns depth a place x left → KeepsSplit (chip_of g) (limits_of g).wires x.within split → IsJudged {X = ℕ} g place x (Ok next)
 split_judged g root turns depth next a place x left split node at rule =
     let enough : IsEnough (chip_of g) (limits_of g) (lists_of g) (claim_of g) (in_case x.within (OfSplit split)) = record { rule = rule; holds = tt } in
     subst (IsEnough (chip_of g) (limits_of g) (lists_of g) (claim_of g)) (node_is x (OfSplit split) (one_node g place x.node (OfSplit split) at.node node)) enough
 
-pub leaf_enough : (g : Basis) (root : CaseRoom) (turns : List Turn) (depth next : ℕ) (a : CaseRoom) (place : ℕ) (x : NodeCase) (left : List NodeCase) (weights : WeightsValue) →
+pub leaf_enough : (g : Basis) (root : CaseRoom) (turns : List OpenSplit) (depth next : ℕ) (a : CaseRoom) (place : ℕ) (x : NodeCase) (left : List NodeCase) (weights : WeightsValue) →
     IsNodeAt g place (OfSum weights) → IsAt g root turns depth a place x left → IsJudged {X = Unit {0}} g place (in_case x.within (OfSum weights)) (Ok tt) → IsJudged {X = ℕ} g place x (Ok next)
 leaf_enough g root turns depth next a place x left weights node at judged =
     subst (IsEnough (chip_of g) (limits_of g) (lists_of g) (claim_of g)) (node_is x (OfSum weights) (one_node g place x.node (OfSum weights) at.node node)) judged
@@ -348,7 +348,7 @@ cases_nodes soc w c (Branches split a b) =
 pub cases_long : (g : Basis) (t : CaseTree) → nodes_of t ≡ (proof_of g).nodes → length (all_cases (chip_of g) (limits_of g) t) ≡ length (proof_of g).nodes
 cases_long g t same = sym (length-map (all_cases (chip_of g) (limits_of g) t) (λ (n : NodeCase). n.node)) ∙ ap length (cases_nodes (chip_of g) (limits_of g).wires root_case t ∙ same)
 
-pub starts : (g : Basis) (turns : List Turn) (room : CaseRoom) (t : CaseTree) → IsCaseOf room root_case → GoesOn g room turns 0 room (all_cases (chip_of g) (limits_of g) t)
+pub starts : (g : Basis) (turns : List OpenSplit) (room : CaseRoom) (t : CaseTree) → IsCaseOf room root_case → GoesOn g room turns 0 room (all_cases (chip_of g) (limits_of g) t)
 starts g turns room t is = inr (record {
   c = root_case;
   case = is;
@@ -359,12 +359,12 @@ starts g turns room t is = inr (record {
 })
 
 -- the node at a place, where the nodes from it on are left
-pub record IsNext (g : Basis) (root : CaseRoom) (turns : List Turn) (depth : ℕ) (room : CaseRoom) (place : ℕ) (cases : List NodeCase) : Type 0 where
+pub record IsNext (g : Basis) (root : CaseRoom) (turns : List OpenSplit) (depth : ℕ) (room : CaseRoom) (place : ℕ) (cases : List NodeCase) : Type 0 where
   pub x : NodeCase
   pub there : slice_get cases place ≡ Some x
   pub here : IsHere g root turns depth room place x (drop (suc place) cases)
 
-pub next_is : (g : Basis) (root : CaseRoom) (turns : List Turn) (depth : ℕ) (room : CaseRoom) (place : ℕ) (t : CaseTree) → nodes_of t ≡ (proof_of g).nodes → place < length (proof_of g).nodes → IsFurther root room →
+pub next_is : (g : Basis) (root : CaseRoom) (turns : List OpenSplit) (depth : ℕ) (room : CaseRoom) (place : ℕ) (t : CaseTree) → nodes_of t ≡ (proof_of g).nodes → place < length (proof_of g).nodes → IsFurther root room →
     GoesOn g root turns depth room (drop place (all_cases (chip_of g) (limits_of g) t)) → IsNext g root turns depth room place (all_cases (chip_of g) (limits_of g) t)
 next_is g root turns depth room place t same within further goes =
     go (all_cases (chip_of g) (limits_of g) t) (cases_nodes (chip_of g) (limits_of g).wires root_case t ∙ same) (omega (arith, within, cases_long g t same)) goes

@@ -5,7 +5,7 @@ use Rattle.plan_model.specs.Plans.{LimitsValue}
 use Rattle.bus_proofs.specs.declared.basis.Basis.{Basis}
 use Rattle.bus_proofs.specs.declared.case.CaseRoom.{CaseRoom}
 use Rattle.bus_proofs.specs.declared.leaf.LeafRoom.{LeafRoom}
-use Rattle.bus_proofs.specs.declared.walk.Turn.{Turn}
+use Rattle.bus_proofs.specs.declared.walk.OpenSplit.{OpenSplit}
 use Rattle.bus_proofs.specs.Proofs.{ProofValue}
 use Rattle.bus_proofs.specs.Cases.{root_case}
 use Rattle.bus_proofs.specs.Grammar.{MayBeSaid}
@@ -20,7 +20,7 @@ pub record RoomValue : Type 0 where
   pub proof : ProofValue
 
 -- the room has the case of the root, and space for each leaf of a proof that a text may say, and for a turn at each node
-pub record IsProofRoom (basis : Basis) (case : CaseRoom) (leaf : LeafRoom) (turns : List Turn) : Type 0 where
+pub record IsProofRoom (basis : Basis) (case : CaseRoom) (leaf : LeafRoom) (turns : List OpenSplit) : Type 0 where
   pub basis_is : IsBasis basis
   pub said : MayBeSaid (proof_of basis)
   pub room : IsRoomFor basis case

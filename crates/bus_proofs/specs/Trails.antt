@@ -2,24 +2,24 @@
 use Rattle.std.specs.Prelude.{◌≡◌, ℕ, ◌+◌, ◌-◌, ◌*◌, ◌<◌, ◌≤◌, min, List, [], ◌∷◌, ◌++◌, length, take, slice_set, vec_capacity}
 use Rattle.std.specs.List.{All, sum_by}
 use Rattle.bus_proofs.specs.declared.widths.Interval.{Interval}
-use Rattle.bus_proofs.specs.declared.widths.Change.{Change}
-use Rattle.bus_proofs.specs.declared.widths.Change.TheVariants.{Added, Was}
+use Rattle.bus_proofs.specs.declared.widths.IntervalChange.{IntervalChange}
+use Rattle.bus_proofs.specs.declared.widths.IntervalChange.TheVariants.{Added, Was}
 use Rattle.bus_proofs.specs.declared.widths.Widths.{Widths}
 use Rattle.bus_proofs.specs.Cases.{interval, interval_of}
 
 -- the intervals before a change, from those after it
-abbrev pub undone_once : List Interval → Change → List Interval
+abbrev pub undone_once : List Interval → IntervalChange → List Interval
 undone_once is Added = take (length is - 1) is
 undone_once is (Was rank old) = slice_set is rank old
 
 -- the intervals before some changes, from those after the last of them
-abbrev pub undone : List Interval → List Change → List Interval
+abbrev pub undone : List Interval → List IntervalChange → List Interval
 undone is [] = is
 undone is (c ∷ cs) = undone_once (undone is cs) c
 
 -- the one is the other after some changes, which are noted behind what was noted before
 pub record IsLater (before after : Widths) : Type 0 where
-  pub changes : List Change
+  pub changes : List IntervalChange
   pub trail : after.trail.items ≡ before.trail.items ++ changes
   pub undone_is : undone after.intervals.items changes ≡ before.intervals.items
   pub wires : after.wires ≡ before.wires

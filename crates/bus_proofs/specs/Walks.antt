@@ -11,7 +11,7 @@ use Rattle.bus_proofs.specs.declared.basis.Basis.{Basis}
 use Rattle.bus_proofs.specs.declared.case.CaseRoom.{CaseRoom}
 use Rattle.bus_proofs.specs.declared.case.Mark.{Mark}
 use Rattle.bus_proofs.specs.declared.leaf.LeafRoom.{LeafRoom}
-use Rattle.bus_proofs.specs.declared.walk.Turn.{Turn}
+use Rattle.bus_proofs.specs.declared.walk.OpenSplit.{OpenSplit}
 use Rattle.bus_proofs.specs.Proofs.{WeightsValue, SplitValue, OfWide, OfPlace, NodeValue, OfSplit, OfSum, CaseTree, nodes_of}
 use Rattle.bus_proofs.specs.Cases.{Case, known_ranks, with_rank, wide, placed_off, case_by, first_case, second_case, NodeCase, cases_of, IsWide, IsPlace, KeepsSplit}
 use Rattle.bus_proofs.specs.Bounds.{AreEnough, HasFault, IsEnough, KeepsNode}
@@ -72,10 +72,10 @@ pub record IsPlaceAt (soc : SocValue) (c : Case) (m rank : ℕ) (twins : List �
 
 -- ---- turns
 
-abbrev pub no_turn : Turn
+abbrev pub no_turn : OpenSplit
 no_turn = record { mark = record { changes = 0; takings = 0; places = 0 }; node = 0; second = false }
 
-abbrev pub turn_at : List Turn → ℕ → Turn
+abbrev pub turn_at : List OpenSplit → ℕ → OpenSplit
 turn_at turns n = slice_index_or turns n no_turn
 
 -- the case that both branches of a split are made of
@@ -94,7 +94,7 @@ IsForked soc c (OfWide rank width) = (rank < known_ranks c) × (width < 256)
 IsForked soc c (OfPlace m rank twins) = HasTamTest soc m × All (λ r. r < known_ranks c) (rank ∷ twins)
 
 -- A split of the proof, of which a branch is under way: the room before its branches, what was noted there, and the case there.
-pub record IsTurn (g : Basis) (root now : CaseRoom) (turn : Turn) (before : CaseRoom) (c : Case) (split : SplitValue) : Type 0 where
+pub record IsTurn (g : Basis) (root now : CaseRoom) (turn : OpenSplit) (before : CaseRoom) (c : Case) (split : SplitValue) : Type 0 where
   pub mark : IsMark turn.mark before
   pub room : IsRoomFor g before
   pub case : IsCaseOf before c
@@ -112,7 +112,7 @@ pub record IsLaterThen (g : Basis) (c : Case) (split : SplitValue) (Rest : List 
 
 -- Behind a turn the nodes `left` are to come, where `Rest` says which come behind the split: behind its first branch its second
 -- one and then those, behind its second branch those alone.
-pub record IsWithin (g : Basis) (root : CaseRoom) (turn : Turn) (Rest : CaseRoom → List NodeCase → Type 0) (room : CaseRoom)
+pub record IsWithin (g : Basis) (root : CaseRoom) (turn : OpenSplit) (Rest : CaseRoom → List NodeCase → Type 0) (room : CaseRoom)
     (left : List NodeCase) : Type 0 where
   pub before : CaseRoom
   pub c : Case
@@ -121,12 +121,12 @@ pub record IsWithin (g : Basis) (root : CaseRoom) (turn : Turn) (Rest : CaseRoom
   pub behind : MatchBool turn.second (Rest before left) (IsLaterThen g c split (Rest before) left)
 
 -- behind a tree in the case of the room, within so many splits, the nodes `left` are to come
-unfoldable pub Awaits : Basis → (root : CaseRoom) → List Turn → (depth : ℕ) → CaseRoom → List NodeCase → Type 0
+unfoldable pub Awaits : Basis → (root : CaseRoom) → List OpenSplit → (depth : ℕ) → CaseRoom → List NodeCase → Type 0
 Awaits g root turns zero room left = left ≡ []
 Awaits g root turns (suc depth) room left = IsWithin g root (turn_at turns depth) (Awaits g root turns depth) room left
 
 -- the nodes that are left begin with those of a tree in the case of the room
-pub record Begins (g : Basis) (root : CaseRoom) (turns : List Turn) (depth : ℕ) (room : CaseRoom) (left : List NodeCase) : Type 0 where
+pub record Begins (g : Basis) (root : CaseRoom) (turns : List OpenSplit) (depth : ℕ) (room : CaseRoom) (left : List NodeCase) : Type 0 where
   pub c : Case
   pub case : IsCaseOf room c
   pub tree : CaseTree
@@ -135,20 +135,20 @@ pub record Begins (g : Basis) (root : CaseRoom) (turns : List Turn) (depth : ℕ
   pub awaits : Awaits g root turns depth room rest
 
 -- they do, or none is left
-abbrev pub GoesOn : Basis → (root : CaseRoom) → List Turn → (depth : ℕ) → CaseRoom → List NodeCase → Type 0
+abbrev pub GoesOn : Basis → (root : CaseRoom) → List OpenSplit → (depth : ℕ) → CaseRoom → List NodeCase → Type 0
 GoesOn g root turns depth room left = (left ≡ []) ⊎ Begins g root turns depth room left
 
 -- ---- a node
 
 -- the node at the place comes, and then the nodes `left`
-pub record IsHere (g : Basis) (root : CaseRoom) (turns : List Turn) (depth : ℕ) (room : CaseRoom) (place : ℕ) (x : NodeCase)
+pub record IsHere (g : Basis) (root : CaseRoom) (turns : List OpenSplit) (depth : ℕ) (room : CaseRoom) (place : ℕ) (x : NodeCase)
     (left : List NodeCase) : Type 0 where
   pub node : IsNodeAt g place x.node
   pub further : IsFurther root room
   pub begins : Begins g root turns depth room (x ∷ left)
 
 -- both branches of a split are left, and then what awaits behind them
-pub record IsFork (g : Basis) (root : CaseRoom) (turns : List Turn) (depth : ℕ) (room : CaseRoom) (c : Case) (split : SplitValue)
+pub record IsFork (g : Basis) (root : CaseRoom) (turns : List OpenSplit) (depth : ℕ) (room : CaseRoom) (c : Case) (split : SplitValue)
     (left : List NodeCase) : Type 0 where
   pub first : CaseTree
   pub second : CaseTree
@@ -158,12 +158,12 @@ pub record IsFork (g : Basis) (root : CaseRoom) (turns : List Turn) (depth : ℕ
   pub awaits : Awaits g root turns depth room rest
 
 -- what is left behind a node
-abbrev pub Follows : Basis → (root : CaseRoom) → List Turn → (depth : ℕ) → CaseRoom → Case → NodeValue → List NodeCase → Type 0
+abbrev pub Follows : Basis → (root : CaseRoom) → List OpenSplit → (depth : ℕ) → CaseRoom → Case → NodeValue → List NodeCase → Type 0
 Follows g root turns depth room c (OfSplit split) left = IsFork g root turns depth room c split left
 Follows g root turns depth room c (OfSum weights) left = Awaits g root turns depth room left
 
 -- the room has the case of the node at the place, tightened, and then the nodes `left` come
-pub record IsAt (g : Basis) (root : CaseRoom) (turns : List Turn) (depth : ℕ) (room : CaseRoom) (place : ℕ) (x : NodeCase)
+pub record IsAt (g : Basis) (root : CaseRoom) (turns : List OpenSplit) (depth : ℕ) (room : CaseRoom) (place : ℕ) (x : NodeCase)
     (left : List NodeCase) : Type 0 where
   pub node : IsNodeAt g place x.node
   pub case : IsCaseOf room x.within
@@ -171,7 +171,7 @@ pub record IsAt (g : Basis) (root : CaseRoom) (turns : List Turn) (depth : ℕ) 
   pub follows : Follows g root turns depth room x.within x.node left
 
 -- the first branch of a split that keeps its rule has begun, in the room `new`
-pub record IsBegun (g : Basis) (root : CaseRoom) (turns turns' : List Turn) (depth : ℕ) (old new : CaseRoom) (c : Case)
+pub record IsBegun (g : Basis) (root : CaseRoom) (turns turns' : List OpenSplit) (depth : ℕ) (old new : CaseRoom) (c : Case)
     (split : SplitValue) : Type 0 where
   pub rule : KeepsSplit (chip_of g) (limits_of g).wires c split
   pub first : IsCaseOf new (first_case (chip_of g) (limits_of g).wires c split)

@@ -17,7 +17,7 @@ use crate::laws::{accepted_proofs_are_bounds, accepted_proofs_have_no_fault};
 use crate::leaf::LeafRoom;
 use crate::leaf_costs::USES_MOST;
 use crate::nodes::RANKS_MOST;
-use crate::walk::{Turn, check_nodes};
+use crate::walk::{OpenSplit, check_nodes};
 use crate::{Node, Proof, ProofFault};
 use outside::NoMemory;
 use plan_model::Limits;
@@ -32,7 +32,7 @@ pub struct ProofRoom<'a> {
     case: CaseRoom,
     leaf: LeafRoom,
     /// The splits that are under way.
-    turns: Vec<Turn>,
+    turns: Vec<OpenSplit>,
 }
 
 impl<'a> Model for ProofRoom<'a> {
@@ -46,7 +46,7 @@ impl<'a> Model for ProofRoom<'a> {
     ghost invariant = { λ r. IsProofRoom r.basis r.case r.leaf r.turns.items };
 }
 
-const NO_TURN: Turn = Turn {
+const NO_TURN: OpenSplit = OpenSplit {
     mark: Mark {
         changes: 0,
         takings: 0,
@@ -118,7 +118,7 @@ fn check_in(
     basis: &Basis<'_>,
     case: &mut CaseRoom,
     leaf: &mut LeafRoom,
-    turns: &mut [Turn],
+    turns: &mut [OpenSplit],
 ) -> Result<(), ProofFault>
     requires room { IsProofRoom basis.now case.old leaf.old turns.old }
     ensures accepted { OnOk result (IsAccepted (chip_of basis.now) (limits_of basis.now) (proof_of basis.now)) }

@@ -21,7 +21,7 @@ use soc_model::place_of;
 
 /// A split of which a branch is under way.
 #[derive(Clone, Copy, Drop)]
-pub(crate) struct Turn {
+pub(crate) struct OpenSplit {
     /// How much was noted before its branches.
     pub mark: Mark,
     /// The place of its node.
@@ -32,7 +32,7 @@ pub(crate) struct Turn {
 
 /// Where the walk is.
 #[derive(Clone, Copy)]
-pub(crate) struct Spot {
+pub(crate) struct WalkSpot {
     /// The place of the node.
     pub node: usize,
     /// How many splits are under way.
@@ -48,11 +48,11 @@ fn node_at(proof: &Proof, place: usize) -> &Node
 }
 
 /// Notes a split whose first branch begins.
-fn note_turn(turns: &mut [Turn], at: Spot, mark: Mark)
+fn note_turn(turns: &mut [OpenSplit], at: WalkSpot, mark: Mark)
     requires { at.depth < length turns.old }
     ensures { turns.new ≡ slice_set turns.old at.depth (record { mark = mark; node = at.node; second = false }) }
 {
-    turns[at.depth] = Turn {
+    turns[at.depth] = OpenSplit {
         mark,
         node: at.node,
         second: false,
@@ -62,9 +62,9 @@ fn note_turn(turns: &mut [Turn], at: Spot, mark: Mark)
 /// Begins the first of two cases by the width of a rank, where they keep their rule. The answer is whether they do.
 fn begin_wide(
     basis: &Basis<'_>,
-    at: Spot,
+    at: WalkSpot,
     case: &mut CaseRoom,
-    turns: &mut [Turn],
+    turns: &mut [OpenSplit],
     rank: u64,
     width: u64,
 ) -> bool
@@ -90,9 +90,9 @@ fn begin_wide(
 /// Begins the first of two cases by the place of a module, where they keep their rule. The answer is whether they do.
 fn begin_place(
     basis: &Basis<'_>,
-    at: Spot,
+    at: WalkSpot,
     case: &mut CaseRoom,
-    turns: &mut [Turn],
+    turns: &mut [OpenSplit],
     number: u64,
     rank: u64,
     twins: &[u64],
@@ -158,7 +158,7 @@ fn take_second(basis: &Basis<'_>, case: &mut CaseRoom, node: &Node)
 }
 
 /// Begins the second branch of the last split that is under way.
-fn begin_second(basis: &Basis<'_>, case: &mut CaseRoom, turns: &mut [Turn], last: usize)
+fn begin_second(basis: &Basis<'_>, case: &mut CaseRoom, turns: &mut [OpenSplit], last: usize)
     requires basis { IsBasis basis.now }
     requires room { last < length turns.old }
     requires turn { (root : CaseRoom) × (before : CaseRoom) × (c : Case) × (split : SplitValue) ×
@@ -179,7 +179,7 @@ fn begin_second(basis: &Basis<'_>, case: &mut CaseRoom, turns: &mut [Turn], last
 fn next_branch(
     basis: &Basis<'_>,
     case: &mut CaseRoom,
-    turns: &mut [Turn],
+    turns: &mut [OpenSplit],
     under_way: usize,
 ) -> usize
     requires basis { IsBasis basis.now }
@@ -248,10 +248,10 @@ fn judge_leaf(
 /// Checks a node whose case is tightened, and goes on behind it. The answer is how many splits are under way then.
 fn go_on(
     basis: &Basis<'_>,
-    at: Spot,
+    at: WalkSpot,
     case: &mut CaseRoom,
     leaf: &mut LeafRoom,
-    turns: &mut [Turn],
+    turns: &mut [OpenSplit],
 ) -> Result<usize, ProofFault>
     requires basis { IsBasis basis.now }
     requires kept { AllKept basis.now }
@@ -301,10 +301,10 @@ fn go_on(
 /// Checks a node and goes on behind it. The answer is how many splits are under way then.
 fn check_node(
     basis: &Basis<'_>,
-    at: Spot,
+    at: WalkSpot,
     case: &mut CaseRoom,
     leaf: &mut LeafRoom,
-    turns: &mut [Turn],
+    turns: &mut [OpenSplit],
 ) -> Result<usize, ProofFault>
     requires basis { IsBasis basis.now }
     requires kept { AllKept basis.now }
@@ -337,7 +337,7 @@ pub(crate) fn check_nodes(
     basis: &Basis<'_>,
     case: &mut CaseRoom,
     leaf: &mut LeafRoom,
-    turns: &mut [Turn],
+    turns: &mut [OpenSplit],
 ) -> Result<(), ProofFault>
     requires basis { IsBasis basis.now }
     requires kept { AllKept basis.now }
@@ -353,7 +353,7 @@ pub(crate) fn check_nodes(
 {
     let mut depth = 0;
     for node in 0..basis.proof.nodes.len() {
-        let at = Spot { node, depth };
+        let at = WalkSpot { node, depth };
         match check_node(basis, at, case, leaf, turns) {
             Ok(next) => depth = next,
             Err(fault) => return Err(fault),

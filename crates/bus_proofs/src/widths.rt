@@ -1,7 +1,7 @@
 //! The widths that the buses of the known ranks may have, with a trail of the changes that led to them.
 ghost use Rattle.std.specs.Prelude.{◌≡◌, ◌+◌, ◌-◌, ◌<◌, ◌≤◌, ◌++◌, ◌∷◌, [], true, false, length, map, take, drop, slice_set, vec_capacity, IfOk};
 ghost use Rattle.std.specs.List.{All};
-ghost use Rattle.bus_proofs.specs.declared.widths.Change.TheVariants.{Was};
+ghost use Rattle.bus_proofs.specs.declared.widths.IntervalChange.TheVariants.{Was};
 ghost use Rattle.bus_proofs.specs.declared.widths.Widths.{Widths};
 ghost use Rattle.bus_proofs.specs.Cases.{Case, IsEmpty, at_least, at_most, interval, interval_of, least_wires, spare, tightened_by};
 ghost use Rattle.bus_proofs.specs.Trails.{HasGap, HasNoGap, IsBack, IsFew, IsLater, IsPart, IsRoomy, tight, undone_once};
@@ -18,7 +18,7 @@ pub struct Interval {
 
 /// A change of the intervals, by what was before it.
 #[derive(Clone, Copy)]
-pub(crate) enum Change {
+pub(crate) enum IntervalChange {
     /// The last rank wasn't there.
     Added,
     /// A rank had this interval.
@@ -29,7 +29,7 @@ pub(crate) enum Change {
 #[derive(Drop)]
 pub(crate) struct Widths {
     pub intervals: Vec<Interval>,
-    pub trail: Vec<Change>,
+    pub trail: Vec<IntervalChange>,
     /// The wires of the chip.
     pub wires: u64,
     /// How many ranks there is room for.
@@ -87,7 +87,9 @@ fn put(widths: &mut Widths, rank: usize, old: Interval, interval: Interval)
     ensures room { vec_capacity widths.new.intervals ≡ vec_capacity widths.old.intervals }
     ensures trail_room { vec_capacity widths.new.trail ≡ vec_capacity widths.old.trail }
 {
-    widths.trail.push_reserved(Change::Was { rank, old });
+    widths
+        .trail
+        .push_reserved(IntervalChange::Was { rank, old });
     widths.intervals[rank] = interval;
 }
 
@@ -273,12 +275,12 @@ pub(crate) fn add_rank(widths: &mut Widths)
         low: 0,
         high: widths.wires,
     };
-    widths.trail.push_reserved(Change::Added);
+    widths.trail.push_reserved(IntervalChange::Added);
     widths.intervals.push_reserved(any);
 }
 
 /// Takes a change back.
-fn undo_once(widths: &mut Widths, change: Change)
+fn undo_once(widths: &mut Widths, change: IntervalChange)
     ensures intervals { widths.new.intervals.items ≡ undone_once widths.old.intervals.items change }
     ensures trail { widths.new.trail.items ≡ widths.old.trail.items }
     ensures wires { widths.new.wires ≡ widths.old.wires }
@@ -287,10 +289,10 @@ fn undo_once(widths: &mut Widths, change: Change)
     ensures trail_room { vec_capacity widths.new.trail ≡ vec_capacity widths.old.trail }
 {
     match change {
-        Change::Added => {
+        IntervalChange::Added => {
             widths.intervals.pop();
         }
-        Change::Was { rank, old } => {
+        IntervalChange::Was { rank, old } => {
             if rank < widths.intervals.len() {
                 widths.intervals[rank] = old;
             }

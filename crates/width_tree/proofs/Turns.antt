@@ -11,7 +11,7 @@ use Rattle.width_tree.specs.declared.Node.{Node}
 use Rattle.width_tree.specs.declared.TreeFault.{TreeFault}
 use Rattle.width_tree.specs.declared.TreeFault.TheVariants.{BadNode, Less}
 use Rattle.width_tree.specs.declared.intervals.Interval.{Interval}
-use Rattle.width_tree.specs.declared.walk.Turn.{Turn}
+use Rattle.width_tree.specs.declared.walk.OpenSplit.{OpenSplit}
 use Rattle.width_tree.specs.Trees.{LeafValue, OfTime, OfArea, OfBus, OfApart, NodeValue, OfSplit, OfLeaf, WidthTree, Leaf, Branches, nodes_of, node_value}
 use Rattle.width_tree.specs.Cases.{Case, interval, interval_at, narrow_at, wide_at, case_at, narrow_case, wide_case, NodeCase, in_case, cases_of}
 use Rattle.width_tree.specs.Bounds.{IsEnough, HasFault}
@@ -22,7 +22,7 @@ use Rattle.width_tree.proofs.CaseFacts.{cases_leaf}
 
 -- ---- what is known of the last split
 
-behind_same : (soc : SocValue) (c : Case) (turn : Turn) (P Q : List NodeCase → Type 0) → ((l : List NodeCase) → P l → Q l) → (left : List NodeCase) → Behind soc c turn P left → Behind soc c turn Q left
+behind_same : (soc : SocValue) (c : Case) (turn : OpenSplit) (P Q : List NodeCase → Type 0) → ((l : List NodeCase) → P l → Q l) → (left : List NodeCase) → Behind soc c turn P left → Behind soc c turn Q left
 behind_same soc c turn P Q goes left h = go turn.second h
   where
     go : (second : Bool) → MatchBool second (P left) ((tree : WidthTree) × (rest : List NodeCase) × (left ≡ cases_of soc (case_later c turn) tree ++ rest) × P rest) → MatchBool second (Q left) ((tree : WidthTree) × (rest : List NodeCase) × (left ≡ cases_of soc (case_later c turn) tree ++ rest) × Q rest)
@@ -30,87 +30,87 @@ behind_same soc c turn P Q goes left h = go turn.second h
     go false h = (h.0, h.1, h.2, goes h.1 h.3)
 
 -- the splits below the depth alone matter
-awaits_same : (soc : SocValue) (w : ℕ) (times : List ℕ) (turns turns' : List Turn) (depth : ℕ) (c : Case) (left : List NodeCase) → ((k : ℕ) → k < depth → turn_at turns' k ≡ turn_at turns k) → Awaits soc w times turns depth c left → Awaits soc w times turns' depth c left
+awaits_same : (soc : SocValue) (w : ℕ) (times : List ℕ) (turns turns' : List OpenSplit) (depth : ℕ) (c : Case) (left : List NodeCase) → ((k : ℕ) → k < depth → turn_at turns' k ≡ turn_at turns k) → Awaits soc w times turns depth c left → Awaits soc w times turns' depth c left
 unfolding Awaits
 awaits_same soc w times turns turns' zero c left same h = h
 awaits_same soc w times turns turns' (suc d) c left same h =
-    let P : Turn → Type 0 = λ (t : Turn). IsTurn w times c t × Behind soc c t (Awaits soc w times turns' d (case_before c t)) left in
+    let P : OpenSplit → Type 0 = λ (t : OpenSplit). IsTurn w times c t × Behind soc c t (Awaits soc w times turns' d (case_before c t)) left in
     let here : turn_at turns' d ≡ turn_at turns d = same d (omega arith) in
     let inner = behind_same soc c (turn_at turns d) (Awaits soc w times turns d (case_before c (turn_at turns d))) (Awaits soc w times turns' d (case_before c (turn_at turns d)))
     (λ l a. awaits_same soc w times turns turns' d (case_before c (turn_at turns d)) l (λ k less. same k (omega arith)) a) left h.1 in
     subst P (sym here) (h.0, inner)
 
-pub awaits_none : (soc : SocValue) (w : ℕ) (times : List ℕ) (turns : List Turn) (depth : ℕ) (c : Case) (left : List NodeCase) → depth ≡ 0 → Awaits soc w times turns depth c left → left ≡ []
+pub awaits_none : (soc : SocValue) (w : ℕ) (times : List ℕ) (turns : List OpenSplit) (depth : ℕ) (c : Case) (left : List NodeCase) → depth ≡ 0 → Awaits soc w times turns depth c left → left ≡ []
 unfolding Awaits
 awaits_none soc w times turns depth c left none h = (rw none at h)
 
-pub awaits_start : (soc : SocValue) (w : ℕ) (times : List ℕ) (turns : List Turn) (c : Case) → Awaits soc w times turns 0 c []
+pub awaits_start : (soc : SocValue) (w : ℕ) (times : List ℕ) (turns : List OpenSplit) (c : Case) → Awaits soc w times turns 0 c []
 unfolding Awaits
 awaits_start soc w times turns c = refl
 
 -- what comes behind a tree within a split, by its turn
-record Within (soc : SocValue) (w : ℕ) (times : List ℕ) (turns : List Turn) (last : ℕ) (c : Case) (turn : Turn) (left : List NodeCase) : Type 0 where
+record Within (soc : SocValue) (w : ℕ) (times : List ℕ) (turns : List OpenSplit) (last : ℕ) (c : Case) (turn : OpenSplit) (left : List NodeCase) : Type 0 where
   turn_is : IsTurn w times c turn
   behind : Behind soc c turn (Awaits soc w times turns last (case_before c turn)) left
 
-awaits_open : (soc : SocValue) (w : ℕ) (times : List ℕ) (turns : List Turn) (depth last : ℕ) (c : Case) (left : List NodeCase) → depth ≡ suc last → Awaits soc w times turns depth c left → Within soc w times turns last c (turn_at turns last) left
+awaits_open : (soc : SocValue) (w : ℕ) (times : List ℕ) (turns : List OpenSplit) (depth last : ℕ) (c : Case) (left : List NodeCase) → depth ≡ suc last → Awaits soc w times turns depth c left → Within soc w times turns last c (turn_at turns last) left
 unfolding Awaits
 awaits_open soc w times turns depth last c left is h =
     let h' = rw is at h in
     record { turn_is = h'.0; behind = h'.1 }
 
-awaits_shut : (soc : SocValue) (w : ℕ) (times : List ℕ) (turns : List Turn) (last : ℕ) (c : Case) (left : List NodeCase) → Within soc w times turns last c (turn_at turns last) left → Awaits soc w times turns (suc last) c left
+awaits_shut : (soc : SocValue) (w : ℕ) (times : List ℕ) (turns : List OpenSplit) (last : ℕ) (c : Case) (left : List NodeCase) → Within soc w times turns last c (turn_at turns last) left → Awaits soc w times turns (suc last) c left
 unfolding Awaits
 awaits_shut soc w times turns last c left h = (h.turn_is, h.behind)
 
-awaits_close : (soc : SocValue) (w : ℕ) (times : List ℕ) (turns : List Turn) (depth last : ℕ) (c : Case) (turn : Turn) (left : List NodeCase) → suc last ≡ depth → turn_at turns last ≡ turn → Within soc w times turns last c turn left → Awaits soc w times turns depth c left
+awaits_close : (soc : SocValue) (w : ℕ) (times : List ℕ) (turns : List OpenSplit) (depth last : ℕ) (c : Case) (turn : OpenSplit) (left : List NodeCase) → suc last ≡ depth → turn_at turns last ≡ turn → Within soc w times turns last c turn left → Awaits soc w times turns depth c left
 awaits_close soc w times turns depth last c turn left is same h =
-    subst (λ n. Awaits soc w times turns n c left) is (awaits_shut soc w times turns last c left (subst (λ (t : Turn). Within soc w times turns last c t left) (sym same) h))
+    subst (λ n. Awaits soc w times turns n c left) is (awaits_shut soc w times turns last c left (subst (λ (t : OpenSplit). Within soc w times turns last c t left) (sym same) h))
 
-pub awaits_turn : (soc : SocValue) (w : ℕ) (times : List ℕ) (turns : List Turn) (depth last : ℕ) (c : Case) (left : List NodeCase) → depth ≡ suc last → Awaits soc w times turns depth c left → IsTurn w times c (turn_at turns last)
+pub awaits_turn : (soc : SocValue) (w : ℕ) (times : List ℕ) (turns : List OpenSplit) (depth last : ℕ) (c : Case) (left : List NodeCase) → depth ≡ suc last → Awaits soc w times turns depth c left → IsTurn w times c (turn_at turns last)
 awaits_turn soc w times turns depth last c left is h = (awaits_open soc w times turns depth last c left is h).turn_is
 
-behind_second : (soc : SocValue) (c : Case) (turn : Turn) (P : List NodeCase → Type 0) (left : List NodeCase) → turn.second ≡ true → Behind soc c turn P left → P left
+behind_second : (soc : SocValue) (c : Case) (turn : OpenSplit) (P : List NodeCase → Type 0) (left : List NodeCase) → turn.second ≡ true → Behind soc c turn P left → P left
 behind_second soc c turn P left second h = (rw second at h)
 
-pub awaits_second : (soc : SocValue) (w : ℕ) (times : List ℕ) (turns : List Turn) (depth last : ℕ) (c : Case) (left : List NodeCase) → depth ≡ suc last → (turn_at turns last).second ≡ true → Awaits soc w times turns depth c left → Awaits soc w times turns last (case_before c (turn_at turns last)) left
+pub awaits_second : (soc : SocValue) (w : ℕ) (times : List ℕ) (turns : List OpenSplit) (depth last : ℕ) (c : Case) (left : List NodeCase) → depth ≡ suc last → (turn_at turns last).second ≡ true → Awaits soc w times turns depth c left → Awaits soc w times turns last (case_before c (turn_at turns last)) left
 awaits_second soc w times turns depth last c left is second h =
     behind_second soc c (turn_at turns last) (Awaits soc w times turns last (case_before c (turn_at turns last))) left second (awaits_open soc w times turns depth last c left is h).behind
 
 -- the second branch, and what comes behind it
-record Later (soc : SocValue) (c : Case) (turn : Turn) (P : List NodeCase → Type 0) (left : List NodeCase) : Type 0 where
+record Later (soc : SocValue) (c : Case) (turn : OpenSplit) (P : List NodeCase → Type 0) (left : List NodeCase) : Type 0 where
   tree : WidthTree
   rest : List NodeCase
   left_is : left ≡ cases_of soc (case_later c turn) tree ++ rest
   then : P rest
 
-behind_first : (soc : SocValue) (c : Case) (turn : Turn) (P : List NodeCase → Type 0) (left : List NodeCase) → turn.second ≡ false → Behind soc c turn P left → Later soc c turn P left
+behind_first : (soc : SocValue) (c : Case) (turn : OpenSplit) (P : List NodeCase → Type 0) (left : List NodeCase) → turn.second ≡ false → Behind soc c turn P left → Later soc c turn P left
 behind_first soc c turn P left first h = let h' = rw first at h in record { tree = h'.0; rest = h'.1; left_is = h'.2; then = h'.3 }
 
-to_second : (soc : SocValue) (c : Case) (turn : Turn) (P : List NodeCase → Type 0) (left : List NodeCase) → turn.second ≡ true → P left → Behind soc c turn P left
+to_second : (soc : SocValue) (c : Case) (turn : OpenSplit) (P : List NodeCase → Type 0) (left : List NodeCase) → turn.second ≡ true → P left → Behind soc c turn P left
 to_second soc c turn P left second h = rw second h
 
-to_first : (soc : SocValue) (c : Case) (turn : Turn) (P : List NodeCase → Type 0) (left : List NodeCase) → turn.second ≡ false → Later soc c turn P left → Behind soc c turn P left
+to_first : (soc : SocValue) (c : Case) (turn : OpenSplit) (P : List NodeCase → Type 0) (left : List NodeCase) → turn.second ≡ false → Later soc c turn P left → Behind soc c turn P left
 to_first soc c turn P left first h = rw first (h.tree, h.rest, h.left_is, h.then)
 
 -- ---- the same case by two ways
 
-pub later_of_narrow : (c : Case) (turn : Turn) (x : Interval) → case_later (slice_set c turn.place x) turn ≡ slice_set c turn.place (interval (turn.at + 1) turn.old.high)
+pub later_of_narrow : (c : Case) (turn : OpenSplit) (x : Interval) → case_later (slice_set c turn.place x) turn ≡ slice_set c turn.place (interval (turn.at + 1) turn.old.high)
 later_of_narrow c turn x = set-set c turn.place x (interval (turn.at + 1) turn.old.high)
 
-pub before_of_set : (c : Case) (turn : Turn) (x : Interval) → case_before (slice_set c turn.place x) turn ≡ case_before c turn
+pub before_of_set : (c : Case) (turn : OpenSplit) (x : Interval) → case_before (slice_set c turn.place x) turn ≡ case_before c turn
 before_of_set c turn x = set-set c turn.place x turn.old
 
 -- ---- a split begins
 
-turn_same : (turns : List Turn) (n : ℕ) (turn : Turn) → n < length turns → turn_at (slice_set turns n turn) n ≡ turn
+turn_same : (turns : List OpenSplit) (n : ℕ) (turn : OpenSplit) → n < length turns → turn_at (slice_set turns n turn) n ≡ turn
 turn_same turns n turn within = get_or-set_same turns n turn no_turn within
 
-turn_other : (turns : List Turn) (n k : ℕ) (turn : Turn) → k < n → turn_at (slice_set turns n turn) k ≡ turn_at turns k
+turn_other : (turns : List OpenSplit) (n k : ℕ) (turn : OpenSplit) → k < n → turn_at (slice_set turns n turn) k ≡ turn_at turns k
 turn_other turns n k turn less = get_or-set_other turns n k turn no_turn (λ e. omega arith)
 
 -- the first branch of a split that is put behind the others
-pub first_begins : (soc : SocValue) (w : ℕ) (times : List ℕ) (turns turns' : List Turn) (depth : ℕ) (c c' : Case) (turn : Turn) (x : Interval) (wide : WidthTree) (rest : List NodeCase) →
+pub first_begins : (soc : SocValue) (w : ℕ) (times : List ℕ) (turns turns' : List OpenSplit) (depth : ℕ) (c c' : Case) (turn : OpenSplit) (x : Interval) (wide : WidthTree) (rest : List NodeCase) →
     turns' ≡ slice_set turns depth turn → depth < length turns → turn.second ≡ false → turn.old ≡ interval_at c turn.place → c' ≡ slice_set c turn.place x → IsTurn w times c' turn →
     Awaits soc w times turns depth c rest → Awaits soc w times turns' (depth + 1) c' (cases_of soc (wide_at c turn.at turn.place) wide ++ rest)
 first_begins soc w times turns turns' depth c c' turn x wide rest turns_is room first old case_is is h =
@@ -134,7 +134,7 @@ first_begins soc w times turns turns' depth c c' turn x wide rest turns_is room 
     inner = subst (λ (d : Case). Awaits soc w times turns' depth d rest) (sym back) (awaits_same soc w times turns turns' depth c rest (λ k less. ap (λ l. turn_at l k) turns_is ∙ turn_other turns depth k turn less) h)
 
 -- the second branch of the last split
-pub second_begins : (soc : SocValue) (w : ℕ) (times : List ℕ) (turns turns' : List Turn) (depth last : ℕ) (c c' : Case) (turn now : Turn) (left : List NodeCase) →
+pub second_begins : (soc : SocValue) (w : ℕ) (times : List ℕ) (turns turns' : List OpenSplit) (depth last : ℕ) (c c' : Case) (turn now : OpenSplit) (left : List NodeCase) →
     depth ≡ suc last → last < length turns → turn_at turns last ≡ turn → turn.second ≡ false → now ≡ record turn { second = true } → turns' ≡ slice_set turns last now → c' ≡ case_later c turn →
     Awaits soc w times turns depth c left → Begins soc w times turns' depth c' left
 second_begins soc w times turns turns' depth last c c' turn now left is room at first now_is turns_is case_is h =
@@ -145,12 +145,12 @@ second_begins soc w times turns turns' depth last c c' turn now left is room at 
       awaits = awaits_close soc w times turns' depth last c' now later.rest (sym is) here
           (record {
             turn_is = turn_is;
-            behind = to_second soc c' now (Awaits soc w times turns' last (case_before c' now)) later.rest (ap (λ (t : Turn). t.second) now_is) inner;
+            behind = to_second soc c' now (Awaits soc w times turns' last (case_before c' now)) later.rest (ap (λ (t : OpenSplit). t.second) now_is) inner;
           });
     }
   where
     open_at : Within soc w times turns last c turn left
-    open_at = subst (λ (t : Turn). Within soc w times turns last c t left) at (awaits_open soc w times turns depth last c left is h)
+    open_at = subst (λ (t : OpenSplit). Within soc w times turns last c t left) at (awaits_open soc w times turns depth last c left is h)
 
     later : Later soc c turn (Awaits soc w times turns last (case_before c turn)) left
     later = behind_first soc c turn (Awaits soc w times turns last (case_before c turn)) left first open_at.behind
@@ -163,10 +163,10 @@ second_begins soc w times turns turns' depth last c c' turn now left is room at 
         let i : IsTurn w times c turn = open_at.turn_is in
         let long : length c' ≡ length c = ap length case_is ∙ length-set c turn.place (interval (turn.at + 1) turn.old.high) in
         let within : turn.place < length c = i.within in
-        subst (λ (t : Turn). IsTurn w times c' t) (sym now_is) (record { within = omega arith; old = i.old; some = i.some; below = i.below; area = i.area })
+        subst (λ (t : OpenSplit). IsTurn w times c' t) (sym now_is) (record { within = omega arith; old = i.old; some = i.some; below = i.below; area = i.area })
 
     back : case_before c' now ≡ case_before c turn
-    back = ap (λ d. case_before d now) case_is ∙ ap (λ (t : Turn). case_before (case_later c turn) t) now_is ∙ before_of_set c turn (interval (turn.at + 1) turn.old.high)
+    back = ap (λ d. case_before d now) case_is ∙ ap (λ (t : OpenSplit). case_before (case_later c turn) t) now_is ∙ before_of_set c turn (interval (turn.at + 1) turn.old.high)
 
     inner : Awaits soc w times turns' last (case_before c' now) later.rest
     inner = subst (λ (d : Case). Awaits soc w times turns' last d later.rest) (sym back) (awaits_same soc w times turns turns' last (case_before c turn) later.rest (λ k less. ap (λ l. turn_at l k) turns_is ∙ turn_other turns last k now less) later.then)
@@ -180,7 +180,7 @@ head_is soc c (Leaf leaf) = (OfLeaf leaf, [], refl)
 head_is soc c (Branches m width a b) = (OfSplit m width, cases_of soc (narrow_case soc c m width) a ++ cases_of soc (wide_case soc c m width) b, refl)
 
 -- it stands in the case that the widths are in
-pub head_case : (soc : SocValue) (w : ℕ) (times : List ℕ) (turns : List Turn) (depth : ℕ) (c : Case) (x : NodeCase) (left : List NodeCase) → Begins soc w times turns depth c (x ∷ left) → x.widths ≡ c
+pub head_case : (soc : SocValue) (w : ℕ) (times : List ℕ) (turns : List OpenSplit) (depth : ℕ) (c : Case) (x : NodeCase) (left : List NodeCase) → Begins soc w times turns depth c (x ∷ left) → x.widths ≡ c
 head_case soc w times turns depth c x left b =
     let h = head_is soc c b.tree in
     let front : x ∷ left ≡ in_case c h.0 ∷ (h.1 ++ b.rest) = b.left_is ∙ ap (λ l. l ++ b.rest) h.2 in
@@ -188,7 +188,7 @@ head_case soc w times turns depth c x left b =
     ap (λ (n : NodeCase). n.widths) same
 
 -- a split with its two branches
-pub record SplitBegins (soc : SocValue) (w : ℕ) (times : List ℕ) (turns : List Turn) (depth : ℕ) (c : Case) (m width : ℕ) (left : List NodeCase) : Type 0 where
+pub record SplitBegins (soc : SocValue) (w : ℕ) (times : List ℕ) (turns : List OpenSplit) (depth : ℕ) (c : Case) (m width : ℕ) (left : List NodeCase) : Type 0 where
   pub narrow : WidthTree
   pub wide : WidthTree
   pub rest : List NodeCase
@@ -198,7 +198,7 @@ pub record SplitBegins (soc : SocValue) (w : ℕ) (times : List ℕ) (turns : Li
 same_split : (a b x y : ℕ) → OfSplit a b ≡ OfSplit x y → (a ≡ x) × (b ≡ y)
 same_split a b x y e = (cc, cc)
 
-split_from : (soc : SocValue) (w : ℕ) (times : List ℕ) (turns : List Turn) (depth : ℕ) (c : Case) (m width : ℕ) (left rest : List NodeCase) (tree : WidthTree) → in_case c (OfSplit m width) ∷ left ≡ cases_of soc c tree ++ rest → Awaits soc w times turns depth c rest → SplitBegins soc w times turns depth c m width left
+split_from : (soc : SocValue) (w : ℕ) (times : List ℕ) (turns : List OpenSplit) (depth : ℕ) (c : Case) (m width : ℕ) (left rest : List NodeCase) (tree : WidthTree) → in_case c (OfSplit m width) ∷ left ≡ cases_of soc c tree ++ rest → Awaits soc w times turns depth c rest → SplitBegins soc w times turns depth c m width left
 unfolding cases_of
 split_from soc w times turns depth c m width left rest (Leaf leaf) e h =
     let same : in_case c (OfSplit m width) ≡ in_case c (OfLeaf leaf) = cc in
@@ -218,11 +218,11 @@ split_from soc w times turns depth c m width left rest (Branches k v a b) e h =
       awaits = h;
     }
 
-pub split_begins : (soc : SocValue) (w : ℕ) (times : List ℕ) (turns : List Turn) (depth : ℕ) (c : Case) (m width : ℕ) (left : List NodeCase) → Begins soc w times turns depth c (in_case c (OfSplit m width) ∷ left) → SplitBegins soc w times turns depth c m width left
+pub split_begins : (soc : SocValue) (w : ℕ) (times : List ℕ) (turns : List OpenSplit) (depth : ℕ) (c : Case) (m width : ℕ) (left : List NodeCase) → Begins soc w times turns depth c (in_case c (OfSplit m width) ∷ left) → SplitBegins soc w times turns depth c m width left
 split_begins soc w times turns depth c m width left b = split_from soc w times turns depth c m width left b.rest b.tree b.left_is b.awaits
 
 -- a leaf with what comes behind it
-leaf_from : (soc : SocValue) (w : ℕ) (times : List ℕ) (turns : List Turn) (depth : ℕ) (c : Case) (leaf : LeafValue) (left rest : List NodeCase) (tree : WidthTree) → in_case c (OfLeaf leaf) ∷ left ≡ cases_of soc c tree ++ rest → Awaits soc w times turns depth c rest → Awaits soc w times turns depth c left
+leaf_from : (soc : SocValue) (w : ℕ) (times : List ℕ) (turns : List OpenSplit) (depth : ℕ) (c : Case) (leaf : LeafValue) (left rest : List NodeCase) (tree : WidthTree) → in_case c (OfLeaf leaf) ∷ left ≡ cases_of soc c tree ++ rest → Awaits soc w times turns depth c rest → Awaits soc w times turns depth c left
 unfolding cases_of
 leaf_from soc w times turns depth c leaf left rest (Leaf other) e h =
     let tails : left ≡ rest = cc in
@@ -232,13 +232,13 @@ leaf_from soc w times turns depth c leaf left rest (Branches k v a b) e h =
     let node : OfLeaf leaf ≡ OfSplit k v = ap (λ (n : NodeCase). n.node) same in
     absurd cc
 
-pub leaf_awaits : (soc : SocValue) (w : ℕ) (times : List ℕ) (turns : List Turn) (depth : ℕ) (c : Case) (leaf : LeafValue) (left : List NodeCase) → Begins soc w times turns depth c (in_case c (OfLeaf leaf) ∷ left) → Awaits soc w times turns depth c left
+pub leaf_awaits : (soc : SocValue) (w : ℕ) (times : List ℕ) (turns : List OpenSplit) (depth : ℕ) (c : Case) (leaf : LeafValue) (left : List NodeCase) → Begins soc w times turns depth c (in_case c (OfLeaf leaf) ∷ left) → Awaits soc w times turns depth c left
 leaf_awaits soc w times turns depth c leaf left b = leaf_from soc w times turns depth c leaf left b.rest b.tree b.left_is b.awaits
 
 -- ---- what the check's steps make of it
 
 -- a split that begins
-pub split_begun : (soc : SocValue) (w n : ℕ) (times : List ℕ) (turns turns' : List Turn) (depth : ℕ) (c c' : Case) (p width : ℕ) (old : Interval) (area : ℕ) (wide : WidthTree) (rest : List NodeCase) →
+pub split_begun : (soc : SocValue) (w n : ℕ) (times : List ℕ) (turns turns' : List OpenSplit) (depth : ℕ) (c c' : Case) (p width : ℕ) (old : Interval) (area : ℕ) (wide : WidthTree) (rest : List NodeCase) →
     AreIntervals w n c → p < n → old ≡ interval_at c p → area ≡ area_by times (interval_at c p) p → (interval_at c p).low ≤ width → width < (interval_at c p).high → depth < length turns →
     turns' ≡ slice_set turns depth (record { place = p; at = width; old = old; area = area; second = false }) → c' ≡ narrow_at c width p →
     Awaits soc w times turns depth c rest → Awaits soc w times turns' (depth + 1) c' (cases_of soc (wide_at c width p) wide ++ rest)
@@ -254,7 +254,7 @@ split_begun soc w n times turns turns' depth c c' p width old area wide rest are
     h
 
 -- behind a split that began
-pub split_goes : (soc : SocValue) (w : ℕ) (times : List ℕ) (turns turns' : List Turn) (depth next : ℕ) (c c' : Case) (m width p : ℕ) (n : NodeValue) (left : List NodeCase) → n ≡ OfSplit m width → module_place soc m ≡ Some p → c' ≡ narrow_at c width p → next ≡ depth + 1 →
+pub split_goes : (soc : SocValue) (w : ℕ) (times : List ℕ) (turns turns' : List OpenSplit) (depth next : ℕ) (c c' : Case) (m width p : ℕ) (n : NodeValue) (left : List NodeCase) → n ≡ OfSplit m width → module_place soc m ≡ Some p → c' ≡ narrow_at c width p → next ≡ depth + 1 →
     ((wide : WidthTree) (rest : List NodeCase) → Awaits soc w times turns depth c rest → Awaits soc w times turns' (depth + 1) c' (cases_of soc (wide_at c width p) wide ++ rest)) →
     Begins soc w times turns depth c (in_case c n ∷ left) → GoesOn soc w times turns' next c' left
 split_goes soc w times turns turns' depth next c c' m width p n left node here case_is next_is goes b =
@@ -277,7 +277,7 @@ is_leaf Area no' = (OfArea, refl)
 is_leaf (Bus ms) no' = (OfBus ms.items, refl)
 is_leaf (Apart a b) no' = (OfApart a b, refl)
 
-pub awaits_behind : (soc : SocValue) (w : ℕ) (times : List ℕ) (turns : List Turn) (depth : ℕ) (c : Case) (n : Node) (left : List NodeCase) → ((m width : ℕ) → n ≡ Split m width → ⊥) → Begins soc w times turns depth c (in_case c (node_value n) ∷ left) → Awaits soc w times turns depth c left
+pub awaits_behind : (soc : SocValue) (w : ℕ) (times : List ℕ) (turns : List OpenSplit) (depth : ℕ) (c : Case) (n : Node) (left : List NodeCase) → ((m width : ℕ) → n ≡ Split m width → ⊥) → Begins soc w times turns depth c (in_case c (node_value n) ∷ left) → Awaits soc w times turns depth c left
 awaits_behind soc w times turns depth c n left no' b =
     let l = is_leaf n no' in
     leaf_awaits soc w times turns depth c l.0 left (subst (λ (x : NodeValue). Begins soc w times turns depth c (in_case c x ∷ left)) l.1 b)
@@ -288,15 +288,15 @@ pub judged_any : (X Y : Type 0) (soc : SocValue) (w claim place : ℕ) (n : Node
 judged_any X Y soc w claim place n (BadNode p) h = h
 judged_any X Y soc w claim place n (Less p c s) h = h
 
-pub starts : (soc : SocValue) (w : ℕ) (times : List ℕ) (turns : List Turn) (c : Case) (t : WidthTree) → GoesOn soc w times turns 0 c (cases_of soc c t)
+pub starts : (soc : SocValue) (w : ℕ) (times : List ℕ) (turns : List OpenSplit) (c : Case) (t : WidthTree) → GoesOn soc w times turns 0 c (cases_of soc c t)
 starts soc w times turns c t = inr (record { tree = t; rest = []; left_is = sym (append-nil (cases_of soc c t)); awaits = awaits_start soc w times turns c })
 
 -- the node at a place, where the nodes from it on are left
-pub record Comes (soc : SocValue) (w : ℕ) (times : List ℕ) (turns : List Turn) (depth : ℕ) (c : Case) (cases : List NodeCase) (place : ℕ) (node : NodeValue) : Type 0 where
+pub record Comes (soc : SocValue) (w : ℕ) (times : List ℕ) (turns : List OpenSplit) (depth : ℕ) (c : Case) (cases : List NodeCase) (place : ℕ) (node : NodeValue) : Type 0 where
   pub there : slice_get cases place ≡ Some (in_case c node)
   pub begins : Begins soc w times turns depth c (in_case c node ∷ drop (suc place) cases)
 
-pub comes : (soc : SocValue) (w : ℕ) (times : List ℕ) (turns : List Turn) (depth : ℕ) (c r : Case) (t : WidthTree) (place : ℕ) (node : Node) (items : List Node) → nodes_of t ≡ map node_value items → place < length items → node ≡ get_or items place node →
+pub comes : (soc : SocValue) (w : ℕ) (times : List ℕ) (turns : List OpenSplit) (depth : ℕ) (c r : Case) (t : WidthTree) (place : ℕ) (node : Node) (items : List Node) → nodes_of t ≡ map node_value items → place < length items → node ≡ get_or items place node →
     GoesOn soc w times turns depth c (drop place (cases_of soc r t)) → Comes soc w times turns depth c (cases_of soc r t) place (node_value node)
 comes soc w times turns depth c r t place node items nodes within is goes = go (cases_of soc r t) (cases_leaf soc r t ∙ nodes) goes
   where

@@ -16,7 +16,7 @@ use crate::areas::{Widths, least_area};
 use crate::intervals::{Interval, fill_root};
 use crate::laws::{accepted_trees_are_bounds, accepted_trees_have_no_fault};
 use crate::tables::{ChipTimes, ROW_WIDTHS, fill_own_times, fill_times};
-use crate::walk::{Turn, check_nodes};
+use crate::walk::{OpenSplit, check_nodes};
 use crate::{Tree, TreeFault};
 use outside::NoMemory;
 use plan_model::Limits;
@@ -36,7 +36,7 @@ pub struct TreeRoom {
     /// For each module the last list that it stood in.
     marks: Vec<usize>,
     /// The splits that are under way.
-    turns: Vec<Turn>,
+    turns: Vec<OpenSplit>,
 }
 
 impl Model for TreeRoom {
@@ -53,7 +53,7 @@ impl Model for TreeRoom {
 
 const NO_INTERVAL: Interval = Interval { low: 0, high: 0 };
 
-const NO_TURN: Turn = Turn {
+const NO_TURN: OpenSplit = OpenSplit {
     place: 0,
     at: 0,
     old: Interval { low: 0, high: 0 },
@@ -151,7 +151,7 @@ fn check_in(
     own: &mut [u64],
     widths: &mut Widths,
     marks: &mut [usize],
-    turns: &mut [Turn],
+    turns: &mut [OpenSplit],
 ) -> Result<(), TreeFault>
     requires sound { IsSoundChip (soc_value chip.now.soc.now) }
     requires some_wire { 1 ≤ chip.now.wires }

@@ -18,7 +18,7 @@ use soc_model::place_of;
 
 /// A split of which a branch is under way.
 #[derive(Clone, Copy, Drop)]
-pub struct Turn {
+pub struct OpenSplit {
     /// The place of its module.
     pub place: usize,
     /// Its width.
@@ -56,7 +56,7 @@ fn judge_node(claimed: u64, place: usize, finding: Finding) -> Result<(), TreeFa
 fn begin_split(
     table: &ChipTimes<'_>,
     widths: &mut Widths,
-    turns: &mut [Turn],
+    turns: &mut [OpenSplit],
     depth: usize,
     place: usize,
     at: u64,
@@ -81,7 +81,7 @@ fn begin_split(
         low: old.low,
         high: at,
     };
-    turns[depth] = Turn {
+    turns[depth] = OpenSplit {
         place,
         at,
         old,
@@ -98,7 +98,7 @@ fn begin_split(
 }
 
 /// Begins the second branch of the last split that is under way, with the wide case of its module.
-fn begin_second(table: &ChipTimes<'_>, widths: &mut Widths, turns: &mut [Turn], last: usize)
+fn begin_second(table: &ChipTimes<'_>, widths: &mut Widths, turns: &mut [OpenSplit], last: usize)
     requires table { IsTable table.now }
     requires widths { AreWidths table.now.wires (length (chip_of table.now).modules) table.now.times.now widths.old }
     requires room { last < length turns.old }
@@ -126,7 +126,7 @@ fn begin_second(table: &ChipTimes<'_>, widths: &mut Widths, turns: &mut [Turn], 
 fn next_branch(
     table: &ChipTimes<'_>,
     widths: &mut Widths,
-    turns: &mut [Turn],
+    turns: &mut [OpenSplit],
     under_way: usize,
 ) -> usize
     requires table { IsTable table.now }
@@ -158,7 +158,7 @@ fn go_on(
     table: &ChipTimes<'_>,
     node: &Node,
     widths: &mut Widths,
-    turns: &mut [Turn],
+    turns: &mut [OpenSplit],
     depth: usize,
 ) -> usize
     requires table { IsTable table.now }
@@ -196,7 +196,7 @@ fn check_node(
     node: &Node,
     widths: &mut Widths,
     marks: &mut [usize],
-    turns: &mut [Turn],
+    turns: &mut [OpenSplit],
     depth: usize,
 ) -> Result<usize, TreeFault>
     requires table { IsTable table.now }
@@ -231,7 +231,7 @@ pub fn check_nodes(
     tree: &Tree,
     widths: &mut Widths,
     marks: &mut [usize],
-    turns: &mut [Turn],
+    turns: &mut [OpenSplit],
 ) -> Result<(), TreeFault>
     requires table { IsTable table.now }
     requires widths { AreWidths table.now.wires (length (chip_of table.now).modules) table.now.times.now widths.old }

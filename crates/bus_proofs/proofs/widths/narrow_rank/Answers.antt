@@ -1,6 +1,6 @@
 use Rattle.std.proofs.Common.{[], ◌∷◌, ◌++◌, sym, ap, ◌∙◌}
 use Rattle.bus_proofs.specs.declared.widths.Interval.{Interval}
-use Rattle.bus_proofs.specs.declared.widths.Change.TheVariants.{Was}
+use Rattle.bus_proofs.specs.declared.widths.IntervalChange.TheVariants.{Was}
 use Rattle.bus_proofs.specs.Cases.{interval_of}
 use Rattle.bus_proofs.proofs.Trails.{later_put, set_kept, no_less, lower_low, lower_high, room_to_note}
 use Rattle.bus_proofs.proofs.widths.narrow_rank.Goals as goal
