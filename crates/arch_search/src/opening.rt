@@ -1,4 +1,4 @@
-//! The first tries of a search over many modules: all of them are dealt to equal buses, to more buses from try to try.
+//! The first try of a search over many modules: all of them are dealt to a few equal buses.
 ghost use Rattle.std.specs.Prelude.{◌≡◌, ◌<◌, ◌≤◌, length};
 ghost use Rattle.arch_search.specs.States.{AreBuses, AreAlike, AreTimesOn};
 
@@ -7,22 +7,15 @@ use crate::times::Times;
 
 /// A search over so many modules has an opening.
 const MANY: usize = 100;
+/// It deals them to so many buses. More of them can take fewer cycles at once, but wide buses that are split later come to less.
+const OPENING_BUSES: usize = 4;
 
-/// The buses of the first try of the opening; none where there is no opening.
-pub(crate) fn first_count(modules: usize) -> usize {
+/// The buses of the opening, at most one for each wire; none where there is no opening.
+pub(crate) fn opening_count(wires: usize, modules: usize) -> usize {
     if modules < MANY {
         return 0;
     }
-    2
-}
-
-/// The buses of the next try of the opening, half as many again; none behind the last one, where each module or each wire has a bus.
-pub(crate) fn next_count(count: usize, wires: usize, modules: usize) -> usize {
-    let next = count.saturating_add((count / 2).max(1));
-    if next > wires.min(modules) {
-        return 0;
-    }
-    next
+    OPENING_BUSES.min(wires)
 }
 
 /// Gathers all wires in the first slot.

@@ -9,7 +9,7 @@ ghost use Rattle.arch_search.specs.States.{IsTaken};
 use crate::changes::change;
 use crate::dealing::{DEALT_MOST, Taken};
 use crate::draws::coin;
-use crate::opening::{deal_to_equal, first_count, next_count};
+use crate::opening::{deal_to_equal, opening_count};
 use crate::order::change_order;
 use crate::problem::Problem;
 use crate::repair::fits;
@@ -60,7 +60,7 @@ pub struct Search<'a> {
     next: State,
     /// The tries since the best state was found, or since the last kick.
     since: u64,
-    /// The buses of the next try of the opening; none where it is over.
+    /// The buses of the opening; none where there is none, or it is over.
     opening: usize,
 }
 
@@ -152,7 +152,7 @@ impl<'a> Search<'a> {
         let taken = no_modules(alloc, problem)?;
         let less = zeros(alloc, problem.wires)?;
         let table = Table::new(alloc, job)?;
-        let opening = first_count(problem.modules.len());
+        let opening = opening_count(problem.wires, problem.modules.len());
         let mut search = Search {
             setting,
             table,
@@ -290,15 +290,14 @@ impl<'a> Search<'a> {
         self.note_best();
     }
 
-    /// Makes the next state from the current one by dealing all modules to equal buses, one try of the opening. Whether its buses take no
+    /// Makes the next state from the current one by dealing all modules to equal buses, the opening. Whether its buses take no
     /// more cycles than the current state.
     fn open(&mut self) -> bool
         ensures { self.new ≡ self.old }
     {
         let count = self.opening;
-        let problem = self.setting.problem;
-        self.opening = next_count(count, problem.wires, problem.modules.len());
-        self.next.become_as(problem, &self.current);
+        self.opening = 0;
+        self.next.become_as(self.setting.problem, &self.current);
         deal_to_equal(&self.setting.times, &mut self.next.buses, count);
         fits(
             &self.setting.times,
