@@ -1,9 +1,11 @@
 //! Decides how a call ends before anything is written.
-ghost use Rattle.std.specs.Prelude.{◌≡◌, ◌<◌, ◌≤◌, map, string_bytes, IfOk};
+ghost use Rattle.std.specs.Prelude.{◌≡◌, ◌<◌, ◌≤◌, map, string_bytes, IfOk, IfSome};
 ghost use Rattle.soc_model.specs.Chips.{soc_value};
 ghost use Rattle.soc_model.specs.SoundChips.{IsSoundChip};
 ghost use Rattle.plan_model.specs.SoundLimits.{IsSoundLimits};
 ghost use Rattle.plan_model.specs.Views.{limits_value, plan_value};
+ghost use Rattle.plan_model.specs.Rules.{live_ids};
+ghost use Rattle.live_tests.specs.Resolved.{IsResolved};
 ghost use Rattle.commands.specs.Commands.{Prove, command_of as asked_command};
 ghost use Rattle.commands.specs.Procedures.{asked};
 ghost use Rattle.commands.specs.Decides.{Follows, Decides};
@@ -13,12 +15,30 @@ ghost use Rattle.bound_prover.specs.Proved.{IsProofText};
 ghost use Rattle.bound_prover.specs.Requests.{procedure_of, IsQuiet};
 ghost use Rattle.bound_prover.specs.Reports.{MayReport, MayReportOf};
 
-use crate::proving::proved;
+use crate::proving::proved_with;
 use commands::{
     Accepted, Command, Status, Verdict, answered_with, bad_words, command_of, load_all,
 };
+use limits_text::noted_tests;
+use live_tests::{LiveTests, Resolved};
 use outside::{NoMemory, Shelf, Sink};
+use plan_model::Limits;
+use soc_model::Soc;
 use std::alloc::Global;
+
+/// A chip and its limits, resolved. The live tests of the chip are made where they weren't noted. `NoMemory` where there is none.
+fn resolved_of(
+    alloc: Global,
+    soc: &Soc,
+    limits: &Limits,
+    live: Option<LiveTests>,
+) -> Result<Resolved, NoMemory>
+    requires live { IfSome live (λ tests. tests ≡ live_ids (soc_value soc.now)) }
+    ensures { IfOk result (λ resolved. IsResolved (soc_value soc.now) limits.now resolved) }
+{
+    let tests = noted_tests(alloc, soc, live)?;
+    Resolved::with_tests(alloc, soc, limits, tests)
+}
 
 /// The text of a proof of a bound, which claims at most the cycles of an accepted plan.
 fn text_of<T: Sink>(
@@ -29,6 +49,7 @@ fn text_of<T: Sink>(
 ) -> Result<Vec<u8>, NoMemory>
     requires sound { IsSoundChip (soc_value all.soc) }
     requires limits { IsSoundLimits (soc_value all.soc) (limits_value all.limits) }
+    requires live { IfSome all.live (λ tests. tests ≡ live_ids (soc_value all.soc)) }
     requires some { 1 ≤ nodes }
     ensures text { IfOk result (λ text. IsProofText (soc_value all.soc) (limits_value all.limits)
         (plan_value all.plan).cycles nodes text.items) }
@@ -36,16 +57,16 @@ fn text_of<T: Sink>(
     ensures quiet { nodes < REPORTED_FROM → progress.new ≡ progress.old }
     ensures reported { MayReport nodes (T.written progress.old) (T.written progress.new) }
 {
-    let text = proved(
-        alloc,
-        &all.soc,
-        &all.limits,
-        all.plan.cycles,
-        nodes,
-        progress,
-    );
-    drop(all);
-    text
+    let Accepted {
+        soc,
+        limits,
+        plan,
+        live,
+    } = all;
+    let cycles = plan.cycles;
+    drop(plan);
+    let resolved = resolved_of(alloc, &soc, &limits, live)?;
+    proved_with(alloc, &soc, &limits, &resolved, cycles, nodes, progress)
 }
 
 /// `prove SOC LIMITS PLAN NODES`: a proof of a bound of at most the cycles of a plan that is accepted.

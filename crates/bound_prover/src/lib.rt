@@ -10,5 +10,5 @@ mod progress;
 mod proving;
 mod top;
 
-pub use proving::proved;
+pub use proving::{proved, proved_with};
 pub use top::prove_bound;

@@ -4,6 +4,7 @@ ghost use Rattle.soc_model.specs.Chips.{soc_value};
 ghost use Rattle.soc_model.specs.SoundChips.{IsSoundChip};
 ghost use Rattle.plan_model.specs.SoundLimits.{IsSoundLimits};
 ghost use Rattle.plan_model.specs.Views.{limits_value};
+ghost use Rattle.live_tests.specs.Resolved.{IsResolved};
 ghost use Rattle.bound_prover.specs.declared.progress.TheConstants.{REPORTED_FROM};
 ghost use Rattle.bound_prover.specs.Proved.{IsProofText};
 ghost use Rattle.bound_prover.specs.Reports.{MayReport};
@@ -11,6 +12,7 @@ ghost use Rattle.bound_prover.specs.Reports.{MayReport};
 use crate::accepting::{accepted_text, nothing_text};
 use crate::progress::{line_room, run_reported};
 use bus_proofs::Proof;
+use live_tests::Resolved;
 use outside::{NoMemory, Sink};
 use plan_model::Limits;
 use proof_search::Search;
@@ -23,23 +25,57 @@ fn searched<T: Sink>(
     alloc: Global,
     soc: &Soc,
     limits: &Limits,
+    resolved: &Resolved,
     cycles: u64,
     nodes: u64,
     progress: &mut T,
 ) -> Result<Proof, NoMemory>
     requires chip { IsSoundChip (soc_value soc.now) }
     requires limits { IsSoundLimits (soc_value soc.now) (limits_value limits.now) }
+    requires resolved { IsResolved (soc_value soc.now) limits.now resolved.now }
     ensures faults_never_fall { T.faults progress.old ≤ T.faults progress.new }
     ensures quiet { nodes < REPORTED_FROM → progress.new ≡ progress.old }
     ensures reported { MayReport nodes (T.written progress.old) (T.written progress.new) }
 {
     let mut line = line_room(alloc)?;
-    let mut search = Search::new(alloc, soc, limits, cycles, nodes)?;
+    let mut search = Search::new(alloc, soc, limits, resolved, cycles, nodes)?;
     run_reported(&mut search, nodes, &mut line, progress);
     let proof = search.proof(alloc);
     // dropped by a call: the end of the scope would drop each of its parts, and be proved for each
     drop(search);
     proof
+}
+
+/// [`proved`], where the chip and its limits are resolved. `NoMemory` where there is none.
+pub fn proved_with<T: Sink>(
+    alloc: Global,
+    soc: &Soc,
+    limits: &Limits,
+    resolved: &Resolved,
+    cycles: u64,
+    nodes: u64,
+    progress: &mut T,
+) -> Result<Vec<u8>, NoMemory>
+    requires chip { IsSoundChip (soc_value soc.now) }
+    requires limits { IsSoundLimits (soc_value soc.now) (limits_value limits.now) }
+    requires resolved { IsResolved (soc_value soc.now) limits.now resolved.now }
+    requires some { 1 ≤ nodes }
+    ensures text { IfOk result (λ text. IsProofText (soc_value soc.now) (limits_value limits.now) cycles nodes text.items) }
+    ensures faults_never_fall { T.faults progress.old ≤ T.faults progress.new }
+    ensures quiet { nodes < REPORTED_FROM → progress.new ≡ progress.old }
+    ensures reported { MayReport nodes (T.written progress.old) (T.written progress.new) }
+{
+    if cycles == 0 {
+        return nothing_text(alloc);
+    }
+    let found = searched(alloc, soc, limits, resolved, cycles, nodes, progress)?;
+    let accepted = accepted_text(alloc, soc, limits, &found, cycles, nodes);
+    // dropped by a call, as the search is
+    drop(found);
+    match accepted? {
+        Some(text) => Ok(text),
+        None => nothing_text(alloc),
+    }
 }
 
 /// The text of a proof by cases on buses of at most so many nodes: it is accepted for the chip under the limits, and claims at
@@ -62,15 +98,6 @@ pub fn proved<T: Sink>(
     ensures quiet { nodes < REPORTED_FROM → progress.new ≡ progress.old }
     ensures reported { MayReport nodes (T.written progress.old) (T.written progress.new) }
 {
-    if cycles == 0 {
-        return nothing_text(alloc);
-    }
-    let found = searched(alloc, soc, limits, cycles, nodes, progress)?;
-    let accepted = accepted_text(alloc, soc, limits, &found, cycles, nodes);
-    // dropped by a call, as the search is
-    drop(found);
-    match accepted? {
-        Some(text) => Ok(text),
-        None => nothing_text(alloc),
-    }
+    let resolved = Resolved::new(alloc, soc, limits)?;
+    proved_with(alloc, soc, limits, &resolved, cycles, nodes, progress)
 }

@@ -8,6 +8,7 @@ ghost use Rattle.soc_model.specs.Sizes.{test_work};
 ghost use Rattle.soc_model.specs.SoundChips.{IsSoundChip};
 ghost use Rattle.plan_model.specs.Views.{limits_value};
 ghost use Rattle.plan_model.specs.SoundLimits.{IsSoundLimits};
+ghost use Rattle.live_tests.specs.Resolved.{IsResolved};
 ghost use Rattle.proof_search.specs.Origins.{IsOrigin};
 
 use crate::tables::{NONE, item_or, put};
@@ -327,22 +328,28 @@ fn push_rows(alloc: Global, facts: &mut Facts, origin: Origin<'_>) -> Result<(),
 }
 
 impl Facts {
-    /// The tables of a sound chip and its limits for a plan of so many cycles. `NoMemory` where there is none.
-    pub fn new(alloc: Global, soc: &Soc, limits: &Limits, goal: u64) -> Result<Facts, NoMemory>
+    /// The tables of a sound chip and its limits, which are resolved, for a plan of so many cycles. `NoMemory` where there is none.
+    pub fn new(
+        alloc: Global,
+        soc: &Soc,
+        limits: &Limits,
+        resolved: &Resolved,
+        goal: u64,
+    ) -> Result<Facts, NoMemory>
         requires sound { IsSoundChip (soc_value soc.now) }
         requires limits { IsSoundLimits (soc_value soc.now) (limits_value limits.now) }
+        requires resolved { IsResolved (soc_value soc.now) limits.now resolved.now }
     {
         let times = PackedTimes::new(alloc, soc, limits.wires)?;
-        let resolved = Resolved::new(alloc, soc, limits)?;
         let origin = Origin {
             soc,
             limits,
-            resolved: &resolved,
+            resolved,
             times: &times,
         };
         let mut facts = no_facts(alloc, limits, goal);
         push_modules(&mut facts, origin)?;
-        push_precedences(&mut facts, &resolved)?;
+        push_precedences(&mut facts, resolved)?;
         push_rows(alloc, &mut facts, origin)?;
         Ok(facts)
     }

@@ -3,6 +3,7 @@ ghost use Rattle.soc_model.specs.Chips.{soc_value};
 ghost use Rattle.soc_model.specs.SoundChips.{IsSoundChip};
 ghost use Rattle.plan_model.specs.Views.{limits_value};
 ghost use Rattle.plan_model.specs.SoundLimits.{IsSoundLimits};
+ghost use Rattle.live_tests.specs.Resolved.{IsResolved};
 
 use crate::cases::RANKS_MOST;
 use crate::cuts::CaseCut;
@@ -19,6 +20,7 @@ use crate::tree::{GrownTree, Names, Rule};
 use crate::uses::Powers;
 use crate::values::LeafChip;
 use bus_proofs::Proof;
+use live_tests::Resolved;
 use outside::NoMemory;
 use plan_model::Limits;
 use soc_model::Soc;
@@ -60,11 +62,18 @@ pub struct Search {
 }
 
 /// The tables of a chip.
-fn chip_of(alloc: Global, soc: &Soc, limits: &Limits, goal: u64) -> Result<LeafChip, NoMemory>
+fn chip_of(
+    alloc: Global,
+    soc: &Soc,
+    limits: &Limits,
+    resolved: &Resolved,
+    goal: u64,
+) -> Result<LeafChip, NoMemory>
     requires sound { IsSoundChip (soc_value soc.now) }
     requires limits { IsSoundLimits (soc_value soc.now) (limits_value limits.now) }
+    requires resolved { IsResolved (soc_value soc.now) limits.now resolved.now }
 {
-    let facts = Facts::new(alloc, soc, limits, goal)?;
+    let facts = Facts::new(alloc, soc, limits, resolved, goal)?;
     let slots = Slots::new(alloc, &facts)?;
     let lists = power_lists(alloc, &facts)?;
     let powers = Powers::new(alloc, &facts, &lists)?;
@@ -106,19 +115,21 @@ fn more_nodes(cut: CaseCut) -> usize {
 }
 
 impl Search {
-    /// A search for a proof of at most so many nodes for a claim up to the goal, the cycles of a plan. All memory that it takes but
-    /// for the proof is taken here; `NoMemory` where there is none.
+    /// A search for a proof of at most so many nodes for a claim up to the goal, the cycles of a plan, where the chip and its limits
+    /// are resolved. All memory that it takes but for the proof is taken here; `NoMemory` where there is none.
     pub fn new(
         alloc: Global,
         soc: &Soc,
         limits: &Limits,
+        resolved: &Resolved,
         goal: u64,
         nodes: u64,
     ) -> Result<Search, NoMemory>
         requires sound { IsSoundChip (soc_value soc.now) }
         requires limits { IsSoundLimits (soc_value soc.now) (limits_value limits.now) }
+        requires resolved { IsResolved (soc_value soc.now) limits.now resolved.now }
     {
-        let chip = chip_of(alloc, soc, limits, goal)?;
+        let chip = chip_of(alloc, soc, limits, resolved, goal)?;
         let room = WeighingRoom::new(alloc, &chip.facts)?;
         let tree = GrownTree::new(alloc, room_for(nodes), POOL_MOST)?;
         let mut search = Search::with(alloc, chip, room, tree, nodes)?;

@@ -3,7 +3,7 @@ use Rattle.soc_model.specs.Chips.{soc_value}
 use Rattle.plan_model.specs.Views.{limits_value}
 use Rattle.bound_prover.specs.Proved.{IsPrinted, IsProofText, no_claim}
 use Rattle.bound_prover.proofs.Nothing.{nothing_proved}
-use Rattle.bound_prover.proofs.proving.proved.Goals as goal
+use Rattle.bound_prover.proofs.proving.proved_with.Goals as goal
 
 pub returns-then-cycles-eq0-clause-text : goal.returns-then-cycles-eq0-clause-text
 returns-then-cycles-eq0-clause-text g c =
