@@ -1,6 +1,6 @@
 use Rattle.std.proofs.Common.{◌≡◌, ◌≤◌, vec_capacity}
 use Rattle.resource_table.proofs.Profiles.{AreRaised}
-use Rattle.resource_table.proofs.profile.raise.Given as goal
+use Rattle.resource_table.proofs.profile.raise_load.Given as goal
 
 abbrev pub invariant-loop-place : goal.invariant-loop-place
 invariant-loop-place l = record {

@@ -3,7 +3,7 @@ use Rattle.std.specs.Vec.{with_item}
 use Rattle.resource_table.specs.declared.history.Change.{Change}
 use Rattle.resource_table.specs.Histories.{at_change, rewound}
 use Rattle.resource_table.proofs.Rewinding.{raised_back, same_past, renewed_history}
-use Rattle.resource_table.proofs.history.renew.Goals as goal
+use Rattle.resource_table.proofs.history.renew_note.Goals as goal
 
 pub returns-then-len-capacity-clause-past : goal.returns-then-len-capacity-clause-past
 returns-then-len-capacity-clause-past c =

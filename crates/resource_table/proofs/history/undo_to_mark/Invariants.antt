@@ -1,6 +1,6 @@
 use Rattle.std.proofs.Common.{◌≡◌, ℕ, ◌≤◌, length}
 use Rattle.resource_table.specs.Histories.{at_change, ArePlaces}
-use Rattle.resource_table.proofs.history.back.Given as goal
+use Rattle.resource_table.proofs.history.undo_to_mark.Given as goal
 
 abbrev pub invariant-loop-changes : goal.invariant-loop-changes
 invariant-loop-changes l = record {

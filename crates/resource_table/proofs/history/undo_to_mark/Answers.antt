@@ -1,7 +1,7 @@
 use Rattle.std.proofs.Common.{◌≤◌, ◌++◌, ◌∷◌, [], ℕ, ◌∙◌, length, sym, ap, arith, refl}
 use Rattle.std.specs.Global.{Vec}
 use Rattle.resource_table.proofs.Rewinding.{back_past, back_history}
-use Rattle.resource_table.proofs.history.back.Goals as goal
+use Rattle.resource_table.proofs.history.undo_to_mark.Goals as goal
 
 pub returns-after-loop-changes-clause-past : goal.returns-after-loop-changes-clause-past
 returns-after-loop-changes-clause-past c =

@@ -1,7 +1,7 @@
 use Rattle.std.proofs.Common.{◌<◌, Option, ℕ, length, subst}
 use Rattle.std.specs.Prelude.{IfSome}
 use Rattle.resource_table.proofs.Spans.{read_at, line_put}
-use Rattle.resource_table.proofs.timelines.fill.Goals as goal
+use Rattle.resource_table.proofs.timelines.add_span.Goals as goal
 
 pub put_span-requires-clause-ordered : goal.put_span-requires-clause-ordered
 put_span-requires-clause-ordered c =

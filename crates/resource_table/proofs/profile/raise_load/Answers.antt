@@ -1,6 +1,6 @@
 use Rattle.std.proofs.Common.{arith}
 use Rattle.resource_table.proofs.Profiles.{raised_nowhere, raised_all, over_read, over_from}
-use Rattle.resource_table.proofs.profile.raise.Goals as goal
+use Rattle.resource_table.proofs.profile.raise_load.Goals as goal
 
 pub returns-then-is_over-clause-items : goal.returns-then-is_over-clause-items
 returns-then-is_over-clause-items c = raised_nowhere c.args.draw.now c.args.points.now.items (c.is_over.ensures.over c.if-is_over.true)

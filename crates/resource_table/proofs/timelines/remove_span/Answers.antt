@@ -1,7 +1,7 @@
 use Rattle.std.proofs.Common.{◌<◌, Option, ℕ, length, subst}
 use Rattle.std.specs.Prelude.{IfSome}
 use Rattle.resource_table.proofs.Spans.{read_at, line_taken}
-use Rattle.resource_table.proofs.timelines.clear.Goals as goal
+use Rattle.resource_table.proofs.timelines.remove_span.Goals as goal
 
 pub take_span-requires-clause-ordered : goal.take_span-requires-clause-ordered
 take_span-requires-clause-ordered c =
