@@ -1,7 +1,7 @@
-//! The first cycle of precedences of so many tests, which go by their places.
+//! The first loop of precedences of so many tests, which go by their places.
 ghost use Rattle.std.specs.Prelude.{◌≡◌, ℕ, ◌+◌, ◌-◌, ◌<◌, ◌≤◌, ◌++◌, ◌∷◌, [], false, not, min, length, nat_eq, position, slice_index, slice_set, replicate, IfOk, OnOk, MatchOption, if◌then◌else◌};
 ghost use Rattle.std.specs.List.{All};
-ghost use Rattle.limits_text.specs.Cycles.{IsFirstCycle, HasRank};
+ghost use Rattle.limits_text.specs.Loops.{IsFirstLoop, HasRank};
 ghost use Rattle.limits_text.specs.Orders.{held, copies, Counts, IsKept, GoesOn, IsTaking, AreMarked, least_before as least_of, ComesAgain, IsBack};
 
 use live_tests::{all_after, count_before};
@@ -175,15 +175,15 @@ fn walk_on(alloc: Global, next: &[usize], start: usize) -> Result<(Vec<usize>, u
 /// The walk from its last test back to the place after `meets`.
 fn back_to(alloc: Global, walk: &[usize], meets: usize) -> Result<Vec<usize>, NoMemory>
     requires { meets + 1 < length walk.now }
-    ensures long { IfOk result (λ cycle. length cycle.items + meets + 1 ≡ length walk.now) }
-    ensures back { IfOk result (λ cycle. IsBack walk.now cycle.items) }
+    ensures long { IfOk result (λ circle. length circle.items + meets + 1 ≡ length walk.now) }
+    ensures back { IfOk result (λ circle. IsBack walk.now circle.items) }
 {
     let last = walk.len() - 1;
-    let mut cycle = Vec::new(alloc);
+    let mut circle = Vec::new(alloc);
     for back in 0..last - meets {
-        push(&mut cycle, walk[last - back])?;
+        push(&mut circle, walk[last - back])?;
     }
-    Ok(cycle)
+    Ok(circle)
 }
 
 /// The first test that is not gone.
@@ -193,14 +193,14 @@ fn first_left(gone: &[bool]) -> Option<usize>
     gone.iter().position(|is_gone| !*is_gone)
 }
 
-/// The first cycle of the pairs of so many tests. None comes exactly where the pairs have no cycle.
-pub fn first_cycle(
+/// The first loop of the pairs of so many tests. None comes exactly where the pairs have no loop.
+pub fn first_loop(
     alloc: Global,
     count: usize,
     pairs: &[(usize, usize)],
 ) -> Result<Option<Vec<usize>>, NoMemory>
     requires { All (λ (e : ℕ × ℕ). (e.0 < count) × (e.1 < count)) pairs.now }
-    ensures { IfOk result (λ found. MatchOption found (HasRank pairs.now) (λ cycle. IsFirstCycle pairs.now count cycle.items)) }
+    ensures { IfOk result (λ found. MatchOption found (HasRank pairs.now) (λ circle. IsFirstLoop pairs.now count circle.items)) }
 {
     let order = taking(alloc, count, pairs)?;
     let gone = marks(alloc, count, order.as_slice())?;
@@ -209,6 +209,6 @@ pub fn first_cycle(
     };
     let least = least_before(alloc, gone.as_slice(), pairs)?;
     let (walk, meets) = walk_on(alloc, least.as_slice(), start)?;
-    let cycle = back_to(alloc, walk.as_slice(), meets)?;
-    Ok(Some(cycle))
+    let circle = back_to(alloc, walk.as_slice(), meets)?;
+    Ok(Some(circle))
 }

@@ -1,8 +1,8 @@
 use Rattle.std.proofs.Common.{◌≡◌, ◌+◌, ◌++◌, ◌∷◌, [], List, get_or, take, sym, subst, refl, rules}
 use Rattle.soc_model.specs.declared.TestId.{TestId}
-use Rattle.limits_text.specs.Cycles.{AreAt}
-use Rattle.limits_text.proofs.CycleTests.{tests_more}
-use Rattle.limits_text.proofs.cycles.tests_at.Goals as goal
+use Rattle.limits_text.specs.Loops.{AreAt}
+use Rattle.limits_text.proofs.LoopTests.{tests_more}
+use Rattle.limits_text.proofs.loops.tests_at.Goals as goal
 
 pub loop-place-preserved : goal.loop-place-preserved
 loop-place-preserved c =

@@ -1,4 +1,4 @@
--- Cycles of precedences. Live tests go by their places among the live tests, in the order of the chip.
+-- Loops of precedences. Live tests go by their places among the live tests, in the order of the chip.
 use Rattle.std.specs.Prelude.{◌≡◌, ℕ, ◌+◌, ◌-◌, ◌<◌, ◌≤◌, List, Some, map, length, slice_get}
 use Rattle.std.specs.List.{Contains}
 use Rattle.soc_model.specs.declared.TestId.{TestId}
@@ -32,9 +32,9 @@ pub record IsWalk (pairs : List (ℕ × ℕ)) (count : ℕ) (walk : List ℕ) : 
   pub begins : (x : ℕ) → slice_get walk 0 ≡ Some x → IsFirstRemaining pairs count x
   pub goes : (k x y : ℕ) → slice_get walk k ≡ Some x → slice_get walk (k + 1) ≡ Some y → IsForerunner pairs x y
 
--- The walk up to its first test, at place `last`, that equals an earlier one, at place `meets`; the cycle is the walk
+-- The walk up to its first test, at place `last`, that equals an earlier one, at place `meets`; the loop is the walk
 -- from `last` back to the place after `meets`.
-pub record IsFirstCycle (pairs : List (ℕ × ℕ)) (count : ℕ) (cycle : List ℕ) : Type 0 where
+pub record IsFirstLoop (pairs : List (ℕ × ℕ)) (count : ℕ) (circle : List ℕ) : Type 0 where
   pub walk : List ℕ
   pub meets : ℕ
   pub last : ℕ
@@ -43,17 +43,17 @@ pub record IsFirstCycle (pairs : List (ℕ × ℕ)) (count : ℕ) (cycle : List 
   pub before_last : meets < last
   pub again : slice_get walk meets ≡ slice_get walk last
   pub differ : (p q x : ℕ) → p < last → q < last → slice_get walk p ≡ Some x → slice_get walk q ≡ Some x → p ≡ q
-  pub cycle_long : length cycle + meets ≡ last
-  pub cycle_is : (k : ℕ) → k < length cycle → slice_get cycle k ≡ slice_get walk (last - k)
+  pub loop_long : length circle + meets ≡ last
+  pub loop_is : (k : ℕ) → k < length circle → slice_get circle k ≡ slice_get walk (last - k)
 
 -- the tests at these places
 abbrev pub AreAt : List TestId → List ℕ → List TestId → Type 0
 AreAt ids places tests = map (slice_get ids) places ≡ map Some tests
 
--- the cycle that a chip refuses of limits
-abbrev pub IsCycleOf : SocValue → LimitsValue → List TestId → Type 0
-IsCycleOf soc limits tests =
-    (cycle : List ℕ) × IsFirstCycle (precedences soc limits) (length (live_ids soc)) cycle × AreAt (live_ids soc) cycle tests
+-- the loop that a chip refuses of limits
+abbrev pub IsLoopOf : SocValue → LimitsValue → List TestId → Type 0
+IsLoopOf soc limits tests =
+    (circle : List ℕ) × IsFirstLoop (precedences soc limits) (length (live_ids soc)) circle × AreAt (live_ids soc) circle tests
 
 -- the tests have ranks that grow with each pair
 abbrev pub HasRank : List (ℕ × ℕ) → Type 0

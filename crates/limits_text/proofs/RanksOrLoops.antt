@@ -1,4 +1,4 @@
--- Precedences of live tests have a rank, or a first cycle.
+-- Precedences of live tests have a rank, or a first loop.
 use Rattle.std.proofs.Common.{◌≡◌, ◌⊎◌, inl, inr, ℕ, zero, suc, ◌+◌, ◌-◌, ◌<◌, List, [], ◌∷◌, ◌++◌, length, get_or, map, take, Bool, true, false, not, nat_eq, Option, Some, None, slice_get, position, refl, sym, ◌∙◌, ap, ap₂, subst, arith, zero-add, length-append}
 use Rattle.std.specs.Prelude.{slice_index}
 use Rattle.std.specs.List.{All, Contains, range_with_len}
@@ -11,15 +11,15 @@ use Rattle.plan_model.specs.Rules.{live_ids}
 use Rattle.plan_model.specs.SoundLimits.{IsAcyclic}
 use Rattle.plan_model.proofs.Lists.{contains_at, at_contains}
 use Rattle.live_tests.proofs.Precedences.{pairs_within}
-use Rattle.limits_text.specs.Cycles.{IsFirstCycle, AreAt, IsCycleOf, HasRank}
+use Rattle.limits_text.specs.Loops.{IsFirstLoop, AreAt, IsLoopOf, HasRank}
 use Rattle.live_tests.specs.Names.{precedences}
 use Rattle.limits_text.specs.Orders.{is_in, held, IsOrdered, IsTaking, least_before, Counts, ComesAgain, IsBack}
-use Rattle.limits_text.specs.Laws.{RanksOrCycles}
+use Rattle.limits_text.specs.Laws.{RanksOrLoops}
 use Rattle.limits_text.proofs.SoundText.{push_cases}
 use Rattle.limits_text.proofs.Taking.{Once, EachAt, true_or_false, in_at, in_take_at, at_in_take, few, each_push, once_push, all_gone, some_left}
 use Rattle.limits_text.proofs.Walking.{IsWalking, least_small, walk_none, at_front, walk_more, walk_short, walk_ends}
-use Rattle.limits_text.proofs.FirstCycles.{AreWithin, Marked, all_ranked, first_left, cycle_found}
-use Rattle.limits_text.proofs.CycleTests.{acyclic, cycle_within}
+use Rattle.limits_text.proofs.FirstLoops.{AreWithin, Marked, all_ranked, first_left, loop_found}
+use Rattle.limits_text.proofs.LoopTests.{acyclic, loop_within}
 
 -- the values of a function below `n`
 table : {X : Type 0} → (ℕ → X) → ℕ → List X
@@ -135,9 +135,9 @@ goes_again next start (suc fuel) walk test all w room = by (position (nat_eq tes
     by None none again =
         again (walk ++ test ∷ []) (slice_index next test) all (walk_more next start walk test (slice_index next test) w none all refl) (omega (arith, room, length-append walk (test ∷ [])))
 
--- ---- the cycle
+-- ---- the loop
 
-ranks_or_first : (pairs : List (ℕ × ℕ)) (count : ℕ) → AreWithin pairs count → HasRank pairs ⊎ ((cycle : List ℕ) × IsFirstCycle pairs count cycle)
+ranks_or_first : (pairs : List (ℕ × ℕ)) (count : ℕ) → AreWithin pairs count → HasRank pairs ⊎ ((circle : List ℕ) × IsFirstLoop pairs count circle)
 ranks_or_first pairs count all = by (position not gone) refl
   where
     taken : (order : List ℕ) × IsTaking pairs count order
@@ -161,9 +161,9 @@ ranks_or_first pairs count all = by (position not gone) refl
     counts : Counts least (least_before gone (length gone - 1) pairs)
     counts j less = table-at (least_before gone (length gone - 1) pairs) (length gone) j 0 (omega (arith, less, least_long))
 
-    by : (o : Option ℕ) → position not gone ≡ o → HasRank pairs ⊎ ((cycle : List ℕ) × IsFirstCycle pairs count cycle)
+    by : (o : Option ℕ) → position not gone ≡ o → HasRank pairs ⊎ ((circle : List ℕ) × IsFirstLoop pairs count circle)
     by None none = inl (all_ranked pairs count taken.0 gone all taken.1 marked none)
-    by (Some start) found = inr (cycle, cycle_found pairs count taken.0 gone all taken.1 marked least start walk.0 walk.1 cycle found least_long counts walk.2 cycle_long back)
+    by (Some start) found = inr (circle, loop_found pairs count taken.0 gone all taken.1 marked least start walk.0 walk.1 circle found least_long counts walk.2 loop_long back)
       where
         begin : start < count
         begin = (first_left pairs count taken.0 gone all taken.1 marked start found).1.0
@@ -177,15 +177,15 @@ ranks_or_first pairs count all = by (position not gone) refl
         at : ℕ → ℕ
         at k = get_or walk.0 (length walk.0 - 1 - k) 0
 
-        cycle : List ℕ
-        cycle = table at (walk.2.last - walk.1)
+        circle : List ℕ
+        circle = table at (walk.2.last - walk.1)
 
-        cycle_long : length cycle + walk.1 + 1 ≡ length walk.0
-        cycle_long = omega (arith, table-length at (walk.2.last - walk.1), walk.2.long, walk.2.before_last)
+        loop_long : length circle + walk.1 + 1 ≡ length walk.0
+        loop_long = omega (arith, table-length at (walk.2.last - walk.1), walk.2.long, walk.2.before_last)
 
-        back : IsBack walk.0 cycle
+        back : IsBack walk.0 circle
         back k less =
-            slice_get-get_or cycle k 0 less ∙ ap Some (table-at at (walk.2.last - walk.1) k 0 (omega (arith, less, table-length at (walk.2.last - walk.1))))
+            slice_get-get_or circle k 0 less ∙ ap Some (table-at at (walk.2.last - walk.1) k 0 (omega (arith, less, table-length at (walk.2.last - walk.1))))
             ∙ sym (slice_get-get_or walk.0 (length walk.0 - 1 - k) 0 (omega (arith, walk.2.long)))
 
 tests_at : (ids : List TestId) (places : List ℕ) → All (λ p. p < length ids) places → (tests : List TestId) × AreAt ids places tests
@@ -196,14 +196,14 @@ tests_at ids (p ∷ places) all =
     let here : slice_get ids p ≡ Some test = slice_get-get_or ids p (record { «module» = 0; test = 0 }) (All-head (λ p. p < length ids) p places all) in
     (test ∷ rest.0, ap₂ (λ (o : Option TestId) (l : List (Option TestId)). o ∷ l) here rest.1)
 
-pub ranks_or_cycle : RanksOrCycles
-ranks_or_cycle soc limits = by (ranks_or_first (precedences soc limits) (length (live_ids soc)) within)
+pub ranks_or_loop : RanksOrLoops
+ranks_or_loop soc limits = by (ranks_or_first (precedences soc limits) (length (live_ids soc)) within)
   where
     within : AreWithin (precedences soc limits) (length (live_ids soc))
     within = pairs_within (live_ids soc) limits.before
 
-    by : HasRank (precedences soc limits) ⊎ ((cycle : List ℕ) × IsFirstCycle (precedences soc limits) (length (live_ids soc)) cycle) → IsAcyclic soc limits ⊎ ((tests : List TestId) × IsCycleOf soc limits tests)
+    by : HasRank (precedences soc limits) ⊎ ((circle : List ℕ) × IsFirstLoop (precedences soc limits) (length (live_ids soc)) circle) → IsAcyclic soc limits ⊎ ((tests : List TestId) × IsLoopOf soc limits tests)
     by (inl r) = inl (acyclic soc limits r)
     by (inr c) =
-        let tests = tests_at (live_ids soc) c.0 (cycle_within (precedences soc limits) (length (live_ids soc)) c.0 within c.1) in
+        let tests = tests_at (live_ids soc) c.0 (loop_within (precedences soc limits) (length (live_ids soc)) c.0 within c.1) in
         inr (tests.0, (c.0, c.1, tests.1))

@@ -1,4 +1,4 @@
--- Precedences have one first cycle, and none where the tests have ranks.
+-- Precedences have one first loop, and none where the tests have ranks.
 use Rattle.std.proofs.Common.{◌≡◌, ◌⊎◌, inl, inr, ℕ, zero, suc, ◌-◌, ◌<◌, ◌≤◌, List, [], ◌∷◌, length, get_or, map, Some, slice_get, refl, sym, ◌∙◌, ap, subst, arith, add-one}
 use Rattle.std.proofs.lemmas.Bool.{cases_order}
 use Rattle.std.proofs.lemmas.List.{same_lists}
@@ -7,7 +7,7 @@ use Rattle.soc_model.specs.declared.TestId.{TestId}
 use Rattle.soc_model.specs.Chips.{SocValue}
 use Rattle.plan_model.specs.Plans.{LimitsValue}
 use Rattle.plan_model.specs.Rules.{live_ids}
-use Rattle.limits_text.specs.Cycles.{IsTaken, take_away, IsFirstRemaining, IsForerunner, IsWalk, IsFirstCycle, IsCycleOf, HasRank}
+use Rattle.limits_text.specs.Loops.{IsTaken, take_away, IsFirstRemaining, IsForerunner, IsWalk, IsFirstLoop, IsLoopOf, HasRank}
 use Rattle.live_tests.specs.Names.{precedences}
 use Rattle.limits_text.proofs.Complete.{some_same}
 
@@ -42,10 +42,10 @@ same_walk pairs count v w a b (suc k) x y at there =
     let g : IsForerunner pairs (get_or w k 0) y = b.goes k (get_or w k 0) y before_w (ap (slice_get w) (add-one k) ∙ there) in
     one_forerunner pairs (get_or w k 0) x y (subst (λ j. IsForerunner pairs j x) same f) g
 
--- ---- one cycle
+-- ---- one loop
 
 -- what stands at a place of the one walk stands there in the other, where both go so far
-module _ (pairs : List (ℕ × ℕ)) (count : ℕ) (c d : List ℕ) (a : IsFirstCycle pairs count c) (b : IsFirstCycle pairs count d) where
+module _ (pairs : List (ℕ × ℕ)) (count : ℕ) (c d : List ℕ) (a : IsFirstLoop pairs count c) (b : IsFirstLoop pairs count d) where
   agree : (k : ℕ) → k ≤ a.last → k ≤ b.last → slice_get a.walk k ≡ slice_get b.walk k
   agree k small below =
       let at : slice_get a.walk k ≡ Some (get_or a.walk k 0) = slice_get-get_or a.walk k 0 (omega (arith, small, a.long)) in
@@ -53,7 +53,7 @@ module _ (pairs : List (ℕ × ℕ)) (count : ℕ) (c d : List ℕ) (a : IsFirst
       at ∙ ap Some (same_walk pairs count a.walk b.walk a.is_walk b.is_walk k (get_or a.walk k 0) (get_or b.walk k 0) at there) ∙ sym there
 
 -- a walk has come again before it ends in the other
-comes_later : (pairs : List (ℕ × ℕ)) (count : ℕ) (c d : List ℕ) (a : IsFirstCycle pairs count c) (b : IsFirstCycle pairs count d) → a.last < b.last → ⊥
+comes_later : (pairs : List (ℕ × ℕ)) (count : ℕ) (c d : List ℕ) (a : IsFirstLoop pairs count c) (b : IsFirstLoop pairs count d) → a.last < b.last → ⊥
 comes_later pairs count c d a b less =
     let early : a.meets ≤ b.last = omega (arith, a.before_last, less) in
     let inside : a.meets < b.last = omega (arith, a.before_last, less) in
@@ -63,8 +63,8 @@ comes_later pairs count c d a b less =
     let same : a.meets ≡ a.last = b.differ a.meets a.last (get_or b.walk a.last 0) inside less again at in
     omega (arith, same, a.before_last)
 
-pub one_cycle : (pairs : List (ℕ × ℕ)) (count : ℕ) (c d : List ℕ) → IsFirstCycle pairs count c → IsFirstCycle pairs count d → c ≡ d
-one_cycle pairs count c d a b = by (cases_order a.last b.last)
+pub one_loop : (pairs : List (ℕ × ℕ)) (count : ℕ) (c d : List ℕ) → IsFirstLoop pairs count c → IsFirstLoop pairs count d → c ≡ d
+one_loop pairs count c d a b = by (cases_order a.last b.last)
   where
     ends : a.last ≡ b.last → c ≡ d
     ends last =
@@ -74,13 +74,13 @@ one_cycle pairs count c d a b = by (cases_order a.last b.last)
         agree pairs count c d a b b.meets (omega (arith, small)) (omega (arith, b.before_last)) ∙ b.again ∙ ap (slice_get b.walk) (sym last)
         ∙ sym (agree pairs count c d a b a.last (omega arith) (omega (arith, last))) ∙ sym a.again ∙ at in
         let meets : a.meets ≡ b.meets = a.differ a.meets b.meets (get_or a.walk a.meets 0) a.before_last small at other in
-        let long : length c ≡ length d = omega (arith, a.cycle_long, b.cycle_long, last, meets) in
+        let long : length c ≡ length d = omega (arith, a.loop_long, b.loop_long, last, meets) in
         same_lists c d long (λ k e less. element k e last (omega (arith, less)) (omega (arith, less, long)))
       where
         element : (k e : ℕ) → a.last ≡ b.last → k < length c → k < length d → get_or c k e ≡ get_or d k e
         element k e last less below =
             let same : slice_get c k ≡ slice_get d k =
-            a.cycle_is k less ∙ agree pairs count c d a b (a.last - k) (omega arith) (omega (arith, last)) ∙ ap (λ n. slice_get b.walk (n - k)) last ∙ sym (b.cycle_is k below) in
+            a.loop_is k less ∙ agree pairs count c d a b (a.last - k) (omega arith) (omega (arith, last)) ∙ ap (λ n. slice_get b.walk (n - k)) last ∙ sym (b.loop_is k below) in
             get_or_from_slice_get c k (get_or d k e) e (same ∙ slice_get-get_or d k e below)
 
     by : (a.last ≡ b.last) ⊎ ((a.last < b.last) ⊎ (b.last < a.last)) → c ≡ d
@@ -97,10 +97,10 @@ all_some (x ∷ xs) (y ∷ ys) e =
     let rest : map Some xs ≡ map Some ys = cc in
     ap (λ z. z ∷ xs) (some_same x y first) ∙ ap (λ l. y ∷ l) (all_some xs ys rest)
 
--- a chip refuses of limits at most one cycle
-pub one_cycle_of : (soc : SocValue) (limits : LimitsValue) (a b : List TestId) → IsCycleOf soc limits a → IsCycleOf soc limits b → a ≡ b
-one_cycle_of soc limits a b c d =
-    all_some a b (sym c.2 ∙ ap (map (slice_get (live_ids soc))) (one_cycle (precedences soc limits) (length (live_ids soc)) c.0 d.0 c.1 d.1) ∙ d.2)
+-- a chip refuses of limits at most one loop
+pub one_loop_of : (soc : SocValue) (limits : LimitsValue) (a b : List TestId) → IsLoopOf soc limits a → IsLoopOf soc limits b → a ≡ b
+one_loop_of soc limits a b c d =
+    all_some a b (sym c.2 ∙ ap (map (slice_get (live_ids soc))) (one_loop (precedences soc limits) (length (live_ids soc)) c.0 d.0 c.1 d.1) ∙ d.2)
 
 -- ---- ranks
 
@@ -112,7 +112,7 @@ taken_below pairs r (suc n) j less = take_away j (λ i c. taken_below pairs r n 
 ranked_taken : (pairs : List (ℕ × ℕ)) → HasRank pairs → (j : ℕ) → IsTaken pairs j
 ranked_taken pairs r j = taken_below pairs r (suc (r.0 j)) j (omega arith)
 
-pub no_ranked_cycle : (pairs : List (ℕ × ℕ)) (count : ℕ) (cycle : List ℕ) → IsFirstCycle pairs count cycle → HasRank pairs → ⊥
-no_ranked_cycle pairs count cycle c r =
+pub no_ranked_loop : (pairs : List (ℕ × ℕ)) (count : ℕ) (circle : List ℕ) → IsFirstLoop pairs count circle → HasRank pairs → ⊥
+no_ranked_loop pairs count circle c r =
     let at : slice_get c.walk 0 ≡ Some (get_or c.walk 0 0) = slice_get-get_or c.walk 0 0 (omega (arith, c.long)) in
     (c.is_walk.begins (get_or c.walk 0 0) at).remains (ranked_taken pairs r (get_or c.walk 0 0))

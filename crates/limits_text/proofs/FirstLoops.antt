@@ -1,4 +1,4 @@
--- What remains once no more tests can be taken away, and the cycle that is found there.
+-- What remains once no more tests can be taken away, and the loop that is found there.
 use Rattle.std.proofs.Common.{◌≡◌, ◌⊎◌, inl, inr, ℕ, zero, suc, ◌+◌, ◌-◌, ◌<◌, ◌≤◌, List, [], ◌∷◌, length, get_or, Bool, true, false, cond, ◌&&◌, not, nat_eq, Some, None, slice_get, position, refl, sym, ◌∙◌, ap, subst, arith, add-one}
 use Rattle.std.specs.Prelude.{min}
 use Rattle.std.specs.List.{All, Contains}
@@ -6,7 +6,7 @@ use Rattle.std.proofs.lemmas.Bool.{cases_lt, eqb-true}
 use Rattle.std.proofs.lemmas.List.Elements.{All-contains}
 use Rattle.std.proofs.lemmas.Option.{slice_get-get_or, slice_get_within}
 use Rattle.plan_model.proofs.Finding.{none_passes}
-use Rattle.limits_text.specs.Cycles.{IsTaken, take_away, Remains, IsFirstRemaining, IsForerunner, IsWalk, IsFirstCycle, HasRank}
+use Rattle.limits_text.specs.Loops.{IsTaken, take_away, Remains, IsFirstRemaining, IsForerunner, IsWalk, IsFirstLoop, HasRank}
 use Rattle.limits_text.specs.Orders.{is_in, least_before, Counts, IsTaking, AreMarked, ComesAgain, IsBack}
 use Rattle.limits_text.proofs.Complete.{some_same}
 use Rattle.limits_text.proofs.GraphSteps.{eq_true}
@@ -34,7 +34,7 @@ never pairs count order all t _ (take_away i f) small fresh =
 pub remains : (pairs : List (ℕ × ℕ)) (count : ℕ) (order : List ℕ) → AreWithin pairs count → IsTaking pairs count order → (j : ℕ) → j < count → is_in order j ≡ false → Remains pairs j
 remains pairs count order all t j small fresh is = never pairs count order all t j is small fresh
 
--- ---- without a cycle
+-- ---- without a loop
 
 -- the place of a test in the order
 rank_in : List ℕ → ℕ → ℕ
@@ -92,7 +92,7 @@ all_ranked pairs count order gone all t m none = (λ j. rank_in order j, λ i j 
         let a = in_take_at order (rank_in order j) i (t.ordered (rank_in order j) i j (at_rank order j (every j small)) c) in
         omega (arith, a.1, rank-upto order a.0 i a.2)
 
--- ---- with a cycle
+-- ---- with a loop
 
 -- a test that is not gone, and so remains
 abbrev IsLeft : ℕ → List Bool → ℕ → Type 0
@@ -213,10 +213,10 @@ module _ (pairs : List (ℕ × ℕ)) (count : ℕ) (order : List ℕ) (gone : Li
           let l = left k (get_or walk k 0) before begin in
           subst (IsLeft count gone) (next k (get_or walk k 0) x before (ap (slice_get walk) (add-one k) ∙ at) l) (forerunner (get_or walk k 0) l).1
 
-  -- the cycle that a walk over the least tests ends in
-  pub cycle_found : (least : List ℕ) (start : ℕ) (walk : List ℕ) (meets : ℕ) (cycle : List ℕ) → position not gone ≡ Some start → length least ≡ length gone → Counts least (least_before gone (length gone - 1) pairs) → ComesAgain least start walk meets
-      → length cycle + meets + 1 ≡ length walk → IsBack walk cycle → IsFirstCycle pairs count cycle
-  cycle_found least start walk meets cycle found long are w cycle_long back = record {
+  -- the loop that a walk over the least tests ends in
+  pub loop_found : (least : List ℕ) (start : ℕ) (walk : List ℕ) (meets : ℕ) (circle : List ℕ) → position not gone ≡ Some start → length least ≡ length gone → Counts least (least_before gone (length gone - 1) pairs) → ComesAgain least start walk meets
+      → length circle + meets + 1 ≡ length walk → IsBack walk circle → IsFirstLoop pairs count circle
+  loop_found least start walk meets circle found long are w loop_long back = record {
     walk = walk;
     meets = meets;
     last = w.last;
@@ -225,8 +225,8 @@ module _ (pairs : List (ℕ × ℕ)) (count : ℕ) (order : List ℕ) (gone : Li
     before_last = w.before_last;
     again = w.again;
     differ = w.differ;
-    cycle_long = omega (arith, cycle_long, w.long);
-    cycle_is = λ k less. back k less ∙ ap (λ n. slice_get walk (n - k)) (last_is (length walk) w.last w.long);
+    loop_long = omega (arith, loop_long, w.long);
+    loop_is = λ k less. back k less ∙ ap (λ n. slice_get walk (n - k)) (last_is (length walk) w.last w.long);
   }
     where
       last_is : (a b : ℕ) → a ≡ b + 1 → a - 1 ≡ b

@@ -1,4 +1,4 @@
--- Ranks of live tests and of their places, and the tests of a cycle.
+-- Ranks of live tests and of their places, and the tests of a loop.
 use Rattle.std.proofs.Common.{◌≡◌, ℕ, zero, suc, ◌+◌, ◌-◌, ◌<◌, List, [], ◌∷◌, ◌++◌, length, get_or, take, map, Option, Some, None, slice_get, sym, ◌∙◌, ap, arith, add-one}
 use Rattle.std.specs.List.{All, Contains}
 use Rattle.std.proofs.lemmas.List.{take_more, map-append}
@@ -11,9 +11,9 @@ use Rattle.plan_model.specs.Rules.{live_ids}
 use Rattle.plan_model.specs.SoundLimits.{IsAcyclic}
 use Rattle.plan_model.proofs.Lists.{contains_at, at_contains}
 use Rattle.live_tests.proofs.Precedences.{place_among, place_there, pair_there, StandsFor, stands_for}
-use Rattle.limits_text.specs.Cycles.{IsWalk, IsFirstCycle, HasRank, AreAt}
+use Rattle.limits_text.specs.Loops.{IsWalk, IsFirstLoop, HasRank, AreAt}
 use Rattle.live_tests.specs.Names.{precedences}
-use Rattle.limits_text.proofs.FirstCycles.{AreWithin}
+use Rattle.limits_text.proofs.FirstLoops.{AreWithin}
 
 -- ---- ranks
 
@@ -54,7 +54,7 @@ ranked soc limits r = (λ i. rank_at r.0 (slice_get (live_ids soc) i), λ i j c.
         let right : rank_at r.0 (slice_get (live_ids soc) j) ≡ r.0 s.second = ap (rank_at r.0) s.second_at in
         omega (arith, less, left, right)
 
--- ---- the tests of a cycle
+-- ---- the tests of a loop
 
 walk_within : (pairs : List (ℕ × ℕ)) (count : ℕ) (walk : List ℕ) → AreWithin pairs count → IsWalk pairs count walk → (k x : ℕ) → slice_get walk k ≡ Some x → x < count
 walk_within pairs count walk all w zero x at = (w.begins x at).within
@@ -64,9 +64,9 @@ walk_within pairs count walk all w (suc k) x at =
     let f = w.goes k (get_or walk k 0) x before (ap (slice_get walk) (add-one k) ∙ at) in
     (All-contains (λ (e : ℕ × ℕ). (e.0 < count) × (e.1 < count)) pairs (x, get_or walk k 0) all f.precedes).0
 
-pub cycle_within : (pairs : List (ℕ × ℕ)) (count : ℕ) (cycle : List ℕ) → AreWithin pairs count → IsFirstCycle pairs count cycle → All (λ p. p < count) cycle
-cycle_within pairs count cycle all c =
-    All-from_get_or (λ p. p < count) cycle 0 (λ k less. walk_within pairs count c.walk all c.is_walk (c.last - k) (get_or cycle k 0) (sym (c.cycle_is k less) ∙ slice_get-get_or cycle k 0 less))
+pub loop_within : (pairs : List (ℕ × ℕ)) (count : ℕ) (circle : List ℕ) → AreWithin pairs count → IsFirstLoop pairs count circle → All (λ p. p < count) circle
+loop_within pairs count circle all c =
+    All-from_get_or (λ p. p < count) circle 0 (λ k less. walk_within pairs count c.walk all c.is_walk (c.last - k) (get_or circle k 0) (sym (c.loop_is k less) ∙ slice_get-get_or circle k 0 less))
 
 pub tests_more : (ids : List TestId) (places : List ℕ) (tests : List TestId) (k : ℕ) (test d : TestId) → AreAt ids (take k places) tests → k < length places → All (λ p. p < length ids) places → test ≡ get_or ids (get_or places k 0) d → AreAt ids (take (k + 1) places) (tests ++ test ∷ [])
 tests_more ids places tests k test d are less all is =

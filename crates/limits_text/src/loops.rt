@@ -1,17 +1,17 @@
-//! The first cycle of the precedences of live tests.
+//! The first loop of the precedences of live tests.
 ghost use Rattle.std.specs.Prelude.{◌≡◌, ◌<◌, length, map, IfOk, IfSome, MatchOption};
 ghost use Rattle.std.specs.List.{All};
 ghost use Rattle.soc_model.specs.Chips.{soc_value};
 ghost use Rattle.plan_model.specs.Plans.{LimitsValue};
 ghost use Rattle.plan_model.specs.Rules.{live_ids};
 ghost use Rattle.plan_model.specs.SoundLimits.{IsAcyclic};
-ghost use Rattle.limits_text.specs.Places.{HasFirstCycle};
+ghost use Rattle.limits_text.specs.Places.{HasFirstLoop};
 ghost use Rattle.limits_text.specs.Views.{item_of};
-ghost use Rattle.limits_text.specs.Cycles.{AreAt, IsCycleOf};
+ghost use Rattle.limits_text.specs.Loops.{AreAt, IsLoopOf};
 ghost use Rattle.live_tests.specs.Names.{precedences as precedences_of};
 
 use crate::LimFault;
-use crate::graph::first_cycle;
+use crate::graph::first_loop;
 use crate::items::Item;
 use crate::places::{ChipTests, precedences, some_names_test};
 use live_tests::LiveTests;
@@ -31,9 +31,9 @@ fn tests_at(alloc: Global, ids: &[TestId], places: &[usize]) -> Result<Vec<TestI
     Ok(tests)
 }
 
-/// The first cycle of the precedences of live tests, which are given by the places of these. None comes exactly where
-/// they have no cycle.
-fn cycle_of(
+/// The first loop of the precedences of live tests, which are given by the places of these. None comes exactly where
+/// they have no loop.
+fn loop_of(
     alloc: Global,
     tests: &ChipTests<'_>,
     pairs: &[(usize, usize)],
@@ -41,11 +41,11 @@ fn cycle_of(
     requires { (limits : LimitsValue) × (pairs.now ≡ precedences_of tests.now limits) }
     ensures { (limits : LimitsValue) → pairs.now ≡ precedences_of tests.now limits → IfOk result (λ found. MatchOption found
         (IsAcyclic tests.now limits)
-        (λ cycle. IsCycleOf tests.now limits cycle.items)) }
+        (λ circle. IsLoopOf tests.now limits circle.items)) }
 {
     let names = tests.names();
-    match first_cycle(alloc, names.len(), pairs)? {
-        Some(cycle) => Ok(Some(tests_at(alloc, names, &cycle)?)),
+    match first_loop(alloc, names.len(), pairs)? {
+        Some(circle) => Ok(Some(tests_at(alloc, names, &circle)?)),
         None => Ok(None),
     }
 }
@@ -65,17 +65,17 @@ pub fn noted_tests(
     }
 }
 
-/// The first cycle of the precedences that items say for a chip. None comes exactly where they have none. `UnknownTest`
+/// The first loop of the precedences that items say for a chip. None comes exactly where they have none. `UnknownTest`
 /// with the line of the first item that names a test which isn't in the chip. The live tests of the chip are noted where
 /// an item names a test and they aren't at hand.
-pub fn first_cycle_of(
+pub fn first_loop_of(
     alloc: Global,
     soc: &Soc,
     live: &mut Option<LiveTests>,
     list: &[Item],
 ) -> Result<Option<Vec<TestId>>, LimFault>
     requires { IfSome live.old (λ tests. tests ≡ live_ids (soc_value soc.now)) }
-    ensures cycle { HasFirstCycle (soc_value soc.now) (map item_of list.now) result }
+    ensures circle { HasFirstLoop (soc_value soc.now) (map item_of list.now) result }
     ensures noted { IfSome live.new (λ tests. tests ≡ live_ids (soc_value soc.now)) }
 {
     // most limits name no test, and then no test of the chip is noted
@@ -83,26 +83,26 @@ pub fn first_cycle_of(
         return Ok(None);
     }
     let tests = noted_tests(alloc, soc, live.take())?;
-    let found = cycle_named(alloc, soc, &tests, list);
+    let found = loop_named(alloc, soc, &tests, list);
     *live = Some(tests);
     found
 }
 
 /// The same, where these are the live tests of the chip.
-fn cycle_named(
+fn loop_named(
     alloc: Global,
     soc: &Soc,
     live: &LiveTests,
     list: &[Item],
 ) -> Result<Option<Vec<TestId>>, LimFault>
     requires { live.now ≡ live_ids (soc_value soc.now) }
-    ensures { HasFirstCycle (soc_value soc.now) (map item_of list.now) result }
+    ensures { HasFirstLoop (soc_value soc.now) (map item_of list.now) result }
 {
     let tests = ChipTests::new(alloc, soc, live)?;
     let pairs = match precedences(alloc, &tests, list) {
         Ok(pairs) => pairs,
         Err(fault) => return Err(fault),
     };
-    let found = cycle_of(alloc, &tests, &pairs)?;
+    let found = loop_of(alloc, &tests, &pairs)?;
     Ok(found)
 }
