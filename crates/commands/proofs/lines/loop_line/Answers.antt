@@ -3,7 +3,7 @@ use Rattle.std.specs.Prelude.{IsTrue}
 use Rattle.std.proofs.lemmas.Grind.{common_steps}
 use Rattle.commands.specs.Texts.{no_feed}
 use Rattle.commands.proofs.LineFacts.{line_from}
-use Rattle.commands.proofs.lines.cycle_line.Goals as goal
+use Rattle.commands.proofs.lines.loop_line.Goals as goal
 
 pub returns-clause-line : goal.returns-clause-line
 returns-clause-line c =
