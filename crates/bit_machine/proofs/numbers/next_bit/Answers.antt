@@ -1,7 +1,7 @@
 use Rattle.std.proofs.Common.{◌∙◌, ap}
 use Rattle.bit_machine.specs.Chips.{has_odd_square}
 use Rattle.bit_machine.proofs.Walks.{walk_value, walk_next, value_small}
-use Rattle.bit_machine.proofs.numbers.step.Goals as goal
+use Rattle.bit_machine.proofs.numbers.next_bit.Goals as goal
 
 pub next-requires-clause-value : goal.next-requires-clause-value
 next-requires-clause-value c =

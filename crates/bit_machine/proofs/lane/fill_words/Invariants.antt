@@ -2,7 +2,7 @@ use Rattle.std.proofs.Common.{◌≡◌, ℕ, ◌<◌, Some, length}
 use Rattle.std.specs.Prelude.{slice_get, slice_index}
 use Rattle.bit_machine.specs.Numbers.{IsLineWord}
 use Rattle.bit_machine.specs.declared.path.Path.{Path}
-use Rattle.bit_machine.proofs.lane.fill.Given as goal
+use Rattle.bit_machine.proofs.lane.fill_words.Given as goal
 
 abbrev pub invariant-loop-place : goal.invariant-loop-place
 invariant-loop-place l = record {

@@ -1,6 +1,6 @@
 use Rattle.std.proofs.Common.{arith}
 use Rattle.bit_machine.proofs.Assigning.{given_none, given_more}
-use Rattle.bit_machine.proofs.machine.give.Goals as goal
+use Rattle.bit_machine.proofs.machine.give_wires.Goals as goal
 
 pub loop-wire-init : goal.loop-wire-init
 loop-wire-init c = given_none c.args.users.now c.args.place c.args.lane.now.first_wire

@@ -1,12 +1,12 @@
 use Rattle.std.proofs.Common.{◌∙◌, length, arith}
 use Rattle.bit_machine.proofs.LaneSteps.{slice_at}
 use Rattle.bit_machine.proofs.Assigning.{nobody_below, assign_more, all_users}
-use Rattle.bit_machine.proofs.machine.assign.Goals as goal
+use Rattle.bit_machine.proofs.machine.assign_wires.Goals as goal
 
 pub loop-place-init : goal.loop-place-init
 loop-place-init c = record {
-  long = c.clear.ensures.long;
-  users = λ content tests are on. nobody_below tests c.args.cycle c.clear.new.users c.clear.ensures.none;
+  long = c.clear_users.ensures.long;
+  users = λ content tests are on. nobody_below tests c.args.cycle c.clear_users.new.users c.clear_users.ensures.none;
 }
 
 pub give_active-requires : goal.give_active-requires

@@ -1,7 +1,7 @@
 use Rattle.std.proofs.Common.{◌∙◌, arith}
 use Rattle.std.proofs.lemmas.List.{length-set}
 use Rattle.bit_machine.proofs.LaneSteps.{words_more}
-use Rattle.bit_machine.proofs.lane.fill.Goals as goal
+use Rattle.bit_machine.proofs.lane.fill_words.Goals as goal
 
 pub loop-place-preserved : goal.loop-place-preserved
 loop-place-preserved c = record {

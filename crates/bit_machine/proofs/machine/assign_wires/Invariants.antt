@@ -2,7 +2,7 @@ use Rattle.std.proofs.Common.{◌≡◌, List, length}
 use Rattle.plan_model.specs.Plans.{PlannedTest}
 use Rattle.plan_model.specs.Runs.{Content}
 use Rattle.bit_machine.specs.Machines.{AreLanes, AreOnWires, AreUsersBelow}
-use Rattle.bit_machine.proofs.machine.assign.Given as goal
+use Rattle.bit_machine.proofs.machine.assign_wires.Given as goal
 
 abbrev pub invariant-loop-place : goal.invariant-loop-place
 invariant-loop-place l = record {

@@ -1,7 +1,7 @@
 use Rattle.std.proofs.Common.{◌<◌, Some, length, arith}
 use Rattle.std.proofs.lemmas.Option.{slice_get_within}
 use Rattle.bit_machine.proofs.Assigning.{clear_more}
-use Rattle.bit_machine.proofs.machine.clear.Goals as goal
+use Rattle.bit_machine.proofs.machine.clear_users.Goals as goal
 
 pub loop-wire-preserved : goal.loop-wire-preserved
 loop-wire-preserved c = clear_more c.loop-wire.users c.loop-wire.wire (omega (arith, c.loop-wire-test.true, c.loop-wire.auto.users)) c.loop-wire.invariant
