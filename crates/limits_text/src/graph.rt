@@ -42,7 +42,11 @@ fn free_tests(alloc: Global, counts: &[usize]) -> Result<Vec<usize>, NoMemory>
 }
 
 /// Holds a test back once less, and takes it where nothing holds it back any more.
-fn let_go(counts: &mut Vec<usize>, order: &mut Vec<usize>, test: usize) -> Result<(), NoMemory>
+fn release_test(
+    counts: &mut Vec<usize>,
+    order: &mut Vec<usize>,
+    test: usize,
+) -> Result<(), NoMemory>
     requires within { test < length counts.old.items }
     requires held { 1 ≤ slice_index counts.old.items test }
     requires kept { IsKept counts.old.items (length counts.old.items) order.old.items }
@@ -57,7 +61,11 @@ fn let_go(counts: &mut Vec<usize>, order: &mut Vec<usize>, test: usize) -> Resul
 }
 
 /// Holds each of these tests back once less, and takes those that nothing holds back any more.
-fn release(counts: &mut Vec<usize>, order: &mut Vec<usize>, tests: &[usize]) -> Result<(), NoMemory>
+fn release_tests(
+    counts: &mut Vec<usize>,
+    order: &mut Vec<usize>,
+    tests: &[usize],
+) -> Result<(), NoMemory>
     requires within { All (λ j. j < length counts.old.items) tests.now }
     requires held { (j : ℕ) → j < length counts.old.items → copies tests.now j ≤ slice_index counts.old.items j }
     requires kept { IsKept counts.old.items (length counts.old.items) order.old.items }
@@ -68,7 +76,7 @@ fn release(counts: &mut Vec<usize>, order: &mut Vec<usize>, tests: &[usize]) -> 
     ensures goes_on { OnOk result (GoesOn order.old.items order.new.items) }
 {
     for test in tests {
-        let_go(counts, order, *test)?;
+        release_test(counts, order, *test)?;
     }
     Ok(())
 }
@@ -85,7 +93,7 @@ fn taking(alloc: Global, count: usize, pairs: &[(usize, usize)]) -> Result<Vec<u
     while done < order.len() {
         let test = order[done];
         done += 1;
-        release(&mut counts, &mut order, lists[test].tests.as_slice())?;
+        release_tests(&mut counts, &mut order, lists[test].tests.as_slice())?;
     }
     Ok(order)
 }
@@ -115,7 +123,7 @@ fn unmarked(alloc: Global, count: usize) -> Result<Vec<bool>, NoMemory>
 }
 
 /// Makes the number of a test no greater than one that is not gone.
-fn lower(least: &mut Vec<usize>, test: usize, to: usize, is_gone: bool)
+fn lower_least(least: &mut Vec<usize>, test: usize, to: usize, is_gone: bool)
     requires { test < length least.old.items }
     ensures { least.new.items ≡ (if is_gone then least.old.items
         else slice_set least.old.items test (min (slice_index least.old.items test) to)) }
@@ -141,7 +149,7 @@ fn least_before(
 {
     let mut least = repeated(alloc, gone.len(), gone.len() - 1)?;
     for (first, second) in pairs {
-        lower(&mut least, *second, *first, gone[*first]);
+        lower_least(&mut least, *second, *first, gone[*first]);
     }
     Ok(least)
 }

@@ -1,5 +1,5 @@
 use Rattle.limits_text.proofs.Taking.{let_go_kept, let_go_on}
-use Rattle.limits_text.proofs.graph.let_go.Goals as goal
+use Rattle.limits_text.proofs.graph.release_test.Goals as goal
 
 pub returns-clause-kept : goal.returns-clause-kept
 returns-clause-kept c =

@@ -1,7 +1,7 @@
 use Rattle.std.proofs.Common.{◌≡◌, length}
 use Rattle.limits_text.specs.Orders.{IsKept, GoesOn}
 use Rattle.limits_text.proofs.Taking.{AreReleased}
-use Rattle.limits_text.proofs.graph.release.Given as goal
+use Rattle.limits_text.proofs.graph.release_tests.Given as goal
 
 abbrev pub invariant-loop-test : goal.invariant-loop-test
 invariant-loop-test l = record {
