@@ -1,7 +1,7 @@
 use Rattle.std.proofs.Common.{◌∙◌, length-set}
 use Rattle.std.proofs.lemmas.List.Elements.{All-set}
 use Rattle.arch_search.specs.Rooms.{IsSlot}
-use Rattle.arch_search.proofs.scheduling.assign.Goals as goal
+use Rattle.arch_search.proofs.scheduling.assign_bus.Goals as goal
 
 pub returns-clause-room : goal.returns-clause-room
 returns-clause-room c = λ tests has. record {

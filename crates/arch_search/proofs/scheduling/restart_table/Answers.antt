@@ -5,7 +5,7 @@ use Rattle.arch_search.specs.Problems.{IsProblem}
 use Rattle.arch_search.specs.Rooms.{AreShort, AreCyclesOf}
 use Rattle.arch_search.proofs.OtherBuses.{sound_over, cycles_over}
 use Rattle.arch_search.proofs.Sent.{problem_over}
-use Rattle.arch_search.proofs.scheduling.restart.Goals as goal
+use Rattle.arch_search.proofs.scheduling.restart_table.Goals as goal
 
 pub restart-requires-clause-sound : goal.restart-requires-clause-sound
 restart-requires-clause-sound g c =

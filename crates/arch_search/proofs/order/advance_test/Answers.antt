@@ -1,6 +1,6 @@
 use Rattle.std.proofs.Common.{◌∙◌, ◌<◌, rules, arith, length-set}
 use Rattle.std.proofs.lemmas.List.Elements.{All-set}
-use Rattle.arch_search.proofs.order.advance.Goals as goal
+use Rattle.arch_search.proofs.order.advance_test.Goals as goal
 
 pub loop-next-init : goal.loop-next-init
 loop-next-init c = record {
