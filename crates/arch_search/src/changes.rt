@@ -7,9 +7,9 @@ use crate::buses::Buses;
 use crate::dealing::{Taken, deal_modules};
 use crate::draws::{below, coin};
 use crate::kinds::{ChangeKind, drawn_kind};
-use crate::moves::{merge, move_module};
+use crate::moves::{merge_buses, move_module};
 use crate::pairs::deal_buses;
-use crate::splits::split;
+use crate::splits::split_bus;
 use crate::times::Times;
 use rand_xoshiro::Xoshiro256PlusPlus;
 
@@ -55,8 +55,8 @@ pub(crate) fn change(
     let to = buses.slot_of(other);
     match kind {
         ChangeKind::Move => move_module(times, buses, one, to),
-        ChangeKind::Merge => merge(times, buses, from, to),
-        ChangeKind::Split => split(times, buses, one, rng),
+        ChangeKind::Merge => merge_buses(times, buses, from, to),
+        ChangeKind::Split => split_bus(times, buses, one, rng),
         ChangeKind::DealModules => deal_modules(times, buses, taken, one, rng),
         ChangeKind::DealBuses => deal_buses(times, buses, from, to, rng),
     }

@@ -110,7 +110,7 @@ fn chosen_slot(times: &Times, buses: &Buses, module: usize, rng: &mut Xoshiro256
 }
 
 /// Deals a module that was taken off. Whether it is on another bus than before.
-fn deal(times: &Times, buses: &mut Buses, one: Taken, rng: &mut Xoshiro256PlusPlus) -> bool
+fn deal_again(times: &Times, buses: &mut Buses, one: Taken, rng: &mut Xoshiro256PlusPlus) -> bool
     requires buses { AreBuses buses.old }
     requires times { AreTimesOn buses.old times.now }
     requires taken { IsTaken (length buses.old.widths.items) (length buses.old.slots.items) one }
@@ -141,7 +141,7 @@ fn deal_all(
 {
     let mut changed = false;
     for place in 0..count {
-        if deal(times, buses, taken[place], rng) {
+        if deal_again(times, buses, taken[place], rng) {
             changed = true;
         }
     }

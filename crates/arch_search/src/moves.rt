@@ -40,7 +40,7 @@ fn put_all(buses: &mut Buses, from: usize, to: usize)
 }
 
 /// Merges the bus of one slot into that of another, with its wires. Whether anything changed.
-pub(crate) fn merge(times: &Times, buses: &mut Buses, from: usize, to: usize) -> bool
+pub(crate) fn merge_buses(times: &Times, buses: &mut Buses, from: usize, to: usize) -> bool
     requires buses { AreBuses buses.old }
     requires times { AreTimesOn buses.old times.now }
     requires from { from < length buses.old.widths.items }

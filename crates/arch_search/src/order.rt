@@ -33,7 +33,7 @@ fn may_exchange(before: &[Neighbours], order: &[usize], first: usize, second: us
 
 /// Lets the tests at two places of an order change places, where each test still comes behind those that precede it.
 /// Whether anything changed.
-fn exchange(before: &[Neighbours], order: &mut Vec<usize>, one: usize, other: usize) -> bool
+fn exchange_tests(before: &[Neighbours], order: &mut Vec<usize>, one: usize, other: usize) -> bool
     requires one { one < length order.old.items }
     requires other { other < length order.old.items }
     requires order { All (λ test. test < length before.now) order.old.items }
@@ -68,7 +68,7 @@ pub(crate) fn change_order(
     }
     let one = below(rng, tests);
     let other = below(rng, tests);
-    exchange(before, order, one, other)
+    exchange_tests(before, order, one, other)
 }
 
 /// Whether the test at a place of an order can go to an earlier one: none from there on precedes it.
@@ -85,7 +85,7 @@ fn may_advance(before: &[Neighbours], order: &[usize], place: usize, to: usize) 
 }
 
 /// Lets the test at a place of an order go to an earlier place.
-fn advance(order: &mut Vec<usize>, place: usize, to: usize)
+fn advance_test(order: &mut Vec<usize>, place: usize, to: usize)
     requires within { place < length order.old.items }
     ensures order { (n : ℕ) → All (λ test. test < n) order.old.items → All (λ test. test < n) order.new.items }
     ensures long { length order.new.items ≡ length order.old.items }
@@ -117,6 +117,6 @@ pub(crate) fn advance_drawn(
     if !may_advance(before, order, place, to) {
         return false;
     }
-    advance(order, place, to);
+    advance_test(order, place, to);
     true
 }

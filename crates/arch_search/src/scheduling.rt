@@ -92,7 +92,7 @@ fn cycles_over(test: &TestTimes, buses: &Buses, slot: Option<usize>) -> u64
 }
 
 /// Notes that a test goes over the bus of a slot and takes so many cycles.
-fn assign(room: &mut Room, test: usize, slot: Option<usize>, cycles: u64)
+fn assign_bus(room: &mut Room, test: usize, slot: Option<usize>, cycles: u64)
     requires test { test < length room.old.slots.items }
     requires cycles { test < length room.old.cycles.items }
     requires slot { IfSome slot (λ k. k < 256) }
@@ -105,7 +105,7 @@ fn assign(room: &mut Room, test: usize, slot: Option<usize>, cycles: u64)
 
 /// Sends each test over its bus. False where a test can't be tested so, or where the tests take more cycles together than a plan
 /// may have.
-pub(crate) fn send(problem: &Problem, buses: &Buses, room: &mut Room) -> bool
+pub(crate) fn assign_buses(problem: &Problem, buses: &Buses, room: &mut Room) -> bool
     requires buses { AreBuses buses.now }
     requires wires { length buses.now.widths.items ≡ problem.now.wires }
     requires few_wires { problem.now.wires ≤ 256 }
@@ -124,14 +124,14 @@ pub(crate) fn send(problem: &Problem, buses: &Buses, room: &mut Room) -> bool
         if cycles > left {
             return false;
         }
-        assign(room, test, slot, cycles);
+        assign_bus(room, test, slot, cycles);
         left -= cycles;
     }
     true
 }
 
 /// Empties the table for the tests as they were sent.
-fn restart<J>(problem: &Problem, table: &mut TableOf<J>, room: &Room)
+fn restart_table<J>(problem: &Problem, table: &mut TableOf<J>, room: &Room)
     requires problem { IsProblem table.old.job problem.now }
     requires sound { IsSoundTable table.old }
     requires room { HasRoomFor problem.now room.now }
@@ -265,7 +265,7 @@ pub(crate) fn place_order<J>(
     ensures room { HasRoomFor problem.now room.new }
     ensures cycles { room.new.cycles ≡ room.old.cycles }
 {
-    restart(problem, table, room);
+    restart_table(problem, table, room);
     list_schedules_are_short();
     place_all(table, &problem.before, order, room, most)
 }

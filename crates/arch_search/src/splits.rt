@@ -50,7 +50,7 @@ fn part(buses: &mut Buses, rng: &mut Xoshiro256PlusPlus, module: usize, from: us
 
 /// Splits the bus of a module that has two modules and two wires at least: some of its wires go to an unused slot,
 /// with the module and each other one by even chance, of which one at least stays. Whether anything changed.
-pub(crate) fn split(
+pub(crate) fn split_bus(
     times: &Times,
     buses: &mut Buses,
     module: usize,

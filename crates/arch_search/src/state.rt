@@ -142,7 +142,7 @@ fn first_slots(alloc: Global, modules: usize) -> Result<Vec<usize>, NoMemory>
 
 /// Puts a module on the bus of a slot, which has so many wires at first; where the slot was unused, these are taken from
 /// those that are left. Answers how many are left then.
-fn settle(buses: &mut Buses, module: usize, slot: usize, width: u64, left: u64) -> u64
+fn put_on_bus(buses: &mut Buses, module: usize, slot: usize, width: u64, left: u64) -> u64
     requires there { «module» < length buses.old.slots.items }
     requires slot { slot < length buses.old.widths.items }
     requires within { All (λ k. k < length buses.old.widths.items) buses.old.slots.items }
@@ -209,7 +209,7 @@ fn settle_test(
     let Some((slot, width)) = bus_of(job, plan, test, problem.wires) else {
         return left;
     };
-    settle(buses, module, slot, width, left)
+    put_on_bus(buses, module, slot, width, left)
 }
 
 /// The buses at first: those of the plan with modules that have tests over the wires. Wires of no such bus go to the bus of

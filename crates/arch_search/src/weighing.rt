@@ -12,7 +12,7 @@ use crate::chains::{draw_too_much, set_chains};
 use crate::order::advance_drawn;
 use crate::problem::Problem;
 use crate::room::Room;
-use crate::scheduling::{Ends, place_order, send};
+use crate::scheduling::{Ends, assign_buses, place_order};
 use crate::setting::SearchSetting;
 use crate::state::State;
 use plan_model::START_MOST;
@@ -153,7 +153,7 @@ pub(crate) fn weigh<J>(
     if setting.wires_alone {
         return load_ends(setting, &state.buses, most);
     }
-    if !send(setting.problem, &state.buses, room) {
+    if !assign_buses(setting.problem, &state.buses, room) {
         return None;
     }
     if !could_end(setting, &state.order, room, most) {
@@ -172,7 +172,7 @@ pub(crate) fn finish<J>(problem: &Problem, table: &mut TableOf<J>, state: &State
     ensures sound { IsSoundTable table.new }
     ensures room { HasRoomFor problem.now room.new }
 {
-    if !send(problem, &state.buses, room) {
+    if !assign_buses(problem, &state.buses, room) {
         return;
     }
     let _ends = place_order(problem, table, &state.order, room, u64::MAX);

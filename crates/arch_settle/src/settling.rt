@@ -50,7 +50,7 @@ pub fn reshuffle(alloc: Global, table: &WidthTable, arch: Arch) -> Result<Arch, 
 }
 
 /// A round: bottom-up, top-down and reshuffle in turn.
-fn round(alloc: Global, table: &WidthTable, arch: Arch) -> Result<Arch, NoMemory>
+fn settle_round(alloc: Global, table: &WidthTable, arch: Arch) -> Result<Arch, NoMemory>
     requires { IsSoundArch table.now (arch_value arch) }
     ensures round { IfOk result (λ next. IsRound table.now (arch_value arch) (arch_value next)) }
     ensures sound { IfOk result (λ next. IsSoundArch table.now (arch_value next)) }
@@ -73,11 +73,11 @@ pub fn settle(alloc: Global, table: &WidthTable, arch: Arch) -> Result<Arch, NoM
 {
     // a round that leaves the cost takes no step, and so changes nothing
     let mut before = cost(table, &arch);
-    let mut arch = round(alloc, table, arch)?;
+    let mut arch = settle_round(alloc, table, arch)?;
     let mut after = cost(table, &arch);
     while after < before {
         before = after;
-        arch = round(alloc, table, arch)?;
+        arch = settle_round(alloc, table, arch)?;
         after = cost(table, &arch);
     }
     Ok(arch)

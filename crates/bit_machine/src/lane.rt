@@ -99,7 +99,7 @@ impl Lane {
     {
         let line = Line::of(self.base, page.pattern, 0);
         let first = page.first as usize;
-        fill(&mut self.pages, &self.paths, &line, first);
+        fill_words(&mut self.pages, &self.paths, &line, first);
         self.page = Some(page);
     }
 
@@ -186,7 +186,7 @@ impl Lane {
 }
 
 /// Fills for each chain the word of what its cells from one on load.
-fn fill(words: &mut [u64], paths: &[Path], line: &Line, first: usize)
+fn fill_words(words: &mut [u64], paths: &[Path], line: &Line, first: usize)
     requires first { line.now.first < 997 }
     requires step { line.now.step < 997 }
     requires many { length words.old ≡ length paths.now }

@@ -36,7 +36,7 @@ fn count(counts: (u64, u64), found: Option<bool>) -> (u64, u64)
 }
 
 /// Gives the wires of a test that is active to it.
-fn give(users: &mut [Option<usize>], lane: &Lane, place: usize)
+fn give_wires(users: &mut [Option<usize>], lane: &Lane, place: usize)
     requires { lane.now.first_wire + lane.now.width ≤ length users.old }
     ensures long { length users.new ≡ length users.old }
     ensures given { (w : ℕ) → lane.now.first_wire ≤ w → w < lane.now.first_wire + lane.now.width →
@@ -50,7 +50,7 @@ fn give(users: &mut [Option<usize>], lane: &Lane, place: usize)
 }
 
 /// Gives the wires to nobody.
-fn clear(users: &mut [Option<usize>])
+fn clear_users(users: &mut [Option<usize>])
     ensures long { length users.new ≡ length users.old }
     ensures none { (w i : ℕ) → slice_get users.new w ≡ Some (Some i) → ⊥ }
 {
@@ -101,18 +101,18 @@ fn give_active(users: &mut [Option<usize>], lane: &Lane, place: usize, cycle: u6
     ensures off { lane_on lane.now cycle ≡ false → users.new ≡ users.old }
 {
     if lane.is_on(cycle) {
-        give(users, lane, place);
+        give_wires(users, lane, place);
     }
 }
 
 /// Which test each wire belongs to at a cycle.
-fn assign(users: &mut [Option<usize>], lanes: &[Lane], cycle: u64)
+fn assign_wires(users: &mut [Option<usize>], lanes: &[Lane], cycle: u64)
     requires { FitLanes lanes.now (length users.old) }
     ensures long { length users.new ≡ length users.old }
     ensures users { (content : Content) (tests : List PlannedTest) → AreLanes content tests lanes.now →
         AreOnWires tests (length users.old) → AreUsers tests cycle users.new }
 {
-    clear(users);
+    clear_users(users);
     for place in 0..lanes.len() {
         give_active(users, &lanes[place], place, cycle);
     }
@@ -192,7 +192,7 @@ impl Machine {
     {
         self.cycle = cycle;
         self.change = next_change(&self.lanes, cycle);
-        assign(&mut self.users, &self.lanes, cycle);
+        assign_wires(&mut self.users, &self.lanes, cycle);
         stand_all(&mut self.lanes, &self.users, cycle);
     }
 

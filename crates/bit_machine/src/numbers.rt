@@ -89,7 +89,7 @@ fn refilled(runs: &[NumberRun], line: &Line, walk: Walk) -> Walk
 }
 
 /// The bit of the number that a walk is at. It goes on to the next number.
-fn step(runs: &[NumberRun], line: &Line, walk: &mut Walk) -> bool
+fn next_bit(runs: &[NumberRun], line: &Line, walk: &mut Walk) -> bool
     requires first { line.now.first < 997 }
     requires step { line.now.step < 997 }
     requires full { All IsFull runs.now }
@@ -120,7 +120,7 @@ fn word_of(runs: &[NumberRun], line: &Line, first: usize, count: usize) -> u64
     let mut walk = walk_from(runs, line, first as u64);
     let mut word = 0;
     for place in 0..count {
-        let bit = step(runs, line, &mut walk);
+        let bit = next_bit(runs, line, &mut walk);
         word = with_bit(word, place, bit);
     }
     word
@@ -144,7 +144,7 @@ fn put_back(runs: &[NumberRun], line: &Line, last: usize, count: usize, text: &m
     let first = last - (count - 1);
     let mut walk = walk_from(runs, line, first as u64);
     for place in 0..count {
-        let bit = step(runs, line, &mut walk);
+        let bit = next_bit(runs, line, &mut walk);
         put_byte(text, at, count - 1 - place, digit(bit));
     }
 }

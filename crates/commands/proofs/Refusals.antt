@@ -17,7 +17,7 @@ use Rattle.soc_reader.specs.ChipForm.{SaysChip}
 use Rattle.soc_reader.specs.Refusals.{Refuses}
 use Rattle.limits_text.specs.declared.LimFault.{LimFault}
 use Rattle.limits_text.specs.declared.LimFault.TheVariants as limits_fault
-use Rattle.limits_text.specs.Answers.{LimitsRead, refused_line, unknown_line, shown_cycle, passing_power}
+use Rattle.limits_text.specs.Answers.{LimitsRead, refused_line, unknown_line, shown_loop, passing_power}
 use Rattle.plan_text.specs.declared.PlanTextFault.{PlanTextFault}
 use Rattle.plan_text.specs.declared.PlanTextFault.TheVariants as plan_fault
 use Rattle.plan_text.specs.Answers.{SaysPlan, PlanRead}
@@ -25,7 +25,7 @@ use Rattle.commands.specs.declared.FileKind.TheVariants.{Soc, Limits, Plan}
 use Rattle.commands.specs.declared.Status.TheVariants.{Refused}
 use Rattle.commands.specs.declared.Verdict.{Verdict}
 use Rattle.commands.specs.declared.Verdict.TheVariants.{Answered, CannotRead, NoMemory as OutOfMemory}
-use Rattle.commands.specs.Texts.{is_line, chip_line, chip_limit_line, limits_line, unknown_test_line, cycle_line, test_power_line, plan_line, fault_line}
+use Rattle.commands.specs.Texts.{is_line, chip_line, chip_limit_line, limits_line, unknown_test_line, loop_line, test_power_line, plan_line, fault_line}
 use Rattle.commands.specs.Readings.{most_of, RefusesChip, SaysLimits, RefusesLimits, SaysAccepted, RefusesPlan}
 use Rattle.commands.specs.Procedures.{nothing, with_chip, with_limits, with_accepted}
 use Rattle.commands.specs.Decides.{Follows, RefusesSoc, RefusesBounds, RefusesValue, AnswersCheck, GivesText, LoadsBytes, LoadsChip, LoadsLimits, LoadsAccepted}
@@ -59,7 +59,7 @@ limits_refused chip name bytes held before after (limits_fault.Text line) verdic
 limits_refused chip name bytes held before after (limits_fault.UnknownTest line) verdict told within why d =
     refused Limits (SaysLimits chip) (RefusesLimits chip) name (λ bounds. nothing) held before after bytes (unknown_test_line line) verdict told within (unknown_line line, why, refl) d
 limits_refused chip name bytes held before after (limits_fault.Cycle tests) verdict told within why d =
-    refused Limits (SaysLimits chip) (RefusesLimits chip) name (λ bounds. nothing) held before after bytes (cycle_line tests.items) verdict told within (shown_cycle tests.items, why, refl) d
+    refused Limits (SaysLimits chip) (RefusesLimits chip) name (λ bounds. nothing) held before after bytes (loop_line tests.items) verdict told within (shown_loop tests.items, why, refl) d
 limits_refused chip name bytes held before after (limits_fault.TestPower test power) verdict told within why d =
     refused Limits (SaysLimits chip) (RefusesLimits chip) name (λ bounds. nothing) held before after bytes (test_power_line test power) verdict told within (passing_power test power, why, refl) d
 limits_refused chip name bytes held before after limits_fault.NoMemory verdict told within why d = rw d tt

@@ -26,7 +26,7 @@ use Rattle.commands.specs.declared.Verdict.{Verdict}
 use Rattle.commands.specs.declared.Verdict.TheVariants.{Answered, CannotRead, NoMemory as OutOfMemory}
 use Rattle.commands.specs.declared.loading.Both.{Both}
 use Rattle.commands.specs.declared.loading.Accepted.{Accepted}
-use Rattle.commands.specs.Texts.{is_line, bad_words_line, chip_line, chip_limit_line, limits_line, unknown_test_line, cycle_line, test_power_line, plan_line, fault_line}
+use Rattle.commands.specs.Texts.{is_line, bad_words_line, chip_line, chip_limit_line, limits_line, unknown_test_line, loop_line, test_power_line, plan_line, fault_line}
 use Rattle.commands.specs.Readings.{most_of, IsRead, SaysLimits, SaysAccepted}
 use Rattle.commands.specs.Procedures.{Procedure, Read, Unless, Answer, NoCommand, nothing, with_bytes, with_chip, with_limits, with_accepted, with_both, with_all}
 use Rattle.commands.specs.Answers.{Answers}
@@ -166,7 +166,7 @@ RefusesSoc soc_fault.NoMemory verdict = verdict ≡ OutOfMemory
 abbrev pub RefusesBounds : LimFault → Verdict → Type 0
 RefusesBounds (limits_fault.Text line) verdict = Refuses (limits_line line) verdict
 RefusesBounds (limits_fault.UnknownTest line) verdict = Refuses (unknown_test_line line) verdict
-RefusesBounds (limits_fault.Cycle tests) verdict = Refuses (cycle_line tests.items) verdict
+RefusesBounds (limits_fault.Cycle tests) verdict = Refuses (loop_line tests.items) verdict
 RefusesBounds (limits_fault.TestPower test power) verdict = Refuses (test_power_line test power) verdict
 RefusesBounds limits_fault.NoMemory verdict = verdict ≡ OutOfMemory
 

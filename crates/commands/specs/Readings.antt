@@ -5,12 +5,12 @@ use Rattle.soc_model.specs.declared.SocLimit.{SocLimit}
 use Rattle.soc_reader.specs.Refusals.{IsRefusedLine, IsTooLarge}
 use Rattle.plan_model.specs.Plans.{LimitsValue, PlanValue}
 use Rattle.plan_model.specs.Faults.{FaultValue, IsFault, IsFaultless}
-use Rattle.limits_text.specs.Answers.{Reading, read_as, refused_line, unknown_line, shown_cycle, passing_power, IsReading}
+use Rattle.limits_text.specs.Answers.{Reading, read_as, refused_line, unknown_line, shown_loop, passing_power, IsReading}
 use Rattle.plan_text.specs.Answers.{SaysPlan, RefusesText}
 use Rattle.commands.specs.declared.FileKind.{FileKind}
 use Rattle.commands.specs.declared.FileKind.TheVariants.{Soc, Limits, Plan, Tree, Program, Log, Proof}
 use Rattle.commands.specs.declared.TheConstants.{FILE_MOST, PLAN_FILE_MOST}
-use Rattle.commands.specs.Texts.{chip_line, chip_limit_line, limits_line, unknown_test_line, cycle_line, test_power_line, plan_line, fault_line}
+use Rattle.commands.specs.Texts.{chip_line, chip_limit_line, limits_line, unknown_test_line, loop_line, test_power_line, plan_line, fault_line}
 
 -- the greatest length of a file, in bytes
 abbrev pub most_of : FileKind → ℕ
@@ -47,7 +47,7 @@ abbrev pub refusal_of : Reading → Option (List ℕ)
 refusal_of (read_as bounds) = None
 refusal_of (refused_line line) = Some (limits_line line)
 refusal_of (unknown_line line) = Some (unknown_test_line line)
-refusal_of (shown_cycle tests) = Some (cycle_line tests)
+refusal_of (shown_loop tests) = Some (loop_line tests)
 refusal_of (passing_power test power) = Some (test_power_line test power)
 
 abbrev pub RefusesLimits : SocValue → List ℕ → List ℕ → Type 0

@@ -77,9 +77,9 @@ spaced_test id = codes " " ++ test_text id
 abbrev pub tests_text : List TestId → List ℕ
 tests_text ids = flat_map spaced_test ids
 
--- a cycle of precedences
-abbrev pub cycle_line : List TestId → List ℕ
-cycle_line tests = codes "refused limits cycle" ++ tests_text tests ++ codes "\n"
+-- a loop of precedences
+abbrev pub loop_line : List TestId → List ℕ
+loop_line tests = codes "refused limits cycle" ++ tests_text tests ++ codes "\n"
 
 -- a test with a power that passes the limit
 abbrev pub test_power_line : TestId → ℕ → List ℕ

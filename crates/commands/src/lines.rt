@@ -2,7 +2,7 @@
 ghost use Rattle.std.specs.Prelude.{◌≡◌, ◌++◌, ◌&&◌, OnOk, IfOk, decimal, codes, IsTrue};
 ghost use Rattle.bound_certificate.specs.Checks.{certificate_fault};
 ghost use Rattle.plan_checker.specs.FaultValues.{fault_value};
-ghost use Rattle.commands.specs.Texts.{is_line, no_feed, unread_line as unread_text, too_long_line as too_long_text, chip_line as chip_line_text, chip_limit_line as chip_limit_text, limits_line as limits_line_text, unknown_test_line as unknown_test_text, tests_text, cycle_line as cycle_line_text, test_power_line as test_power_text, plan_line as plan_line_text, limit_name, test_text, wrapper_text, pair_text, clash_text, two_numbers, certificate_text, fault_keyword, carried_text, fault_line as fault_line_text, run_line as run_line_text};
+ghost use Rattle.commands.specs.Texts.{is_line, no_feed, unread_line as unread_text, too_long_line as too_long_text, chip_line as chip_line_text, chip_limit_line as chip_limit_text, limits_line as limits_line_text, unknown_test_line as unknown_test_text, tests_text, loop_line as loop_line_text, test_power_line as test_power_text, plan_line as plan_line_text, limit_name, test_text, wrapper_text, pair_text, clash_text, two_numbers, certificate_text, fault_keyword, carried_text, fault_line as fault_line_text, run_line as run_line_text};
 
 use crate::FileKind;
 use bound_certificate::BoundFault;
@@ -249,9 +249,9 @@ fn push_tests(to: &mut Vec<u8>, tests: &[TestId]) -> Result<(), NoMemory>
     Ok(())
 }
 
-/// `refused limits cycle` and the tests of the cycle.
-pub(crate) fn cycle_line(alloc: Global, tests: &[TestId]) -> Result<Vec<u8>, NoMemory>
-    ensures text { IfOk result (λ text. text.items ≡ cycle_line_text tests.now) }
+/// `refused limits cycle` and the tests of the loop.
+pub(crate) fn loop_line(alloc: Global, tests: &[TestId]) -> Result<Vec<u8>, NoMemory>
+    ensures text { IfOk result (λ text. text.items ≡ loop_line_text tests.now) }
     ensures line { IfOk result (λ text. IsTrue (is_line text.items)) }
 {
     let mut text = Vec::new(alloc);

@@ -13,7 +13,7 @@ ghost use Rattle.commands.specs.Readings.{most_of as most_bytes};
 ghost use Rattle.commands.specs.Decides.{Gives, GivesText, LoadsBytes, LoadsChip, LoadsLimits, LoadsAccepted, LoadsBoth, LoadsAll, RefusesSoc, RefusesBounds, RefusesValue, AnswersCheck};
 
 use crate::lines::{
-    chip_limit_line, chip_line, cycle_line, fault_line, limits_line, plan_line, test_power_line,
+    chip_limit_line, chip_line, fault_line, limits_line, loop_line, plan_line, test_power_line,
     too_long_line, unknown_test_line,
 };
 use crate::{FILE_MOST, FileKind, PLAN_FILE_MOST, Status, Verdict};
@@ -150,7 +150,7 @@ fn refused_limits(alloc: Global, fault: LimFault) -> Verdict
     match fault {
         LimFault::Text { line } => refused_with(limits_line(alloc, line)),
         LimFault::UnknownTest { line } => refused_with(unknown_test_line(alloc, line)),
-        LimFault::Cycle { tests } => refused_with(cycle_line(alloc, tests.as_slice())),
+        LimFault::Cycle { tests } => refused_with(loop_line(alloc, tests.as_slice())),
         LimFault::TestPower { test, power } => refused_with(test_power_line(alloc, &test, power)),
         LimFault::NoMemory => Verdict::NoMemory,
     }

@@ -14,13 +14,13 @@ use Rattle.outside.proofs.WordCounts.{words-length}
 use Rattle.limits_text.specs.Grammar.{InGrammar}
 use Rattle.limits_text.specs.Meaning.{limits_of, first_unknown, NonePasses, IsFirstPassing}
 use Rattle.limits_text.specs.Steps.{State, start, step, closed}
-use Rattle.limits_text.specs.Cycles.{IsCycleOf}
-use Rattle.limits_text.specs.Answers.{SaysLimits, SaysKnown, Reading, read_as, refused_line, unknown_line, shown_cycle, passing_power, IsReading}
+use Rattle.limits_text.specs.Loops.{IsLoopOf}
+use Rattle.limits_text.specs.Answers.{SaysLimits, SaysKnown, Reading, read_as, refused_line, unknown_line, shown_loop, passing_power, IsReading}
 use Rattle.limits_text.specs.Laws.{EachTextHasAnAnswer}
 use Rattle.limits_text.proofs.Viable.{read_viable, read_text, stuck, no_text}
 use Rattle.limits_text.proofs.Reading.{sound_said}
 use Rattle.limits_text.proofs.FirstPassing.{passes_or_not}
-use Rattle.limits_text.proofs.RanksOrCycles.{ranks_or_cycle}
+use Rattle.limits_text.proofs.RanksOrLoops.{ranks_or_loop}
 
 -- ---- the grammar
 
@@ -39,15 +39,15 @@ abbrev IsSome : List ℕ → SocValue → Type 0
 IsSome bytes soc = (reading : Reading) × IsReading bytes soc reading
 
 known_is : (bytes : List ℕ) (soc : SocValue) (limits : LimitsValue) → SaysKnown bytes soc limits → IsSome bytes soc
-known_is bytes soc limits known = by (ranks_or_cycle soc limits)
+known_is bytes soc limits known = by (ranks_or_loop soc limits)
   where
     powers : IsAcyclic soc limits → NonePasses soc limits ⊎ ((test : TestId) × (power : ℕ) × IsFirstPassing soc limits test power) → IsSome bytes soc
     powers acyclic (inl none) = (read_as limits, sound_said bytes soc limits known acyclic none)
     powers acyclic (inr t) = (passing_power t.0 t.1, record { limits = limits; said = known; acyclic = acyclic; passes = t.2 })
 
-    by : IsAcyclic soc limits ⊎ ((tests : List TestId) × IsCycleOf soc limits tests) → IsSome bytes soc
+    by : IsAcyclic soc limits ⊎ ((tests : List TestId) × IsLoopOf soc limits tests) → IsSome bytes soc
     by (inl acyclic) = powers acyclic (passes_or_not soc limits)
-    by (inr c) = (shown_cycle c.0, record { limits = limits; said = known; cycle = c.1 })
+    by (inr c) = (shown_loop c.0, record { limits = limits; said = known; circle = c.1 })
 
 said_is : (bytes : List ℕ) (soc : SocValue) (limits : LimitsValue) → SaysLimits bytes limits → IsSome bytes soc
 said_is bytes soc limits says = by (first_unknown soc says.items) refl

@@ -27,7 +27,7 @@ use Rattle.limits_text.specs.declared.places.Row.{Row}
 use Rattle.limits_text.specs.declared.items.Amount.{Amount}
 use Rattle.limits_text.specs.declared.items.Amount.TheVariants.{Wires, Power, Budget}
 use Rattle.limits_text.specs.Items.{Item, amount_item, before_item, profile_item}
-use Rattle.limits_text.proofs.CycleTests.{acyclic}
+use Rattle.limits_text.proofs.LoopTests.{acyclic}
 use Rattle.limits_text.specs.Meaning.{limits_of, is_known, line_if, unknown_line, or_first, first_line}
 use Rattle.limits_text.specs.Places.{entry_of, row_of, entries_in, AreRows, named, pair_of, names_test, Notes, StopsAt}
 use Rattle.limits_text.specs.Views.{item_of}
@@ -284,9 +284,9 @@ none_named soc (amount_item a n ∷ items) e = none_named soc items e
 none_named soc (before_item line a b ∷ items) e = absurd cc
 none_named soc (profile_item line id steps ∷ items) e = absurd cc
 
--- limits of such items have no cycle
-pub no_cycle : (soc : SocValue) (items : List Item) (limits : LimitsValue) → limits ≡ limits_of (reverse items) → flat_map (pair_of soc) items ≡ [] → IsAcyclic soc limits
-no_cycle soc items limits is none =
+-- limits of such items have no loop
+pub no_loop : (soc : SocValue) (items : List Item) (limits : LimitsValue) → limits ≡ limits_of (reverse items) → flat_map (pair_of soc) items ≡ [] → IsAcyclic soc limits
+no_loop soc items limits is none =
     let pairs : precedences soc limits ≡ [] = sym (noted_told soc items limits (flat_map (pair_of soc) items) is refl) ∙ none in
     acyclic soc limits ((λ i. 0), λ i j there. absurd (nothing i j (contains_at {X = ℕ × ℕ} [] (i, j) (subst (λ (ps : List (ℕ × ℕ)). Contains ps (i, j)) pairs there))))
   where

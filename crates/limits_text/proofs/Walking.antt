@@ -224,13 +224,13 @@ seen_none test walk seen o same found none = ap (position (nat_eq test)) (sym sa
 -- ---- the walk back
 
 -- one test more on the way back
-pub back_more : (walk cycle new : List ℕ) (back x : ℕ) → (length cycle ≡ back) × ((k : ℕ) → k < back → slice_get cycle k ≡ slice_get walk (length walk - 1 - k)) → new ≡ cycle ++ x ∷ [] → slice_get walk (length walk - 1 - back) ≡ Some x
+pub back_more : (walk circle new : List ℕ) (back x : ℕ) → (length circle ≡ back) × ((k : ℕ) → k < back → slice_get circle k ≡ slice_get walk (length walk - 1 - k)) → new ≡ circle ++ x ∷ [] → slice_get walk (length walk - 1 - back) ≡ Some x
     → (length new ≡ back + 1) × ((k : ℕ) → k < back + 1 → slice_get new k ≡ slice_get walk (length walk - 1 - k))
-back_more walk cycle new back x before pushed at = (ap length pushed ∙ length-append cycle (x ∷ []) ∙ ap (λ n. n + 1) before.0, λ k less. by k less (cases_eq k back))
+back_more walk circle new back x before pushed at = (ap length pushed ∙ length-append circle (x ∷ []) ∙ ap (λ n. n + 1) before.0, λ k less. by k less (cases_eq k back))
   where
     by : (k : ℕ) → k < back + 1 → (k ≡ back) ⊎ (k ≡ back → ⊥) → slice_get new k ≡ slice_get walk (length walk - 1 - k)
     by k less (inl same) =
-        ap (λ (l : List ℕ). slice_get l k) pushed ∙ ap (slice_get (cycle ++ x ∷ [])) (same ∙ sym before.0) ∙ at_end cycle x ∙ sym at ∙ ap (λ n. slice_get walk (length walk - 1 - n)) (sym same)
+        ap (λ (l : List ℕ). slice_get l k) pushed ∙ ap (slice_get (circle ++ x ∷ [])) (same ∙ sym before.0) ∙ at_end circle x ∙ sym at ∙ ap (λ n. slice_get walk (length walk - 1 - n)) (sym same)
     by k less (inr apart) =
-        let front : slice_get cycle k ≡ Some (get_or cycle k 0) = slice_get-get_or cycle k 0 (omega (arith, less, apart, before.0)) in
-        ap (λ (l : List ℕ). slice_get l k) pushed ∙ at_front cycle (x ∷ []) k (get_or cycle k 0) front ∙ sym front ∙ before.1 k (omega (arith, less, apart))
+        let front : slice_get circle k ≡ Some (get_or circle k 0) = slice_get-get_or circle k 0 (omega (arith, less, apart, before.0)) in
+        ap (λ (l : List ℕ). slice_get l k) pushed ∙ at_front circle (x ∷ []) k (get_or circle k 0) front ∙ sym front ∙ before.1 k (omega (arith, less, apart))

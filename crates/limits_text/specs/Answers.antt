@@ -15,7 +15,7 @@ use Rattle.limits_text.specs.Items.{Item}
 use Rattle.outside.specs.Grammars.{IsRefused}
 use Rattle.limits_text.specs.Grammar.{IsText, InGrammar}
 use Rattle.limits_text.specs.Meaning.{limits_of, first_unknown, IsFirstPassing}
-use Rattle.limits_text.specs.Cycles.{IsCycleOf}
+use Rattle.limits_text.specs.Loops.{IsLoopOf}
 
 -- the text says these limits
 pub record SaysLimits (bytes : List ℕ) (limits : LimitsValue) : Type 0 where
@@ -40,13 +40,13 @@ pub record NamesUnknown (bytes : List ℕ) (soc : SocValue) (line : ℕ) : Type 
   pub says : SaysLimits bytes limits
   pub first : first_unknown soc says.items ≡ Some line
 
--- the text says limits for the chip whose precedences have this cycle
-pub record HasCycle (bytes : List ℕ) (soc : SocValue) (tests : List TestId) : Type 0 where
+-- the text says limits for the chip whose precedences have this loop
+pub record HasLoop (bytes : List ℕ) (soc : SocValue) (tests : List TestId) : Type 0 where
   pub limits : LimitsValue
   pub said : SaysKnown bytes soc limits
-  pub cycle : IsCycleOf soc limits tests
+  pub circle : IsLoopOf soc limits tests
 
--- the text says limits for the chip without a cycle, and this live test is the first that passes the limit, with this power
+-- the text says limits for the chip without a loop, and this live test is the first that passes the limit, with this power
 pub record PassesPower (bytes : List ℕ) (soc : SocValue) (test : TestId) (power : ℕ) : Type 0 where
   pub limits : LimitsValue
   pub said : SaysKnown bytes soc limits
@@ -58,7 +58,7 @@ abbrev pub LimitsRead : List ℕ → SocValue → Result Limits LimFault → Typ
 LimitsRead bytes soc (Ok limits) = AreReadLimits bytes soc (limits_value limits)
 LimitsRead bytes soc (Err (fault.Text line)) = IsRefused InGrammar bytes line
 LimitsRead bytes soc (Err (fault.UnknownTest line)) = NamesUnknown bytes soc line
-LimitsRead bytes soc (Err (fault.Cycle tests)) = HasCycle bytes soc tests.items
+LimitsRead bytes soc (Err (fault.Cycle tests)) = HasLoop bytes soc tests.items
 LimitsRead bytes soc (Err (fault.TestPower test power)) = PassesPower bytes soc test power
 LimitsRead bytes soc (Err fault.NoMemory) = Unit {0}
 
@@ -67,7 +67,7 @@ pub data Reading : Type 0 where
   read_as : LimitsValue → Reading
   refused_line : ℕ → Reading
   unknown_line : ℕ → Reading
-  shown_cycle : List TestId → Reading
+  shown_loop : List TestId → Reading
   passing_power : TestId → ℕ → Reading
 
 -- the text is that for the chip
@@ -75,7 +75,7 @@ abbrev pub IsReading : List ℕ → SocValue → Reading → Type 0
 IsReading bytes soc (read_as limits) = AreReadLimits bytes soc limits
 IsReading bytes soc (refused_line line) = IsRefused InGrammar bytes line
 IsReading bytes soc (unknown_line line) = NamesUnknown bytes soc line
-IsReading bytes soc (shown_cycle tests) = HasCycle bytes soc tests
+IsReading bytes soc (shown_loop tests) = HasLoop bytes soc tests
 IsReading bytes soc (passing_power test power) = PassesPower bytes soc test power
 
 -- what an answer says that the text is; out of memory says nothing
@@ -83,7 +83,7 @@ abbrev pub reading_of : Result Limits LimFault → Option Reading
 reading_of (Ok limits) = Some (read_as (limits_value limits))
 reading_of (Err (fault.Text line)) = Some (refused_line line)
 reading_of (Err (fault.UnknownTest line)) = Some (unknown_line line)
-reading_of (Err (fault.Cycle tests)) = Some (shown_cycle tests.items)
+reading_of (Err (fault.Cycle tests)) = Some (shown_loop tests.items)
 reading_of (Err (fault.TestPower test power)) = Some (passing_power test power)
 reading_of (Err fault.NoMemory) = None
 

@@ -8,7 +8,7 @@ use Rattle.plan_model.specs.declared.Limits.{Limits}
 use Rattle.plan_model.specs.Plans.{LimitsValue}
 use Rattle.plan_model.specs.SoundLimits.{IsAcyclic, IsSoundLimits}
 use Rattle.limits_text.specs.declared.LimFault.{LimFault}
-use Rattle.limits_text.specs.Cycles.{IsCycleOf, GoesRound}
+use Rattle.limits_text.specs.Loops.{IsLoopOf, GoesRound}
 use Rattle.limits_text.specs.Texts.{limits_text}
 use Rattle.limits_text.specs.Answers.{LimitsRead, Reading, read_as, IsReading, reading_of}
 
@@ -40,14 +40,14 @@ PrintedLimitsAreAnswered =
     LimitsRead (limits_text limits) soc answer
     → (reading_of answer ≡ Some (read_as limits)) ⊎ (reading_of answer ≡ None)
 
--- the tests of a shown cycle go round
-abbrev pub CyclesGoRound : Type 0
-CyclesGoRound = (soc : SocValue) (limits : LimitsValue) (tests : List TestId) → IsCycleOf soc limits tests → GoesRound soc limits tests
+-- the tests of a shown loop go round
+abbrev pub LoopsGoRound : Type 0
+LoopsGoRound = (soc : SocValue) (limits : LimitsValue) (tests : List TestId) → IsLoopOf soc limits tests → GoesRound soc limits tests
 
--- precedences of live tests that have a cycle have no rank
-abbrev pub CyclesHaveNoRank : Type 0
-CyclesHaveNoRank = (soc : SocValue) (limits : LimitsValue) (tests : List TestId) → IsCycleOf soc limits tests → IsAcyclic soc limits → ⊥
+-- precedences of live tests that have a loop have no rank
+abbrev pub LoopsHaveNoRank : Type 0
+LoopsHaveNoRank = (soc : SocValue) (limits : LimitsValue) (tests : List TestId) → IsLoopOf soc limits tests → IsAcyclic soc limits → ⊥
 
--- precedences of live tests have a rank, or a cycle that is shown
-abbrev pub RanksOrCycles : Type 0
-RanksOrCycles = (soc : SocValue) (limits : LimitsValue) → IsAcyclic soc limits ⊎ ((tests : List TestId) × IsCycleOf soc limits tests)
+-- precedences of live tests have a rank, or a loop that is shown
+abbrev pub RanksOrLoops : Type 0
+RanksOrLoops = (soc : SocValue) (limits : LimitsValue) → IsAcyclic soc limits ⊎ ((tests : List TestId) × IsLoopOf soc limits tests)

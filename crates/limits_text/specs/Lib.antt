@@ -6,7 +6,7 @@ pub mod Reads
 pub mod Meaning
 pub mod Passing
 pub mod Places
-pub mod Cycles
+pub mod Loops
 pub mod Orders
 pub mod Texts
 pub mod Answers

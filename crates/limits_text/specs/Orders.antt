@@ -1,4 +1,4 @@
--- Taking tests away one by one: what the search for a cycle keeps.
+-- Taking tests away one by one: what the search for a loop keeps.
 use Rattle.std.specs.Prelude.{◌≡◌, ℕ, ◌+◌, ◌-◌, ◌<◌, ◌&&◌, List, [], ◌∷◌, Bool, true, false, not, Some, min, length, take, slice_get, slice_index, slice_index_or, nat_eq, if◌then◌else◌}
 use Rattle.std.specs.List.{list_any, Contains}
 
@@ -71,4 +71,4 @@ pub record ComesAgain (next : List ℕ) (start : ℕ) (walk : List ℕ) (meets :
 
 -- the walk from its end
 abbrev pub IsBack : List ℕ → List ℕ → Type 0
-IsBack walk cycle = (k : ℕ) → k < length cycle → slice_get cycle k ≡ slice_get walk (length walk - 1 - k)
+IsBack walk circle = (k : ℕ) → k < length circle → slice_get circle k ≡ slice_get walk (length walk - 1 - k)

@@ -16,7 +16,7 @@ use Rattle.limits_text.specs.declared.places.Row.{Row}
 use Rattle.limits_text.specs.Items.{Item, amount_item, before_item, profile_item}
 use Rattle.plan_model.specs.Plans.{LimitsValue}
 use Rattle.plan_model.specs.SoundLimits.{IsAcyclic}
-use Rattle.limits_text.specs.Cycles.{IsCycleOf}
+use Rattle.limits_text.specs.Loops.{IsLoopOf}
 use Rattle.limits_text.specs.Meaning.{unknown_line, first_line, limits_of}
 
 -- What is noted of a number beside a module's: where the name of these two stands among the names. Nothing where none of the
@@ -75,9 +75,9 @@ names_test (amount_item a n) = false
 names_test (before_item line a b) = true
 names_test (profile_item line id steps) = true
 
--- The items name tests of the chip alone, and the limits that they say have this first cycle, or none.
-abbrev pub HasFirstCycle : SocValue → List Item → Result (Option (Vec TestId)) LimFault → Type 0
-HasFirstCycle soc items (Ok found) = (first_line soc items ≡ None)
+-- The items name tests of the chip alone, and the limits that they say have this first loop, or none.
+abbrev pub HasFirstLoop : SocValue → List Item → Result (Option (Vec TestId)) LimFault → Type 0
+HasFirstLoop soc items (Ok found) = (first_line soc items ≡ None)
     × ((limits : LimitsValue) → limits ≡ limits_of (reverse items) →
-    MatchOption found (IsAcyclic soc limits) (λ cycle. IsCycleOf soc limits cycle.items))
-HasFirstCycle soc items (Err f) = StopsAt soc items f
+    MatchOption found (IsAcyclic soc limits) (λ circle. IsLoopOf soc limits circle.items))
+HasFirstLoop soc items (Err f) = StopsAt soc items f

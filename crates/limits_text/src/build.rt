@@ -25,7 +25,7 @@ fn no_limits(alloc: Global, precedences: usize) -> Result<Limits, NoMemory>
 }
 
 /// Changes the limits as an item says.
-fn tell(limits: &mut Limits, item: Item) -> Result<(), NoMemory>
+fn apply_item(limits: &mut Limits, item: Item) -> Result<(), NoMemory>
     ensures { OnOk result (limits_value limits.new ≡ says (item_of item) (limits_value limits.old)) }
 {
     match item {
@@ -50,7 +50,7 @@ pub fn limits_of(alloc: Global, list: Vec<Item>) -> Result<Limits, NoMemory>
 {
     let mut limits = no_limits(alloc, list.len())?;
     for item in list {
-        tell(&mut limits, item)?;
+        apply_item(&mut limits, item)?;
     }
     Ok(limits)
 }

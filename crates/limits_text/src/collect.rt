@@ -80,7 +80,7 @@ pub fn has_profile(items: &Items, test: TestId) -> bool
     is_in(&items.profiled, test)
 }
 
-fn mark(tests: &mut IndexSet<TestId>, test: TestId) -> Result<(), Stop>
+fn mark_test(tests: &mut IndexSet<TestId>, test: TestId) -> Result<(), Stop>
     ensures ok { OnOk result ((id : TestId) → list_any (same_test id) tests.new.keys
         ≡ (same_test id test || list_any (same_test id) tests.old.keys)) }
     ensures memory { OnErr result (result ≡ Err Stop.NoMemory) }
@@ -96,7 +96,7 @@ fn mark_item(tests: &mut IndexSet<TestId>, item: &Item) -> Result<(), Stop>
     ensures memory { OnErr result (result ≡ Err Stop.NoMemory) }
 {
     match item {
-        Item::Steps { test, .. } => mark(tests, *test),
+        Item::Steps { test, .. } => mark_test(tests, *test),
         Item::Number { .. } | Item::Precedence { .. } => Ok(()),
     }
 }

@@ -1,7 +1,7 @@
-//! The first cycle of precedences of so many tests, which go by their places.
+//! The first loop of precedences of so many tests, which go by their places.
 ghost use Rattle.std.specs.Prelude.{◌≡◌, ℕ, ◌+◌, ◌-◌, ◌<◌, ◌≤◌, ◌++◌, ◌∷◌, [], false, not, min, length, nat_eq, position, slice_index, slice_set, replicate, IfOk, OnOk, MatchOption, if◌then◌else◌};
 ghost use Rattle.std.specs.List.{All};
-ghost use Rattle.limits_text.specs.Cycles.{IsFirstCycle, HasRank};
+ghost use Rattle.limits_text.specs.Loops.{IsFirstLoop, HasRank};
 ghost use Rattle.limits_text.specs.Orders.{held, copies, Counts, IsKept, GoesOn, IsTaking, AreMarked, least_before as least_of, ComesAgain, IsBack};
 
 use live_tests::{all_after, count_before};
@@ -42,7 +42,11 @@ fn free_tests(alloc: Global, counts: &[usize]) -> Result<Vec<usize>, NoMemory>
 }
 
 /// Holds a test back once less, and takes it where nothing holds it back any more.
-fn let_go(counts: &mut Vec<usize>, order: &mut Vec<usize>, test: usize) -> Result<(), NoMemory>
+fn release_test(
+    counts: &mut Vec<usize>,
+    order: &mut Vec<usize>,
+    test: usize,
+) -> Result<(), NoMemory>
     requires within { test < length counts.old.items }
     requires held { 1 ≤ slice_index counts.old.items test }
     requires kept { IsKept counts.old.items (length counts.old.items) order.old.items }
@@ -57,7 +61,11 @@ fn let_go(counts: &mut Vec<usize>, order: &mut Vec<usize>, test: usize) -> Resul
 }
 
 /// Holds each of these tests back once less, and takes those that nothing holds back any more.
-fn release(counts: &mut Vec<usize>, order: &mut Vec<usize>, tests: &[usize]) -> Result<(), NoMemory>
+fn release_tests(
+    counts: &mut Vec<usize>,
+    order: &mut Vec<usize>,
+    tests: &[usize],
+) -> Result<(), NoMemory>
     requires within { All (λ j. j < length counts.old.items) tests.now }
     requires held { (j : ℕ) → j < length counts.old.items → copies tests.now j ≤ slice_index counts.old.items j }
     requires kept { IsKept counts.old.items (length counts.old.items) order.old.items }
@@ -68,7 +76,7 @@ fn release(counts: &mut Vec<usize>, order: &mut Vec<usize>, tests: &[usize]) -> 
     ensures goes_on { OnOk result (GoesOn order.old.items order.new.items) }
 {
     for test in tests {
-        let_go(counts, order, *test)?;
+        release_test(counts, order, *test)?;
     }
     Ok(())
 }
@@ -85,7 +93,7 @@ fn taking(alloc: Global, count: usize, pairs: &[(usize, usize)]) -> Result<Vec<u
     while done < order.len() {
         let test = order[done];
         done += 1;
-        release(&mut counts, &mut order, lists[test].tests.as_slice())?;
+        release_tests(&mut counts, &mut order, lists[test].tests.as_slice())?;
     }
     Ok(order)
 }
@@ -115,7 +123,7 @@ fn unmarked(alloc: Global, count: usize) -> Result<Vec<bool>, NoMemory>
 }
 
 /// Makes the number of a test no greater than one that is not gone.
-fn lower(least: &mut Vec<usize>, test: usize, to: usize, is_gone: bool)
+fn lower_least(least: &mut Vec<usize>, test: usize, to: usize, is_gone: bool)
     requires { test < length least.old.items }
     ensures { least.new.items ≡ (if is_gone then least.old.items
         else slice_set least.old.items test (min (slice_index least.old.items test) to)) }
@@ -141,7 +149,7 @@ fn least_before(
 {
     let mut least = repeated(alloc, gone.len(), gone.len() - 1)?;
     for (first, second) in pairs {
-        lower(&mut least, *second, *first, gone[*first]);
+        lower_least(&mut least, *second, *first, gone[*first]);
     }
     Ok(least)
 }
@@ -175,15 +183,15 @@ fn walk_on(alloc: Global, next: &[usize], start: usize) -> Result<(Vec<usize>, u
 /// The walk from its last test back to the place after `meets`.
 fn back_to(alloc: Global, walk: &[usize], meets: usize) -> Result<Vec<usize>, NoMemory>
     requires { meets + 1 < length walk.now }
-    ensures long { IfOk result (λ cycle. length cycle.items + meets + 1 ≡ length walk.now) }
-    ensures back { IfOk result (λ cycle. IsBack walk.now cycle.items) }
+    ensures long { IfOk result (λ circle. length circle.items + meets + 1 ≡ length walk.now) }
+    ensures back { IfOk result (λ circle. IsBack walk.now circle.items) }
 {
     let last = walk.len() - 1;
-    let mut cycle = Vec::new(alloc);
+    let mut circle = Vec::new(alloc);
     for back in 0..last - meets {
-        push(&mut cycle, walk[last - back])?;
+        push(&mut circle, walk[last - back])?;
     }
-    Ok(cycle)
+    Ok(circle)
 }
 
 /// The first test that is not gone.
@@ -193,14 +201,14 @@ fn first_left(gone: &[bool]) -> Option<usize>
     gone.iter().position(|is_gone| !*is_gone)
 }
 
-/// The first cycle of the pairs of so many tests. None comes exactly where the pairs have no cycle.
-pub fn first_cycle(
+/// The first loop of the pairs of so many tests. None comes exactly where the pairs have no loop.
+pub fn first_loop(
     alloc: Global,
     count: usize,
     pairs: &[(usize, usize)],
 ) -> Result<Option<Vec<usize>>, NoMemory>
     requires { All (λ (e : ℕ × ℕ). (e.0 < count) × (e.1 < count)) pairs.now }
-    ensures { IfOk result (λ found. MatchOption found (HasRank pairs.now) (λ cycle. IsFirstCycle pairs.now count cycle.items)) }
+    ensures { IfOk result (λ found. MatchOption found (HasRank pairs.now) (λ circle. IsFirstLoop pairs.now count circle.items)) }
 {
     let order = taking(alloc, count, pairs)?;
     let gone = marks(alloc, count, order.as_slice())?;
@@ -209,6 +217,6 @@ pub fn first_cycle(
     };
     let least = least_before(alloc, gone.as_slice(), pairs)?;
     let (walk, meets) = walk_on(alloc, least.as_slice(), start)?;
-    let cycle = back_to(alloc, walk.as_slice(), meets)?;
-    Ok(Some(cycle))
+    let circle = back_to(alloc, walk.as_slice(), meets)?;
+    Ok(Some(circle))
 }

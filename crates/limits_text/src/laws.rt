@@ -1,6 +1,6 @@
 //! What a text is for a chip is settled. Each law is the contract of a function that does nothing: a caller learns it by
 //! the call.
-ghost use Rattle.limits_text.specs.Laws.{TextsHaveOneAnswer, EachTextHasAnAnswer, TextsAreAnswered, PrintedLimitsAreRead, PrintedLimitsAreAnswered, CyclesGoRound, CyclesHaveNoRank, RanksOrCycles};
+ghost use Rattle.limits_text.specs.Laws.{TextsHaveOneAnswer, EachTextHasAnAnswer, TextsAreAnswered, PrintedLimitsAreRead, PrintedLimitsAreAnswered, LoopsGoRound, LoopsHaveNoRank, RanksOrLoops};
 
 /// For a chip a text is at most one: the limits that it says, or the first refusal that stands, with what it shows.
 pub fn texts_have_one_answer()
@@ -27,13 +27,13 @@ pub fn printed_limits_are_answered()
     ensures { PrintedLimitsAreAnswered }
 {}
 
-/// A shown cycle is of live tests, each of them once: each precedes the next, and the last precedes the first.
-pub fn cycles_go_round()
-    ensures { CyclesGoRound }
+/// A shown loop is of live tests, each of them once: each precedes the next, and the last precedes the first.
+pub fn loops_go_round()
+    ensures { LoopsGoRound }
 {}
 
-/// A cycle is shown exactly where the precedences of live tests have no rank.
-pub fn cycles_are_where_no_rank_is()
-    ensures no_rank { CyclesHaveNoRank }
-    ensures ranks_or_cycle { RanksOrCycles }
+/// A loop is shown exactly where the precedences of live tests have no rank.
+pub fn loops_are_where_no_rank_is()
+    ensures no_rank { LoopsHaveNoRank }
+    ensures ranks_or_loop { RanksOrLoops }
 {}

@@ -3,11 +3,11 @@
 
 mod build;
 mod collect;
-mod cycles;
 mod graph;
 mod items;
 mod laws;
 mod lexicon;
+mod loops;
 mod places;
 mod print;
 mod read;
@@ -15,12 +15,12 @@ mod reader;
 mod refusals;
 mod whole;
 
-pub use cycles::noted_tests;
 pub use laws::{
-    cycles_are_where_no_rank_is, cycles_go_round, each_text_has_an_answer,
+    each_text_has_an_answer, loops_are_where_no_rank_is, loops_go_round,
     printed_limits_are_answered, printed_limits_are_read, texts_are_answered,
     texts_have_one_answer,
 };
+pub use loops::noted_tests;
 use outside::{NoMemory, Unread};
 pub use print::print_limits;
 pub use read::{read_limits, read_limits_with};
@@ -39,7 +39,7 @@ pub enum LimFault {
     /// The item whose keyword stands on this line is the first that names a test which isn't in the chip.
     #[error("line {line} of the limits' text: the name stands for none of the chip's tests")]
     UnknownTest { line: u64 },
-    /// The precedences of live tests have this cycle: each test precedes the next, and the last the first.
+    /// The precedences of live tests have this loop: each test precedes the next, and the last the first.
     #[error("the precedences of the limits have a cycle")]
     Cycle { tests: Vec<TestId> },
     /// This live test is the first with a power that passes the limit, and this is the first such power of it.

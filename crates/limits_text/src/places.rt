@@ -152,7 +152,11 @@ fn note_precedence(
 
 /// Looks up the tests that an item names, and notes the places of a precedence.
 #[tactic(auto, using(crate::proofs::Noting::profile_unknown, crate::proofs::Noting::profile_known))]
-fn note(tests: &ChipTests<'_>, pairs: &mut Vec<(usize, usize)>, item: &Item) -> Result<(), LimFault>
+fn note_item(
+    tests: &ChipTests<'_>,
+    pairs: &mut Vec<(usize, usize)>,
+    item: &Item,
+) -> Result<(), LimFault>
     ensures { Notes tests.now (item_of item.now) pairs.old.items pairs.new.items result }
 {
     match item {
@@ -188,7 +192,7 @@ pub fn precedences(
 {
     let mut pairs = room_for_pairs(alloc, list.len())?;
     for item in list {
-        match note(tests, &mut pairs, item) {
+        match note_item(tests, &mut pairs, item) {
             Ok(()) => {}
             Err(fault) => return Err(fault),
         }

@@ -6,8 +6,8 @@ ghost use Rattle.limits_text.specs.Answers.{LimitsRead};
 
 use crate::LimFault;
 use crate::build::limits_of;
-use crate::cycles::first_cycle_of;
 use crate::items::{Item, Items};
+use crate::loops::first_loop_of;
 use crate::refusals::test_power;
 use crate::whole::read_items;
 use live_tests::LiveTests;
@@ -48,12 +48,12 @@ pub fn read_limits_with(
 {
     let items = read_items(alloc, bytes)?;
     let list = list_of(items);
-    let cycle = match first_cycle_of(alloc, soc, live, &list) {
+    let circle = match first_loop_of(alloc, soc, live, &list) {
         Ok(found) => found,
         Err(fault) => return Err(fault),
     };
     let limits = limits_of(alloc, list)?;
-    if let Some(tests) = cycle {
+    if let Some(tests) = circle {
         return Err(LimFault::Cycle { tests });
     }
     if let Some((test, power)) = test_power(alloc, soc, &limits)? {

@@ -24,7 +24,7 @@ fn pushed(items: &mut Items, part: &mut Part, item: Item) -> Result<(), Stop>
 }
 
 /// The first word of an item.
-fn begin(items: &Items, part: &mut Part, word: Word<'_>) -> Result<(), Stop>
+fn begin_item(items: &Items, part: &mut Part, word: Word<'_>) -> Result<(), Stop>
     requires { InStep items.now }
     ensures { Steps (begins items.now.second (done_of items.now) (word.entry.bytes.now, word.entry.line)) result part.new items.now }
 {
@@ -185,7 +185,7 @@ fn end_profile(
         return Err(Stop::Refused);
     }
     push(items, Item::Steps { line, test, steps })?;
-    begin(items, part, word)
+    begin_item(items, part, word)
 }
 
 /// The first number of a step, or the first word after the profile.
@@ -250,7 +250,7 @@ pub fn step(alloc: Global, items: &mut Items, part: &mut Part, word: Word<'_>) -
     match part {
         Part::Title => step_title(items, part, word.bytes),
         Part::Version => step_version(items, part, word.bytes),
-        Part::Between => begin(items, part, word),
+        Part::Between => begin_item(items, part, word),
         Part::Wants(amount) => {
             let amount = *amount;
             step_amount(items, part, amount, word.bytes)

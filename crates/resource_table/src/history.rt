@@ -57,7 +57,7 @@ pub fn new_history(
 }
 
 /// Puts a mark behind the last change, in room that is there.
-pub fn mark(history: &mut History)
+pub fn mark_changes(history: &mut History)
     requires history { IsHistory history.old }
     requires room { length history.old.marks.items < vec_capacity history.old.marks }
     ensures history { IsHistory history.new }
@@ -78,7 +78,7 @@ fn is_spared(log: &Vec<Change>, was: Note, value: Note) -> bool {
 }
 
 /// Changes a note for one of a greater depth, where there is room for the change.
-pub fn renew(history: &mut History, place: usize, value: Note)
+pub fn renew_note(history: &mut History, place: usize, value: Note)
     requires history { IsHistory history.old }
     requires place { place < length history.old.values.items }
     ensures history { IsHistory history.new }
@@ -113,7 +113,7 @@ fn take_back(history: &mut History)
 }
 
 /// Takes all changes since the last mark back, and the mark.
-pub fn back(history: &mut History)
+pub fn undo_to_mark(history: &mut History)
     requires history { IsHistory history.old }
     requires marked { 1 ≤ length history.old.marks.items }
     ensures history { IsHistory history.new }
@@ -129,7 +129,7 @@ pub fn back(history: &mut History)
 }
 
 /// Takes all changes and marks away, and leaves no note.
-pub fn forget(history: &mut History)
+pub fn forget_notes(history: &mut History)
     ensures values { history.new.values.items ≡ replicate (length history.old.values.items) no_note }
     ensures marks { history.new.marks.items ≡ [] }
     ensures history { IsHistory history.new }

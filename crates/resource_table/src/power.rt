@@ -76,6 +76,17 @@ fn after_step(
     after_crowds(points, near, free, start + offset, end - offset, last) - offset
 }
 
+/// A test that draws power by steps, and what may be drawn at once.
+#[derive(Drop)]
+struct SteppedTest<'a> {
+    /// Its steps: the cycles from its start to where each begins, and the power drawn from there on.
+    steps: &'a [(u64, u64)],
+    /// Its length, in cycles.
+    length: u64,
+    /// The most power of all tests at once.
+    limit: u64,
+}
+
 /// Where a look at steps ended.
 #[derive(Clone, Copy)]
 struct Look {
@@ -102,36 +113,34 @@ fn near_step(points: &[Point], near: usize, offset: u64, end: u64, start: u64) -
 fn looked_at(
     points: &[Point],
     first: usize,
-    limit: u64,
-    steps: &[(u64, u64)],
-    length: u64,
+    test: &SteppedTest,
     from: usize,
     to: usize,
     start: u64,
     last: u64,
 ) -> Look
     requires start { start ≤ last }
-    requires last { last + length < 2 ^ 63 }
+    requires last { last + test.now.length < 2 ^ 63 }
     requires profile { (load : ℕ → ℕ) × IsEndedProfile load points.now last }
-    requires within { All (λ (s : ℕ × ℕ). s.1 ≤ limit) steps.now }
-    requires to { to ≤ length_of steps.now }
+    requires within { All (λ (s : ℕ × ℕ). s.1 ≤ test.now.limit) test.now.steps.now }
+    requires to { to ≤ length_of test.now.steps.now }
     ensures place { from ≤ to → result.place ≤ to }
     ensures from { start ≤ result.start }
     ensures most { result.start ≤ last }
     ensures moved { result.place < to → start < result.start }
     ensures there { result.place < to → (load : ℕ → ℕ) → IsEndedProfile load points.now last →
-        StepFits load limit result.start length result.place steps.now }
+        StepFits load test.now.limit result.start test.now.length result.place test.now.steps.now }
     ensures before { (load : ℕ → ℕ) → IsEndedProfile load points.now last → (k : ℕ) → from ≤ k → k < result.place →
-        StepFits load limit start length k steps.now }
+        StepFits load test.now.limit start test.now.length k test.now.steps.now }
     ensures least { (load : ℕ → ℕ) → IsEndedProfile load points.now last → (other : ℕ) → start ≤ other →
-        StepsFit load limit other length steps.now → result.start ≤ other }
+        StepsFit load test.now.limit other test.now.length test.now.steps.now → result.start ≤ other }
 {
     let mut near = first;
     for place in from..to {
-        let (offset, power) = steps[place];
-        let end = step_end(steps, place, length);
+        let (offset, power) = test.steps[place];
+        let end = step_end(test.steps, place, test.length);
         near = near_step(points, near, offset, end, start);
-        let next = after_step(points, near, limit - power, offset, end, start, last);
+        let next = after_step(points, near, test.limit - power, offset, end, start, last);
         if next != start {
             return Look { place, start: next };
         }
@@ -191,28 +200,23 @@ fn after_steps(
     ensures least { (load : ℕ → ℕ) → IsEndedProfile load points.now last → (other : ℕ) → start ≤ other →
         StepsFit load limit other length steps.now → result ≤ other }
 {
+    let test = SteppedTest {
+        steps,
+        length,
+        limit,
+    };
     let mut near = points.len();
     let mut found = start;
     let mut at = steps.len();
     'starts: loop {
         near = places_before_near(points, near, found);
-        let behind = looked_at(
-            points,
-            near,
-            limit,
-            steps,
-            length,
-            at + 1,
-            steps.len(),
-            found,
-            last,
-        );
+        let behind = looked_at(points, near, &test, at + 1, steps.len(), found, last);
         if behind.place < steps.len() {
             at = behind.place;
             found = behind.start;
             continue 'starts;
         }
-        let before = looked_at(points, near, limit, steps, length, 0, at, found, last);
+        let before = looked_at(points, near, &test, 0, at, found, last);
         if before.place == at {
             return found;
         }

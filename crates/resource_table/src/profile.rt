@@ -53,7 +53,7 @@ fn is_over(draw: &Draw) -> bool
 
 /// Adds a draw to the loads of the points at which it is taken. They are sought from a near place; a place near to the end of the
 /// draw is answered. A draw that is over as it begins is taken at none.
-fn raise(points: &mut Vec<Point>, near: usize, draw: &Draw) -> usize
+fn raise_load(points: &mut Vec<Point>, near: usize, draw: &Draw) -> usize
     requires ordered { IsNonDecreasingBy (λ (p : Point). p.cycle) points.old.items }
     requires fits { All (λ (p : Point). p.load + taken_by p.cycle draw.now < 2 ^ 64) points.old.items }
     ensures items { points.new.items ≡ map (raised_by draw.now) points.old.items }
@@ -74,7 +74,7 @@ fn raise(points: &mut Vec<Point>, near: usize, draw: &Draw) -> usize
 
 /// Takes a draw from the loads of the points at which it is taken. They are sought from a near place, and the place of the first
 /// one is answered. A draw that is over as it begins is taken at none.
-fn lower(points: &mut Vec<Point>, near: usize, draw: &Draw) -> usize
+fn lower_load(points: &mut Vec<Point>, near: usize, draw: &Draw) -> usize
     requires ordered { IsNonDecreasingBy (λ (p : Point). p.cycle) points.old.items }
     requires covers { All (λ (p : Point). taken_by p.cycle draw.now ≤ p.load) points.old.items }
     ensures items { points.old.items ≡ map (raised_by draw.now) points.new.items }
@@ -106,7 +106,7 @@ fn add_draws(points: &mut Vec<Point>, draws: &[Draw], from: usize, start: u64, l
 {
     let mut near = add_marks(points, draws, from, start);
     for at in from..draws.len() {
-        near = raise(points, near, &draws[at]);
+        near = raise_load(points, near, &draws[at]);
     }
 }
 
@@ -122,7 +122,7 @@ fn take_draws(points: &mut Vec<Point>, draws: &[Draw], count: usize, start: u64)
     let mut at = draws.len();
     while at > count {
         at -= 1;
-        near = lower(points, near, &draws[at]);
+        near = lower_load(points, near, &draws[at]);
     }
     remove_marks(points, near, draws, count, start);
 }

@@ -15,7 +15,9 @@ use crate::copies::copy_job;
 use crate::crowds::calm_end;
 use crate::earlier::{all_before, earlier_than};
 use crate::empty_times::empty_times;
-use crate::history::{History, Note, back, forget, mark, new_history, renew};
+use crate::history::{
+    History, Note, forget_notes, mark_changes, new_history, renew_note, undo_to_mark,
+};
 use crate::points::Point;
 use crate::power::{Draw, after_power, are_low, push_draws};
 use crate::profile::{add_drawn, take_drawn};
@@ -481,7 +483,7 @@ impl<J> TableOf<J> {
     {
         let start = self.earliest(test);
         let depth = self.depth();
-        renew(&mut self.bounds, test, Note { start, depth });
+        renew_note(&mut self.bounds, test, Note { start, depth });
         start
     }
 
@@ -518,7 +520,7 @@ impl<J> TableOf<J> {
         let to = start + wanted.length;
         add_time(&mut self.times, wanted, Span { from: start, to });
         self.lasts.push_reserved(last.max(to));
-        mark(&mut self.bounds);
+        mark_changes(&mut self.bounds);
         self.ends[test] = Some(to);
         self.trail.push_reserved(Placement { test, start });
         before
@@ -545,7 +547,7 @@ impl<J> TableOf<J> {
             );
             self.draws.truncate(count);
             self.lasts.truncate(self.trail.len());
-            back(&mut self.bounds);
+            undo_to_mark(&mut self.bounds);
             self.ends[last.test] = None;
         }
     }
@@ -586,7 +588,7 @@ impl<J> TableOf<J> {
         self.draws.clear();
         self.points.clear();
         clear_trail(&mut self.trail);
-        forget(&mut self.bounds);
+        forget_notes(&mut self.bounds);
         send_over(&mut self.own.tests, buses, lengths);
     }
 }

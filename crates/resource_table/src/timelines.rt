@@ -291,7 +291,7 @@ fn after_children(times: &Timelines, place: usize, length: u64, start: u64, last
 }
 
 /// Adds a time to the timeline at a place, where there is one, in room that is there.
-fn fill(lines: &mut Vec<Timeline>, place: Option<usize>, span: Span)
+fn add_span(lines: &mut Vec<Timeline>, place: Option<usize>, span: Span)
     requires { MayFill place lines.old.items }
     ensures { ArePut place span lines.old.items lines.new.items }
 {
@@ -301,7 +301,7 @@ fn fill(lines: &mut Vec<Timeline>, place: Option<usize>, span: Span)
 }
 
 /// Takes a time out of the timeline at a place, where there is one.
-fn clear(lines: &mut Vec<Timeline>, place: Option<usize>, span: Span)
+fn remove_span(lines: &mut Vec<Timeline>, place: Option<usize>, span: Span)
     requires { MayClear place span lines.old.items }
     ensures { AreTaken place span lines.old.items lines.new.items }
 {
@@ -315,9 +315,9 @@ pub fn add_time(times: &mut Timelines, test: &JobTest, span: Span)
     requires { MayAdd times.old (test_value test.now) }
     ensures { IsAdded (test_value test.now) span times.old times.new }
 {
-    fill(&mut times.buses, test.bus, span);
-    fill(&mut times.modules, Some(test.place), span);
-    fill(&mut times.children, test.parent, span);
+    add_span(&mut times.buses, test.bus, span);
+    add_span(&mut times.modules, Some(test.place), span);
+    add_span(&mut times.children, test.parent, span);
     note_end(&mut times.latest, test.parent, span.to);
 }
 
@@ -326,9 +326,9 @@ pub fn remove_time(times: &mut Timelines, test: &JobTest, span: Span)
     requires { MayRemove times.old (test_value test.now) span }
     ensures { IsRemoved (test_value test.now) span times.old times.new }
 {
-    clear(&mut times.buses, test.bus, span);
-    clear(&mut times.modules, Some(test.place), span);
-    clear(&mut times.children, test.parent, span);
+    remove_span(&mut times.buses, test.bus, span);
+    remove_span(&mut times.modules, Some(test.place), span);
+    remove_span(&mut times.children, test.parent, span);
     forget_end(&mut times.latest, test.parent);
 }
 

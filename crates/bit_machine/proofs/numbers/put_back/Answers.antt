@@ -6,8 +6,8 @@ use Rattle.bit_machine.proofs.Columns.{none_down, up_more, same_down, walked_bit
 use Rattle.bit_machine.proofs.Walks.{has_next}
 use Rattle.bit_machine.proofs.numbers.put_back.Goals as goal
 
-pub step-bit-requires-clause-next : goal.step-bit-requires-clause-next
-step-bit-requires-clause-next c =
+pub next_bit-bit-requires-clause-next : goal.next_bit-bit-requires-clause-next
+next_bit-bit-requires-clause-next c =
     has_next c.args.runs.now c.args.line.now c.loop-place.walk (c.args.last - (c.args.count - 1) + c.loop-place.place) (omega (arith, c.loop-place-test.true, c.requires.within, c.requires.back)) c.loop-place.invariant.walk
 
 pub loop-place-preserved : goal.loop-place-preserved
@@ -21,11 +21,11 @@ loop-place-preserved c =
     let above : c.args.at.row + (c.args.count - c.loop-place.place) ≡ c.args.at.row + below + 1 = omega (arith, c.loop-place-test.true) in
     let row : c.args.at.row + (c.args.count - 1 - c.loop-place.place) ≡ c.args.at.row + below = omega arith in
     record {
-      walk = subst (λ n. IsWalk c.args.runs.now c.args.line.now c.step-bit.new.walk (drop n (all_numbers c.args.runs.now))) on (c.step-bit.ensures.walk _ _ walk);
+      walk = subst (λ n. IsWalk c.args.runs.now c.args.line.now c.next_bit-bit.new.walk (drop n (all_numbers c.args.runs.now))) on (c.next_bit-bit.ensures.walk _ _ walk);
       text =
           up_more c.args.at.wires (c.args.at.row + below) c.loop-place.place c.args.at.column c.digit.result (λ (i : ℕ). byte (c.args.count - c.loop-place.place + i)) (λ (i : ℕ). byte (below + i))
           c.args.text.now c.loop-place.text c.put_byte.new.text c.requires.column
-          (walked_bit c.args.line.now (all_numbers c.args.runs.now) c.args.last c.args.count c.loop-place.place c.digit.result c.step-bit.result c.loop-place-test.true c.requires.back c.requires.within c.digit.ensures (c.step-bit.ensures.bit _ _ walk))
+          (walked_bit c.args.line.now (all_numbers c.args.runs.now) c.args.last c.args.count c.loop-place.place c.digit.result c.next_bit-bit.result c.loop-place-test.true c.requires.back c.requires.within c.digit.ensures (c.next_bit-bit.ensures.bit _ _ walk))
           (λ i less. let e : c.args.count - c.loop-place.place + i ≡ below + (i + 1) = omega (arith, c.loop-place-test.true) in ap byte e)
           (subst (λ (r : ℕ). ArePutDown c.args.at.wires r c.loop-place.place c.args.at.column (λ (i : ℕ). byte (c.args.count - c.loop-place.place + i)) c.args.text.now c.loop-place.text) above c.loop-place.invariant.text)
           (subst (λ (r : ℕ). ArePutDown c.args.at.wires r 1 c.args.at.column (λ (i : ℕ). c.digit.result) c.loop-place.text c.put_byte.new.text) row c.put_byte.ensures);

@@ -16,16 +16,16 @@ pub index-requires : goal.index-requires
 index-requires c =
     omega (arith, test_small c.args.pairs.now c.args.count c.loop-done.counts.items c.loop-done.order.items c.loop-done.done c.index-test.result.now c.loop-done.invariant (omega (arith, c.loop-done-test.true, c.len.ensures)) c.index-test.ensures, c.in_ok-lists.ensures.long)
 
-pub release-requires-clause-within : goal.release-requires-clause-within
-release-requires-clause-within c =
+pub release_tests-requires-clause-within : goal.release_tests-requires-clause-within
+release_tests-requires-clause-within c =
     let less : c.loop-done.done < length c.loop-done.order.items = omega (arith, c.loop-done-test.true, c.len.ensures) in
     let small = test_small c.args.pairs.now c.args.count c.loop-done.counts.items c.loop-done.order.items c.loop-done.done c.index-test.result.now c.loop-done.invariant less c.index-test.ensures in
     let is = listed c.in_ok-lists.lists.items c.args.pairs.now c.args.count c.index-test.result.now c.index.result.now c.as_slice-in-loop-done.result.now c.in_ok-lists.ensures.long c.in_ok-lists.ensures.lists small c.index.ensures c.as_slice-in-loop-done.ensures.value in
     subst (λ (l : List ℕ). All (λ j. j < length c.loop-done.counts.items) l) (sym is)
     (subst (λ n. All (λ j. j < n) (after c.index-test.result.now c.args.pairs.now)) (sym c.loop-done.invariant.long) (after_within c.args.count c.index-test.result.now c.args.pairs.now c.requires))
 
-pub release-requires-clause-held : goal.release-requires-clause-held
-release-requires-clause-held c =
+pub release_tests-requires-clause-held : goal.release_tests-requires-clause-held
+release_tests-requires-clause-held c =
     let less : c.loop-done.done < length c.loop-done.order.items = omega (arith, c.loop-done-test.true, c.len.ensures) in
     let small = test_small c.args.pairs.now c.args.count c.loop-done.counts.items c.loop-done.order.items c.loop-done.done c.index-test.result.now c.loop-done.invariant less c.index-test.ensures in
     let is = listed c.in_ok-lists.lists.items c.args.pairs.now c.args.count c.index-test.result.now c.index.result.now c.as_slice-in-loop-done.result.now c.in_ok-lists.ensures.long c.in_ok-lists.ensures.lists small c.index.ensures c.as_slice-in-loop-done.ensures.value in
@@ -37,9 +37,9 @@ loop-done-preserved c =
     let less : c.loop-done.done < length c.loop-done.order.items = omega (arith, c.loop-done-test.true, c.len.ensures) in
     let small = test_small c.args.pairs.now c.args.count c.loop-done.counts.items c.loop-done.order.items c.loop-done.done c.index-test.result.now c.loop-done.invariant less c.index-test.ensures in
     let is = listed c.in_ok-lists.lists.items c.args.pairs.now c.args.count c.index-test.result.now c.index.result.now c.as_slice-in-loop-done.result.now c.in_ok-lists.ensures.long c.in_ok-lists.ensures.lists small c.index.ensures c.as_slice-in-loop-done.ensures.value in
-    let e = c.in_ok-release.ensures in
-    goes_step c.args.pairs.now c.args.count c.loop-done.counts.items c.loop-done.order.items c.release.new.counts.items c.release.new.order.items c.loop-done.done c.index-test.result.now c.loop-done.invariant less c.index-test.ensures
-    (subst (IsStep c.args.count c.loop-done.counts.items c.loop-done.order.items c.release.new.counts.items c.release.new.order.items) is (record { long = e.long; counts_are = e.counts; kept = e.kept; goes_on = e.goes_on }))
+    let e = c.in_ok-release_tests.ensures in
+    goes_step c.args.pairs.now c.args.count c.loop-done.counts.items c.loop-done.order.items c.release_tests.new.counts.items c.release_tests.new.order.items c.loop-done.done c.index-test.result.now c.loop-done.invariant less c.index-test.ensures
+    (subst (IsStep c.args.count c.loop-done.counts.items c.loop-done.order.items c.release_tests.new.counts.items c.release_tests.new.order.items) is (record { long = e.long; counts_are = e.counts; kept = e.kept; goes_on = e.goes_on }))
 
 pub loop-done-smaller : goal.loop-done-smaller
 loop-done-smaller c = omega (arith, few_taken c.args.pairs.now c.args.count c.loop-done.counts.items c.loop-done.order.items c.loop-done.done c.loop-done.invariant, c.loop-done-test.true, c.len.ensures)

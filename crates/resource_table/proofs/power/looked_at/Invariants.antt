@@ -6,5 +6,5 @@ use Rattle.resource_table.proofs.power.looked_at.Given as goal
 -- the steps before fit
 abbrev pub invariant-loop-place : goal.invariant-loop-place
 invariant-loop-place l = record {
-  before : (load : ℕ → ℕ) → IsEndedProfile load l.points l.last → (k : ℕ) → l.from ≤ k → k < l.place → StepFits load l.limit l.start l.length k l.steps;
+  before : (load : ℕ → ℕ) → IsEndedProfile load l.points l.last → (k : ℕ) → l.from ≤ k → k < l.place → StepFits load l.test.limit l.start l.test.length k l.test.steps.now;
 }

@@ -18,17 +18,17 @@ loop-at-init c = record {
   capacity = c.add_marks-near.ensures.capacity;
 }
 
-pub raise-near-requires-clause-ordered : goal.raise-near-requires-clause-ordered
-raise-near-requires-clause-ordered c = (c.loop-at.invariant.points c.requires.points.0 c.requires.points.1 c.requires.points.2).ordered
+pub raise_load-near-requires-clause-ordered : goal.raise_load-near-requires-clause-ordered
+raise_load-near-requires-clause-ordered c = (c.loop-at.invariant.points c.requires.points.0 c.requires.points.1 c.requires.points.2).ordered
 
-pub raise-near-requires-clause-fits : goal.raise-near-requires-clause-fits
-raise-near-requires-clause-fits c =
+pub raise_load-near-requires-clause-fits : goal.raise_load-near-requires-clause-fits
+raise_load-near-requires-clause-fits c =
     loads_fit c.args.draws.now (marks_from c.args.start (drop c.args.from c.args.draws.now) ++ c.requires.points.0) c.loop-at.at c.args.limit no_draw c.loop-at.points.items c.loop-at-test.true (c.loop-at.invariant.points c.requires.points.0 c.requires.points.1 c.requires.points.2) c.requires.within (omega arith)
 
 pub loop-at-preserved : goal.loop-at-preserved
 loop-at-preserved c = record {
-  points = (λ cycles marked are. next_added c.args.draws.now (marks_from c.args.start (drop c.args.from c.args.draws.now) ++ cycles) c.loop-at.at no_draw c.loop-at.points.items c.raise-near.new.points.items c.loop-at-test.true (c.loop-at.invariant.points cycles marked are) c.raise-near.ensures.items);
-  capacity = c.raise-near.ensures.capacity ∙ c.loop-at.invariant.capacity;
+  points = (λ cycles marked are. next_added c.args.draws.now (marks_from c.args.start (drop c.args.from c.args.draws.now) ++ cycles) c.loop-at.at no_draw c.loop-at.points.items c.raise_load-near.new.points.items c.loop-at-test.true (c.loop-at.invariant.points cycles marked are) c.raise_load-near.ensures.items);
+  capacity = c.raise_load-near.ensures.capacity ∙ c.loop-at.invariant.capacity;
 }
 
 pub returns-clause-points : goal.returns-clause-points

@@ -22,11 +22,11 @@ loop-at-init c = record {
   capacity = refl;
 }
 
-pub lower-near-requires-clause-ordered : goal.lower-near-requires-clause-ordered
-lower-near-requires-clause-ordered c = (c.loop-at.invariant.points c.requires.points.0 c.requires.points.1).ordered
+pub lower_load-near-requires-clause-ordered : goal.lower_load-near-requires-clause-ordered
+lower_load-near-requires-clause-ordered c = (c.loop-at.invariant.points c.requires.points.0 c.requires.points.1).ordered
 
-pub lower-near-requires-clause-covers : goal.lower-near-requires-clause-covers
-lower-near-requires-clause-covers c =
+pub lower_load-near-requires-clause-covers : goal.lower_load-near-requires-clause-covers
+lower_load-near-requires-clause-covers c =
     let marks : List ℕ = marks_from c.args.start (drop c.args.count c.args.draws.now) ++ c.requires.points.0 in
     let at : ℕ = c.loop-at.at - 1 in
     let most = c.loop-at.invariant.most in
@@ -46,8 +46,8 @@ loop-at-preserved c =
       points = (λ cycles old.
           let marks : List ℕ = marks_from c.args.start (drop c.args.count c.args.draws.now) ++ cycles in
           let are : ArePoints (take (at + 1) c.args.draws.now) marks c.loop-at.points.items = split c.args.draws.now marks c.loop-at.at c.loop-at.points.items (omega arith) (c.loop-at.invariant.points cycles old) in
-          draw_taken (take at c.args.draws.now) marks (get_or c.args.draws.now at no_draw) c.lower-near.new.points.items c.loop-at.points.items (last_split c.args.draws.now marks at no_draw c.loop-at.points.items (omega arith) are) c.lower-near.ensures.items);
-      capacity = c.lower-near.ensures.capacity ∙ c.loop-at.invariant.capacity;
+          draw_taken (take at c.args.draws.now) marks (get_or c.args.draws.now at no_draw) c.lower_load-near.new.points.items c.loop-at.points.items (last_split c.args.draws.now marks at no_draw c.loop-at.points.items (omega arith) are) c.lower_load-near.ensures.items);
+      capacity = c.lower_load-near.ensures.capacity ∙ c.loop-at.invariant.capacity;
     }
 
 pub remove_marks-requires-clause-points : goal.remove_marks-requires-clause-points

@@ -12,11 +12,11 @@ use Rattle.bit_machine.proofs.lane.Lane.turn_to.Goals as goal
 pub returns-clause-pages : goal.returns-clause-pages
 returns-clause-pages c =
     let lane = c.args.self.now in
-    let items = with_items_is lane.pages c.fill.new.words (omega (arith, c.fill.auto.words, ap length c.deref_mut.ensures.value, lane.pages.ok.0)) in
+    let items = with_items_is lane.pages c.fill_words.new.words (omega (arith, c.fill_words.auto.words, ap length c.deref_mut.ensures.value, lane.pages.ok.0)) in
     record {
-      many = ap length items ∙ c.fill.ensures.many ∙ ap length c.deref.ensures.value;
+      many = ap length items ∙ c.fill_words.ensures.many ∙ ap length c.deref.ensures.value;
       each = λ page is. subst
-          (λ (page : Page). (j : ℕ) (p : Path) → slice_get lane.paths.items j ≡ Some p → IsPageWord lane.base page p.loads (slice_index (with_items lane.pages c.fill.new.words).items j)) (same_Some _ _ is)
+          (λ (page : Page). (j : ℕ) (p : Path) → slice_get lane.paths.items j ≡ Some p → IsPageWord lane.base page p.loads (slice_index (with_items lane.pages c.fill_words.new.words).items j)) (same_Some _ _ is)
           (λ j p at. subst (λ words. IsPageWord lane.base c.args.page p.loads (slice_index words j)) (sym items)
-          (page_word c.of-line.result lane.base c.args.page p.loads (slice_index c.fill.new.words j) c.of-line.ensures.bits (c.fill.ensures.words j p (subst (λ (paths : List Path). slice_get paths j ≡ Some p) (sym c.deref.ensures.value) at))));
+          (page_word c.of-line.result lane.base c.args.page p.loads (slice_index c.fill_words.new.words j) c.of-line.ensures.bits (c.fill_words.ensures.words j p (subst (λ (paths : List Path). slice_get paths j ≡ Some p) (sym c.deref.ensures.value) at))));
     }

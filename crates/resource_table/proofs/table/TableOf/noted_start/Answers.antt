@@ -13,6 +13,6 @@ invariant_of-self g c =
       c.self.invariant.1,
       c.self.invariant.2,
       c.self.invariant.3,
-      bounded_note (job_value c.self.inside.own) c.self.inside.trail.items c.self.inside.bounds c.renew.new.history c.args.test (let n : Note = record { start = c.earliest-start.result; depth = c.depth-depth.result } in n) c.self.invariant.4 c.renew.ensures.history inside earliest
-          (subst (λ (t : TableValue). c.depth-depth.result ≡ length t.placed + 1) (sym c.self.view_is) c.depth-depth.ensures.depth) c.renew.ensures.values c.renew.ensures.past c.renew.ensures.marks,
+      bounded_note (job_value c.self.inside.own) c.self.inside.trail.items c.self.inside.bounds c.renew_note.new.history c.args.test (let n : Note = record { start = c.earliest-start.result; depth = c.depth-depth.result } in n) c.self.invariant.4 c.renew_note.ensures.history inside earliest
+          (subst (λ (t : TableValue). c.depth-depth.result ≡ length t.placed + 1) (sym c.self.view_is) c.depth-depth.ensures.depth) c.renew_note.ensures.values c.renew_note.ensures.past c.renew_note.ensures.marks,
     )

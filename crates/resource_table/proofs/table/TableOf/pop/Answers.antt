@@ -68,14 +68,14 @@ invariant_of-self g c =
       },
       times_less job placed c.in-Some.last inside c.self.inside.times c.remove_time.new.times (subst (λ (v : List Placement). AreTimes job v c.self.inside.times) c.in-Some.ensures.items c.self.invariant.3)
           (subst (λ (t : TestValue). IsRemoved t (let s : Span = record { from = c.in-Some.last.start; to = c.in-Some.last.start + t.cycles } in s) c.self.inside.times c.remove_time.new.times) wanted c.remove_time.ensures),
-      bounded_pop job placed c.self.inside.trail.items c.in-Some.last c.self.inside.bounds c.back.new.history c.in-Some.ensures.items c.self.invariant.4 c.back.ensures.history c.back.ensures.long c.back.ensures.past c.back.ensures.room,
+      bounded_pop job placed c.self.inside.trail.items c.in-Some.last c.self.inside.bounds c.undo_to_mark.new.history c.in-Some.ensures.items c.self.invariant.4 c.undo_to_mark.ensures.history c.undo_to_mark.ensures.long c.undo_to_mark.ensures.past c.undo_to_mark.ensures.room,
     )
 
-pub back-requires-clause-history : goal.back-requires-clause-history
-back-requires-clause-history g c = c.self.invariant.4.history
+pub undo_to_mark-requires-clause-history : goal.undo_to_mark-requires-clause-history
+undo_to_mark-requires-clause-history g c = c.self.invariant.4.history
 
-pub back-requires-clause-marked : goal.back-requires-clause-marked
-back-requires-clause-marked g c =
+pub undo_to_mark-requires-clause-marked : goal.undo_to_mark-requires-clause-marked
+undo_to_mark-requires-clause-marked g c =
     omega (arith, c.self.invariant.4.levels, length-map c.self.inside.bounds.marks.items (at_change c.self.inside.bounds), ap length c.in-Some.ensures.items, length-append c.pop.new.self.items (c.in-Some.last ∷ []))
 
 pub take_drawn-requires-clause-points : goal.take_drawn-requires-clause-points

@@ -102,14 +102,14 @@ invariant_of-self g c =
       subst (λ (v : List Placement). AreTimes job v c.add_time.new.times) (sym c.push_reserved-2.ensures.items)
           (times_more job placed c.self.invariant.0.sound c.args.test c.args.start may c.self.inside.times c.add_time.new.times c.self.invariant.3
           (subst (λ (t : TestValue). IsAdded t (let s : Span = record { from = c.args.start; to = c.args.start + t.cycles } in s) c.self.inside.times c.add_time.new.times) wanted c.add_time.ensures)),
-      bounded_push job placed c.push_reserved-2.new.self.items (at_start c.args.test c.args.start) c.self.inside.bounds c.mark.new.history c.push_reserved-2.ensures.items c.self.invariant.4 c.mark.ensures.history c.mark.ensures.values c.mark.ensures.past c.mark.ensures.room,
+      bounded_push job placed c.push_reserved-2.new.self.items (at_start c.args.test c.args.start) c.self.inside.bounds c.mark_changes.new.history c.push_reserved-2.ensures.items c.self.invariant.4 c.mark_changes.ensures.history c.mark_changes.ensures.values c.mark_changes.ensures.past c.mark_changes.ensures.room,
     )
 
-pub mark-requires-clause-history : goal.mark-requires-clause-history
-mark-requires-clause-history g c = c.self.invariant.4.history
+pub mark_changes-requires-clause-history : goal.mark_changes-requires-clause-history
+mark_changes-requires-clause-history g c = c.self.invariant.4.history
 
-pub mark-requires-clause-room : goal.mark-requires-clause-room
-mark-requires-clause-room g c =
+pub mark_changes-requires-clause-room : goal.mark_changes-requires-clause-room
+mark_changes-requires-clause-room g c =
     let may = subst (λ (t : TableValue). MayPlace t.job t.placed c.args.test c.args.start) (sym c.self.view_is) c.requires in
     let room = trail_has_room (job_value c.self.inside.own) c.self.inside.trail.items c.args.test c.args.start c.self.invariant.0.sound may in
     marks_have_room (job_value c.self.inside.own) c.self.inside.trail.items c.self.inside.bounds c.self.invariant.4 room

@@ -34,12 +34,12 @@ invariant_of-self g c =
     let long : length old.tests ≡ length c.args.self.now.job.tests = ap (λ (j : JobValue). length j.tests) job in
     let sound : IsSoundJob (job_over buses lengths old) = subst (λ (j : JobValue). IsSoundJob (job_over buses lengths j)) (sym job) c.requires.sound in
     let same = same_job own c.send_over.new.tests c.deref_mut.result.now buses lengths c.deref_mut.ensures.value c.send_over.ensures in
-    let rows : Rows = record { ends = c.clear_ends.new.ends; lasts = c.clear.new.self; draws = c.clear-2.new.self; points = c.clear-3.new.self; trail = c.clear_trail.new.trail; bounds = c.forget.new.history } in
+    let rows : Rows = record { ends = c.clear_ends.new.ends; lasts = c.clear.new.self; draws = c.clear-2.new.self; points = c.clear-3.new.self; trail = c.clear_trail.new.trail; bounds = c.forget_notes.new.history } in
     subst (λ (j : JobValue). IsKept j rows.trail rows.ends rows.lasts rows.draws × AreListed j (map listed was.before.items) × IsProfiled j rows.trail rows.draws rows.points × AreTimes j rows.trail.items c.clear_times.new.times × IsBounded j rows.trail.items rows.bounds) (sym same)
     (kept_anew old buses lengths sound (c.requires.buses ∙ sym long) (c.requires.lengths ∙ sym long) c.requires.room rows
     (rows_emptied old was.trail was.ends was.lasts was.draws was.points was.bounds c.self.invariant.0 c.self.invariant.2 c.self.invariant.4 rows
     c.clear_trail.ensures.items c.clear_trail.ensures.room c.clear_ends.ensures c.clear.ensures.items c.clear.ensures.capacity c.clear-2.ensures.items c.clear-2.ensures.capacity c.clear-3.ensures.items c.clear-3.ensures.capacity
-    c.forget.ensures.values c.forget.ensures.marks c.forget.ensures.history c.forget.ensures.room)
+    c.forget_notes.ensures.values c.forget_notes.ensures.marks c.forget_notes.ensures.history c.forget_notes.ensures.room)
     (map listed was.before.items) c.self.invariant.1 c.clear_times.new.times (c.clear_times.ensures old was.trail.items c.self.invariant.3))
 
 pub returns-clause-empty : goal.returns-clause-empty

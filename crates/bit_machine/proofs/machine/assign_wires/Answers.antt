@@ -1,0 +1,27 @@
+use Rattle.std.proofs.Common.{◌∙◌, length, arith}
+use Rattle.bit_machine.proofs.LaneSteps.{slice_at}
+use Rattle.bit_machine.proofs.Assigning.{nobody_below, assign_more, all_users}
+use Rattle.bit_machine.proofs.machine.assign_wires.Goals as goal
+
+pub loop-place-init : goal.loop-place-init
+loop-place-init c = record {
+  long = c.clear_users.ensures.long;
+  users = λ content tests are on. nobody_below tests c.args.cycle c.clear_users.new.users c.clear_users.ensures.none;
+}
+
+pub give_active-requires : goal.give_active-requires
+give_active-requires c = λ tam.
+    let fits = c.requires c.loop-place.place c.index-lanes-place.result (slice_at c.args.lanes.now c.loop-place.place c.index-lanes-place.result (omega (arith, c.loop-place-test.true)) c.index-lanes-place.is) tam in
+    omega (arith, fits, c.loop-place.invariant.long)
+
+pub loop-place-preserved : goal.loop-place-preserved
+loop-place-preserved c = record {
+  long = c.give_active.ensures.long ∙ c.loop-place.invariant.long;
+  users = λ content tests are on.
+      assign_more content tests (length c.args.users.now) c.args.lanes.now are on c.args.cycle c.loop-place.place c.index-lanes-place.result c.loop-place.users c.give_active.new.users (slice_at c.args.lanes.now c.loop-place.place c.index-lanes-place.result (omega (arith, c.loop-place-test.true)) c.index-lanes-place.is) c.give_active.ensures.long
+      (record { given = c.give_active.ensures.given; others = c.give_active.ensures.others; off = c.give_active.ensures.off }) (c.loop-place.invariant.users content tests are on);
+}
+
+pub returns-clause-users : goal.returns-clause-users
+returns-clause-users c = λ content tests are on.
+    all_users tests c.args.cycle c.loop-place.place c.loop-place.users (omega (arith, c.loop-place-test.false, are.long)) (c.loop-place.invariant.users content tests are on)

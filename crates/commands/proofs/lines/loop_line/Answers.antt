@@ -1,0 +1,11 @@
+use Rattle.std.proofs.Common.{arith}
+use Rattle.std.specs.Prelude.{IsTrue}
+use Rattle.std.proofs.lemmas.Grind.{common_steps}
+use Rattle.commands.specs.Texts.{no_feed}
+use Rattle.commands.proofs.LineFacts.{line_from}
+use Rattle.commands.proofs.lines.loop_line.Goals as goal
+
+pub returns-clause-line : goal.returns-clause-line
+returns-clause-line c =
+    let front : IsTrue (no_feed c.push.new.to.items) = grind (arith, common_steps, c.in_ok-push.ensures.plain) in
+    line_from _ _ c.in_ok-push-2.ensures.text (c.in_ok-push_tests.ensures.plain front)

@@ -1,6 +1,0 @@
-use Rattle.std.proofs.Common.{take}
-use Rattle.limits_text.specs.Cycles.{AreAt}
-use Rattle.limits_text.proofs.cycles.tests_at.Given as goal
-
-abbrev pub invariant-loop-place : goal.invariant-loop-place
-invariant-loop-place l = AreAt l.ids (take l.place-index l.places) l.tests.items

@@ -1,0 +1,5 @@
+use Rattle.limits_text.proofs.RoundLoops.{goes_round}
+use Rattle.limits_text.proofs.laws.loops_go_round.Goals as goal
+
+pub returns : goal.returns
+returns c = goes_round
