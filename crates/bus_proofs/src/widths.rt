@@ -77,7 +77,7 @@ pub(crate) fn interval_at(widths: &Widths, rank: usize) -> Interval
 }
 
 /// Gives a rank another interval, and notes the one that it had.
-fn put(widths: &mut Widths, rank: usize, old: Interval, interval: Interval)
+fn put_interval(widths: &mut Widths, rank: usize, old: Interval, interval: Interval)
     requires rank { rank < length widths.old.intervals.items }
     requires room { length widths.old.trail.items < vec_capacity widths.old.trail }
     ensures intervals { widths.new.intervals.items ≡ slice_set widths.old.intervals.items rank interval }
@@ -104,11 +104,11 @@ fn narrow_rank(widths: &mut Widths, rank: usize, interval: Interval)
 {
     let old = interval_at(widths, rank);
     if old.low < interval.low {
-        put(widths, rank, old, interval);
+        put_interval(widths, rank, old, interval);
         return;
     }
     if interval.high < old.high {
-        put(widths, rank, old, interval);
+        put_interval(widths, rank, old, interval);
     }
 }
 
