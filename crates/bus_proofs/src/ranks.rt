@@ -141,7 +141,7 @@ fn undo_takings(ranks: &mut Ranks, kept: usize)
 }
 
 /// Gives back all that was noted but the first so many, and leaves out the ranks behind the first so many places.
-pub(crate) fn undo(ranks: &mut Ranks, kept: usize, places: usize)
+pub(crate) fn undo_ranks(ranks: &mut Ranks, kept: usize, places: usize)
     ensures { (before : Ranks) → length before.trail.items ≡ kept → length before.may.items ≡ places →
         HasSpace before → IsAfter before ranks.old → IsRestored before ranks.new }
 {

@@ -212,7 +212,7 @@ fn at_least(interval: Interval, width: u64) -> Interval
 }
 
 /// Narrows each interval to what its least width, the wires that are left and the rank before it leave to it.
-pub(crate) fn tighten(widths: &mut Widths)
+pub(crate) fn tighten_ranks(widths: &mut Widths)
     requires roomy { IsRoomy widths.old }
     ensures roomy { IsRoomy widths.new }
     ensures intervals { widths.new.intervals.items ≡
@@ -231,7 +231,7 @@ pub(crate) fn tighten(widths: &mut Widths)
 }
 
 /// No bus from a rank on is wider than `width`.
-pub(crate) fn narrow(widths: &mut Widths, from: usize, width: u64)
+pub(crate) fn narrow_ranks(widths: &mut Widths, from: usize, width: u64)
     requires roomy { IsRoomy widths.old }
     ensures roomy { IsRoomy widths.new }
     ensures intervals { widths.new.intervals.items ≡
@@ -247,7 +247,7 @@ pub(crate) fn narrow(widths: &mut Widths, from: usize, width: u64)
 }
 
 /// No bus of the first so many ranks is narrower than `width`.
-pub(crate) fn widen(widths: &mut Widths, count: usize, width: u64)
+pub(crate) fn widen_ranks(widths: &mut Widths, count: usize, width: u64)
     requires roomy { IsRoomy widths.old }
     requires count { count ≤ length widths.old.intervals.items }
     requires width { width ≤ 256 }
@@ -319,7 +319,7 @@ pub(crate) fn changes(widths: &Widths) -> usize
 }
 
 /// Takes back all changes but the first so many.
-pub(crate) fn undo(widths: &mut Widths, kept: usize)
+pub(crate) fn undo_changes(widths: &mut Widths, kept: usize)
     ensures { (before : Widths) → length before.trail.items ≡ kept →
         IsRoomy before → IsLater before widths.old → IsBack before widths.new }
 {
