@@ -7,7 +7,7 @@ ghost use Rattle.bus_proofs.specs.CaseRooms.{HasCase, IsCaseOf, IsFurther, IsMar
 
 use crate::places::{Placing, place_off, place_on};
 use crate::ranks::{Ranks, anywhere, copy_rest};
-use crate::widths::{Widths, add_rank, narrow, no_ranks, tighten, widen};
+use crate::widths::{Widths, add_rank, narrow_ranks, no_ranks, tighten_ranks, widen_ranks};
 use crate::{ranks, widths};
 use outside::NoMemory;
 use std::alloc::Global;
@@ -70,8 +70,8 @@ impl CaseRoom {
     pub fn undo(&mut self, mark: Mark)
         ensures { (before : CaseRoom) → IsMark mark before → HasCase before → IsFurther before self.old → IsSame before self.new }
     {
-        widths::undo(&mut self.widths, mark.changes);
-        ranks::undo(&mut self.ranks, mark.takings, mark.places);
+        widths::undo_changes(&mut self.widths, mark.changes);
+        ranks::undo_ranks(&mut self.ranks, mark.takings, mark.places);
     }
 
     /// Narrows each interval to what the others leave to it.
@@ -81,7 +81,7 @@ impl CaseRoom {
         ensures further { IsFurther self.old self.new }
         ensures case { (c : Case) → IsCaseOf self.old c → IsCaseOf self.new (tightened self.old.widths.wires c) }
     {
-        tighten(&mut self.widths);
+        tighten_ranks(&mut self.widths);
     }
 
     /// The bus of the rank has at most this width, and so each later one.
@@ -91,7 +91,7 @@ impl CaseRoom {
         ensures further { IsFurther self.old self.new }
         ensures case { (c : Case) → IsCaseOf self.old c → IsCaseOf self.new (narrow c rank width) }
     {
-        narrow(&mut self.widths, rank, width);
+        narrow_ranks(&mut self.widths, rank, width);
     }
 
     /// The bus of the rank has more than this width, and so each earlier one.
@@ -103,7 +103,7 @@ impl CaseRoom {
         ensures further { IsFurther self.old self.new }
         ensures case { (c : Case) → IsCaseOf self.old c → IsCaseOf self.new (wide c rank width) }
     {
-        widen(&mut self.widths, rank + 1, width + 1);
+        widen_ranks(&mut self.widths, rank + 1, width + 1);
     }
 
     /// One more rank is known, of any width; what may be on the rest may be on it.

@@ -114,7 +114,7 @@ fn add_in(table: &ListTable, list: usize, weight: u64, sums: &mut [u64])
 }
 
 /// Nothing is weighed yet.
-fn clear(room: &mut Weighed)
+fn clear_weighed(room: &mut Weighed)
     ensures made { (basis : Basis) → length room.old.sums.items ≡ length (live_tests (chip_of basis)) → IsMade basis [] room.new }
     ensures beside { vec_capacity room.new.beside ≡ vec_capacity room.old.beside }
     ensures power { vec_capacity room.new.power ≡ vec_capacity room.old.power }
@@ -227,7 +227,7 @@ pub(crate) fn weigh(basis: &Basis<'_>, weights: &Weights, room: &mut Weighed)
 {
     room.totals.fill(0);
     add_up(&weights.lists, &mut room.totals);
-    clear(room);
+    clear_weighed(room);
     weigh_totals(basis, room);
 }
 
@@ -260,7 +260,7 @@ fn counted_steps(limit: u64, near: u64, steps: &[(u64, u64)], cycles: u64) -> u1
 }
 
 /// So much of a limit, in whole limits.
-fn share(drawn: u128, limit: u64, cycles: u64) -> u64
+fn whole_limits(drawn: u128, limit: u64, cycles: u64) -> u64
     requires some { 1 ≤ limit }
     requires few { drawn ≤ limit * cycles }
     ensures share { result ≡ drawn / limit }
@@ -306,7 +306,7 @@ fn power_use(limits: &Limits, near: u64, profile: Option<usize>, own: u64, cycle
         return 0;
     };
     let drawn = drawn_by(limits, limit, near, profile, own, cycles);
-    share(drawn, limit, cycles)
+    whole_limits(drawn, limit, cycles)
 }
 
 /// Whether the bus of this rank, where it is known, is that of another one.

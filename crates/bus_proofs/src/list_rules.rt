@@ -231,7 +231,7 @@ pub(crate) fn crowd_marks(
 }
 
 /// Whether the first powers are together more than a limit.
-fn pass(limit: u64, powers: &[u64], count: usize) -> bool
+fn pass_limit(limit: u64, powers: &[u64], count: usize) -> bool
     requires { count ≤ length powers.now }
     ensures yes { result ≡ true → limit < sum (take count powers.now) }
     ensures no { result ≡ false → sum (take count powers.now) ≤ limit }
@@ -260,5 +260,5 @@ pub(crate) fn are_heavy(
         return Ok(false);
     }
     let sorted = sorted_lengths(alloc, powers)?;
-    Ok(pass(limit, &sorted, most as usize + 1))
+    Ok(pass_limit(limit, &sorted, most as usize + 1))
 }

@@ -29,7 +29,7 @@ pub(crate) fn anywhere(alloc: Global, modules: usize, ranks: usize) -> Result<Ra
     let may = Vec::with_capacity(alloc, most)?;
     let trail = Vec::with_capacity(alloc, most)?;
     let mut ranks = Ranks { may, trail, most };
-    fill(&mut ranks, modules);
+    allow_all(&mut ranks, modules);
     Ok(ranks)
 }
 
@@ -42,7 +42,7 @@ pub(crate) fn is_left(ranks: &Ranks, at: usize) -> bool
 }
 
 /// Notes a place and takes it away.
-fn put(ranks: &mut Ranks, at: usize)
+fn note_taken(ranks: &mut Ranks, at: usize)
     requires at { at < length ranks.old.may.items }
     requires room { length ranks.old.trail.items < vec_capacity ranks.old.trail }
     ensures may { ranks.new.may.items ≡ slice_set ranks.old.may.items at false }
@@ -64,12 +64,12 @@ pub(crate) fn take_away(ranks: &mut Ranks, at: usize)
     ensures after { IsAfter ranks.old ranks.new }
 {
     if is_left(ranks, at) {
-        put(ranks, at);
+        note_taken(ranks, at);
     }
 }
 
 /// Each module may be on the rest, where nothing is said yet.
-fn fill(ranks: &mut Ranks, modules: usize)
+fn allow_all(ranks: &mut Ranks, modules: usize)
     requires none { ranks.old.may.items ≡ [] }
     requires no_trail { ranks.old.trail.items ≡ [] }
     requires fits { modules ≤ ranks.old.most }
@@ -141,7 +141,7 @@ fn undo_takings(ranks: &mut Ranks, kept: usize)
 }
 
 /// Gives back all that was noted but the first so many, and leaves out the ranks behind the first so many places.
-pub(crate) fn undo(ranks: &mut Ranks, kept: usize, places: usize)
+pub(crate) fn undo_ranks(ranks: &mut Ranks, kept: usize, places: usize)
     ensures { (before : Ranks) → length before.trail.items ≡ kept → length before.may.items ≡ places →
         HasSpace before → IsAfter before ranks.old → IsRestored before ranks.new }
 {

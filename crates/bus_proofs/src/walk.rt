@@ -208,7 +208,7 @@ fn next_branch(
 }
 
 /// The answer to what was found at the leaf at a place.
-fn judge(claimed: u64, place: usize, answer: LeafAnswer) -> Result<(), ProofFault>
+fn judge_answer(claimed: u64, place: usize, answer: LeafAnswer) -> Result<(), ProofFault>
     ensures { (g : Basis) (c : Case) (weights : WeightsValue) → claimed ≡ claim_of g → IsLeafAnswer g c weights answer →
         IsJudged g place (in_case c (OfSum weights)) result }
 {
@@ -242,7 +242,7 @@ fn judge_leaf(
     ensures leaves { FitsLeaves basis.now leaf.new }
 {
     let answer = check_leaf(basis, case, weights, leaf);
-    judge(basis.proof.claimed, place, answer)
+    judge_answer(basis.proof.claimed, place, answer)
 }
 
 /// Checks a node whose case is tightened, and goes on behind it. The answer is how many splits are under way then.

@@ -77,7 +77,7 @@ pub(crate) fn interval_at(widths: &Widths, rank: usize) -> Interval
 }
 
 /// Gives a rank another interval, and notes the one that it had.
-fn put(widths: &mut Widths, rank: usize, old: Interval, interval: Interval)
+fn put_interval(widths: &mut Widths, rank: usize, old: Interval, interval: Interval)
     requires rank { rank < length widths.old.intervals.items }
     requires room { length widths.old.trail.items < vec_capacity widths.old.trail }
     ensures intervals { widths.new.intervals.items ≡ slice_set widths.old.intervals.items rank interval }
@@ -104,11 +104,11 @@ fn narrow_rank(widths: &mut Widths, rank: usize, interval: Interval)
 {
     let old = interval_at(widths, rank);
     if old.low < interval.low {
-        put(widths, rank, old, interval);
+        put_interval(widths, rank, old, interval);
         return;
     }
     if interval.high < old.high {
-        put(widths, rank, old, interval);
+        put_interval(widths, rank, old, interval);
     }
 }
 
@@ -212,7 +212,7 @@ fn at_least(interval: Interval, width: u64) -> Interval
 }
 
 /// Narrows each interval to what its least width, the wires that are left and the rank before it leave to it.
-pub(crate) fn tighten(widths: &mut Widths)
+pub(crate) fn tighten_ranks(widths: &mut Widths)
     requires roomy { IsRoomy widths.old }
     ensures roomy { IsRoomy widths.new }
     ensures intervals { widths.new.intervals.items ≡
@@ -231,7 +231,7 @@ pub(crate) fn tighten(widths: &mut Widths)
 }
 
 /// No bus from a rank on is wider than `width`.
-pub(crate) fn narrow(widths: &mut Widths, from: usize, width: u64)
+pub(crate) fn narrow_ranks(widths: &mut Widths, from: usize, width: u64)
     requires roomy { IsRoomy widths.old }
     ensures roomy { IsRoomy widths.new }
     ensures intervals { widths.new.intervals.items ≡
@@ -247,7 +247,7 @@ pub(crate) fn narrow(widths: &mut Widths, from: usize, width: u64)
 }
 
 /// No bus of the first so many ranks is narrower than `width`.
-pub(crate) fn widen(widths: &mut Widths, count: usize, width: u64)
+pub(crate) fn widen_ranks(widths: &mut Widths, count: usize, width: u64)
     requires roomy { IsRoomy widths.old }
     requires count { count ≤ length widths.old.intervals.items }
     requires width { width ≤ 256 }
@@ -319,7 +319,7 @@ pub(crate) fn changes(widths: &Widths) -> usize
 }
 
 /// Takes back all changes but the first so many.
-pub(crate) fn undo(widths: &mut Widths, kept: usize)
+pub(crate) fn undo_changes(widths: &mut Widths, kept: usize)
     ensures { (before : Widths) → length before.trail.items ≡ kept →
         IsRoomy before → IsLater before widths.old → IsBack before widths.new }
 {

@@ -115,7 +115,7 @@ fn begin_node(draft: &mut Draft, part: &mut Part, next: Part) -> Result<(), Stop
 }
 
 /// A list or a node begins at its keyword.
-fn begin(alloc: Global, draft: &mut Draft, part: &mut Part, key: Keyword) -> Result<(), Stop>
+fn begin_part(alloc: Global, draft: &mut Draft, part: &mut Part, key: Keyword) -> Result<(), Stop>
     ensures { Steps (begins (draft_value draft.old) key) result part.new draft.new }
 {
     match key {
@@ -162,7 +162,7 @@ fn end_tests(
         return Err(Stop::Refused);
     }
     push_list(draft, list_of_kind(kind, tests))?;
-    begin(alloc, draft, part, key)
+    begin_part(alloc, draft, part, key)
 }
 
 /// A keyword after a module on the bus of a rank or of its twins.
@@ -176,7 +176,7 @@ fn end_place(
     ensures { Steps (begins (with_branches (draft_value draft.old) (node_value place)) key) result part.new draft.new }
 {
     push_split(draft, place)?;
-    begin(alloc, draft, part, key)
+    begin_part(alloc, draft, part, key)
 }
 
 fn is_use(key: Keyword) -> bool
@@ -199,7 +199,7 @@ fn step_sum(
         return go_on(part, Part::WantsList { weights });
     }
     push_node(draft, Node::Sum { weights })?;
-    begin(alloc, draft, part, key)
+    begin_part(alloc, draft, part, key)
 }
 
 fn begin_proof(part: &mut Part, key: Keyword) -> Result<(), Stop>
@@ -236,7 +236,7 @@ fn step_key(alloc: Global, draft: &mut Draft, part: &mut Part, key: Keyword) -> 
     match part {
         Part::WantsProof => begin_proof(part, key),
         Part::WantsBound => begin_bound(part, key),
-        Part::Between => begin(alloc, draft, part, key),
+        Part::Between => begin_part(alloc, draft, part, key),
         Part::InTests { kind, tests } => {
             let kind = *kind;
             let tests = replace(tests, Vec::new(alloc));

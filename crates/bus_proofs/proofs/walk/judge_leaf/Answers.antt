@@ -9,7 +9,7 @@ pub check_leaf-answer-requires-clause-space : goal.check_leaf-answer-requires-cl
 check_leaf-answer-requires-clause-space c = (c.requires.leaves c.args.place (weights_value c.args.weights.now) c.requires.node).space
 
 pub returns-clause-judged : goal.returns-clause-judged
-returns-clause-judged c = λ e is. c.judge.ensures c.args.basis.now e (weights_value c.args.weights.now) refl (c.check_leaf-answer.ensures.answer e is)
+returns-clause-judged c = λ e is. c.judge_answer.ensures c.args.basis.now e (weights_value c.args.weights.now) refl (c.check_leaf-answer.ensures.answer e is)
 
 pub returns-clause-leaves : goal.returns-clause-leaves
 returns-clause-leaves c = λ place weights at. record {

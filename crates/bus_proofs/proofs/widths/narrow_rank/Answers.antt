@@ -5,27 +5,27 @@ use Rattle.bus_proofs.specs.Cases.{interval_of}
 use Rattle.bus_proofs.proofs.Trails.{later_put, set_kept, no_less, lower_low, lower_high, room_to_note}
 use Rattle.bus_proofs.proofs.widths.narrow_rank.Goals as goal
 
-pub put-requires-clause-room : goal.put-requires-clause-room
-put-requires-clause-room c =
+pub put_interval-requires-clause-room : goal.put_interval-requires-clause-room
+put_interval-requires-clause-room c =
     room_to_note c.args.widths.now c.args.rank c.args.interval c.requires.roomy c.requires.rank c.requires.within.few c.requires.within.low c.requires.within.high
     (λ same. lower_low c.interval_at-old.result c.args.interval c.if-old-interval.true (c.interval_at-old.ensures ∙ same))
 
-pub put-requires-then-interval-old-clause-room : goal.put-requires-then-interval-old-clause-room
-put-requires-then-interval-old-clause-room c =
+pub put_interval-requires-then-interval-old-clause-room : goal.put_interval-requires-then-interval-old-clause-room
+put_interval-requires-then-interval-old-clause-room c =
     room_to_note c.args.widths.now c.args.rank c.args.interval c.requires.roomy c.requires.rank c.requires.within.few c.requires.within.low c.requires.within.high
     (λ same. lower_high c.interval_at-old.result c.args.interval c.if-interval-old.true (c.interval_at-old.ensures ∙ same))
 
 pub returns-then-old-interval-clause-later : goal.returns-then-old-interval-clause-later
 returns-then-old-interval-clause-later c =
-    later_put c.args.widths.now c.put.new.widths c.args.rank c.args.interval c.put.ensures.intervals
-    (c.put.ensures.trail ∙ ap (λ (i : Interval). c.args.widths.now.trail.items ++ Was c.args.rank i ∷ []) c.interval_at-old.ensures)
-    c.put.ensures.wires c.put.ensures.most c.put.ensures.room c.put.ensures.trail_room
+    later_put c.args.widths.now c.put_interval.new.widths c.args.rank c.args.interval c.put_interval.ensures.intervals
+    (c.put_interval.ensures.trail ∙ ap (λ (i : Interval). c.args.widths.now.trail.items ++ Was c.args.rank i ∷ []) c.interval_at-old.ensures)
+    c.put_interval.ensures.wires c.put_interval.ensures.most c.put_interval.ensures.room c.put_interval.ensures.trail_room
 
 pub returns-then-interval-old-clause-later : goal.returns-then-interval-old-clause-later
 returns-then-interval-old-clause-later c =
-    later_put c.args.widths.now c.put-then-interval-old.new.widths c.args.rank c.args.interval c.put-then-interval-old.ensures.intervals
-    (c.put-then-interval-old.ensures.trail ∙ ap (λ (i : Interval). c.args.widths.now.trail.items ++ Was c.args.rank i ∷ []) c.interval_at-old.ensures)
-    c.put-then-interval-old.ensures.wires c.put-then-interval-old.ensures.most c.put-then-interval-old.ensures.room c.put-then-interval-old.ensures.trail_room
+    later_put c.args.widths.now c.put_interval-then-interval-old.new.widths c.args.rank c.args.interval c.put_interval-then-interval-old.ensures.intervals
+    (c.put_interval-then-interval-old.ensures.trail ∙ ap (λ (i : Interval). c.args.widths.now.trail.items ++ Was c.args.rank i ∷ []) c.interval_at-old.ensures)
+    c.put_interval-then-interval-old.ensures.wires c.put_interval-then-interval-old.ensures.most c.put_interval-then-interval-old.ensures.room c.put_interval-then-interval-old.ensures.trail_room
 
 pub returns-else-interval-old-clause-intervals : goal.returns-else-interval-old-clause-intervals
 returns-else-interval-old-clause-intervals c =

@@ -6,7 +6,7 @@ use Rattle.bus_proofs.proofs.case.CaseRoom.tighten.Goals as goal
 
 pub returns-clause-case : goal.returns-clause-case
 returns-clause-case c = λ e is. record {
-  intervals = c.tighten.ensures.intervals ∙ ap (λ (js : List Interval). tightened_by (spare c.args.self.now.widths.wires js) js) is.intervals;
+  intervals = c.tighten_ranks.ensures.intervals ∙ ap (λ (js : List Interval). tightened_by (spare c.args.self.now.widths.wires js) js) is.intervals;
   bits = bits_same c.args.self.now.modules c.args.self.now.ranks.may.items e (tightened c.args.self.now.widths.wires e)
       (tight_length (spare c.args.self.now.widths.wires e.intervals) e.intervals) refl refl is.bits;
 }

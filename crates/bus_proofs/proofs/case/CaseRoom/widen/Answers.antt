@@ -3,4 +3,4 @@ use Rattle.bus_proofs.proofs.Takings.{after_none}
 use Rattle.bus_proofs.proofs.case.CaseRoom.widen.Goals as goal
 
 pub returns-clause-further : goal.returns-clause-further
-returns-clause-further c = record { widths = c.widen.ensures.later; ranks = after_none c.args.self.now.ranks; modules = refl }
+returns-clause-further c = record { widths = c.widen_ranks.ensures.later; ranks = after_none c.args.self.now.ranks; modules = refl }

@@ -1,7 +1,7 @@
 use Rattle.std.proofs.Common.{◌≡◌, ◌++◌, length, take, drop}
 use Rattle.bus_proofs.specs.Cases.{tightened_below}
 use Rattle.bus_proofs.specs.Trails.{IsRoomy, IsLater}
-use Rattle.bus_proofs.proofs.widths.tighten.Given as goal
+use Rattle.bus_proofs.proofs.widths.tighten_ranks.Given as goal
 
 abbrev pub invariant-loop-rank : goal.invariant-loop-rank
 invariant-loop-rank l = record {

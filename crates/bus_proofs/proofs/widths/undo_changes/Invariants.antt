@@ -1,7 +1,7 @@
 use Rattle.std.proofs.Common.{◌≡◌, ◌+◌, ◌≤◌, length}
 use Rattle.bus_proofs.specs.declared.widths.Widths.{Widths}
 use Rattle.bus_proofs.specs.Trails.{IsLater}
-use Rattle.bus_proofs.proofs.widths.undo.Given as goal
+use Rattle.bus_proofs.proofs.widths.undo_changes.Given as goal
 
 abbrev pub invariant-loop-step : goal.invariant-loop-step
 invariant-loop-step l = record {

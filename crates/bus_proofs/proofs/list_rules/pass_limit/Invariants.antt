@@ -1,6 +1,6 @@
 use Rattle.std.proofs.Common.{◌≡◌, ◌*◌, ◌≤◌, take}
 use Rattle.std.specs.List.{sum}
-use Rattle.bus_proofs.proofs.list_rules.pass.Given as goal
+use Rattle.bus_proofs.proofs.list_rules.pass_limit.Given as goal
 
 abbrev pub invariant-loop-place : goal.invariant-loop-place
 invariant-loop-place l = record {

@@ -1,6 +1,6 @@
 use Rattle.std.proofs.Common.{refl, sym, ap, ◌∙◌, take}
 use Rattle.bus_proofs.proofs.Takings.{restored}
-use Rattle.bus_proofs.proofs.ranks.undo.Goals as goal
+use Rattle.bus_proofs.proofs.ranks.undo_ranks.Goals as goal
 
 pub returns : goal.returns
 returns c = λ before n places space a.

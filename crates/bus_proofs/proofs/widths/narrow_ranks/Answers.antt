@@ -3,7 +3,7 @@ use Rattle.std.specs.Prelude.{slice_set}
 use Rattle.std.proofs.lemmas.List.{length-set}
 use Rattle.bus_proofs.specs.Cases.{interval_of, at_most}
 use Rattle.bus_proofs.proofs.Trails.{later_none, later_then, most_part, map_next, map_all}
-use Rattle.bus_proofs.proofs.widths.narrow.Goals as goal
+use Rattle.bus_proofs.proofs.widths.narrow_ranks.Goals as goal
 
 pub loop-rank-init : goal.loop-rank-init
 loop-rank-init c = record { roomy = c.requires.roomy; later = later_none c.args.widths.now; long = refl; done = refl }

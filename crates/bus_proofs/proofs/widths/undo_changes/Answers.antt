@@ -1,7 +1,7 @@
 use Rattle.std.proofs.Common.{◌≡◌, ◌+◌, length, ap, ◌∙◌, arith}
 use Rattle.std.proofs.lemmas.List.{length-append}
 use Rattle.bus_proofs.proofs.Trails.{back_here}
-use Rattle.bus_proofs.proofs.widths.undo.Goals as goal
+use Rattle.bus_proofs.proofs.widths.undo_changes.Goals as goal
 
 pub loop-step-init : goal.loop-step-init
 loop-step-init c = record { later = λ before n l. l; count = λ less. omega arith }

@@ -4,7 +4,7 @@ use Rattle.std.proofs.lemmas.List.{length-set}
 use Rattle.bus_proofs.specs.Cases.{interval_of, tightened_by}
 use Rattle.bus_proofs.specs.Trails.{tight}
 use Rattle.bus_proofs.proofs.Trails.{few_at, later_none, later_then, tight_part, tight_next, tight_all, tight_first}
-use Rattle.bus_proofs.proofs.widths.tighten.Goals as goal
+use Rattle.bus_proofs.proofs.widths.tighten_ranks.Goals as goal
 
 pub loop-rank-init : goal.loop-rank-init
 loop-rank-init c = record { roomy = c.requires.roomy; later = later_none c.args.widths.now; long = refl; done = refl }
