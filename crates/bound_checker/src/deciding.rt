@@ -1,9 +1,11 @@
 //! Decides how a call ends before anything is written.
-ghost use Rattle.std.specs.Prelude.{◌≡◌, ◌≤◌, map, string_bytes};
+ghost use Rattle.std.specs.Prelude.{◌≡◌, ◌≤◌, map, string_bytes, IfOk, IfSome};
 ghost use Rattle.soc_model.specs.Chips.{soc_value};
 ghost use Rattle.soc_model.specs.SoundChips.{IsSoundChip};
 ghost use Rattle.plan_model.specs.SoundLimits.{IsSoundLimits};
 ghost use Rattle.plan_model.specs.Views.{limits_value};
+ghost use Rattle.plan_model.specs.Rules.{live_ids};
+ghost use Rattle.live_tests.specs.Resolved.{IsResolved};
 ghost use Rattle.commands.specs.Commands.{Bound, command_of as asked_command};
 ghost use Rattle.commands.specs.Procedures.{asked};
 ghost use Rattle.commands.specs.Decides.{AnswersBytes, Decides, Follows};
@@ -15,18 +17,27 @@ ghost use Rattle.bound_checker.specs.Texts.{bound_line as bound_text};
 use crate::lines::{bound_line, proof_fault_line, proof_line};
 use bus_proofs::{ProofRoom, ProofTextFault, check_proof, read_proof};
 use commands::{
-    Command, FileKind, Status, Verdict, answered_with, bad_words, command_of, load_both, load_file,
-    refused_with,
+    Both, Command, FileKind, Status, Verdict, answered_with, bad_words, command_of, load_both,
+    load_file, refused_with,
 };
-use outside::Shelf;
+use limits_text::noted_tests;
+use live_tests::{LiveTests, Resolved};
+use outside::{NoMemory, Shelf};
 use plan_model::Limits;
 use soc_model::Soc;
 use std::alloc::Global;
 
 /// What is answered of a proof's bytes, for a chip under limits.
-fn answer_proof(alloc: Global, soc: &Soc, limits: &Limits, bytes: &[u8]) -> Verdict
+fn answer_proof(
+    alloc: Global,
+    soc: &Soc,
+    limits: &Limits,
+    resolved: &Resolved,
+    bytes: &[u8],
+) -> Verdict
     requires chip { IsSoundChip (soc_value soc.now) }
     requires limits { IsSoundLimits (soc_value soc.now) (limits_value limits.now) }
+    requires resolved { IsResolved (soc_value soc.now) limits.now resolved.now }
     ensures { AnswersBytes (SaysBound (soc_value soc.now) (limits_value limits.now))
         (RefusesProof (soc_value soc.now) (limits_value limits.now)) bound_text bytes.now result }
 {
@@ -35,7 +46,7 @@ fn answer_proof(alloc: Global, soc: &Soc, limits: &Limits, bytes: &[u8]) -> Verd
         Err(ProofTextFault::Text { line }) => return refused_with(proof_line(alloc, line)),
         Err(ProofTextFault::NoMemory) => return Verdict::NoMemory,
     };
-    let Ok(mut room) = ProofRoom::new(alloc, soc, limits, &proof) else {
+    let Ok(mut room) = ProofRoom::with_resolved(alloc, soc, limits, resolved, &proof) else {
         return Verdict::NoMemory;
     };
     match check_proof(&mut room) {
@@ -49,20 +60,55 @@ fn answer_file<H: Shelf>(
     alloc: Global,
     soc: &Soc,
     limits: &Limits,
+    resolved: &Resolved,
     name: &str,
     shelf: &mut H,
 ) -> Verdict
     requires chip { IsSoundChip (soc_value soc.now) }
     requires limits { IsSoundLimits (soc_value soc.now) (limits_value limits.now) }
+    requires resolved { IsResolved (soc_value soc.now) limits.now resolved.now }
     ensures held_stays { H.held shelf.new ≡ H.held shelf.old }
     ensures faults_never_fall { H.faults shelf.old ≤ H.faults shelf.new }
     ensures follows { Follows (with_proof name.now (soc_value soc.now) (limits_value limits.now)) (H.held shelf.old) (H.faults shelf.old)
         (H.faults shelf.new) result }
 {
     match load_file(alloc, FileKind::Proof, name, shelf) {
-        Ok(bytes) => answer_proof(alloc, soc, limits, bytes.as_slice()),
+        Ok(bytes) => answer_proof(alloc, soc, limits, resolved, bytes.as_slice()),
         Err(verdict) => verdict,
     }
+}
+
+/// A chip and its limits, resolved. The live tests of the chip are made where they weren't noted. `NoMemory` where there is none.
+fn resolved_of(
+    alloc: Global,
+    soc: &Soc,
+    limits: &Limits,
+    live: Option<LiveTests>,
+) -> Result<Resolved, NoMemory>
+    requires live { IfSome live (λ tests. tests ≡ live_ids (soc_value soc.now)) }
+    ensures { IfOk result (λ resolved. IsResolved (soc_value soc.now) limits.now resolved) }
+{
+    let tests = noted_tests(alloc, soc, live)?;
+    Resolved::with_tests(alloc, soc, limits, tests)
+}
+
+/// Resolves a chip and its limits, and answers the proof of this name for them.
+fn answer_both<H: Shelf>(alloc: Global, both: Both, name: &str, shelf: &mut H) -> Verdict
+    requires chip { IsSoundChip (soc_value both.soc) }
+    requires limits { IsSoundLimits (soc_value both.soc) (limits_value both.limits) }
+    requires live { IfSome both.live (λ tests. tests ≡ live_ids (soc_value both.soc)) }
+    ensures held_stays { H.held shelf.new ≡ H.held shelf.old }
+    ensures faults_never_fall { H.faults shelf.old ≤ H.faults shelf.new }
+    ensures follows { Follows (with_proof name.now (soc_value both.soc) (limits_value both.limits)) (H.held shelf.old)
+        (H.faults shelf.old) (H.faults shelf.new) result }
+{
+    let Both { soc, limits, live } = both;
+    let Ok(resolved) = resolved_of(alloc, &soc, &limits, live) else {
+        return Verdict::NoMemory;
+    };
+    let verdict = answer_file(alloc, &soc, &limits, &resolved, name, shelf);
+    drop(resolved);
+    verdict
 }
 
 /// `bound SOC LIMITS PROOF`: the bound of a proof that is accepted.
@@ -79,11 +125,7 @@ fn decide_bound<H: Shelf>(
         (H.faults shelf.new) result }
 {
     match load_both(alloc, soc, limits, shelf) {
-        Ok(both) => {
-            let verdict = answer_file(alloc, &both.soc, &both.limits, proof, shelf);
-            drop(both);
-            verdict
-        }
+        Ok(both) => answer_both(alloc, both, proof, shelf),
         Err(verdict) => verdict,
     }
 }

@@ -4,6 +4,7 @@ ghost use Rattle.soc_model.specs.Chips.{soc_value};
 ghost use Rattle.soc_model.specs.SoundChips.{IsSoundChip};
 ghost use Rattle.plan_model.specs.SoundLimits.{IsSoundLimits};
 ghost use Rattle.plan_model.specs.Views.{limits_value};
+ghost use Rattle.live_tests.specs.Resolved.{IsResolved};
 ghost use Rattle.bus_proofs.specs.Proofs.{proof_value};
 ghost use Rattle.bus_proofs.specs.Grammar.{MayBeSaid};
 ghost use Rattle.bus_proofs.specs.Bounds.{IsAccepted};
@@ -13,6 +14,7 @@ use bus_proofs::{
     Node, Proof, ProofRoom, ProofTextFault, Weights, check_proof, print_proof, read_proof,
 };
 use commands::FILE_MOST;
+use live_tests::Resolved;
 use outside::{NoMemory, push};
 use plan_model::Limits;
 use soc_model::Soc;
@@ -30,13 +32,20 @@ fn read_again(alloc: Global, text: &[u8]) -> Result<Option<Proof>, NoMemory>
 }
 
 /// Whether a proof is accepted.
-fn is_accepted(alloc: Global, soc: &Soc, limits: &Limits, proof: &Proof) -> Result<bool, NoMemory>
+fn is_accepted(
+    alloc: Global,
+    soc: &Soc,
+    limits: &Limits,
+    resolved: &Resolved,
+    proof: &Proof,
+) -> Result<bool, NoMemory>
     requires chip { IsSoundChip (soc_value soc.now) }
     requires limits { IsSoundLimits (soc_value soc.now) (limits_value limits.now) }
+    requires resolved { IsResolved (soc_value soc.now) limits.now resolved.now }
     requires proof { MayBeSaid (proof_value proof.now) }
     ensures { IfOk result (λ yes. yes ≡ true → IsAccepted (soc_value soc.now) (limits_value limits.now) (proof_value proof.now)) }
 {
-    let mut room = ProofRoom::new(alloc, soc, limits, proof)?;
+    let mut room = ProofRoom::with_resolved(alloc, soc, limits, resolved, proof)?;
     let accepted = check_proof(&mut room).is_ok();
     drop(room);
     Ok(accepted)
@@ -60,12 +69,14 @@ fn text_of(
     alloc: Global,
     soc: &Soc,
     limits: &Limits,
+    resolved: &Resolved,
     proof: &Proof,
     cycles: u64,
     nodes: u64,
 ) -> Result<Option<Vec<u8>>, NoMemory>
     requires chip { IsSoundChip (soc_value soc.now) }
     requires limits { IsSoundLimits (soc_value soc.now) (limits_value limits.now) }
+    requires resolved { IsResolved (soc_value soc.now) limits.now resolved.now }
     requires proof { IsReadable (proof_value proof.now) }
     requires some { 1 ≤ cycles }
     ensures { IfOk result (λ text. IfSome text (λ t. IsProofText (soc_value soc.now) (limits_value limits.now) cycles nodes t.items)) }
@@ -76,7 +87,7 @@ fn text_of(
     if proof.nodes.len() as u64 > nodes {
         return Ok(None);
     }
-    if !is_accepted(alloc, soc, limits, proof)? {
+    if !is_accepted(alloc, soc, limits, resolved, proof)? {
         return Ok(None);
     }
     short_text(alloc, proof)
@@ -88,19 +99,21 @@ pub(crate) fn accepted_text(
     alloc: Global,
     soc: &Soc,
     limits: &Limits,
+    resolved: &Resolved,
     found: &Proof,
     cycles: u64,
     nodes: u64,
 ) -> Result<Option<Vec<u8>>, NoMemory>
     requires chip { IsSoundChip (soc_value soc.now) }
     requires limits { IsSoundLimits (soc_value soc.now) (limits_value limits.now) }
+    requires resolved { IsResolved (soc_value soc.now) limits.now resolved.now }
     requires some { 1 ≤ cycles }
     ensures { IfOk result (λ text. IfSome text (λ t. IsProofText (soc_value soc.now) (limits_value limits.now) cycles nodes t.items)) }
 {
     let written = print_proof(alloc, found)?;
     match read_again(alloc, written.as_slice())? {
         Some(proof) => {
-            let text = text_of(alloc, soc, limits, &proof, cycles, nodes);
+            let text = text_of(alloc, soc, limits, resolved, &proof, cycles, nodes);
             // dropped by a call: the end of the scope would drop each of its parts, and be proved for each
             drop(proof);
             text

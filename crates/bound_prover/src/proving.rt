@@ -69,7 +69,7 @@ pub fn proved_with<T: Sink>(
         return nothing_text(alloc);
     }
     let found = searched(alloc, soc, limits, resolved, cycles, nodes, progress)?;
-    let accepted = accepted_text(alloc, soc, limits, &found, cycles, nodes);
+    let accepted = accepted_text(alloc, soc, limits, resolved, &found, cycles, nodes);
     // dropped by a call, as the search is
     drop(found);
     match accepted? {

@@ -5,6 +5,7 @@ ghost use Rattle.soc_model.specs.SoundChips.{IsSoundChip};
 ghost use Rattle.plan_model.specs.Views.{limits_value};
 ghost use Rattle.plan_model.specs.SoundLimits.{IsSoundLimits};
 ghost use Rattle.plan_model.specs.Certificates.{has_tam_at};
+ghost use Rattle.live_tests.specs.Resolved.{IsResolved};
 ghost use Rattle.bus_proofs.specs.Proofs.{proof_value};
 ghost use Rattle.bus_proofs.specs.Takings.{bit_at};
 ghost use Rattle.bus_proofs.specs.Bases.{IsBasis, chip_of, limits_of, proof_of};
@@ -49,15 +50,17 @@ fn all_wired(alloc: Global, soc: &Soc) -> Result<Vec<bool>, NoMemory>
 }
 
 impl<'a> Basis<'a> {
-    /// The basis of a check. `NoMemory` where there is none.
+    /// The basis of a check, where chip and limits are resolved. `NoMemory` where there is none.
     pub fn new(
         alloc: Global,
         soc: &'a Soc,
         limits: &'a Limits,
+        resolved: &Resolved,
         proof: &'a Proof,
     ) -> Result<Basis<'a>, NoMemory>
         requires sound { IsSoundChip (soc_value soc.now) }
         requires limits { IsSoundLimits (soc_value soc.now) (limits_value limits.now) }
+        requires resolved { IsResolved (soc_value soc.now) limits.now resolved.now }
         ensures basis { IfOk result IsBasis }
         ensures chip { IfOk result (λ basis. chip_of basis ≡ soc_value soc.now) }
         ensures limits { IfOk result (λ basis. limits_of basis ≡ limits_value limits.now) }
@@ -65,10 +68,8 @@ impl<'a> Basis<'a> {
     {
         let wired = all_wired(alloc, soc)?;
         let times = PackedTimes::new(alloc, soc, limits.wires)?;
-        let resolved = Resolved::new(alloc, soc, limits)?;
-        let tests = test_table(alloc, soc, limits, &resolved)?;
-        let lists = list_table(alloc, soc, limits, &resolved, &proof.lists)?;
-        drop(resolved);
+        let tests = test_table(alloc, soc, limits, resolved)?;
+        let lists = list_table(alloc, soc, limits, resolved, &proof.lists)?;
         Ok(Basis {
             soc,
             limits,

@@ -5,6 +5,7 @@ ghost use Rattle.soc_model.specs.SoundChips.{IsSoundChip};
 ghost use Rattle.plan_model.specs.Views.{limits_value};
 ghost use Rattle.plan_model.specs.Rules.{IsBound};
 ghost use Rattle.plan_model.specs.SoundLimits.{IsSoundLimits};
+ghost use Rattle.live_tests.specs.Resolved.{IsResolved};
 ghost use Rattle.bus_proofs.specs.Proofs.{WeightsValue, OfSum, node_value, proof_value};
 ghost use Rattle.bus_proofs.specs.Grammar.{MayBeSaid};
 ghost use Rattle.bus_proofs.specs.Bounds.{IsAccepted, IsProofFault};
@@ -19,6 +20,7 @@ use crate::leaf_costs::USES_MOST;
 use crate::nodes::RANKS_MOST;
 use crate::walk::{OpenSplit, check_nodes};
 use crate::{Node, Proof, ProofFault};
+use live_tests::Resolved;
 use outside::NoMemory;
 use plan_model::Limits;
 use soc_model::Soc;
@@ -96,11 +98,35 @@ impl<'a> ProofRoom<'a> {
           proof = proof_value proof.now;
         }) }
     {
+        let resolved = Resolved::new(alloc, soc, limits)?;
+        let room = ProofRoom::with_resolved(alloc, soc, limits, &resolved, proof);
+        drop(resolved);
+        room
+    }
+
+    /// The same, where chip and limits are resolved already.
+    pub fn with_resolved(
+        alloc: Global,
+        soc: &'a Soc,
+        limits: &'a Limits,
+        resolved: &Resolved,
+        proof: &'a Proof,
+    ) -> Result<ProofRoom<'a>, NoMemory>
+        requires sound { IsSoundChip (soc_value soc.now) }
+        requires limits { IsSoundLimits (soc_value soc.now) (limits_value limits.now) }
+        requires resolved { IsResolved (soc_value soc.now) limits.now resolved.now }
+        requires proof { MayBeSaid (proof_value proof.now) }
+        ensures { IfOk result (λ room. room ≡ record {
+          chip = soc_value soc.now;
+          limits = limits_value limits.now;
+          proof = proof_value proof.now;
+        }) }
+    {
         let uses = most_uses(&proof.nodes);
         if uses > USES_MOST {
             return Err(NoMemory);
         }
-        let basis = Basis::new(alloc, soc, limits, proof)?;
+        let basis = Basis::new(alloc, soc, limits, resolved, proof)?;
         let case = CaseRoom::new(alloc, soc.modules.len(), limits.wires, RANKS_MOST)?;
         let leaf = LeafRoom::new(alloc, &basis)?;
         let turns = Vec::from_elem(alloc, NO_TURN, proof.nodes.len())?;

@@ -17,6 +17,6 @@ returns-in-Err-Text c =
 
 pub returns : goal.returns
 returns c =
-    let fault = subst (λ (room : RoomValue). IsProofFault room.chip room.limits room.proof c.in-Err.fault) c.in-Ok-new.ensures c.in-Err.ensures.fault in
+    let fault = subst (λ (room : RoomValue). IsProofFault room.chip room.limits room.proof c.in-Err.fault) c.in-Ok-with_resolved.ensures c.in-Err.ensures.fault in
     bytes_refused (SaysBound (soc_value c.args.soc.now) (limits_value c.args.limits.now)) (RefusesProof (soc_value c.args.soc.now) (limits_value c.args.limits.now)) bound_line c.args.bytes.now (proof_fault_line c.in-Err.fault) _ _
     (inr (proof_value c.in-Ok.proof, c.in-Ok.ensures.said, (c.in-Err.fault, fault, refl))) c.proof_fault_line.ensures.text c.proof_fault_line.ensures.line c.refused_with-in-Err.ensures

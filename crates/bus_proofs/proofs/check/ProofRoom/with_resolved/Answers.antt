@@ -7,7 +7,7 @@ use Rattle.plan_model.specs.Views.{limits_value}
 use Rattle.bus_proofs.specs.declared.Node.{Node}
 use Rattle.bus_proofs.specs.Proofs.{WeightsValue, OfSum, node_value, proof_value}
 use Rattle.bus_proofs.proofs.ProofChecks.{few_modules, new_room}
-use Rattle.bus_proofs.proofs.check.ProofRoom.new.Goals as goal
+use Rattle.bus_proofs.proofs.check.ProofRoom.with_resolved.Goals as goal
 
 pub new-requires-2-clause-modules : goal.new-requires-2-clause-modules
 new-requires-2-clause-modules c =
