@@ -30,7 +30,7 @@ fn first_module(buses: &Buses, late: Option<usize>, rng: &mut Xoshiro256PlusPlus
 
 /// Draws a change of the buses and makes it, where it can be made. By even chance it begins at the late bus, where one is given.
 /// Whether anything changed.
-pub(crate) fn change(
+pub(crate) fn change_buses(
     times: &Times,
     buses: &mut Buses,
     taken: &mut Vec<Taken>,

@@ -19,7 +19,7 @@ pub(crate) fn opening_count(wires: usize, modules: usize) -> usize {
 }
 
 /// Gathers all wires in the first slot.
-fn gather(buses: &mut Buses)
+fn gather_wires(buses: &mut Buses)
     requires { AreBuses buses.old }
     ensures buses { AreBuses buses.new }
     ensures alike { AreAlike buses.old buses.new }
@@ -111,7 +111,7 @@ pub(crate) fn deal_to_equal(times: &Times, buses: &mut Buses, count: usize)
     if count == 0 || count > slots {
         return;
     }
-    gather(buses);
+    gather_wires(buses);
     share_out(buses, count);
     empty_loads(buses);
     let ranked = times.ranked((slots / count) as u64);

@@ -6,7 +6,7 @@ ghost use Rattle.arch_search.specs.Problems.{IsProblem, IsStateOf};
 ghost use Rattle.arch_search.specs.Searches.{IsLent};
 ghost use Rattle.arch_search.specs.States.{IsTaken};
 
-use crate::changes::change;
+use crate::changes::change_buses;
 use crate::dealing::{DEALT_MOST, Taken};
 use crate::draws::coin;
 use crate::opening::{deal_to_equal, opening_count};
@@ -17,7 +17,7 @@ use crate::room::Room;
 use crate::scheduling::zeros;
 use crate::setting::SearchSetting;
 use crate::state::{State, first_state};
-use crate::weighing::{finish, weigh};
+use crate::weighing::{schedule_state, weigh_state};
 use live_tests::LiveTests;
 use outside::NoMemory;
 use plan_model::Plan;
@@ -183,7 +183,7 @@ impl<'a> Search<'a> {
         ensures { self.new ≡ self.old }
     {
         if self.setting.has_other_buses() {
-            return change(
+            return change_buses(
                 &self.setting.times,
                 &mut self.next.buses,
                 &mut self.taken,
@@ -273,7 +273,7 @@ impl<'a> Search<'a> {
     fn weigh_next(&mut self, most: u64)
         ensures { self.new ≤ self.old }
     {
-        let ends = weigh(
+        let ends = weigh_state(
             &self.setting,
             &mut self.table,
             &mut self.next,
@@ -349,10 +349,10 @@ impl<'a> Search<'a> {
     }
 
     /// Makes the schedule of the best state so far.
-    pub fn finish(&mut self)
+    pub fn schedule_best(&mut self)
         ensures { self.new ≡ self.old }
     {
-        finish(
+        schedule_state(
             self.setting.problem,
             &mut self.table,
             &self.best,

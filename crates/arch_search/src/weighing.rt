@@ -132,7 +132,7 @@ fn place_somehow<J>(
 }
 
 /// When the tests of a state end; None where that is after `most` cycles.
-pub(crate) fn weigh<J>(
+pub(crate) fn weigh_state<J>(
     setting: &SearchSetting<'_>,
     table: &mut TableOf<J>,
     state: &mut State,
@@ -163,7 +163,12 @@ pub(crate) fn weigh<J>(
 }
 
 /// Makes the schedule of a state.
-pub(crate) fn finish<J>(problem: &Problem, table: &mut TableOf<J>, state: &State, room: &mut Room)
+pub(crate) fn schedule_state<J>(
+    problem: &Problem,
+    table: &mut TableOf<J>,
+    state: &State,
+    room: &mut Room,
+)
     requires problem { IsProblem table.old.job problem.now }
     requires sound { IsSoundTable table.old }
     requires state { IsStateOf problem.now state.now }

@@ -10,9 +10,10 @@ use Rattle.plan_model.specs.Plans.{PlannedTest, uses, is_active, end_of}
 use Rattle.plan_model.specs.Runs.{Content}
 use Rattle.plan_model.specs.Right.{IsAt}
 use Rattle.bit_machine.specs.Lanes.{lane_on, IsWired, IsLane}
-use Rattle.bit_machine.specs.Machines.{FitLanes, AreLanes, AreOnWires, AreUsers, AreUsersBelow, AreUnchanged, AreNow, AreSomeLanes, AreSomeUsers, IsUnchanged, IsLaneUnchanged, IsMachine, IsSomeMachine}
+use Rattle.bit_machine.specs.Machines.{FitLanes, AreStepped, AreOnWires, AreUsers, AreUsersBelow, AreUnchanged, AreNow, AreSomeStepped, AreSomeUsers, IsUnchanged, IsLaneUnchanged, IsMachine, IsSomeMachine}
 use Rattle.bit_machine.specs.declared.lane.Lane.{Lane}
 use Rattle.bit_machine.specs.declared.machine.Machine.{Machine}
+use Rattle.bit_machine.specs.declared.stepped.SteppedLane.{SteppedLane}
 
 -- ---- an entry that is written
 
@@ -177,16 +178,16 @@ next_users content tests m n is_next h is = rw is_next (record {
   every = λ w i t less at used. is.users.every w i t less at (sym (same_uses m.cycle w m.change t (omega (arith, h, is_next)) (is.change i t at)) ∙ used);
 })
 
-pub next_some : (m : Machine) (n : ℕ) → n ≡ m.cycle + 1 → n < m.change → IsSomeMachine m → (seen : List Lane) (users : List (Option ℕ)) → seen ≡ m.lanes.items → users ≡ m.users.items → AreSomeUsers seen n users
+pub next_some : (m : Machine) (n : ℕ) → n ≡ m.cycle + 1 → n < m.change → IsSomeMachine m → (seen : List SteppedLane) (users : List (Option ℕ)) → seen ≡ m.lanes.items → users ≡ m.users.items → AreSomeUsers seen n users
 next_some m n is_next h s seen users e f = record {
   content = s.content;
   tests = s.tests;
-  are = subst (AreLanes s.content s.tests) (sym e) s.is.lanes;
+  are = subst (AreStepped s.content s.tests) (sym e) s.is.lanes;
   on = subst (λ (v : List (Option ℕ)). AreOnWires s.tests (length v)) (sym f) s.is.wires;
   by = subst (AreUsers s.tests n) (sym f) (next_users s.content s.tests m n is_next h s.is);
 }
 
-pub next_machine : (content : Content) (tests : List PlannedTest) (m : Machine) (lanes : Vec Lane) (n : ℕ) → n ≡ m.cycle + 1 → n < m.change → AreLanes content tests lanes.items → AreNow lanes.items n → IsMachine content tests m →
+pub next_machine : (content : Content) (tests : List PlannedTest) (m : Machine) (lanes : Vec SteppedLane) (n : ℕ) → n ≡ m.cycle + 1 → n < m.change → AreStepped content tests lanes.items → AreNow lanes.items n → IsMachine content tests m →
     IsMachine content tests (record { lanes = lanes; users = m.users; cycle = n; change = m.change })
 next_machine content tests m lanes n is_next h are now is = record {
   lanes = are;
@@ -201,31 +202,31 @@ next_machine content tests m lanes n is_next h are now is = record {
     later (inr after) = inr after
 
 -- what the lanes say of the change, the tests do
-some_lane : (ls : List Lane) (i : ℕ) → i < length ls → (l : Lane) × (slice_get ls i ≡ Some l)
+some_lane : (ls : List SteppedLane) (i : ℕ) → i < length ls → (l : SteppedLane) × (slice_get ls i ≡ Some l)
 some_lane [] i h = absurd (omega arith)
 some_lane (l ∷ ls) zero h = (l, refl)
 some_lane (l ∷ ls) (suc i) h = some_lane ls i (omega arith)
 
-pub tests_unchanged : (content : Content) (tests : List PlannedTest) (lanes : List Lane) (c change : ℕ) → AreLanes content tests lanes → ((i : ℕ) (l : Lane) → slice_get lanes i ≡ Some l → IsLaneUnchanged c change l) → AreUnchanged tests c change
+pub tests_unchanged : (content : Content) (tests : List PlannedTest) (lanes : List SteppedLane) (c change : ℕ) → AreStepped content tests lanes → ((i : ℕ) (l : SteppedLane) → slice_get lanes i ≡ Some l → IsLaneUnchanged c change l.lane) → AreUnchanged tests c change
 tests_unchanged content tests lanes c change are each i t at =
     let long : length lanes ≡ length tests = are.long in
     let within : i < length tests = slice_get_within tests i t at in
     let l = some_lane lanes i (omega arith) in
     let u = each i l.0 l.1 in
-    let is : IsLane content t l.0 = are.lane i t l.0 at l.1 in
+    let is : IsLane content t (l.0).lane = are.lane i t l.0 at l.1 in
     (subst (IsUnchanged c change) is.start u.0, subst (IsUnchanged c change) is.ends u.1)
 
 -- the lanes of a machine have their wires
-pub lanes_fit : (content : Content) (tests : List PlannedTest) (lanes : List Lane) (n : ℕ) → AreLanes content tests lanes → AreOnWires tests n → FitLanes lanes n
+pub lanes_fit : (content : Content) (tests : List PlannedTest) (lanes : List SteppedLane) (n : ℕ) → AreStepped content tests lanes → AreOnWires tests n → FitLanes lanes n
 lanes_fit content tests lanes n are on i l at tam =
     let long : length lanes ≡ length tests = are.long in
     let within : i < length lanes = slice_get_within lanes i l at in
     let t = some_test tests i (omega arith) in
-    let is : IsLane content t.0 l = are.lane i t.0 l t.1 at in
+    let is : IsLane content t.0 l.lane = are.lane i t.0 l t.1 at in
     let tam' : (t.0).tam ≡ true = sym is.tam ∙ tam in
-    let wired : IsWired content t.0 l = is.wired tam' in
-    let first : l.first_wire ≡ (t.0).first_wire = wired.first_wire in
-    let width : l.width ≡ (t.0).width = wired.width in
+    let wired : IsWired content t.0 l.lane = is.wired tam' in
+    let first : l.lane.first_wire ≡ (t.0).first_wire = wired.first_wire in
+    let width : l.lane.width ≡ (t.0).width = wired.width in
     let fits : (t.0).first_wire + (t.0).width ≤ n = on.within i t.0 t.1 tam' in
     omega arith
   where
@@ -234,20 +235,20 @@ lanes_fit content tests lanes n are on i l at tam =
     some_test (t ∷ ts) zero h = (t, refl)
     some_test (t ∷ ts) (suc i) h = some_test ts i (omega arith)
 
-pub sooner_more : (lanes : List Lane) (c n change change' : ℕ) (l : Lane) → slice_get lanes n ≡ Some l → change' ≤ change → IsLaneUnchanged c change' l →
-    ((i : ℕ) (x : Lane) → i < n → slice_get lanes i ≡ Some x → IsLaneUnchanged c change x) → (i : ℕ) (x : Lane) → i < n + 1 → slice_get lanes i ≡ Some x → IsLaneUnchanged c change' x
+pub sooner_more : (lanes : List SteppedLane) (c n change change' : ℕ) (l : SteppedLane) → slice_get lanes n ≡ Some l → change' ≤ change → IsLaneUnchanged c change' l.lane →
+    ((i : ℕ) (x : SteppedLane) → i < n → slice_get lanes i ≡ Some x → IsLaneUnchanged c change x.lane) → (i : ℕ) (x : SteppedLane) → i < n + 1 → slice_get lanes i ≡ Some x → IsLaneUnchanged c change' x.lane
 sooner_more lanes c n change change' l at less here before i x below there = go (cases_eq i n) where
-  go : (i ≡ n) ⊎ (i ≢ n) → IsLaneUnchanged c change' x
-  go (inl same) = subst (IsLaneUnchanged c change') (same_Some _ _ (sym at ∙ subst (λ i. slice_get lanes i ≡ Some x) same there)) here
-  go (inr other) = sooner_still c change change' x less (before i x (omega (arith, other)) there)
+  go : (i ≡ n) ⊎ (i ≢ n) → IsLaneUnchanged c change' x.lane
+  go (inl same) = subst (λ (l : SteppedLane). IsLaneUnchanged c change' l.lane) (same_Some _ _ (sym at ∙ subst (λ i. slice_get lanes i ≡ Some x) same there)) here
+  go (inr other) = sooner_still c change change' x.lane less (before i x (omega (arith, other)) there)
 
-pub assign_more : (content : Content) (tests : List PlannedTest) (n : ℕ) (lanes : List Lane) (are : AreLanes content tests lanes) (on : AreOnWires tests n) (c p : ℕ) (l : Lane) (old new : List (Option ℕ)) → slice_get lanes p ≡ Some l → length new ≡ length old →
-    GivenLane old new l p c → AreUsersBelow tests c p old → AreUsersBelow tests c (p + 1) new
+pub assign_more : (content : Content) (tests : List PlannedTest) (n : ℕ) (lanes : List SteppedLane) (are : AreStepped content tests lanes) (on : AreOnWires tests n) (c p : ℕ) (l : SteppedLane) (old new : List (Option ℕ)) → slice_get lanes p ≡ Some l → length new ≡ length old →
+    GivenLane old new l.lane p c → AreUsersBelow tests c p old → AreUsersBelow tests c (p + 1) new
 assign_more content tests n lanes are on c p l old new there long g below =
     let within : p < length lanes = slice_get_within lanes p l there in
     let many : length lanes ≡ length tests = are.long in
     let t = some_test tests p (omega arith) in
-    users_more content tests n on c p l t.0 old new t.1 (are.lane p t.0 l t.1 there) long g below
+    users_more content tests n on c p l.lane t.0 old new t.1 (are.lane p t.0 l t.1 there) long g below
   where
     some_test : (ts : List PlannedTest) (i : ℕ) → i < length ts → (t : PlannedTest) × IsAt ts i t
     some_test [] i h = absurd (omega arith)
@@ -255,9 +256,9 @@ assign_more content tests n lanes are on c p l old new there long g below =
     some_test (t ∷ ts) (suc i) h = some_test ts i (omega arith)
 
 -- a machine that stands at a cycle
-pub stood : (content : Content) (tests : List PlannedTest) (lanes now_lanes : Vec Lane) (users : Vec (Option ℕ)) (seen : List Lane) (new : List (Option ℕ)) (c change : ℕ) → seen ≡ lanes.items → length new ≡ length users.items →
-    ((i : ℕ) (l : Lane) → slice_get seen i ≡ Some l → IsLaneUnchanged c change l) → AreUsers tests c new →
-    AreLanes content tests lanes.items → AreLanes content tests now_lanes.items → AreNow now_lanes.items c → AreOnWires tests (length users.items) → IsMachine content tests (record { lanes = now_lanes; users = with_items users new; cycle = c; change = change })
+pub stood : (content : Content) (tests : List PlannedTest) (lanes now_lanes : Vec SteppedLane) (users : Vec (Option ℕ)) (seen : List SteppedLane) (new : List (Option ℕ)) (c change : ℕ) → seen ≡ lanes.items → length new ≡ length users.items →
+    ((i : ℕ) (l : SteppedLane) → slice_get seen i ≡ Some l → IsLaneUnchanged c change l.lane) → AreUsers tests c new →
+    AreStepped content tests lanes.items → AreStepped content tests now_lanes.items → AreNow now_lanes.items c → AreOnWires tests (length users.items) → IsMachine content tests (record { lanes = now_lanes; users = with_items users new; cycle = c; change = change })
 stood content tests lanes now_lanes users seen new c change e long each assigned are stand now on =
     let items : (with_items users new).items ≡ new = with_items_is users new (omega (arith, long, users.ok.0)) in
     let n : length (with_items users new).items ≡ length users.items = ap length items ∙ long in
@@ -265,20 +266,20 @@ stood content tests lanes now_lanes users seen new c change e long each assigned
       lanes = stand;
       wires = subst (AreOnWires tests) (sym n) on;
       users = subst (AreUsers tests c) (sym items) assigned;
-      change = tests_unchanged content tests lanes.items c change are (subst (λ (ls : List Lane). (i : ℕ) (l : Lane) → slice_get ls i ≡ Some l → IsLaneUnchanged c change l) e each);
+      change = tests_unchanged content tests lanes.items c change are (subst (λ (ls : List SteppedLane). (i : ℕ) (l : SteppedLane) → slice_get ls i ≡ Some l → IsLaneUnchanged c change l.lane) e each);
       now = now;
     }
 
 -- the users who were given their wires
-pub users_stand : (lanes : List Lane) (users : Vec (Option ℕ)) (s : AreSomeLanes lanes (length users.items)) (seen seen' : List Lane) (given new now : List (Option ℕ)) (c : ℕ) → seen ≡ lanes → given ≡ users.items → length new ≡ length given →
-    ((content : Content) (tests : List PlannedTest) → AreLanes content tests seen → AreOnWires tests (length given) → AreUsers tests c new) → seen' ≡ lanes → now ≡ (with_items users new).items → AreSomeUsers seen' c now
+pub users_stand : (lanes : List SteppedLane) (users : Vec (Option ℕ)) (s : AreSomeStepped lanes (length users.items)) (seen seen' : List SteppedLane) (given new now : List (Option ℕ)) (c : ℕ) → seen ≡ lanes → given ≡ users.items → length new ≡ length given →
+    ((content : Content) (tests : List PlannedTest) → AreStepped content tests seen → AreOnWires tests (length given) → AreUsers tests c new) → seen' ≡ lanes → now ≡ (with_items users new).items → AreSomeUsers seen' c now
 users_stand lanes users s seen seen' given new now c e f long assigned e' g =
     let same : length given ≡ length users.items = ap length f in
     let items : now ≡ new = g ∙ with_items_is users new (omega (arith, long, same, users.ok.0)) in
     record {
       content = s.content;
       tests = s.tests;
-      are = subst (AreLanes s.content s.tests) (sym e') s.are;
+      are = subst (AreStepped s.content s.tests) (sym e') s.are;
       on = subst (AreOnWires s.tests) (sym (ap length items ∙ long ∙ same)) s.on;
-      by = subst (AreUsers s.tests c) (sym items) (assigned s.content s.tests (subst (AreLanes s.content s.tests) (sym e) s.are) (subst (AreOnWires s.tests) (sym same) s.on));
+      by = subst (AreUsers s.tests c) (sym items) (assigned s.content s.tests (subst (AreStepped s.content s.tests) (sym e) s.are) (subst (AreOnWires s.tests) (sym same) s.on));
     }

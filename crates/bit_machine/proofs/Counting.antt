@@ -16,7 +16,7 @@ use Rattle.plan_model.proofs.LoadsAndReads.{begun_at}
 use Rattle.bit_machine.specs.Chips.{is_capture, loads_right, captures_at, right_loads_at}
 use Rattle.bit_machine.specs.Lanes.{lane_bits, capture_answer}
 use Rattle.bit_machine.specs.Machines.{lanes_state, AreOnWires, IsMachine, IsUser, HasNoUser, IsWireCapture, one_capture, one_right}
-use Rattle.bit_machine.specs.declared.lane.Lane.{Lane}
+use Rattle.bit_machine.specs.declared.stepped.SteppedLane.{SteppedLane}
 use Rattle.bit_machine.specs.declared.machine.Machine.{Machine}
 
 -- ---- counting by a number of the items
@@ -155,16 +155,16 @@ on_wire tests n on c w i t at e captures = subst (λ x. uses c x t ≡ true) e (
 
 -- ---- the capture at a wire
 
-bits_of_user : (content : Content) (tests : List PlannedTest) (m : Machine) (w p : ℕ) (l : Lane) (u : IsUser content tests m w p l) → get_or (lanes_state m.lanes.items) p [] ≡ lane_bits l
+bits_of_user : (content : Content) (tests : List PlannedTest) (m : Machine) (w p : ℕ) (l : SteppedLane) (u : IsUser content tests m w p l) → get_or (lanes_state m.lanes.items) p [] ≡ lane_bits l
 bits_of_user content tests m w p l u =
     get_or-map lane_bits m.lanes.items p l [] (slice_get_within m.lanes.items p l u.lane_at) ∙ ap lane_bits (get_or_from_slice_get m.lanes.items p l l u.lane_at)
 
-same_user : (content : Content) (tests : List PlannedTest) (m : Machine) (is : IsMachine content tests m) (w p i : ℕ) (l : Lane) (u : IsUser content tests m w p l) (t : PlannedTest) → IsAt tests i t → uses m.cycle w t ≡ true → u.t ≡ t
+same_user : (content : Content) (tests : List PlannedTest) (m : Machine) (is : IsMachine content tests m) (w p i : ℕ) (l : SteppedLane) (u : IsUser content tests m w p l) (t : PlannedTest) → IsAt tests i t → uses m.cycle w t ≡ true → u.t ≡ t
 same_user content tests m is w p i l u t at used =
     let place : i ≡ p = is.wires.alone m.cycle w p i u.t t u.at at u.used used in
     same_Some _ _ (sym u.at ∙ subst (λ i. IsAt tests i t) place at)
 
-pub capture_here : (content : Content) (tests : List PlannedTest) (m : Machine) (is : IsMachine content tests m) (w p : ℕ) (l : Lane) (u : IsUser content tests m w p l) (r : Option Bool) → l.first_wire ≡ w →
+pub capture_here : (content : Content) (tests : List PlannedTest) (m : Machine) (is : IsMachine content tests m) (w p : ℕ) (l : SteppedLane) (u : IsUser content tests m w p l) (r : Option Bool) → l.lane.first_wire ≡ w →
     r ≡ capture_answer (content.stimulus u.t.id) (slice_get u.t.operations (m.cycle - u.t.start)) u.t.chains (lane_bits l) → IsWireCapture content tests m.cycle w (lanes_state m.lanes.items) r
 capture_here content tests m is w p l u r first answer = record {
   some = λ b e.
@@ -181,7 +181,7 @@ capture_here content tests m is w p l u r first answer = record {
 none_some : {X : Type 0} {x : X} → None ≡ Some x → ⊥
 none_some e = cc
 
-pub capture_apart : (content : Content) (tests : List PlannedTest) (m : Machine) (is : IsMachine content tests m) (w p : ℕ) (l : Lane) (u : IsUser content tests m w p l) → l.first_wire ≢ w → IsWireCapture content tests m.cycle w (lanes_state m.lanes.items) None
+pub capture_apart : (content : Content) (tests : List PlannedTest) (m : Machine) (is : IsMachine content tests m) (w p : ℕ) (l : SteppedLane) (u : IsUser content tests m w p l) → l.lane.first_wire ≢ w → IsWireCapture content tests m.cycle w (lanes_state m.lanes.items) None
 capture_apart content tests m is w p l u other = record {
   some = λ b e. absurd (none_some e);
   none = λ e i t at wire captures.

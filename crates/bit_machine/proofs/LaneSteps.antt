@@ -1,25 +1,27 @@
 -- One live test, chain by chain.
-use Rattle.std.proofs.Common.{◌≡◌, ◌≢◌, ℕ, zero, suc, ◌+◌, ◌-◌, ◌≤◌, ◌<◌, ◌⊎◌, Bool, true, false, Some, List, [], ◌∷◌, length, get_or, map, drop, set, refl, ap, sym, subst, ◌∙◌, arith, inl, inr}
+use Rattle.std.proofs.Common.{◌≡◌, ◌≢◌, ℕ, zero, suc, ◌+◌, ◌-◌, ◌≤◌, ◌<◌, ◌⊎◌, Bool, true, false, None, Some, List, [], ◌∷◌, ◌++◌, length, get_or, drop, map, option_map, replicate, set, refl, ap, sym, subst, ◌∙◌, arith, inl, inr}
 use Rattle.std.specs.Prelude.{slice_get, slice_index, nat_lt, ◌&&◌, ◌%◌, if◌then◌else◌}
 use Rattle.std.specs.Global.{Vec}
 use Rattle.std.specs.List.{zip, list_all}
 use Rattle.std.specs.Vec.{with_item}
-use Rattle.std.proofs.lemmas.List.{length-map, map-set, length-set, get_or-map, get_or-set_same, get_or-set_other}
-use Rattle.std.proofs.lemmas.Option.{slice_get-get_or, get_or_from_slice_get, slice_get_within}
+use Rattle.std.proofs.lemmas.List.{length-append, length-map, length-replicate, length-set, get_or-set_same, get_or-set_other}
+use Rattle.std.proofs.lemmas.Option.{slice_get-get_or, slice_get-map, get_or_from_slice_get, slice_get_within, same_Some}
 use Rattle.std.proofs.lemmas.Bool.{cases_lt, cases_eq, lt-ltb, le-ltb}
 use Rattle.plan_model.specs.Cells.{Cell, in_length}
 use Rattle.plan_model.specs.Plans.{PlannedTest}
 use Rattle.plan_model.specs.Runs.{Content, chain_at, next_bits, wanted}
+use Rattle.plan_model.proofs.Lists.{from_append}
 use Rattle.bit_machine.specs.Chips.{chain_holds, holds}
 use Rattle.bit_machine.specs.Packed.{is_set}
-use Rattle.bit_machine.specs.Paths.{made_from, path_bits, path_stimulus, path_response, is_answered, IsPath}
-use Rattle.plan_model.specs.Moments.{phase_ops, moment_operation, moment_ahead, moment_behind, wanted_by, ArePhases}
-use Rattle.bit_machine.specs.Lanes.{lane_bits, lane_on, loaded_bit, IsPageWord, ArePages, IsSound, IsNow, IsSameTest, IsWired, IsLane}
+use Rattle.bit_machine.specs.Paths.{made_from, path_stimulus, path_response, is_answered, IsPath}
+use Rattle.plan_model.specs.Moments.{moment_operation, moment_ahead, moment_behind, wanted_by}
+use Rattle.bit_machine.specs.Lanes.{lane_bits, lane_on, loaded_bit, resting_bits, AreAtRest, IsAtRest, IsPageWord, ArePages, AreRings, IsReady, IsSound, IsSteppable, IsNow, IsSameTest, IsWired, IsLane}
 use Rattle.bit_machine.specs.Numbers.{line_bit, IsLineWord}
 use Rattle.bit_machine.specs.declared.made.Line.{Line}
-use Rattle.bit_machine.specs.declared.lane.Page.{Page}
 use Rattle.bit_machine.specs.declared.path.Path.{Path}
 use Rattle.bit_machine.specs.declared.lane.Lane.{Lane}
+use Rattle.bit_machine.specs.declared.stepped.Page.{Page}
+use Rattle.bit_machine.specs.declared.stepped.SteppedLane.{SteppedLane}
 
 -- ---- an item of a list
 
@@ -44,51 +46,53 @@ sound_path inputs lengths cells p is = record {
   answers = let a = is.answers_long in let b = is.long in let d = is.chain.out_fit in omega arith;
 }
 
-pub bits_of_path : (lane : Lane) (j : ℕ) (p : Path) → slice_get lane.paths.items j ≡ Some p → get_or (lane_bits lane) j [] ≡ path_bits p
-bits_of_path lane j p at =
-    get_or-map path_bits lane.paths.items j p [] (slice_get_within lane.paths.items j p at) ∙ ap path_bits (get_or_from_slice_get lane.paths.items j p p at)
-
--- ---- what the test does now
-
-pub op_now : (content : Content) (t : PlannedTest) (lane : Lane) (cycle : ℕ) → t.tam ≡ true → IsLane content t lane → IsNow lane cycle → slice_get t.operations (cycle - t.start) ≡ Some (moment_operation lane.moment)
-op_now content t lane cycle tam is now = let w : IsWired content t lane = is.wired tam in rw (w.operations, ← is.start) now.is.operation
-
-wanted_now : (content : Content) (t : PlannedTest) (lane : Lane) (cycle j : ℕ) → t.tam ≡ true → IsLane content t lane → IsNow lane cycle →
-    wanted (content.stimulus t.id) (chain_at t j) (drop (cycle - t.start) t.operations) ≡ wanted_by (content.stimulus t.id) (chain_at t j) (moment_ahead lane.moment)
-wanted_now content t lane cycle j tam is now =
-    let w : IsWired content t lane = is.wired tam in
-    rw (w.operations, ← is.start) (now.is.wants (content.stimulus t.id) (chain_at t j))
-
 some_item : {X : Type 0} (xs : List X) (i : ℕ) → i < length xs → (x : X) × (slice_get xs i ≡ Some x)
 some_item [] i h = absurd (omega arith)
 some_item (x ∷ xs) zero h = (x, refl)
 some_item (x ∷ xs) (suc i) h = some_item xs i (omega arith)
 
+-- there is a bit for each cell of a chain
+pub ring_long : (s : SteppedLane) (j : ℕ) (p : Path) (bits : List Bool) → AreRings s → slice_get s.lane.paths.items j ≡ Some p → bits ≡ get_or s.rings.items j bits → length bits ≡ p.cells
+ring_long s j p bits are at is =
+    let within : j < length s.rings.items = omega (arith, are.many, slice_get_within s.lane.paths.items j p at) in
+    are.each j p bits at (slice_at s.rings.items j bits within is)
+
+-- ---- what the test does now
+
+pub op_now : (content : Content) (t : PlannedTest) (s : SteppedLane) (cycle : ℕ) → t.tam ≡ true → IsLane content t s.lane → IsNow s cycle → slice_get t.operations (cycle - t.start) ≡ Some (moment_operation s.moment)
+op_now content t s cycle tam is now = let w : IsWired content t s.lane = is.wired tam in rw (w.operations, ← is.start) now.is.operation
+
+wanted_now : (content : Content) (t : PlannedTest) (s : SteppedLane) (cycle j : ℕ) → t.tam ≡ true → IsLane content t s.lane → IsNow s cycle →
+    wanted (content.stimulus t.id) (chain_at t j) (drop (cycle - t.start) t.operations) ≡ wanted_by (content.stimulus t.id) (chain_at t j) (moment_ahead s.moment)
+wanted_now content t s cycle j tam is now =
+    let w : IsWired content t s.lane = is.wired tam in
+    rw (w.operations, ← is.start) (now.is.wants (content.stimulus t.id) (chain_at t j))
+
 -- a bit of the page is what is wanted
-pub wanted_bit : (content : Content) (t : PlannedTest) (lane : Lane) (cycle j s k : ℕ) → t.tam ≡ true → IsLane content t lane → IsNow lane cycle → moment_ahead lane.moment ≡ Some (s, k) → j < length lane.pages.items →
-    is_set (slice_index lane.pages.items j) (s % 64) ≡ wanted (content.stimulus t.id) (chain_at t j) (drop (cycle - t.start) t.operations)
-wanted_bit content t lane cycle j s k tam is now ahead h =
-    let w : IsWired content t lane = is.wired tam in
-    let p = some_item lane.paths.items j (omega (arith, h, is.ready.pages.many)) in
+pub wanted_bit : (content : Content) (t : PlannedTest) (s : SteppedLane) (cycle j n k : ℕ) → t.tam ≡ true → IsLane content t s.lane → ArePages s → IsNow s cycle → moment_ahead s.moment ≡ Some (n, k) → j < length s.pages.items →
+    is_set (slice_index s.pages.items j) (n % 64) ≡ wanted (content.stimulus t.id) (chain_at t j) (drop (cycle - t.start) t.operations)
+wanted_bit content t s cycle j n k tam is pages now ahead h =
+    let w : IsWired content t s.lane = is.wired tam in
+    let p = some_item s.lane.paths.items j (omega (arith, h, pages.many)) in
     let path : IsPath w.inputs w.lengths (chain_at t j) p.0 = w.path j p.0 p.1 in
-    let low : s % 64 < 64 = omega arith in
-    let there : s - s % 64 + s % 64 ≡ s = omega arith in
-    let word = is.ready.pages.each (record { pattern = k; first = s - s % 64 }) (now.page s k ahead) j p.0 p.1 (s % 64) low in
-    word ∙ ap (loaded_bit lane.base k (p.0).loads) there ∙ by p.0 path (cases_lt s (in_length (chain_at t j)))
-    ∙ sym (wanted_now content t lane cycle j tam is now ∙ ap (wanted_by (content.stimulus t.id) (chain_at t j)) ahead ∙ ap (λ f. wanted_by f (chain_at t j) (Some (s, k))) w.stimulus)
+    let low : n % 64 < 64 = omega arith in
+    let there : n - n % 64 + n % 64 ≡ n = omega arith in
+    let word = pages.each (record { pattern = k; first = n - n % 64 }) (now.page n k ahead) j p.0 p.1 (n % 64) low in
+    word ∙ ap (loaded_bit s.lane.base k (p.0).loads) there ∙ by p.0 path (cases_lt n (in_length (chain_at t j)))
+    ∙ sym (wanted_now content t s cycle j tam is now ∙ ap (wanted_by (content.stimulus t.id) (chain_at t j)) ahead ∙ ap (λ f. wanted_by f (chain_at t j) (Some (n, k))) w.stimulus)
   where
-    by : (p : Path) → IsPath (is.wired tam).inputs (is.wired tam).lengths (chain_at t j) p → (s < in_length (chain_at t j)) ⊎ (in_length (chain_at t j) ≤ s) →
-        loaded_bit lane.base k p.loads s ≡ wanted_by (path_stimulus lane.base (is.wired tam).inputs (is.wired tam).lengths) (chain_at t j) (Some (s, k))
+    by : (p : Path) → IsPath (is.wired tam).inputs (is.wired tam).lengths (chain_at t j) p → (n < in_length (chain_at t j)) ⊎ (in_length (chain_at t j) ≤ n) →
+        loaded_bit s.lane.base k p.loads n ≡ wanted_by (path_stimulus s.lane.base (is.wired tam).inputs (is.wired tam).lengths) (chain_at t j) (Some (n, k))
     by p path (inl less) =
-        rw (lt-ltb s (length p.loads) (omega (arith, path.loads_long, less)), lt-ltb s (in_length (chain_at t j)) less) (ap (λ n. made_from lane.base k n 0) (path.load s less))
-    by p path (inr past) = rw (le-ltb s (length p.loads) (omega (arith, path.loads_long, past)), le-ltb s (in_length (chain_at t j)) past) refl
+        rw (lt-ltb n (length p.loads) (omega (arith, path.loads_long, less)), lt-ltb n (in_length (chain_at t j)) less) (ap (λ i. made_from s.lane.base k i 0) (path.load n less))
+    by p path (inr past) = rw (le-ltb n (length p.loads) (omega (arith, path.loads_long, past)), le-ltb n (in_length (chain_at t j)) past) refl
 
 -- ---- what is read
 
-pub read_within : (content : Content) (t : PlannedTest) (lane : Lane) (j s k : ℕ) (p : Path) → t.tam ≡ true → IsLane content t lane → slice_get lane.paths.items j ≡ Some p → moment_behind lane.moment ≡ Some (s, k) →
+pub read_within : (content : Content) (t : PlannedTest) (lane : SteppedLane) (j s k : ℕ) (p : Path) → t.tam ≡ true → IsLane content t lane.lane → slice_get lane.lane.paths.items j ≡ Some p → moment_behind lane.moment ≡ Some (s, k) →
     nat_lt s (length p.answers) ≡ is_answered (chain_at t j) (moment_behind lane.moment)
 read_within content t lane j s k p tam is at behind =
-    let w : IsWired content t lane = is.wired tam in
+    let w : IsWired content t lane.lane = is.wired tam in
     ap (nat_lt s) (w.path j p at).answers_long ∙ sym (ap (is_answered (chain_at t j)) behind)
 
 -- ---- what is held
@@ -109,147 +113,146 @@ one_zip P (x ∷ xs) (y ∷ ys) d e zero long h fails = rw fails refl
 one_zip P (x ∷ xs) (y ∷ ys) d e (suc j) long h fails = rw (one_zip P xs ys d e j (omega arith) (omega arith) fails) (and_false (P (x, y)))
 
 -- a chain of the lane holds a pattern
-pub PathHolds : Content → PlannedTest → Lane → ℕ → ℕ → Bool → Type 0
-PathHolds content t lane k j b = chain_holds (content.stimulus t.id k) (chain_at t j) (get_or (lane_bits lane) j []) ≡ b
+pub PathHolds : Content → PlannedTest → SteppedLane → ℕ → ℕ → Bool → Type 0
+PathHolds content t s k j b = chain_holds (content.stimulus t.id k) (chain_at t j) (get_or (lane_bits s) j []) ≡ b
 
-pub path_holds_in : (content : Content) (t : PlannedTest) (lane : Lane) (k j : ℕ) (p : Path) (b : Bool) → t.tam ≡ true → IsLane content t lane → slice_get lane.paths.items j ≡ Some p →
-    ((inputs : ℕ) (lengths : List ℕ) (cells : List Cell) → IsPath inputs lengths cells p → b ≡ chain_holds (path_stimulus lane.base inputs lengths k) cells (path_bits p)) → PathHolds content t lane k j b
+pub path_holds_in : (content : Content) (t : PlannedTest) (s : SteppedLane) (k j : ℕ) (p : Path) (bits : List Bool) (b : Bool) → t.tam ≡ true → IsLane content t s.lane → AreRings s → slice_get s.lane.paths.items j ≡ Some p → bits ≡ get_or s.rings.items j bits →
+    ((inputs : ℕ) (lengths : List ℕ) (cells : List Cell) → IsPath inputs lengths cells p → length bits ≡ p.cells → b ≡ chain_holds (path_stimulus s.lane.base inputs lengths k) cells bits) → PathHolds content t s k j b
 unfolding PathHolds
-path_holds_in content t lane k j p b tam is at bits =
-    let w : IsWired content t lane = is.wired tam in
-    rw (bits_of_path lane j p at, w.stimulus) (sym (bits w.inputs w.lengths (chain_at t j) (w.path j p at)))
+path_holds_in content t s k j p bits b tam is rings at there held =
+    let w : IsWired content t s.lane = is.wired tam in
+    let within : j < length s.rings.items = omega (arith, rings.many, slice_get_within s.lane.paths.items j p at) in
+    let own : get_or s.rings.items j [] ≡ bits = get_or_from_slice_get s.rings.items j bits [] (slice_at s.rings.items j bits within there) in
+    rw (own, w.stimulus) (sym (held w.inputs w.lengths (chain_at t j) (w.path j p at) (ring_long s j p bits rings at there)))
 
-lane_long : (content : Content) (t : PlannedTest) (lane : Lane) → t.tam ≡ true → IsLane content t lane → length (lane_bits lane) ≡ length t.chains
-lane_long content t lane tam is = length-map lane.paths.items path_bits ∙ (is.wired tam).chains
+lane_long : (content : Content) (t : PlannedTest) (s : SteppedLane) → t.tam ≡ true → IsLane content t s.lane → AreRings s → length (lane_bits s) ≡ length t.chains
+lane_long content t s tam is rings = rings.many ∙ (is.wired tam).chains
 
-pub all_hold : (content : Content) (t : PlannedTest) (lane : Lane) (k n : ℕ) → t.tam ≡ true → IsLane content t lane → length lane.paths.items ≤ n → ((j : ℕ) → j < n → PathHolds content t lane k j true) → true ≡ holds (content.stimulus t.id k) t.chains (lane_bits lane)
+pub all_hold : (content : Content) (t : PlannedTest) (s : SteppedLane) (k n : ℕ) → t.tam ≡ true → IsLane content t s.lane → AreRings s → length s.lane.paths.items ≤ n → ((j : ℕ) → j < n → PathHolds content t s k j true) → true ≡ holds (content.stimulus t.id k) t.chains (lane_bits s)
 unfolding PathHolds
-all_hold content t lane k n tam is all each =
-    let chains : length lane.paths.items ≡ length t.chains = (is.wired tam).chains in
-    sym (all_zip (λ (p : List Cell × List Bool). chain_holds (content.stimulus t.id k) p.0 p.1) t.chains (lane_bits lane) [] [] (lane_long content t lane tam is) (λ j h. each j (omega arith)))
+all_hold content t s k n tam is rings all each =
+    let chains : length s.lane.paths.items ≡ length t.chains = (is.wired tam).chains in
+    sym (all_zip (λ (p : List Cell × List Bool). chain_holds (content.stimulus t.id k) p.0 p.1) t.chains (lane_bits s) [] [] (lane_long content t s tam is rings) (λ j h. each j (omega arith)))
 
-pub one_differs : (content : Content) (t : PlannedTest) (lane : Lane) (k j : ℕ) → t.tam ≡ true → IsLane content t lane → j < length lane.paths.items → PathHolds content t lane k j false → false ≡ holds (content.stimulus t.id k) t.chains (lane_bits lane)
+pub one_differs : (content : Content) (t : PlannedTest) (s : SteppedLane) (k j : ℕ) → t.tam ≡ true → IsLane content t s.lane → AreRings s → j < length s.lane.paths.items → PathHolds content t s k j false → false ≡ holds (content.stimulus t.id k) t.chains (lane_bits s)
 unfolding PathHolds
-one_differs content t lane k j tam is h fails =
-    let chains : length lane.paths.items ≡ length t.chains = (is.wired tam).chains in
-    sym (one_zip (λ (p : List Cell × List Bool). chain_holds (content.stimulus t.id k) p.0 p.1) t.chains (lane_bits lane) [] [] j (lane_long content t lane tam is) (omega arith) fails)
+one_differs content t s k j tam is rings h fails =
+    let chains : length s.lane.paths.items ≡ length t.chains = (is.wired tam).chains in
+    sym (one_zip (λ (p : List Cell × List Bool). chain_holds (content.stimulus t.id k) p.0 p.1) t.chains (lane_bits s) [] [] j (lane_long content t s tam is rings) (omega arith) fails)
 
--- ---- a chain that was stepped
-
--- the lane with this path in the place of one
-abbrev pub with_path : Lane → ℕ → Path → Lane
-with_path lane j q = record {
-  tam = lane.tam;
-  base = lane.base;
-  start = lane.start;
-  end = lane.end;
-  phases = lane.phases;
-  first_wire = lane.first_wire;
-  width = lane.width;
-  paths = with_item lane.paths j q;
-  moment = lane.moment;
-  page = lane.page;
-  pages = lane.pages;
-}
-
-wired_path : (content : Content) (t : PlannedTest) (lane : Lane) (j : ℕ) (p q : Path) → IsWired content t lane → slice_get lane.paths.items j ≡ Some p → ((inputs : ℕ) (lengths : List ℕ) (cells : List Cell) → IsPath inputs lengths cells p → IsPath inputs lengths cells q) → IsWired content t (with_path lane j q)
-wired_path content t lane j p q w at steps = record {
-  operations = w.operations;
-  out_fits = w.out_fits;
-  first_wire = w.first_wire;
-  width = w.width;
-  chains = length-set lane.paths.items j q ∙ w.chains;
-  inputs = w.inputs;
-  lengths = w.lengths;
-  stimulus = w.stimulus;
-  response = w.response;
-  path = λ i r at'. elim (from_set lane.paths.items j i q r at') [
-    | inl here ↦ rw (here.0, here.1) (steps w.inputs w.lengths (chain_at t j) (w.path j p at))
-    | inr other ↦ w.path i r other
-  ];
-}
-
-pub lane_stepped : (content : Content) (t : PlannedTest) (lane : Lane) (j : ℕ) (p q : Path) → t.tam ≡ true → IsLane content t lane → slice_get lane.paths.items j ≡ Some p → q.loads ≡ p.loads →
-    ((inputs : ℕ) (lengths : List ℕ) (cells : List Cell) → IsPath inputs lengths cells p → IsPath inputs lengths cells q) → IsLane content t (with_path lane j q)
-lane_stepped content t lane j p q tam is at loads steps =
-    let w : IsWired content t lane = is.wired tam in
-    record {
-      ready = record {
-        base = is.ready.base;
-        phases = is.ready.phases;
-        pages = record {
-          many = is.ready.pages.many ∙ sym (length-set lane.paths.items j q);
-          each = λ page own i r at'. elim (from_set lane.paths.items j i q r at') [
-            | inl here ↦
-                rw (here.0, here.1, loads) (is.ready.pages.each page own j p at)
-            | inr other ↦ is.ready.pages.each page own i r other
-          ];
-        };
-        paths = λ i r at'. elim (from_set lane.paths.items j i q r at') [
-          | inl here ↦ rw here.1 (sound_path w.inputs w.lengths (chain_at t j) q (steps w.inputs w.lengths (chain_at t j) (w.path j p at)))
-          | inr other ↦ is.ready.paths i r other
-        ];
-      };
-      tam = is.tam;
-      start = is.start;
-      ends = is.ends;
-      wired = λ tam. wired_path content t lane j p q w at steps;
-      alone = λ none. let e : true ≡ false = sym tam ∙ none in absurd cc;
-    }
-
-pub lane_bits_stepped : (content : Content) (t : PlannedTest) (lane : Lane) (cycle j : ℕ) (p q : Path) (drive : Bool) → t.tam ≡ true → IsLane content t lane → IsNow lane cycle → slice_get lane.paths.items j ≡ Some p →
-    ((inputs : ℕ) (lengths : List ℕ) (cells : List Cell) → IsPath inputs lengths cells p → path_bits q ≡ next_bits (path_response lane.base lengths) cells (Some (moment_operation lane.moment)) drive (path_bits p)) →
-    lane_bits (with_path lane j q) ≡ set (lane_bits lane) j (next_bits (content.response t.id) (chain_at t j) (slice_get t.operations (cycle - t.start)) drive (get_or (lane_bits lane) j []))
-lane_bits_stepped content t lane cycle j p q drive tam is now at bits =
-    let w : IsWired content t lane = is.wired tam in
-    let op : slice_get t.operations (cycle - t.start) ≡ Some (moment_operation lane.moment) = op_now content t lane cycle tam is now in
-    map-set path_bits lane.paths.items j q
-    ∙ ap (set (lane_bits lane) j) (bits w.inputs w.lengths (chain_at t j) (w.path j p at) ∙ rw (op, w.response, bits_of_path lane j p at) refl)
-
-pub now_stepped : (lane : Lane) (cycle j : ℕ) (q : Path) → IsNow lane cycle → IsNow (with_path lane j q) cycle
-now_stepped lane cycle j q now = record { is = now.is; page = now.page }
-
--- ---- a lane at another moment
-
-pub same_lane : (content : Content) (t : PlannedTest) (old new : Lane) → IsSameTest old new → ArePages new → IsLane content t old → IsLane content t new
-same_lane content t old new s pages is = record {
-  ready = record {
-    base = rw s.base is.ready.base;
-    phases = subst ArePhases (sym s.phases) is.ready.phases;
-    pages = pages;
-    paths = λ j p at. is.ready.paths j p (subst (λ (v : Vec Path). slice_get v.items j ≡ Some p) s.paths at);
-  };
-  tam = s.tam ∙ is.tam;
-  start = s.start ∙ is.start;
-  ends = s.ends ∙ is.ends;
-  wired = λ tam.
-      let w : IsWired content t old = is.wired tam in
-      record {
-        operations = w.operations ∙ ap phase_ops (sym s.phases);
-        out_fits = λ j. rw s.phases (w.out_fits j);
-        first_wire = s.first_wire ∙ w.first_wire;
-        width = s.width ∙ w.width;
-        chains = ap (λ (v : Vec Path). length v.items) s.paths ∙ w.chains;
-        inputs = w.inputs;
-        lengths = w.lengths;
-        stimulus = w.stimulus ∙ ap (λ b. path_stimulus b w.inputs w.lengths) (sym s.base);
-        response = w.response ∙ ap (λ b. path_response b w.lengths) (sym s.base);
-        path = λ j p at. w.path j p (subst (λ (v : Vec Path). slice_get v.items j ≡ Some p) s.paths at);
-      };
-  alone = λ none. (ap (λ (v : Vec Path). length v.items) s.paths ∙ (is.alone none).0, (is.alone none).1);
-}
-
-pub same_bits : (old new : Lane) → IsSameTest old new → lane_bits new ≡ lane_bits old
-same_bits old new s = ap (λ (v : Vec Path). map path_bits v.items) s.paths
-
-pub same_on : (old new : Lane) (c : ℕ) → IsSameTest old new → lane_on new c ≡ lane_on old c
-same_on old new c s = rw (s.tam, s.start, s.ends) refl
-
-pub path_holds_next : (content : Content) (t : PlannedTest) (lane : Lane) (k n : ℕ) → ((j : ℕ) → j < n → PathHolds content t lane k j true) → PathHolds content t lane k n true → (j : ℕ) → j < n + 1 → PathHolds content t lane k j true
-path_holds_next content t lane k n before here j h = elim (cases_lt j n) [
+pub path_holds_next : (content : Content) (t : PlannedTest) (s : SteppedLane) (k n : ℕ) → ((j : ℕ) → j < n → PathHolds content t s k j true) → PathHolds content t s k n true → (j : ℕ) → j < n + 1 → PathHolds content t s k j true
+path_holds_next content t s k n before here j h = elim (cases_lt j n) [
   | inl less ↦ before j less
   | inr past ↦ let same : n ≡ j = omega arith in rw (← same) here
 ]
+
+-- ---- a chain that was stepped
+
+-- the lane with these bits in the place of those of one chain
+abbrev pub with_ring : SteppedLane → ℕ → List Bool → SteppedLane
+with_ring s j bits = record {
+  lane = s.lane;
+  rings = with_item s.rings j bits;
+  moment = s.moment;
+  page = s.page;
+  pages = s.pages;
+}
+
+pub ring_stepped : (s : SteppedLane) (j : ℕ) (p : Path) (old new : List Bool) → IsSteppable s → slice_get s.lane.paths.items j ≡ Some p → old ≡ get_or s.rings.items j old → length new ≡ length old → IsSteppable (with_ring s j new)
+ring_stepped s j p old new can at is long = record {
+  ready = can.ready;
+  pages = record { many = can.pages.many; each = can.pages.each };
+  rings = record {
+    many = length-set s.rings.items j new ∙ can.rings.many;
+    each = λ i q bits there own. elim (from_set s.rings.items j i new bits own) [
+      | inl here ↦
+          let path : p ≡ q = same_Some p q (sym at ∙ subst (λ i. slice_get s.lane.paths.items i ≡ Some q) here.0 there) in
+          ap (λ (b : List Bool). length b) here.1 ∙ long ∙ ring_long s j p old can.rings at is ∙ ap (λ (p : Path). p.cells) path
+      | inr other ↦ can.rings.each i q bits there other
+    ];
+  };
+}
+
+pub lane_bits_stepped : (content : Content) (t : PlannedTest) (s : SteppedLane) (cycle j : ℕ) (p : Path) (old new : List Bool) (drive : Bool) → t.tam ≡ true → IsLane content t s.lane → AreRings s → IsNow s cycle → slice_get s.lane.paths.items j ≡ Some p → old ≡ get_or s.rings.items j old →
+    ((inputs : ℕ) (lengths : List ℕ) (cells : List Cell) → IsPath inputs lengths cells p → length old ≡ p.cells → new ≡ next_bits (path_response s.lane.base lengths) cells (Some (moment_operation s.moment)) drive old) →
+    lane_bits (with_ring s j new) ≡ set (lane_bits s) j (next_bits (content.response t.id) (chain_at t j) (slice_get t.operations (cycle - t.start)) drive (get_or (lane_bits s) j []))
+lane_bits_stepped content t s cycle j p old new drive tam is rings now at there bits =
+    let w : IsWired content t s.lane = is.wired tam in
+    let op : slice_get t.operations (cycle - t.start) ≡ Some (moment_operation s.moment) = op_now content t s cycle tam is now in
+    let within : j < length s.rings.items = omega (arith, rings.many, slice_get_within s.lane.paths.items j p at) in
+    let own : get_or s.rings.items j [] ≡ old = get_or_from_slice_get s.rings.items j old [] (slice_at s.rings.items j old within there) in
+    ap (set (lane_bits s) j) (bits w.inputs w.lengths (chain_at t j) (w.path j p at) (ring_long s j p old rings at there) ∙ rw (op, w.response, own) refl)
+
+-- ---- a lane at another moment
+
+pub same_steppable : (old new : SteppedLane) → IsSameTest old new → ArePages new → IsSteppable old → IsSteppable new
+same_steppable old new s pages can = record {
+  ready = subst IsReady (sym s.lane) can.ready;
+  pages = pages;
+  rings = record {
+    many = ap (λ (v : Vec (List Bool)). length v.items) s.rings ∙ can.rings.many ∙ ap (λ (l : Lane). length l.paths.items) (sym s.lane);
+    each = λ j p bits at own.
+        can.rings.each j p bits (subst (λ (l : Lane). slice_get l.paths.items j ≡ Some p) s.lane at) (subst (λ (v : Vec (List Bool)). slice_get v.items j ≡ Some bits) s.rings own);
+  };
+}
+
+pub same_bits : (old new : SteppedLane) → IsSameTest old new → lane_bits new ≡ lane_bits old
+same_bits old new s = ap (λ (v : Vec (List Bool)). v.items) s.rings
+
+pub same_on : (old new : SteppedLane) (c : ℕ) → IsSameTest old new → lane_on new.lane c ≡ lane_on old.lane c
+same_on old new c s = ap (λ (l : Lane). lane_on l c) s.lane
+
+-- ---- a lane before any cycle
+
+pub rest_steppable : (lane : Lane) (s : SteppedLane) → IsReady lane → IsAtRest lane s → IsSteppable s
+rest_steppable lane s ready rest = record {
+  ready = subst IsReady (sym rest.same) ready;
+  pages = record { many = rest.pages ∙ ap (λ (l : Lane). length l.paths.items) (sym rest.same); each = λ page own. absurd (none_some (sym rest.page ∙ own)) };
+  rings = record {
+    many = ap (λ (bits : List (List Bool)). length bits) rest.rings ∙ length-map lane.paths.items _ ∙ ap (λ (l : Lane). length l.paths.items) (sym rest.same);
+    each = λ j p bits at own.
+        let at' : slice_get lane.paths.items j ≡ Some p = subst (λ (l : Lane). slice_get l.paths.items j ≡ Some p) rest.same at in
+        let own' : slice_get (resting_bits lane.paths.items) j ≡ Some bits = subst (λ (v : List (List Bool)). slice_get v j ≡ Some bits) rest.rings own in
+        let is : replicate p.cells false ≡ bits = same_Some _ _ (sym (slice_get-map (λ (p : Path). replicate p.cells false) lane.paths.items j ∙ ap (option_map (λ (p : Path). replicate p.cells false)) at') ∙ own') in
+        ap (λ (b : List Bool). length b) (sym is) ∙ length-replicate p.cells false;
+  };
+}
+  where
+    none_some : {X : Type 0} {x : X} → None ≡ Some x → ⊥
+    none_some e = cc
+
+pub rest_bits : (lane : Lane) (s : SteppedLane) (j : ℕ) (p : Path) → IsAtRest lane s → slice_get lane.paths.items j ≡ Some p → get_or (lane_bits s) j [] ≡ replicate p.cells false
+rest_bits lane s j p rest at =
+    ap (λ (v : List (List Bool)). get_or v j []) rest.rings
+    ∙ get_or_from_slice_get (resting_bits lane.paths.items) j (replicate p.cells false) [] (slice_get-map (λ (p : Path). replicate p.cells false) lane.paths.items j ∙ ap (option_map (λ (p : Path). replicate p.cells false)) at)
+
+pub no_rest : (stepped : List SteppedLane) → stepped ≡ [] → AreAtRest [] stepped
+no_rest stepped none = rw none (record { long = refl; each = λ i l s at there. absurd cc })
+
+-- one lane more
+pub rest_more : (lanes : List Lane) (stepped new : List SteppedLane) (l : Lane) (s : SteppedLane) → AreAtRest lanes stepped → new ≡ stepped ++ s ∷ [] → IsAtRest l s → AreAtRest (lanes ++ l ∷ []) new
+rest_more lanes stepped new l s are pushed is = rw pushed (record {
+  long = length-append stepped (s ∷ []) ∙ ap (λ n. n + 1) are.long ∙ sym (length-append lanes (l ∷ []));
+  each = λ i k r at there. either i k r (from_append lanes (l ∷ []) i k at) (from_append stepped (s ∷ []) i r there);
+})
+  where
+    long : length stepped ≡ length lanes
+    long = are.long
+
+    last : (k : Lane) (r : SteppedLane) (x y : ℕ) → slice_get (l ∷ []) x ≡ Some k → slice_get (s ∷ []) y ≡ Some r → IsAtRest k r
+    last k r zero zero e f = let a : l ≡ k = same_Some _ _ e in let b : s ≡ r = same_Some _ _ f in subst (λ k. IsAtRest k r) a (subst (IsAtRest l) b is)
+    last k r (suc x) y e f = absurd cc
+    last k r zero (suc y) e f = absurd cc
+
+    either : (i : ℕ) (k : Lane) (r : SteppedLane) → (slice_get lanes i ≡ Some k) ⊎ ((j : ℕ) × (i ≡ length lanes + j) × (slice_get (l ∷ []) j ≡ Some k)) → (slice_get stepped i ≡ Some r) ⊎ ((j : ℕ) × (i ≡ length stepped + j) × (slice_get (s ∷ []) j ≡ Some r)) → IsAtRest k r
+    either i k r (inl a) (inl b) = are.each i k r a b
+    either i k r (inl a) (inr b) = absurd (let within = slice_get_within lanes i k a in let past = b.1 in omega (arith, long))
+    either i k r (inr a) (inl b) = absurd (let within = slice_get_within stepped i r b in let past = a.1 in omega (arith, long))
+    either i k r (inr a) (inr b) = last k r a.0 b.0 a.2 b.2
+
+pub same_items : {X : Type 0} (xs : List X) → map (λ x. x) xs ≡ xs
+same_items [] = refl
+same_items (x ∷ xs) = ap (λ v. x ∷ v) (same_items xs)
 
 -- ---- the words of a page
 

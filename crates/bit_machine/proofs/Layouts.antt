@@ -44,7 +44,7 @@ lengths-dealt lengths i o (c ∷ cs) =
 
 -- ---- bits 0
 
-zeros : (cells : List Cell) (n : ℕ) → length cells ≡ n → map (λ x. false) cells ≡ replicate n false
+pub zeros : (cells : List Cell) (n : ℕ) → length cells ≡ n → map (λ x. false) cells ≡ replicate n false
 zeros [] zero same = refl
 zeros [] (suc n) same = absurd (omega arith)
 zeros (x ∷ cells) zero same = absurd (omega arith)

@@ -1,9 +1,10 @@
 -- A chip before its first cycle.
-use Rattle.std.proofs.Common.{◌≡◌, ℕ, zero, suc, ◌+◌, ◌-◌, ◌^◌, ◌≤◌, ◌<◌, Some, List, [], ◌∷◌, length, get_or, map, refl, ap, sym, subst, ◌∙◌, arith}
+use Rattle.std.proofs.Common.{◌≡◌, ℕ, zero, suc, ◌+◌, ◌-◌, ◌^◌, ◌≤◌, ◌<◌, true, Some, List, [], ◌∷◌, length, get_or, map, refl, ap, sym, subst, ◌∙◌, arith, inl, inr}
 use Rattle.std.specs.Prelude.{slice_get}
 use Rattle.std.specs.List.{sum_by}
 use Rattle.std.proofs.lemmas.List.{length-map, get_or-map}
 use Rattle.std.proofs.lemmas.List.Sums.{sum_by-cons}
+use Rattle.std.proofs.lemmas.Bool.{cases_Bool}
 use Rattle.std.proofs.lemmas.Option.{slice_get_within, get_or_from_slice_get}
 use Rattle.soc_model.specs.Chips.{SocValue, LiveTest, live_tests}
 use Rattle.soc_model.specs.Sizes.{test_work, work}
@@ -18,13 +19,17 @@ use Rattle.plan_model.specs.declared.Bus.{Bus}
 use Rattle.live_tests.specs.Wires.{AreFirstWires}
 use Rattle.live_tests.proofs.FirstWires.{all_at}
 use Rattle.bit_machine.specs.Chips.{made_content, wires_of, at_first}
-use Rattle.bit_machine.specs.Lanes.{lane_bits, AreNewLanes}
-use Rattle.bit_machine.specs.Machines.{lanes_state, AreLanes, AreOnWires, AreSomeLanes, IsMachine}
+use Rattle.bit_machine.specs.Lanes.{lane_bits, AreAtRest, IsAtRest, IsLane, IsWired}
+use Rattle.bit_machine.specs.Machines.{lanes_state, AreLanes, AreOnWires, AreSomeLanes, AreSomeStepped, AreStepped, IsMachine}
 use Rattle.bit_machine.specs.Vectors.{VectorsValue, AreVectors, IsLineOf, vectors_content, vectors_tests}
 use Rattle.bit_machine.specs.WholeChips.{to_come, IsChip}
 use Rattle.bit_machine.specs.declared.lane.Lane.{Lane}
 use Rattle.bit_machine.specs.declared.machine.Machine.{Machine}
+use Rattle.bit_machine.specs.declared.path.Path.{Path}
+use Rattle.bit_machine.specs.declared.stepped.SteppedLane.{SteppedLane}
 use Rattle.bit_machine.proofs.GoodWires.{good_wires}
+use Rattle.bit_machine.proofs.LaneSteps.{rest_bits, rest_steppable}
+use Rattle.bit_machine.proofs.Layouts.{zeros}
 use Rattle.bit_machine.proofs.WireSteps.{state_is, lanes_width}
 use Rattle.bit_machine.proofs.WholeChip.{chip_view}
 
@@ -50,32 +55,53 @@ room_at_first soc limits plan sound good =
 
 -- ---- a new chip
 
-pub new_lanes : (content : Content) (tests : List PlannedTest) (lanes : List Lane) → AreNewLanes content tests lanes → AreLanes content tests lanes
-new_lanes content tests lanes are = record { long = are.long; lane = λ i t l at there. (are.each i t l at there).is }
+some_lane : (ls : List Lane) (i : ℕ) → i < length ls → (l : Lane) × (slice_get ls i ≡ Some l)
+some_lane [] i h = absurd (omega arith)
+some_lane (l ∷ ls) zero h = (l, refl)
+some_lane (l ∷ ls) (suc i) h = some_lane ls i (omega arith)
 
-pub new_some : (soc : SocValue) (plan : PlanValue) (seed n : ℕ) (lanes : List Lane) → IsGoodAlone soc plan → n ≡ wires_of plan → AreNewLanes (made_content soc seed) (planned soc plan) lanes → AreSomeLanes lanes n
-new_some soc plan seed n lanes good wide are = record {
+some_test : (ts : List PlannedTest) (i : ℕ) → i < length ts → (t : PlannedTest) × (slice_get ts i ≡ Some t)
+some_test [] i h = absurd (omega arith)
+some_test (t ∷ ts) zero h = (t, refl)
+some_test (t ∷ ts) (suc i) h = some_test ts i (omega arith)
+
+-- the lanes of tests, before any cycle
+rest_stepped : (content : Content) (tests : List PlannedTest) (lanes : List Lane) (stepped : List SteppedLane) → AreLanes content tests lanes → AreAtRest lanes stepped → AreStepped content tests stepped
+rest_stepped content tests lanes stepped are rest = record {
+  long = rest.long ∙ are.long;
+  lane = λ i t s at there.
+      let l = some_lane lanes i (omega (arith, rest.long, slice_get_within stepped i s there)) in
+      subst (IsLane content t) (sym (rest.each i l.0 s l.1 there).same) (are.lane i t l.0 at l.1);
+  steppable = λ i s there.
+      let within : i < length stepped = slice_get_within stepped i s there in
+      let l = some_lane lanes i (omega (arith, rest.long, within)) in
+      let t = some_test tests i (omega (arith, rest.long, are.long, within)) in
+      rest_steppable l.0 s (are.lane i t.0 l.0 t.1 l.1).ready (rest.each i l.0 s l.1 there);
+}
+
+pub new_some : (soc : SocValue) (plan : PlanValue) (seed n : ℕ) (lanes : List Lane) (stepped : List SteppedLane) → IsGoodAlone soc plan → n ≡ wires_of plan → AreLanes (made_content soc seed) (planned soc plan) lanes → AreAtRest lanes stepped → AreSomeStepped stepped n
+new_some soc plan seed n lanes stepped good wide are rest = record {
   content = made_content soc seed;
   tests = planned soc plan;
-  are = new_lanes (made_content soc seed) (planned soc plan) lanes are;
+  are = rest_stepped (made_content soc seed) (planned soc plan) lanes stepped are rest;
   on = subst (AreOnWires (planned soc plan)) (sym wide) (good_wires soc (bare_limits plan) plan good (made_content soc seed));
 }
 
-pub new_chip : (soc : SocValue) (plan : PlanValue) (seed n : ℕ) (lanes : List Lane) (m : Machine) → IsSoundChip soc → IsGoodAlone soc plan → n ≡ wires_of plan → AreNewLanes (made_content soc seed) (planned soc plan) lanes →
-    m.cycle ≡ 0 → length m.users.items ≡ n → ((content : Content) (tests : List PlannedTest) → AreLanes content tests lanes → AreOnWires tests n → IsMachine content tests m) → IsChip soc plan seed m 0 0
-new_chip soc plan seed n lanes m sound good wide are start users machine = record {
+pub new_chip : (soc : SocValue) (plan : PlanValue) (seed n : ℕ) (lanes : List Lane) (stepped : List SteppedLane) (m : Machine) → IsSoundChip soc → IsGoodAlone soc plan → n ≡ wires_of plan → AreLanes (made_content soc seed) (planned soc plan) lanes → AreAtRest lanes stepped →
+    m.cycle ≡ 0 → length m.users.items ≡ n → ((content : Content) (tests : List PlannedTest) → AreStepped content tests stepped → AreOnWires tests n → IsMachine content tests m) → IsChip soc plan seed m 0 0
+new_chip soc plan seed n lanes stepped m sound good wide are rest start users machine = record {
   sound = sound;
   good = good;
-  machine = machine (made_content soc seed) (planned soc plan) (new_lanes (made_content soc seed) (planned soc plan) lanes are) (subst (AreOnWires (planned soc plan)) (sym wide) (good_wires soc (bare_limits plan) plan good (made_content soc seed)));
+  machine = machine (made_content soc seed) (planned soc plan) (rest_stepped (made_content soc seed) (planned soc plan) lanes stepped are rest) (subst (AreOnWires (planned soc plan)) (sym wide) (good_wires soc (bare_limits plan) plan good (made_content soc seed)));
   wires = users ∙ wide;
   few = omega arith;
   room = let first = room_at_first soc (bare_limits plan) plan sound good in rw start (omega (arith, first));
 }
 
 -- what is kept of the vectors of a plan
-pub new_vectors : (soc : SocValue) (plan : PlanValue) (seed n : ℕ) (lanes : List Lane) → IsGoodAlone soc plan → n ≡ wires_of plan → AreNewLanes (made_content soc seed) (planned soc plan) lanes → AreVectors soc plan seed n lanes
+pub new_vectors : (soc : SocValue) (plan : PlanValue) (seed n : ℕ) (lanes : List Lane) → IsGoodAlone soc plan → n ≡ wires_of plan → AreLanes (made_content soc seed) (planned soc plan) lanes → AreVectors soc plan seed n lanes
 new_vectors soc plan seed n lanes good wide are = record {
-  are = new_lanes (made_content soc seed) (planned soc plan) lanes are;
+  are = are;
   on = subst (AreOnWires (planned soc plan)) (sym wide) (good_wires soc (bare_limits plan) plan good (made_content soc seed));
   all = wide;
 }
@@ -97,19 +123,41 @@ vectors_lines v s p seed n lanes from count text same is lines r h =
     subst (λ (v : VectorsValue). IsLineOf (vectors_content v) (vectors_tests v) (wires_of v.plan) (from + r) r text) same
     (subst (λ n. IsLineOf (made_content s seed) (planned s p) n (from + r) r text) is.all (lines (made_content s seed) (planned s p) is.are is.on r h))
 
-some_lane : (ls : List Lane) (i : ℕ) → i < length ls → (l : Lane) × (slice_get ls i ≡ Some l)
-some_lane [] i h = absurd (omega arith)
-some_lane (l ∷ ls) zero h = (l, refl)
-some_lane (l ∷ ls) (suc i) h = some_lane ls i (omega arith)
+some_stepped : (ls : List SteppedLane) (i : ℕ) → i < length ls → (l : SteppedLane) × (slice_get ls i ≡ Some l)
+some_stepped [] i h = absurd (omega arith)
+some_stepped (l ∷ ls) zero h = (l, refl)
+some_stepped (l ∷ ls) (suc i) h = some_stepped ls i (omega arith)
 
-pub new_state : (content : Content) (tests : List PlannedTest) (lanes : List Lane) (m : Machine) → IsMachine content tests m → lanes_state m.lanes.items ≡ lanes_state lanes → AreNewLanes content tests lanes → lanes_state m.lanes.items ≡ first_state content tests
+some_path : (ps : List Path) (j : ℕ) → j < length ps → (p : Path) × (slice_get ps j ≡ Some p)
+some_path [] j h = absurd (omega arith)
+some_path (p ∷ ps) zero h = (p, refl)
+some_path (p ∷ ps) (suc j) h = some_path ps j (omega arith)
+
+-- only tests over the wires have chains
+over_wires : (content : Content) (t : PlannedTest) (l : Lane) (j : ℕ) → IsLane content t l → j < length t.chains → t.tam ≡ true
+over_wires content t l j is h = elim (cases_Bool t.tam) [
+  | inl yes' ↦ yes'
+  | inr none ↦ absurd (omega (arith, (is.alone none).1))
+]
+
+-- the bits of a chain before any cycle
+rest_chain : (soc : SocValue) (seed : ℕ) (t : PlannedTest) (l : Lane) (s : SteppedLane) (j : ℕ) → IsLane (made_content soc seed) t l → IsAtRest l s → j < length t.chains → get_or (lane_bits s) j [] ≡ map ((made_content soc seed).initial t.id) (chain_at t j)
+unfolding made_content
+rest_chain soc seed t l s j is rest h =
+    let w : IsWired (made_content soc seed) t l = is.wired (over_wires (made_content soc seed) t l j is h) in
+    let p = some_path l.paths.items j (omega (arith, w.chains, h)) in
+    rest_bits l s j p.0 rest p.1 ∙ sym (zeros (chain_at t j) (p.0).cells (sym (w.path j p.0 p.1).long))
+
+pub new_state : (soc : SocValue) (seed : ℕ) (tests : List PlannedTest) (lanes : List Lane) (stepped : List SteppedLane) (m : Machine) → IsMachine (made_content soc seed) tests m → lanes_state m.lanes.items ≡ lanes_state stepped → AreLanes (made_content soc seed) tests lanes → AreAtRest lanes stepped → lanes_state m.lanes.items ≡ first_state (made_content soc seed) tests
 unfolding first_state
-new_state content tests lanes m is same are =
+new_state soc seed tests lanes stepped m is same are rest =
+    let content = made_content soc seed in
     state_is (λ i t j. map (content.initial t.id) (chain_at t j)) 0 tests (lanes_state m.lanes.items) (length-map m.lanes.items lane_bits ∙ is.lanes.long) (lanes_width content tests m is) (λ i j t at h.
     let within : i < length tests = slice_get_within tests i t at in
-    let long : length lanes ≡ length tests = are.long in
-    let l = some_lane lanes i (omega arith) in
-    ap (λ state. bits_at state i j) same ∙ ap (λ bits. get_or bits j []) (get_or-map lane_bits lanes i l.0 [] (slice_get_within lanes i l.0 l.1) ∙ ap lane_bits (get_or_from_slice_get lanes i l.0 l.0 l.1)) ∙ (are.each i t l.0 at l.1).bits j h)
+    let l = some_lane lanes i (omega (arith, are.long, within)) in
+    let s = some_stepped stepped i (omega (arith, rest.long, are.long, within)) in
+    ap (λ state. bits_at state i j) same ∙ ap (λ bits. get_or bits j []) (get_or-map lane_bits stepped i s.0 [] (slice_get_within stepped i s.0 s.1) ∙ ap lane_bits (get_or_from_slice_get stepped i s.0 s.0 s.1))
+    ∙ rest_chain soc seed t l.0 s.0 j (are.lane i t l.0 at l.1) (rest.each i l.0 s.0 l.1 s.1) h)
 
 pub first_value : (s : SocValue) (p : PlanValue) (seed : ℕ) (m : Machine) → m.cycle ≡ 0 → lanes_state m.lanes.items ≡ first_state (made_content s seed) (planned s p) → chip_view s p seed m 0 0 ≡ at_first s p seed
 first_value s p seed m e f = rw (e, f) refl

@@ -1,8 +1,8 @@
 -- The numbers of the cells of a chain, in a stimulus and in a response.
-use Rattle.std.proofs.Common.{◌≡◌, ℕ, zero, suc, ◌+◌, ◌-◌, ◌≤◌, ◌<◌, Bool, true, false, Some, List, [], ◌∷◌, ◌++◌, length, get_or, map, take, replicate, refl, ap, sym, subst, ◌∙◌, ◌^◌, arith, inl, inr, cond, append_assoc}
+use Rattle.std.proofs.Common.{◌≡◌, ℕ, zero, suc, ◌+◌, ◌-◌, ◌≤◌, ◌<◌, Bool, true, false, Some, List, [], ◌∷◌, ◌++◌, length, get_or, map, take, refl, ap, sym, subst, ◌∙◌, ◌^◌, arith, inl, inr, cond, append_assoc}
 use Rattle.std.specs.Prelude.{slice_get, slice_index}
 use Rattle.std.specs.List.{All, sum, sum_by, count_by, flat_map, range_with_len}
-use Rattle.std.proofs.lemmas.List.{length-append, length-map, get_or-map, get_or_append_left, get_or-append_right, take_more, append-nil, length-replicate}
+use Rattle.std.proofs.lemmas.List.{length-append, length-map, get_or-map, get_or_append_left, get_or-append_right, take_more, append-nil}
 use Rattle.std.proofs.lemmas.List.FromFn.{length-range_with_len}
 use Rattle.std.proofs.lemmas.Grind.{flat_map-append}
 use Rattle.std.proofs.lemmas.List.Sums.{sum_by_more_le, sum_by-append, sum_by-cons}
@@ -14,8 +14,8 @@ use Rattle.bit_machine.specs.Chips.{stimulus_place}
 use Rattle.bit_machine.specs.Layouts.{IsStarts}
 use Rattle.std.proofs.lemmas.Option.{same_Some}
 use Rattle.plan_model.proofs.Lists.{from_append}
-use Rattle.bit_machine.specs.Building.{flop_numbers, IsNewPath, AreNewPaths}
-use Rattle.bit_machine.specs.Paths.{IsChain, path_bits}
+use Rattle.bit_machine.specs.Building.{flop_numbers, ArePaths}
+use Rattle.bit_machine.specs.Paths.{IsChain, IsPath}
 use Rattle.bit_machine.specs.Numbers.{run_numbers, all_numbers, IsFull}
 use Rattle.bit_machine.specs.declared.numbers.NumberRun.{NumberRun}
 use Rattle.bit_machine.specs.declared.path.Path.{Path}
@@ -181,28 +181,21 @@ flop_answers lengths (c ∷ cs) =
     here : map (response_place lengths) (flops lengths c) ≡ flop_numbers 0 lengths c
     here = map_map (response_place lengths) (λ i. Flop c i) (range_with_len 0 (slice_index lengths c)) ∙ shifted_range (sum (take c lengths)) 0 (slice_index lengths c) ∙ rw start refl
 
-zeros : (xs : List Cell) → map (λ x. false) xs ≡ replicate (length xs) false
-zeros [] = refl
-zeros (x ∷ xs) = ap (λ v. false ∷ v) (zeros xs)
-
 -- a chain of these parts
 path_parts : (inputs : ℕ) (lengths : List ℕ) (a b c : List Cell) (p : Path) → Parts a b c → p.loads ≡ map (stimulus_place inputs lengths) (a ++ b) → p.answers ≡ map (response_place lengths) (b ++ c) →
-    path_bits p ≡ replicate (length p.loads + length c) false → IsNewPath inputs lengths (a ++ b ++ c) p
-path_parts inputs lengths a b c p parts loads answers bits = record {
-  is = record {
-    chain = chain_parts a b c parts;
-    long = ap length bits ∙ length-replicate (length p.loads + length c) false ∙ omega (arith, n, l);
-    loads_long = l ∙ sym (in_is a b c parts);
-    load = λ r h.
-        let less : r < length a + length b = omega (arith, h, in_is a b c parts) in
-        rw (loads, get_or-map (stimulus_place inputs lengths) (a ++ b) r (In 0) 0 (omega (arith, less, length-append a b)), front_at a b c r less) refl;
-    answers_long = ap length answers ∙ length-map (b ++ c) (response_place lengths) ∙ length-append b c ∙ sym (out_is a b c parts);
-    answer = λ r q e h.
-        let place : r ≡ length a + q = omega (arith, e, n, out_is a b c parts) in
-        let less : q < length b + length c = omega (arith, place, h, n) in
-        rw (answers, get_or-map (response_place lengths) (b ++ c) q (In 0) 0 (omega (arith, less, length-append b c)), back_at a b c r q place) refl;
-  };
-  zero = bits ∙ (let total : length p.loads + length c ≡ length (a ++ b ++ c) = omega (arith, n, l) in rw total (sym (zeros (a ++ b ++ c))));
+    p.cells ≡ length p.loads + length c → IsPath inputs lengths (a ++ b ++ c) p
+path_parts inputs lengths a b c p parts loads answers all = record {
+  chain = chain_parts a b c parts;
+  long = omega (arith, all, n, l);
+  loads_long = l ∙ sym (in_is a b c parts);
+  load = λ r h.
+      let less : r < length a + length b = omega (arith, h, in_is a b c parts) in
+      rw (loads, get_or-map (stimulus_place inputs lengths) (a ++ b) r (In 0) 0 (omega (arith, less, length-append a b)), front_at a b c r less) refl;
+  answers_long = ap length answers ∙ length-map (b ++ c) (response_place lengths) ∙ length-append b c ∙ sym (out_is a b c parts);
+  answer = λ r q e h.
+      let place : r ≡ length a + q = omega (arith, e, n, out_is a b c parts) in
+      let less : q < length b + length c = omega (arith, place, h, n) in
+      rw (answers, get_or-map (response_place lengths) (b ++ c) q (In 0) 0 (omega (arith, less, length-append b c)), back_at a b c r q place) refl;
 }
   where
     n : length (a ++ b ++ c) ≡ length a + length b + length c
@@ -212,20 +205,20 @@ path_parts inputs lengths a b c p parts loads answers bits = record {
     l = ap length loads ∙ length-map (a ++ b) (stimulus_place inputs lengths) ∙ length-append a b
 
 pub new_path : (inputs : ℕ) (lengths : List ℕ) (i o ins outs from : ℕ) (scans : List ℕ) (p : Path) → p.loads ≡ range_with_len i ins ++ flat_map (flop_numbers inputs lengths) scans → p.answers ≡ flat_map (flop_numbers 0 lengths) scans ++ range_with_len from outs →
-    from ≡ sum lengths + o → path_bits p ≡ replicate (length p.loads + outs) false → IsNewPath inputs lengths (in_cells i ins ++ flat_map (flops lengths) scans ++ out_cells o outs) p
-new_path inputs lengths i o ins outs from scans p loads answers start bits =
+    from ≡ sum lengths + o → p.cells ≡ length p.loads + outs → IsPath inputs lengths (in_cells i ins ++ flat_map (flops lengths) scans ++ out_cells o outs) p
+new_path inputs lengths i o ins outs from scans p loads answers start all =
     path_parts inputs lengths (in_cells i ins) (flat_map (flops lengths) scans) (out_cells o outs) p
     (record { ins_in = ins_loaded i ins; ins_out = ins_unread i ins; mid_in = flops_loaded lengths scans; mid_out = flops_read lengths scans; outs_in = outs_unloaded o outs; outs_out = outs_read o outs })
     (loads ∙ sym (map_append (stimulus_place inputs lengths) (in_cells i ins) (flat_map (flops lengths) scans) ∙ rw (ins_numbers inputs lengths i ins, flop_loads inputs lengths scans) refl))
     (answers ∙ sym (map_append (response_place lengths) (flat_map (flops lengths) scans) (out_cells o outs) ∙ rw (flop_answers lengths scans, outs_numbers lengths o outs, start) refl))
-    (bits ∙ rw (length-map (range_with_len o outs) (λ k. Out k) ∙ length-range_with_len o outs) refl)
+    (omega (arith, all, length-map (range_with_len o outs) (λ k. Out k), length-range_with_len o outs))
 
 -- no chain yet
-pub no_paths : (inputs : ℕ) (lengths : List ℕ) (chains : List (List Cell)) (paths : List Path) → paths ≡ [] → AreNewPaths inputs lengths chains 0 paths
+pub no_paths : (inputs : ℕ) (lengths : List ℕ) (chains : List (List Cell)) (paths : List Path) → paths ≡ [] → ArePaths inputs lengths chains 0 paths
 no_paths inputs lengths chains paths none = rw none (record { long = refl; each = λ j p at. absurd cc })
 
 -- one chain more
-pub paths_more : (inputs : ℕ) (lengths : List ℕ) (chains : List (List Cell)) (n : ℕ) (paths new : List Path) (p : Path) → AreNewPaths inputs lengths chains n paths → new ≡ paths ++ p ∷ [] → IsNewPath inputs lengths (get_or chains n []) p → AreNewPaths inputs lengths chains (n + 1) new
+pub paths_more : (inputs : ℕ) (lengths : List ℕ) (chains : List (List Cell)) (n : ℕ) (paths new : List Path) (p : Path) → ArePaths inputs lengths chains n paths → new ≡ paths ++ p ∷ [] → IsPath inputs lengths (get_or chains n []) p → ArePaths inputs lengths chains (n + 1) new
 paths_more inputs lengths chains n paths new p are pushed is = rw pushed (record {
   long = length-append paths (p ∷ []) ∙ omega (arith, are.long);
   each = λ j q at. elim (from_append paths (p ∷ []) j q at) [
@@ -234,7 +227,7 @@ paths_more inputs lengths chains n paths new p are pushed is = rw pushed (record
   ];
 })
   where
-    the_last : (j : ℕ) (q : Path) (k : ℕ) → j ≡ length paths + k → slice_get (p ∷ []) k ≡ Some q → IsNewPath inputs lengths (get_or chains j []) q
+    the_last : (j : ℕ) (q : Path) (k : ℕ) → j ≡ length paths + k → slice_get (p ∷ []) k ≡ Some q → IsPath inputs lengths (get_or chains j []) q
     the_last j q zero place at =
         let here : n ≡ j = omega (arith, are.long, place) in
         let same : p ≡ q = same_Some _ _ at in

@@ -9,7 +9,7 @@ use Rattle.plan_model.specs.Runs.{captured}
 use Rattle.plan_model.proofs.ChainShifts.{get_or-captured, length-captured}
 use Rattle.bit_machine.specs.Chips.{same_bit, chain_holds}
 use Rattle.bit_machine.specs.declared.path.Path.{Path}
-use Rattle.bit_machine.specs.Paths.{IsPath, path_bits, path_stimulus, path_response, made_from}
+use Rattle.bit_machine.specs.Paths.{IsPath, path_stimulus, path_response, made_from}
 
 -- ---- what a chain holds
 
@@ -43,20 +43,20 @@ holds_false f (x ∷ cells) (b ∷ bits) (suc r) long h loaded differs =
     let later : chain_holds f cells bits ≡ false = holds_false f cells bits r (omega arith) (omega arith) loaded differs in
     rw later (and_false (not (is_loaded x) || same_bit b (f x)))
 
-pub path_holds : (base k inputs : ℕ) (lengths : List ℕ) (cells : List Cell) (p : Path) → IsPath inputs lengths cells p →
-    ((r : ℕ) → r < length p.loads → get_or (path_bits p) r false ≡ made_from base k (slice_index p.loads r) 0) → true ≡ chain_holds (path_stimulus base inputs lengths k) cells (path_bits p)
-path_holds base k inputs lengths cells p is each = sym (holds_true (path_stimulus base inputs lengths k) cells (path_bits p) is.long (λ r h loaded. here r h loaded (cases_lt r (in_length cells)))) where
-  here : (r : ℕ) → r < length cells → is_loaded (get_or cells r (In 0)) ≡ true → (r < in_length cells) ⊎ (in_length cells ≤ r) → get_or (path_bits p) r false ≡ path_stimulus base inputs lengths k (get_or cells r (In 0))
+pub path_holds : (base k inputs : ℕ) (lengths : List ℕ) (cells : List Cell) (p : Path) (bits : List Bool) → IsPath inputs lengths cells p → length bits ≡ p.cells →
+    ((r : ℕ) → r < length p.loads → get_or bits r false ≡ made_from base k (slice_index p.loads r) 0) → true ≡ chain_holds (path_stimulus base inputs lengths k) cells bits
+path_holds base k inputs lengths cells p bits is all each = sym (holds_true (path_stimulus base inputs lengths k) cells bits (all ∙ is.long) (λ r h loaded. here r h loaded (cases_lt r (in_length cells)))) where
+  here : (r : ℕ) → r < length cells → is_loaded (get_or cells r (In 0)) ≡ true → (r < in_length cells) ⊎ (in_length cells ≤ r) → get_or bits r false ≡ path_stimulus base inputs lengths k (get_or cells r (In 0))
   here r h loaded (inl less) = let long : length p.loads ≡ in_length cells = is.loads_long in each r (omega arith) ∙ ap (λ n. made_from base k n 0) (is.load r less)
   here r h loaded (inr past) = absurd (true≢false (sym loaded ∙ is.chain.unloaded r past h))
 
-pub path_differs : (base k inputs r : ℕ) (lengths : List ℕ) (cells : List Cell) (p : Path) → IsPath inputs lengths cells p → r < length p.loads →
-    (get_or (path_bits p) r false ≡ made_from base k (slice_index p.loads r) 0 → ⊥) → false ≡ chain_holds (path_stimulus base inputs lengths k) cells (path_bits p)
-path_differs base k inputs r lengths cells p is h differs =
+pub path_differs : (base k inputs r : ℕ) (lengths : List ℕ) (cells : List Cell) (p : Path) (bits : List Bool) → IsPath inputs lengths cells p → length bits ≡ p.cells → r < length p.loads →
+    (get_or bits r false ≡ made_from base k (slice_index p.loads r) 0 → ⊥) → false ≡ chain_holds (path_stimulus base inputs lengths k) cells bits
+path_differs base k inputs r lengths cells p bits is all h differs =
     let long : length p.loads ≡ in_length cells = is.loads_long in
     let fit : in_length cells ≤ length cells = is.chain.in_fit in
     let less : r < in_length cells = omega arith in
-    sym (holds_false (path_stimulus base inputs lengths k) cells (path_bits p) r is.long (omega arith) (is.chain.loaded r less) (λ same. differs (same ∙ sym (ap (λ n. made_from base k n 0) (is.load r less)))))
+    sym (holds_false (path_stimulus base inputs lengths k) cells bits r (all ∙ is.long) (omega arith) (is.chain.loaded r less) (λ same. differs (same ∙ sym (ap (λ n. made_from base k n 0) (is.load r less)))))
 
 -- ---- what a capture leaves
 
@@ -77,43 +77,29 @@ pub record CaptureDone (base k from q : ℕ) (answers : List ℕ) (old new : Lis
   pub done : (j : ℕ) → from ≤ j → j < from + q → get_or new j false ≡ made_from base k (slice_index answers (j - from)) 1
   pub before : (j : ℕ) → j < from → get_or new j false ≡ get_or old j false
 
-pub path_captured : (base k inputs from q : ℕ) (lengths : List ℕ) (cells : List Cell) (p : Path) (new : List Bool) → IsPath inputs lengths cells p → from ≡ length (path_bits p) - length p.answers →
-    length p.answers ≤ q → CaptureDone base k from q p.answers (path_bits p) new → new ≡ captured (path_response base lengths k) cells (path_bits p)
-path_captured base k inputs from q lengths cells p new is at all d =
-    same_lists new (captured (path_response base lengths k) cells (path_bits p)) (d.long ∙ sym (length-captured (path_response base lengths k) cells (path_bits p)))
-    (λ j e h. any_default new j e false h ∙ here j h (cases_lt j from) ∙ any_default (captured (path_response base lengths k) cells (path_bits p)) j false e (within j h))
+pub path_captured : (base k inputs from q : ℕ) (lengths : List ℕ) (cells : List Cell) (p : Path) (bits new : List Bool) → IsPath inputs lengths cells p → length bits ≡ p.cells → from ≡ length bits - length p.answers →
+    length p.answers ≤ q → CaptureDone base k from q p.answers bits new → new ≡ captured (path_response base lengths k) cells bits
+path_captured base k inputs from q lengths cells p bits new is same at all d =
+    same_lists new (captured (path_response base lengths k) cells bits) (d.long ∙ sym (length-captured (path_response base lengths k) cells bits))
+    (λ j e h. any_default new j e false h ∙ here j h (cases_lt j from) ∙ any_default (captured (path_response base lengths k) cells bits) j false e (within j h))
   where
-    within : (j : ℕ) → j < length new → j < length (captured (path_response base lengths k) cells (path_bits p))
-    within j h = let l = d.long in let m = length-captured (path_response base lengths k) cells (path_bits p) in omega arith
+    within : (j : ℕ) → j < length new → j < length (captured (path_response base lengths k) cells bits)
+    within j h = let l = d.long in let m = length-captured (path_response base lengths k) cells bits in omega arith
 
-    here : (j : ℕ) → j < length new → (j < from) ⊎ (from ≤ j) → get_or new j false ≡ get_or (captured (path_response base lengths k) cells (path_bits p)) j false
+    here : (j : ℕ) → j < length new → (j < from) ⊎ (from ≤ j) → get_or new j false ≡ get_or (captured (path_response base lengths k) cells bits) j false
     here j h (inl less) =
-        let l : length new ≡ length (path_bits p) = d.long in
-        let m : length (path_bits p) ≡ length cells = is.long in
+        let l : length new ≡ length bits = d.long in
+        let m : length bits ≡ length cells = same ∙ is.long in
         let n : length p.answers ≡ out_length cells = is.answers_long in
         let fit : out_length cells ≤ length cells = is.chain.out_fit in
-        d.before j less ∙ sym (captured_unread (path_response base lengths k) cells (path_bits p) j (omega arith) (omega arith) (is.chain.unread j (omega arith)))
+        d.before j less ∙ sym (captured_unread (path_response base lengths k) cells bits j (omega arith) (omega arith) (is.chain.unread j (omega arith)))
     here j h (inr past) =
-        let l : length new ≡ length (path_bits p) = d.long in
-        let m : length (path_bits p) ≡ length cells = is.long in
+        let l : length new ≡ length bits = d.long in
+        let m : length bits ≡ length cells = same ∙ is.long in
         let n : length p.answers ≡ out_length cells = is.answers_long in
         let fit : out_length cells ≤ length cells = is.chain.out_fit in
         d.done j past (omega arith) ∙ ap (λ n. made_from base k n 1) (is.answer j (j - from) (omega arith) (omega arith))
-        ∙ sym (get_or-captured (path_response base lengths k) cells (path_bits p) j (omega arith) (omega arith) (is.chain.read j (omega arith) (omega arith)))
-
--- a path whose bits changed
-pub path_kept : (inputs : ℕ) (lengths : List ℕ) (cells : List Cell) (p q : Path) → IsPath inputs lengths cells p → length (path_bits q) ≡ length (path_bits p) → q.loads ≡ p.loads → q.answers ≡ p.answers → IsPath inputs lengths cells q
-path_kept inputs lengths cells p q is long loads answers = record {
-  chain = is.chain;
-  long = long ∙ is.long;
-  loads_long = rw loads is.loads_long;
-  load = λ r h. rw loads (is.load r h);
-  answers_long = rw answers is.answers_long;
-  answer = λ r q h h'. rw answers (is.answer r q h h');
-}
-
-pub length-path_captured : (base k inputs : ℕ) (lengths : List ℕ) (cells : List Cell) (p : Path) (new : List Bool) → new ≡ captured (path_response base lengths k) cells (path_bits p) → length new ≡ length (path_bits p)
-length-path_captured base k inputs lengths cells p new is = ap length is ∙ length-captured (path_response base lengths k) cells (path_bits p)
+        ∙ sym (get_or-captured (path_response base lengths k) cells bits j (omega arith) (omega arith) (is.chain.read j (omega arith) (omega arith)))
 
 pub unequal : (a b : Bool) → not (beq a b) ≡ true → a ≡ b → ⊥
 unequal true true e same = cc

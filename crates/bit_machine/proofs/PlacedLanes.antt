@@ -1,6 +1,6 @@
 -- The lane of a live test is that of its planned test.
-use Rattle.std.proofs.Common.{◌≡◌, ◌≢◌, ℕ, zero, suc, ◌+◌, ◌*◌, ◌%◌, ◌^◌, ◌≤◌, ◌<◌, ◌⊎◌, Bool, true, false, true≢false, max, min, Option, None, Some, Result, Ok, Err, List, [], ◌∷◌, length, get_or, map, take, refl, ap, sym, subst, ◌∙◌, arith, inl, inr}
-use Rattle.std.specs.Prelude.{slice_get, slice_index, nat_eq, IfOk}
+use Rattle.std.proofs.Common.{◌≡◌, ◌≢◌, ℕ, zero, suc, ◌+◌, ◌*◌, ◌%◌, ◌^◌, ◌≤◌, ◌<◌, ◌⊎◌, Bool, true, false, true≢false, max, min, None, Some, List, [], ◌∷◌, length, get_or, map, option_map, take, refl, ap, sym, subst, ◌∙◌, arith, inl, inr}
+use Rattle.std.specs.Prelude.{slice_get, slice_index, nat_eq}
 use Rattle.std.specs.List.{sum, sum_by, position_or_len}
 use Rattle.std.proofs.Math.Path.{fun_ext}
 use Rattle.std.proofs.lemmas.List.{length-map, get_or-map, get_or_past}
@@ -14,11 +14,11 @@ use Rattle.soc_model.proofs.Places.{IsKeyed-from_sound, module-unique}
 use Rattle.plan_model.specs.Cells.{Cell, ChainValue, IsProper, chain_cells, dealt, out_length}
 use Rattle.soc_model.specs.Modes.{scan_lengths}
 use Rattle.plan_model.specs.Operations.{ops_of}
-use Rattle.plan_model.specs.Plans.{BusValue, PlanValue, LimitsValue, PlannedTest, planned, planned_test, chains_of, operations_of, si_of, so_of, widths, bus_place}
+use Rattle.plan_model.specs.Plans.{BusValue, PlanValue, LimitsValue, WrapperValue, PlannedTest, planned, planned_test, chains_of, operations_of, si_of, so_of, widths, bus_place}
 use Rattle.plan_model.specs.declared.ChainPlan.{ChainPlan}
 use Rattle.plan_model.specs.Rules.{IsGood, Wrappers}
 use Rattle.plan_model.specs.declared.Bus.{Bus}
-use Rattle.plan_model.specs.Views.{bus_value, chain_value}
+use Rattle.plan_model.specs.Views.{bus_value, chain_value, wrapper_value}
 use Rattle.plan_model.specs.Runs.{Content, chain_at}
 use Rattle.plan_model.proofs.CellOrder.{length-dealt}
 use Rattle.plan_model.proofs.ProperByCounts.{IsCounted, proper_is_counted}
@@ -29,24 +29,26 @@ use Rattle.plan_model.proofs.OperationCounts.{ops_length}
 use Rattle.plan_model.proofs.Greatest.{le-greatest}
 use Rattle.plan_model.proofs.Finding.{in_filter}
 use Rattle.plan_model.proofs.Lists.{from_filter}
-use Rattle.plan_model.proofs.PlannedTests.{IsLive, live_at, Origin, origin, of_first_is, Wrapped, wrapped}
+use Rattle.plan_model.proofs.PlannedTests.{IsLive, live_at, of_first_is, Wrapped, wrapped}
 use Rattle.plan_model.proofs.ShortTests.{short_planned}
 use Rattle.plan_model.specs.Right.{IsAt}
 use Rattle.live_tests.specs.declared.placed.PlacedTest.{PlacedTest}
 use Rattle.live_tests.specs.Placed.{bus_over, placed_of}
+use Rattle.live_tests.specs.declared.wrapped.ModeWrapper.{ModeWrapper}
+use Rattle.live_tests.specs.Wrapped.{IsModeWrapper}
+use Rattle.plan_model.specs.declared.Wrapper.{Wrapper}
 use Rattle.live_tests.proofs.BusWidths.{widths_are}
-use Rattle.live_tests.proofs.Placing.{the_live, in_live, places_of_origin}
-use Rattle.soc_model.specs.Lookups.{test_places}
+use Rattle.live_tests.proofs.Placing.{the_live, in_live}
 use Rattle.bit_machine.specs.Chips.{made_content, made_stimulus, made_response, of_live}
-use Rattle.bit_machine.specs.Paths.{path_stimulus, path_response}
+use Rattle.bit_machine.specs.Paths.{path_stimulus, path_response, IsPath}
 use Rattle.plan_model.specs.Moments.{ArePhases, phase_ops}
-use Rattle.bit_machine.specs.Lanes.{IsWired, IsNewLane}
-use Rattle.bit_machine.specs.Building.{IsNewPath, AreNewPaths}
-use Rattle.bit_machine.specs.Placed.{IsSelfLane, IsWiredLane}
+use Rattle.bit_machine.specs.Lanes.{IsLane, IsWired}
+use Rattle.bit_machine.specs.Building.{ArePaths}
+use Rattle.bit_machine.specs.Placed.{IsSelfLane}
 use Rattle.bit_machine.specs.declared.lane.Lane.{Lane}
 use Rattle.bit_machine.specs.declared.path.Path.{Path}
 use Rattle.bit_machine.proofs.MadeBits.{made_from_is}
-use Rattle.bit_machine.proofs.LaneSteps.{sound_path, bits_of_path}
+use Rattle.bit_machine.proofs.LaneSteps.{slice_at, sound_path}
 
 -- ---- the live test of a name
 
@@ -120,10 +122,6 @@ made_response_is soc sound seed p q m t at there live = fun_ext (λ k. fun_ext (
     of_the_live soc sound p q m t at there live (λ l. made_response seed l k x)
     ∙ rw (first_place m.tests q t (sound_module soc sound p m at).tests_differ there) (sym (made_from_is seed p q k _ 1))))
 
-made_initial : (soc : SocValue) (seed : ℕ) (id : TestId) (xs : List Cell) → map ((made_content soc seed).initial id) xs ≡ map (λ x. false) xs
-unfolding made_content
-made_initial soc seed id xs = refl
-
 -- ---- the fields of a planned test
 
 record PlannedIs (plan : PlanValue) (p : ℕ) (m : ModuleValue) (t : Test) (u : PlannedTest) : Type 0 where
@@ -153,59 +151,56 @@ over_some false bus over e = absurd cc
 none_some : {X : Type 0} {x : X} → None ≡ Some x → ⊥
 none_some e = cc
 
-self_new : (content : Content) (plan : PlanValue) (p : ℕ) (m : ModuleValue) (t : Test) (u : PlannedTest) (placed : PlacedTest) (l : Lane) → PlannedIs plan p m t u → placed ≡ placed_of u → placed.bus ≡ None → IsSelfLane placed l → IsNewLane content u l
+self_new : (content : Content) (plan : PlanValue) (p : ℕ) (m : ModuleValue) (t : Test) (u : PlannedTest) (placed : PlacedTest) (l : Lane) → PlannedIs plan p m t u → placed ≡ placed_of u → placed.bus ≡ None → IsSelfLane placed l → IsLane content u l
 self_new content plan p m t u placed l is same none lane =
     let self' : u.tam ≡ false = over_none u.tam u.bus (ap (λ (q : PlacedTest). q.bus) (sym same) ∙ none) in
     let self : t.tam ≡ false = sym is.tam ∙ self' in
     record {
-      is = record {
-        ready = record {
-          base = rw lane.base (omega arith);
-          phases = lane.phases;
-          pages = record { many = lane.pages ∙ sym lane.none; each = λ page own. absurd (none_some (sym lane.page ∙ own)) };
-          paths = λ j q at. absurd (let within = slice_get_within l.paths.items j q at in let none = lane.none in omega arith);
-        };
-        tam = lane.tam ∙ sym self';
-        start = lane.start_is ∙ ap (λ (q : PlacedTest). q.start) same;
-        ends = lane.ends ∙ ap (λ (q : PlacedTest). q.end) same;
-        wired = λ tam. absurd (true≢false (sym tam ∙ self'));
-        alone = λ none. (lane.none, ap length is.chains ∙ rw self refl);
+      ready = record {
+        base = rw lane.base (omega arith);
+        phases = lane.phases;
+        paths = λ j q at. absurd (let within = slice_get_within l.paths.items j q at in let none = lane.none in omega arith);
       };
-      bits = λ j h. absurd (let none : length u.chains ≡ 0 = ap length is.chains ∙ rw self refl in omega arith);
+      tam = lane.tam ∙ sym self';
+      start = lane.start_is ∙ ap (λ (q : PlacedTest). q.start) same;
+      ends = lane.ends ∙ ap (λ (q : PlacedTest). q.end) same;
+      wired = λ tam. absurd (true≢false (sym tam ∙ self'));
+      alone = λ none. (lane.none, ap length is.chains ∙ rw self refl);
     }
 
 -- ---- tests over the wires
 
-some_path : (ps : List Path) (j : ℕ) → j < length ps → (p : Path) × (slice_get ps j ≡ Some p)
-some_path [] j h = absurd (omega arith)
-some_path (p ∷ ps) zero h = (p, refl)
-some_path (p ∷ ps) (suc j) h = some_path ps j (omega arith)
+-- the lane of a test over the wires of a bus; `at` is its place in its module
+pub record IsWiredLane (plan : PlanValue) (seed place bus at : ℕ) (placed : PlacedTest) (m : ModuleValue) (test : Test) (l : Lane) : Type 0 where
+  pub tam : l.tam ≡ true
+  pub base : l.base ≡ (seed + 31 * place + 17 * at) % 997
+  pub start_is : l.start ≡ placed.start
+  pub ends : l.end ≡ placed.end
+  pub setup : l.phases.setup ≡ m.setup
+  pub si : l.phases.si ≡ si_of (chains_of plan m test)
+  pub so : l.phases.so ≡ so_of (chains_of plan m test)
+  pub patterns : l.phases.patterns ≡ test.patterns
+  pub first_wire : l.first_wire ≡ sum (take bus (widths plan))
+  pub width : l.width ≡ slice_index (widths plan) bus
+  pub paths : ArePaths (m.inputs + m.bidirs) (scan_lengths m test.scan) (chains_of plan m test) (length (chains_of plan m test)) l.paths.items
 
 long_ops : (setup si so p n : ℕ) → 1 ≤ p → setup + (1 + max si so) * p + min si so ≤ n → (p ≤ n) × (setup + (1 + max si so) ≤ n)
 long_ops setup si so zero n some h = absurd (omega arith)
 long_ops setup si so (suc p) n some h = (omega arith, omega arith)
 
 wired_new : (soc : SocValue) (sound : IsSoundChip soc) (plan : PlanValue) (seed p q : ℕ) (m : ModuleValue) (t : Test) (u : PlannedTest) (placed : PlacedTest) (over : ℕ) (l : Lane) → slice_get soc.modules p ≡ Some m → slice_get m.tests q ≡ Some t → is_live t ≡ true
-    → length (operations_of m t (chains_of plan m t)) ≤ 10 ^ 18 → PlannedIs plan p m t u → placed ≡ placed_of u → placed.bus ≡ Some over → IsWiredLane plan seed placed over q m t l → IsNewLane (made_content soc seed) u l
+    → length (operations_of m t (chains_of plan m t)) ≤ 10 ^ 18 → PlannedIs plan p m t u → placed ≡ placed_of u → placed.bus ≡ Some over → IsWiredLane plan seed p over q placed m t l → IsLane (made_content soc seed) u l
 wired_new soc sound plan seed p q m t u placed over l at there live fits is same on lane = record {
-  is = record {
-    ready = record {
-      base = rw base (mod_below (seed + 31 * p + 17 * q) 997 (omega arith));
-      phases = phases;
-      pages = record { many = lane.pages; each = λ page own. absurd (none_some (sym lane.page ∙ own)) };
-      paths = λ j r at'. sound_path (m.inputs + m.bidirs) (scan_lengths m t.scan) (get_or (chains_of plan m t) j []) r ((lane.paths.each j r at').is);
-    };
-    tam = lane.tam ∙ sym (is.tam ∙ tam);
-    start = lane.start_is ∙ ap (λ (q : PlacedTest). q.start) same;
-    ends = lane.ends ∙ ap (λ (q : PlacedTest). q.end) same;
-    wired = λ _. wired;
-    alone = λ none. absurd (true≢false (sym (is.tam ∙ tam) ∙ none));
+  ready = record {
+    base = rw lane.base (mod_below (seed + 31 * p + 17 * q) 997 (omega arith));
+    phases = phases;
+    paths = λ j r at'. sound_path (m.inputs + m.bidirs) (scan_lengths m t.scan) (get_or (chains_of plan m t) j []) r (lane.paths.each j r at');
   };
-  bits = λ j h.
-      let long : length l.paths.items ≡ length (chains_of plan m t) = lane.paths.long in
-      let chains : length u.chains ≡ length (chains_of plan m t) = ap length is.chains in
-      let r = some_path l.paths.items j (omega arith) in
-      bits_of_path l j r.0 r.1 ∙ (lane.paths.each j r.0 r.1).zero ∙ sym (made_initial soc seed u.id (chain_at u j) ∙ ap (λ (c : List (List Cell)). map (λ x. false) (get_or c j [])) is.chains);
+  tam = lane.tam ∙ sym (is.tam ∙ tam);
+  start = lane.start_is ∙ ap (λ (q : PlacedTest). q.start) same;
+  ends = lane.ends ∙ ap (λ (q : PlacedTest). q.end) same;
+  wired = λ _. wired;
+  alone = λ none. absurd (true≢false (sym (is.tam ∙ tam) ∙ none));
 }
   where
     over_it : (u.tam ≡ true) × (u.bus ≡ over)
@@ -216,9 +211,6 @@ wired_new soc sound plan seed p q m t u placed over l at there live fits is same
 
     bus : over ≡ bus_place m.number 0 plan.buses
     bus = sym over_it.1 ∙ is.bus
-
-    base : l.base ≡ (seed + 31 * p + 17 * q) % 997
-    base = lane.base ∙ ap (λ n. (seed + 31 * n + 17 * q) % 997) (ap (λ (q : PlacedTest). q.place) same ∙ is.place)
 
     some : 1 ≤ t.patterns
     some = leb-true 1 t.patterns live
@@ -254,31 +246,46 @@ wired_new soc sound plan seed p q m t u placed over l at there live fits is same
       chains = lane.paths.long ∙ sym (ap length is.chains);
       inputs = m.inputs + m.bidirs;
       lengths = scan_lengths m t.scan;
-      stimulus = rw (is.id, base) (made_stimulus_is soc sound seed p q m t at there live);
-      response = rw (is.id, base) (made_response_is soc sound seed p q m t at there live);
-      path = λ j r at'. rw (chain j) ((lane.paths.each j r at').is);
+      stimulus = rw (is.id, lane.base) (made_stimulus_is soc sound seed p q m t at there live);
+      response = rw (is.id, lane.base) (made_response_is soc sound seed p q m t at there live);
+      path = λ j r at'. rw (chain j) (lane.paths.each j r at');
     }
 
 -- ---- what is looked up
 
--- the test that stands at a place
-pub the_test : {X : Type 0} (ts : List X) (q : ℕ) (t u : X) → slice_get ts q ≡ Some t → slice_get ts q ≡ Some u → t ≡ u
-the_test ts q t u a b = same_Some _ _ (sym a ∙ b)
+pub wrapper_within : (plan : PlanValue) (m : ModuleValue) (scan : Bool) (long : ModeWrapper) (ws : List Wrapper) → plan.wrappers ≡ map wrapper_value ws → IsModeWrapper plan m scan long → long.place < length ws
+wrapper_within plan m scan long ws are is = omega (arith, slice_get_within plan.wrappers long.place is.wrapper is.at, ap (λ (vs : List WrapperValue). length vs) are, length-map ws wrapper_value)
 
-pub ok_map : {A E : Type 0} (P Q : A → Type 0) → ((x : A) → P x → Q x) → (r : Result A E) → IfOk r P → IfOk r Q
-ok_map P Q f (Ok x) p = f x p
-ok_map P Q f (Err e) p = p
+-- the wrapper that was found, walked once
+pub found_wrapper : (plan : PlanValue) (m : ModuleValue) (scan : Bool) (long : ModeWrapper) (ws : List Wrapper) (w : Wrapper) → plan.wrappers ≡ map wrapper_value ws → (is : IsModeWrapper plan m scan long) → w ≡ get_or ws long.place w → is.wrapper ≡ wrapper_value w
+found_wrapper plan m scan long ws w are is at =
+    same_Some is.wrapper (wrapper_value w)
+    (sym is.at ∙ ap (λ (vs : List WrapperValue). slice_get vs long.place) are ∙ slice_get-map wrapper_value ws long.place ∙ ap (option_map wrapper_value) (slice_at ws long.place w (wrapper_within plan m scan long ws are is) at))
 
-pub paths_are : (plan : PlanValue) (m : ModuleValue) (t : Test) (n : ℕ) (scan : Bool) (cs : List ChainValue) (layout : Layout) (paths : List Path) → layout.lengths.items ≡ scan_lengths m scan → map chain_value layout.chains.items ≡ cs → scan ≡ t.scan →
-    chain_cells m t.scan cs ≡ chains_of plan m t → AreNewPaths n layout.lengths.items (layout_cells layout) (length layout.chains.items) paths → AreNewPaths n (scan_lengths m t.scan) (chains_of plan m t) (length (chains_of plan m t)) paths
-paths_are plan m t n scan cs layout paths lengths chains mode are made =
-    let ls : layout.lengths.items ≡ scan_lengths m t.scan = lengths ∙ ap (scan_lengths m) mode in
-    let cells : layout_cells layout ≡ chains_of plan m t = ap (λ ls. dealt ls 0 0 (map chain_value layout.chains.items)) ls ∙ ap (λ cs. dealt (scan_lengths m t.scan) 0 0 cs) chains ∙ are in
-    let many : length layout.chains.items ≡ length (chains_of plan m t) = sym (length-map layout.chains.items chain_value) ∙ ap length chains ∙ sym (length-dealt (scan_lengths m t.scan) 0 0 cs) ∙ ap length are in
+-- the cells of its chains
+pub mode_cells : (plan : PlanValue) (m : ModuleValue) (t : Test) (long : ModeWrapper) → t.tam ≡ true → (is : IsModeWrapper plan m t.scan long) → chains_of plan m t ≡ chain_cells m t.scan is.wrapper.chains
+mode_cells plan m t long tam is = rw (tam, is.first) refl
+
+-- the chains of a test are those of its wrapper
+pub own_paths : (plan : PlanValue) (m : ModuleValue) (t : Test) (long : ModeWrapper) (w : Wrapper) (paths : List Path) → t.tam ≡ true → (is : IsModeWrapper plan m t.scan long) → is.wrapper ≡ wrapper_value w →
+    ArePaths (m.inputs + m.bidirs) (scan_lengths m w.scan) (chain_cells m w.scan (map chain_value w.chains.items)) (length w.chains.items) paths → ArePaths (m.inputs + m.bidirs) (scan_lengths m t.scan) (chains_of plan m t) (length (chains_of plan m t)) paths
+own_paths plan m t long w paths tam is same made =
+    let mode : w.scan ≡ t.scan = ap (λ (v : WrapperValue). v.scan) (sym same) ∙ is.mode in
+    let cells : chain_cells m w.scan (map chain_value w.chains.items) ≡ chains_of plan m t =
+    ap (λ (v : WrapperValue). chain_cells m v.scan v.chains) (sym same) ∙ ap (λ scan. chain_cells m scan is.wrapper.chains) is.mode ∙ sym (mode_cells plan m t long tam is) in
+    let many : length w.chains.items ≡ length (chains_of plan m t) = sym (length-map w.chains.items chain_value) ∙ sym (length-dealt (scan_lengths m w.scan) 0 0 (map chain_value w.chains.items)) ∙ ap length cells in
     record {
       long = made.long ∙ many;
-      each = λ j p at. subst (λ (v : List (List Cell)). IsNewPath n (scan_lengths m t.scan) (get_or v j []) p) cells (subst (λ (ls : List ℕ). IsNewPath n ls (get_or (layout_cells layout) j []) p) ls (made.each j p at));
+      each = λ j p at. subst (λ (v : List (List Cell)). IsPath (m.inputs + m.bidirs) (scan_lengths m t.scan) (get_or v j []) p) cells (subst (λ scan. IsPath (m.inputs + m.bidirs) (scan_lengths m scan) (get_or (chain_cells m w.scan (map chain_value w.chains.items)) j []) p) mode (made.each j p at));
     }
+
+-- the chains of a layout are those of its wrapper
+pub layout_paths : (n : ℕ) (lengths : List ℕ) (ws : List ChainPlan) (layout : Layout) (paths : List Path) → layout.lengths.items ≡ lengths → map chain_value layout.chains.items ≡ map chain_value ws → ArePaths n layout.lengths.items (layout_cells layout) (length layout.chains.items) paths → ArePaths n lengths (dealt lengths 0 0 (map chain_value ws)) (length ws) paths
+layout_paths n lengths ws layout paths same chains made = record {
+  long = made.long ∙ sym (length-map layout.chains.items chain_value) ∙ ap (λ (cs : List ChainValue). length cs) chains ∙ length-map ws chain_value;
+  each = λ j p at.
+      subst (λ (cs : List ChainValue). IsPath n lengths (get_or (dealt lengths 0 0 cs) j []) p) chains (subst (λ (ls : List ℕ). IsPath n ls (get_or (dealt ls 0 0 (map chain_value layout.chains.items)) j []) p) same (made.each j p at));
+}
 
 -- the chains of a layout take as many terminals as the module has
 pub terminals : (m : ModuleValue) (scan : Bool) (cs : List ChainValue) (chains : List ChainPlan) → IsProper m scan cs → map chain_value chains ≡ cs → (sum_by (λ (c : ChainPlan). c.ins) chains ≡ m.inputs + m.bidirs) × (sum_by (λ (c : ChainPlan). c.outs) chains ≡ m.outputs + m.bidirs)
@@ -288,59 +295,37 @@ terminals m scan cs chains proper are =
 
 -- ---- the lane of a planned test
 
--- the test of a placed one, found by its name at the places of its module and of itself
-pub record IsNamed (soc : SocValue) (plan : PlanValue) (u : PlannedTest) (p q : ℕ) (m : ModuleValue) : Type 0 where
-  pub t : Test
-  pub module_at : slice_get soc.modules p ≡ Some m
-  pub test_at : slice_get m.tests q ≡ Some t
-  pub live : is_live t ≡ true
-  pub is : planned_test plan p m t ≡ u
-
-pub named : (soc : SocValue) → IsSoundChip soc → (plan : PlanValue) (i : ℕ) (u : PlannedTest) (placed : PlacedTest) (r : Option (ℕ × ℕ)) (p q : ℕ) (m : ModuleValue) → IsAt (planned soc plan) i u → placed ≡ placed_of u → r ≡ test_places soc placed.id → r ≡ Some (p, q) → slice_get soc.modules p ≡ Some m → IsNamed soc plan u p q m
-named soc sound plan i u placed r p q m at same found is there =
-    let o : Origin soc plan i u = origin soc plan i u at in
-    let f = from_filter is_live o.l.core.tests o.n o.l.test o.test_at in
-    let places : (p, q) ≡ (o.l.place, f.0) = same_Some (p, q) (o.l.place, f.0) (sym is ∙ found ∙ ap (test_places soc) (ap (λ (q : PlacedTest). q.id) same) ∙ places_of_origin soc sound plan i u o f.0 f.1) in
-    let place : p ≡ o.l.place = ap (λ (x : ℕ × ℕ). x.0) places in
-    let own : q ≡ f.0 = ap (λ (x : ℕ × ℕ). x.1) places in
-    let core : o.l.core ≡ m = same_Some o.l.core m (sym o.module_at ∙ ap (slice_get soc.modules) (sym place) ∙ there) in
-    record {
-      t = o.l.test;
-      module_at = there;
-      test_at = ap (slice_get m.tests) own ∙ subst (λ (m : ModuleValue). slice_get m.tests f.0 ≡ Some o.l.test) core f.1;
-      live = f.2;
-      is = ap (λ (n : ℕ). planned_test plan n m o.l.test) place ∙ ap (λ (m : ModuleValue). planned_test plan o.l.place m o.l.test) (sym core) ∙ o.is;
-    }
-
--- the name is found
-pub never_lost : (soc : SocValue) → IsSoundChip soc → (plan : PlanValue) (i : ℕ) (u : PlannedTest) (placed : PlacedTest) (r : Option (ℕ × ℕ)) → IsAt (planned soc plan) i u → placed ≡ placed_of u → r ≡ test_places soc placed.id → r ≡ None → ⊥
-never_lost soc sound plan i u placed r at same found none =
-    let o : Origin soc plan i u = origin soc plan i u at in
-    let f = from_filter is_live o.l.core.tests o.n o.l.test o.test_at in
-    none_some (sym none ∙ found ∙ ap (test_places soc) (ap (λ (q : PlacedTest). q.id) same) ∙ places_of_origin soc sound plan i u o f.0 f.1)
-
 -- a test over the wires of a bus
-pub over_wires : (plan : PlanValue) (p : ℕ) (m : ModuleValue) (t : Test) (u : PlannedTest) (placed : PlacedTest) (over : ℕ) → planned_test plan p m t ≡ u → placed ≡ placed_of u → placed.bus ≡ Some over → (t.tam ≡ true) × (over ≡ bus_place m.number 0 plan.buses)
-over_wires plan p m t u placed over is same on =
+pub over_wires : (plan : PlanValue) (p : ℕ) (m : ModuleValue) (t : Test) (placed : PlacedTest) (over : ℕ) → placed ≡ placed_of (planned_test plan p m t) → placed.bus ≡ Some over → (t.tam ≡ true) × (over ≡ bus_place m.number 0 plan.buses)
+over_wires plan p m t placed over same on =
+    let u = planned_test plan p m t in
     let o = over_some u.tam u.bus over (ap (λ (q : PlacedTest). q.bus) (sym same) ∙ on) in
-    let planned : PlannedIs plan p m t u = subst (PlannedIs plan p m t) is (planned_is plan p m t) in
-    (sym planned.tam ∙ o.0, sym o.1 ∙ planned.bus)
+    let is : PlannedIs plan p m t u = planned_is plan p m t in
+    (sym is.tam ∙ o.0, sym o.1 ∙ is.bus)
 
-pub self_placed : (content : Content) (soc : SocValue) (plan : PlanValue) (i : ℕ) (u : PlannedTest) (placed : PlacedTest) (l : Lane) → IsAt (planned soc plan) i u → placed ≡ placed_of u → placed.bus ≡ None → IsSelfLane placed l → IsNewLane content u l
-self_placed content soc plan i u placed l at same none lane =
-    let o : Origin soc plan i u = origin soc plan i u at in
-    self_new content plan o.l.place o.l.core o.l.test u placed l (subst (PlannedIs plan o.l.place o.l.core o.l.test) o.is (planned_is plan o.l.place o.l.core o.l.test)) same none lane
+pub self_placed : (content : Content) (plan : PlanValue) (p : ℕ) (m : ModuleValue) (t : Test) (placed : PlacedTest) (l : Lane) → placed ≡ placed_of (planned_test plan p m t) → placed.bus ≡ None → IsSelfLane placed l → IsLane content (planned_test plan p m t) l
+self_placed content plan p m t placed l same none lane = self_new content plan p m t (planned_test plan p m t) placed l (planned_is plan p m t) same none lane
 
-pub wired_placed : (soc : SocValue) (sound : IsSoundChip soc) (limits : LimitsValue) (plan : PlanValue) → IsGood soc limits plan → (seed i p q : ℕ) (m : ModuleValue) (u : PlannedTest) (placed : PlacedTest) (over : ℕ) (l : Lane) → IsAt (planned soc plan) i u → (n : IsNamed soc plan u p q m) → placed ≡ placed_of u → placed.bus ≡ Some over
-    → IsWiredLane plan seed placed over q m n.t l → IsNewLane (made_content soc seed) u l
-wired_placed soc sound limits plan good seed i p q m u placed over l at n same on lane =
-    wired_new soc sound plan seed p q m n.t u placed over l n.module_at n.test_at n.live short planned same on lane
+-- a live test is planned
+planned_there : (soc : SocValue) (plan : PlanValue) (p q : ℕ) (m : ModuleValue) (t : Test) → slice_get soc.modules p ≡ Some m → slice_get m.tests q ≡ Some t → is_live t ≡ true → (i : ℕ) × IsAt (planned soc plan) i (planned_test plan p m t)
+unfolding planned
+planned_there soc plan p q m t at there live =
+    let n = in_filter is_live m.tests q t there live in
+    let i = in_live soc.modules 0 p n.0 p m t (omega arith) at n.1 in
+    (i.0, slice_get-map (λ (l : LiveTest). planned_test plan l.place l.core l.test) (live_tests soc) i.0 ∙ ap (option_map (λ (l : LiveTest). planned_test plan l.place l.core l.test)) i.1)
+
+pub wired_placed : (soc : SocValue) (sound : IsSoundChip soc) (limits : LimitsValue) (plan : PlanValue) → IsGood soc limits plan → (seed p q : ℕ) (m : ModuleValue) (t : Test) (placed : PlacedTest) (over : ℕ) (l : Lane) → slice_get soc.modules p ≡ Some m → slice_get m.tests q ≡ Some t → is_live t ≡ true → placed ≡ placed_of (planned_test plan p m t) → placed.bus ≡ Some over
+    → IsWiredLane plan seed p over q placed m t l → IsLane (made_content soc seed) (planned_test plan p m t) l
+wired_placed soc sound limits plan good seed p q m t placed over l at there live same on lane =
+    wired_new soc sound plan seed p q m t (planned_test plan p m t) placed over l at there live short is same on lane
   where
-    planned : PlannedIs plan p m n.t u
-    planned = subst (PlannedIs plan p m n.t) n.is (planned_is plan p m n.t)
+    is : PlannedIs plan p m t (planned_test plan p m t)
+    is = planned_is plan p m t
 
-    short : length (operations_of m n.t (chains_of plan m n.t)) ≤ 10 ^ 18
-    short = omega (arith, ap length planned.operations, short_planned soc limits plan i u sound.size good at)
+    short : length (operations_of m t (chains_of plan m t)) ≤ 10 ^ 18
+    short =
+        let i = planned_there soc plan p q m t at there live in
+        omega (arith, ap length is.operations, short_planned soc limits plan i.0 (planned_test plan p m t) sound.size good i.1)
 
 -- the bus of a test over the wires is one of the plan's
 pub bus_there : (soc : SocValue) (limits : LimitsValue) (plan : PlanValue) → IsGood soc limits plan → (p q : ℕ) (m : ModuleValue) (t : Test) → slice_get soc.modules p ≡ Some m → slice_get m.tests q ≡ Some t → is_live t ≡ true → t.tam ≡ true → bus_place m.number 0 plan.buses < length plan.buses
@@ -358,9 +343,6 @@ bus_there soc limits plan good p q m t at there live tam =
     go : {n : ℕ} → (bus_place m.number 0 plan.buses < length plan.buses) ⊎ (length plan.buses ≤ bus_place m.number 0 plan.buses) → 1 ≤ n → n ≤ slice_index (widths plan) (bus_place m.number 0 plan.buses) → bus_place m.number 0 plan.buses < length plan.buses
     go (inl less) some on = less
     go (inr past) some on = let none : get_or (widths plan) (bus_place m.number 0 plan.buses) 0 ≡ 0 = get_or_past (widths plan) (bus_place m.number 0 plan.buses) 0 (omega (arith, many)) in absurd (omega arith)
-
-pub same_wired : (plan : PlanValue) (seed : ℕ) (placed : PlacedTest) (bus q : ℕ) (m : ModuleValue) (t u : Test) (l : Lane) → t ≡ u → IsWiredLane plan seed placed bus q m t l → IsWiredLane plan seed placed bus q m u l
-same_wired plan seed placed bus q m t u l same is = subst (λ t. IsWiredLane plan seed placed bus q m t l) same is
 
 pub width_is : (buses : List Bus) (bus : ℕ) (b : Bus) → b ≡ get_or buses bus b → bus < length buses → b.width ≡ slice_index (map (λ (b : BusValue). b.width) (map bus_value buses)) bus
 width_is buses bus b at within = ap (λ (b : Bus). b.width) at ∙ sym (get_or-map (λ (b : Bus). b.width) buses bus b 0 within) ∙ rw (widths_are buses) refl

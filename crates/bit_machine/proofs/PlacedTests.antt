@@ -1,57 +1,99 @@
--- The lanes of all live tests, one after another.
-use Rattle.std.proofs.Common.{◌≡◌, ℕ, zero, suc, ◌+◌, ◌≤◌, ◌<◌, ◌⊎◌, Some, List, [], ◌∷◌, ◌++◌, length, get_or, map, take, refl, ap, sym, subst, ◌∙◌, arith, inl, inr}
+-- The lanes of all live tests, one after another: test by test, and module by module.
+use Rattle.std.proofs.Common.{◌≡◌, ℕ, zero, suc, ◌+◌, ◌≤◌, ◌⊎◌, true, false, Some, List, [], ◌∷◌, ◌++◌, length, map, take, refl, ap, sym, subst, ◌∙◌, arith, inl, inr, append_assoc}
 use Rattle.std.specs.Prelude.{slice_get}
-use Rattle.std.proofs.lemmas.List.{length-append, length-map, take_more, take_all}
+use Rattle.std.specs.List.{filter}
+use Rattle.std.proofs.lemmas.List.{append-nil, length-append, map-append, take_more, take_all}
+use Rattle.std.proofs.lemmas.List.Elements.{filter-append}
 use Rattle.std.proofs.lemmas.Option.{slice_get_within, get_or_from_slice_get, same_Some}
-use Rattle.plan_model.specs.Plans.{PlannedTest}
-use Rattle.plan_model.specs.Right.{IsAt}
+use Rattle.soc_model.specs.declared.Test.{Test}
+use Rattle.soc_model.specs.Chips.{ModuleValue, SocValue, LiveTest, is_live, live_of, live_from}
+use Rattle.plan_model.specs.Plans.{PlanValue, PlannedTest, planned, planned_test}
 use Rattle.plan_model.specs.Runs.{Content}
 use Rattle.plan_model.proofs.Lists.{from_append}
-use Rattle.live_tests.specs.declared.placed.PlacedTest.{PlacedTest}
-use Rattle.live_tests.specs.Placed.{placed_of}
-use Rattle.bit_machine.specs.Lanes.{IsNewLane, AreNewLanes}
+use Rattle.live_tests.proofs.Placing.{the_live}
+use Rattle.bit_machine.specs.Lanes.{IsLane}
+use Rattle.bit_machine.specs.Machines.{AreLanes}
+use Rattle.bit_machine.specs.Placed.{planned_in}
 use Rattle.bit_machine.specs.declared.lane.Lane.{Lane}
 
-pub new_more : (content : Content) (tests : List PlannedTest) (lanes new : List Lane) (t : PlannedTest) (l : Lane) → AreNewLanes content tests lanes → new ≡ lanes ++ l ∷ [] → IsNewLane content t l → AreNewLanes content (tests ++ t ∷ []) new
-new_more content tests lanes new t l are pushed is = subst (AreNewLanes content (tests ++ t ∷ [])) (sym pushed) (record {
+new_more : (content : Content) (tests : List PlannedTest) (lanes new : List Lane) (t : PlannedTest) (l : Lane) → AreLanes content tests lanes → new ≡ lanes ++ l ∷ [] → IsLane content t l → AreLanes content (tests ++ t ∷ []) new
+new_more content tests lanes new t l are pushed is = subst (AreLanes content (tests ++ t ∷ [])) (sym pushed) (record {
   long = length-append lanes (l ∷ []) ∙ ap (λ n. n + 1) are.long ∙ sym (length-append tests (t ∷ []));
-  each = λ i u k at there. either i u k (from_append tests (t ∷ []) i u at) (from_append lanes (l ∷ []) i k there);
+  lane = λ i u k at there. either i u k (from_append tests (t ∷ []) i u at) (from_append lanes (l ∷ []) i k there);
 })
   where
     long : length lanes ≡ length tests
     long = are.long
 
-    either : (i : ℕ) (u : PlannedTest) (k : Lane) → (slice_get tests i ≡ Some u) ⊎ ((j : ℕ) × (i ≡ length tests + j) × (slice_get (t ∷ []) j ≡ Some u)) → (slice_get lanes i ≡ Some k) ⊎ ((j : ℕ) × (i ≡ length lanes + j) × (slice_get (l ∷ []) j ≡ Some k)) → IsNewLane content u k
-    either i u k (inl a) (inl b) = are.each i u k a b
+    either : (i : ℕ) (u : PlannedTest) (k : Lane) → (slice_get tests i ≡ Some u) ⊎ ((j : ℕ) × (i ≡ length tests + j) × (slice_get (t ∷ []) j ≡ Some u)) → (slice_get lanes i ≡ Some k) ⊎ ((j : ℕ) × (i ≡ length lanes + j) × (slice_get (l ∷ []) j ≡ Some k)) → IsLane content u k
+    either i u k (inl a) (inl b) = are.lane i u k a b
     either i u k (inl a) (inr b) = absurd (let within = slice_get_within tests i u a in let past = b.1 in omega (arith, long))
     either i u k (inr a) (inl b) = absurd (let within = slice_get_within lanes i k b in let past = a.1 in omega (arith, long))
     either i u k (inr a) (inr b) = last u k a.0 b.0 a.2 b.2 where
-      last : (u : PlannedTest) (k : Lane) (x y : ℕ) → slice_get (t ∷ []) x ≡ Some u → slice_get (l ∷ []) y ≡ Some k → IsNewLane content u k
-      last u k zero zero e f = let a : t ≡ u = same_Some _ _ e in let b : l ≡ k = same_Some _ _ f in subst (λ u. IsNewLane content u k) a (subst (IsNewLane content t) b is)
+      last : (u : PlannedTest) (k : Lane) (x y : ℕ) → slice_get (t ∷ []) x ≡ Some u → slice_get (l ∷ []) y ≡ Some k → IsLane content u k
+      last u k zero zero e f = let a : t ≡ u = same_Some _ _ e in let b : l ≡ k = same_Some _ _ f in subst (λ u. IsLane content u k) a (subst (IsLane content t) b is)
       last u k (suc x) y e f = absurd cc
       last u k zero (suc y) e f = absurd cc
 
--- before any test
-pub no_lanes : (content : Content) (lanes : List Lane) → lanes ≡ [] → AreNewLanes content [] lanes
-no_lanes content lanes none = subst (AreNewLanes content []) (sym none) (record { long = refl; each = λ i t l at there. absurd cc })
+-- ---- test by test
 
--- the planned test that a placed one stands for
-pub planned_at : (tests : List PlannedTest) (placed : List PlacedTest) (k : ℕ) (p d : PlacedTest) → placed ≡ map placed_of tests → k < length placed → p ≡ get_or placed k d → (t : PlannedTest) × IsAt tests k t × (p ≡ placed_of t)
-planned_at tests placed k p d are within is = at tests k (omega (arith, within, long)) (is ∙ ap (λ ps. get_or ps k d) are)
-  where
-    long : length placed ≡ length tests
-    long = ap length are ∙ length-map tests placed_of
+pub live_more : (content : Content) (plan : PlanValue) (place : ℕ) (m : ModuleValue) (t : Test) (done : List PlannedTest) (lanes new : List Lane) (l : Lane) → is_live t ≡ true → AreLanes content done lanes → new ≡ lanes ++ l ∷ [] → IsLane content (planned_test plan place m t) l →
+    AreLanes content (done ++ planned_in plan place m (t ∷ [])) new
+live_more content plan place m t done lanes new l live are pushed is = rw live (new_more content done lanes new (planned_test plan place m t) l are pushed is)
 
-    at : (tests : List PlannedTest) (k : ℕ) → k < length tests → p ≡ get_or (map placed_of tests) k d → (t : PlannedTest) × IsAt tests k t × (p ≡ placed_of t)
-    at [] k within is = absurd (omega (arith, within))
-    at (t ∷ tests) zero within is = (t, refl, is)
-    at (t ∷ tests) (suc k) within is = at tests k (omega (arith, within)) is
+pub dead_more : (content : Content) (plan : PlanValue) (place : ℕ) (m : ModuleValue) (t : Test) (done : List PlannedTest) (lanes : List Lane) → is_live t ≡ false → AreLanes content done lanes → AreLanes content (done ++ planned_in plan place m (t ∷ [])) lanes
+dead_more content plan place m t done lanes dead are = rw (dead, append-nil done) are
 
--- one lane more
-pub lanes_more : (content : Content) (tests : List PlannedTest) (k : ℕ) (t : PlannedTest) (lanes new : List Lane) (l : Lane) → IsAt tests k t → AreNewLanes content (take k tests) lanes → new ≡ lanes ++ l ∷ [] → IsNewLane content t l → AreNewLanes content (take (k + 1) tests) new
-lanes_more content tests k t lanes new l at are pushed is =
-    subst (λ v. AreNewLanes content v new) (sym (take_more tests k t (slice_get_within tests k t at) ∙ ap (λ u. take k tests ++ u ∷ []) (get_or_from_slice_get tests k t t at))) (new_more content (take k tests) lanes new t l are pushed is)
+tests_more : (plan : PlanValue) (place : ℕ) (m : ModuleValue) (ts : List Test) (k : ℕ) (t : Test) → slice_get ts k ≡ Some t → planned_in plan place m (take (k + 1) ts) ≡ planned_in plan place m (take k ts) ++ planned_in plan place m (t ∷ [])
+tests_more plan place m ts k t at =
+    ap (planned_in plan place m) (take_more ts k t (slice_get_within ts k t at) ∙ ap (λ u. take k ts ++ u ∷ []) (get_or_from_slice_get ts k t t at))
+    ∙ ap (map (planned_test plan place m)) (filter-append is_live (take k ts) (t ∷ [])) ∙ map-append (planned_test plan place m) (filter is_live (take k ts)) (filter is_live (t ∷ []))
 
--- after the last test
-pub all_lanes : (content : Content) (tests : List PlannedTest) (placed : List PlacedTest) (k : ℕ) (lanes : List Lane) → placed ≡ map placed_of tests → length placed ≤ k → AreNewLanes content (take k tests) lanes → AreNewLanes content tests lanes
-all_lanes content tests placed k lanes are past new = subst (λ v. AreNewLanes content v lanes) (take_all k tests (omega (arith, past, ap length are, length-map tests placed_of))) new
+pub no_tests : (content : Content) (done : List PlannedTest) (lanes : List Lane) → AreLanes content done lanes → AreLanes content (done ++ []) lanes
+no_tests content done lanes are = rw (append-nil done) are
+
+pub next_test : (content : Content) (plan : PlanValue) (place : ℕ) (m : ModuleValue) (ts : List Test) (k : ℕ) (t : Test) (done : List PlannedTest) (lanes : List Lane) → slice_get ts k ≡ Some t → AreLanes content ((done ++ planned_in plan place m (take k ts)) ++ planned_in plan place m (t ∷ [])) lanes →
+    AreLanes content (done ++ planned_in plan place m (take (k + 1) ts)) lanes
+next_test content plan place m ts k t done lanes at are =
+    subst (λ v. AreLanes content v lanes) (append_assoc done (planned_in plan place m (take k ts)) (planned_in plan place m (t ∷ [])) ∙ ap (λ v. done ++ v) (sym (tests_more plan place m ts k t at))) are
+
+pub all_tests : (content : Content) (plan : PlanValue) (place : ℕ) (m : ModuleValue) (ts : List Test) (k : ℕ) (done : List PlannedTest) (lanes : List Lane) → length ts ≤ k → AreLanes content (done ++ planned_in plan place m (take k ts)) lanes → AreLanes content (done ++ planned_in plan place m ts) lanes
+all_tests content plan place m ts k done lanes all are = subst (λ ts. AreLanes content (done ++ planned_in plan place m ts) lanes) (take_all k ts all) are
+
+-- ---- module by module
+
+-- the planned tests of the first modules
+abbrev pub planned_from : PlanValue → List ModuleValue → ℕ → List PlannedTest
+planned_from plan ms k = map (λ (l : LiveTest). planned_test plan l.place l.core l.test) (live_from 0 (take k ms))
+
+from_more : (base : ℕ) (ms : List ModuleValue) (k : ℕ) (m : ModuleValue) → slice_get ms k ≡ Some m → live_from base (take (suc k) ms) ≡ live_from base (take k ms) ++ live_of (base + k) m
+unfolding live_from
+from_more base [] k m at = absurd cc
+from_more base (x ∷ ms) zero m at =
+    let same : x ≡ m = same_Some _ _ at in
+    let number : base + 0 ≡ base = omega arith in
+    rw (same, number) (append-nil (live_of base m))
+from_more base (x ∷ ms) (suc k) m at =
+    let number : base + 1 + k ≡ base + suc k = omega arith in
+    rw (from_more (base + 1) ms k m at, number) (sym (append_assoc (live_of base x) (live_from (base + 1) (take k ms)) (live_of (base + suc k) m)))
+
+of_module : (plan : PlanValue) (k : ℕ) (m : ModuleValue) (ts : List Test) → map (λ (l : LiveTest). planned_test plan l.place l.core l.test) (map (the_live k m) ts) ≡ map (planned_test plan k m) ts
+of_module plan k m [] = refl
+of_module plan k m (t ∷ ts) = ap (λ v. planned_test plan k m t ∷ v) (of_module plan k m ts)
+
+pub no_modules : (content : Content) (plan : PlanValue) (ms : List ModuleValue) (lanes : List Lane) → lanes ≡ [] → AreLanes content (planned_from plan ms 0) lanes
+unfolding live_from
+no_modules content plan ms lanes none = rw none (record { long = refl; lane = λ i t l at there. absurd cc })
+
+pub modules_more : (content : Content) (plan : PlanValue) (ms : List ModuleValue) (k : ℕ) (m : ModuleValue) (lanes : List Lane) → slice_get ms k ≡ Some m → AreLanes content (planned_from plan ms k ++ planned_in plan k m m.tests) lanes → AreLanes content (planned_from plan ms (k + 1)) lanes
+modules_more content plan ms k m lanes at are =
+    let next : k + 1 ≡ suc k = omega arith in
+    let zero' : 0 + k ≡ k = omega arith in
+    let whole : planned_from plan ms (suc k) ≡ planned_from plan ms k ++ planned_in plan k m m.tests =
+    ap (map (λ (l : LiveTest). planned_test plan l.place l.core l.test)) (from_more 0 ms k m at ∙ rw zero' refl) ∙ map-append (λ (l : LiveTest). planned_test plan l.place l.core l.test) (live_from 0 (take k ms)) (live_of k m)
+    ∙ ap (λ v. planned_from plan ms k ++ v) (of_module plan k m (filter is_live m.tests)) in
+    rw (next, whole) are
+
+pub all_modules : (content : Content) (soc : SocValue) (plan : PlanValue) (k : ℕ) (lanes : List Lane) → length soc.modules ≤ k → AreLanes content (planned_from plan soc.modules k) lanes → AreLanes content (planned soc plan) lanes
+unfolding planned
+all_modules content soc plan k lanes all are = subst (λ ms. AreLanes content (map (λ (l : LiveTest). planned_test plan l.place l.core l.test) (live_from 0 ms)) lanes) (take_all k soc.modules all) are

@@ -11,9 +11,9 @@ use Rattle.plan_model.specs.Plans.{PlannedTest, uses}
 use Rattle.plan_model.specs.Runs.{Content, State, chain_at, bits_at, next_bits, operation_at, each_chain, step}
 use Rattle.plan_model.specs.Right.{IsAt}
 use Rattle.plan_model.proofs.ChainsInTheRun.{idle_before, at_operation, uses_wire}
-use Rattle.bit_machine.specs.Lanes.{lane_bits, IsLane, IsNow}
+use Rattle.bit_machine.specs.Lanes.{lane_bits, AreRings, IsLane, IsNow, IsSteppable}
 use Rattle.bit_machine.specs.Machines.{lanes_state, IsMachine, IsUser, IsWireStep, AreWireSteps}
-use Rattle.bit_machine.specs.declared.lane.Lane.{Lane}
+use Rattle.bit_machine.specs.declared.stepped.SteppedLane.{SteppedLane}
 use Rattle.bit_machine.specs.declared.machine.Machine.{Machine}
 use Rattle.bit_machine.proofs.LaneSteps.{from_set}
 use Rattle.bit_machine.proofs.PathBits.{any_default}
@@ -29,7 +29,7 @@ idle t c j tam wide unused = go (cases_lt c t.start) where
   go (inl early) = idle_before t c early
   go (inr begun) = later begun (cases_lt (c - t.start) (length t.operations))
 
-some_lane : (ls : List Lane) (i : ℕ) → i < length ls → (l : Lane) × (slice_get ls i ≡ Some l)
+some_lane : (ls : List SteppedLane) (i : ℕ) → i < length ls → (l : SteppedLane) × (slice_get ls i ≡ Some l)
 some_lane [] i h = absurd (omega arith)
 some_lane (l ∷ ls) zero h = (l, refl)
 some_lane (l ∷ ls) (suc i) h = some_lane ls i (omega arith)
@@ -37,7 +37,7 @@ some_lane (l ∷ ls) (suc i) h = some_lane ls i (omega arith)
 -- only tests over the wires have chains
 chains_tam : (content : Content) (tests : List PlannedTest) (m : Machine) (is : IsMachine content tests m) (i j : ℕ) (t : PlannedTest) → IsAt tests i t → j < length t.chains → t.tam ≡ true
 chains_tam content tests m is i j t at h = go (cases_Bool t.tam) where
-  lane_there : (l : Lane) → slice_get m.lanes.items i ≡ Some l → t.tam ≡ false → t.tam ≡ true
+  lane_there : (l : SteppedLane) → slice_get m.lanes.items i ≡ Some l → t.tam ≡ false → t.tam ≡ true
   lane_there l there none = let e = (is.lanes.lane i t l at there).alone none in absurd (omega (arith, e.1))
 
   go : (t.tam ≡ true) ⊎ (t.tam ≡ false) → t.tam ≡ true
@@ -59,21 +59,21 @@ same_test s p j b h = ap (λ bits. get_or bits j []) (get_or-set_same s p b [] h
 -- ---- a wire with a user
 
 -- the lane of the user after a step of its chain on the wire
-abbrev pub StepsLane : Content → PlannedTest → ℕ → ℕ → Bool → Lane → Lane → Type 0
+abbrev pub StepsLane : Content → PlannedTest → ℕ → ℕ → Bool → SteppedLane → SteppedLane → Type 0
 StepsLane content t c j drive l l' = lane_bits l' ≡ set (lane_bits l) j (next_bits (content.response t.id) (chain_at t j) (slice_get t.operations (c - t.start)) drive (get_or (lane_bits l) j []))
 
-user_stepped : (content : Content) (tests : List PlannedTest) (m : Machine) (is : IsMachine content tests m) (w p : ℕ) (l l' : Lane) (drive : Bool) (u : IsUser content tests m w p l) → l.first_wire ≤ w → StepsLane content u.t m.cycle (w - l.first_wire) drive l l' →
+user_stepped : (content : Content) (tests : List PlannedTest) (m : Machine) (is : IsMachine content tests m) (w p : ℕ) (l l' : SteppedLane) (drive : Bool) (u : IsUser content tests m w p l) → l.lane.first_wire ≤ w → StepsLane content u.t m.cycle (w - l.lane.first_wire) drive l l' →
     IsWireStep content tests m.cycle w drive (lanes_state m.lanes.items) (set (lanes_state m.lanes.items) p (lane_bits l'))
 user_stepped content tests m is w p l l' drive u low steps = record {
   here = λ i j t at h wire. go_here i j t at h wire (cases_eq i p);
   others = λ i j t at h wire. go_others i j t at h wire (cases_eq i p);
 }
   where
-    first : l.first_wire ≡ u.t.first_wire
+    first : l.lane.first_wire ≡ u.t.first_wire
     first = u.first
 
     chains : length (lane_bits l) ≡ length u.t.chains
-    chains = length-map l.paths.items _ ∙ (u.lane.wired u.tam).chains
+    chains = u.steppable.rings.many ∙ (u.lane.wired u.tam).chains
 
     place : p < length (lanes_state m.lanes.items)
     place = let a = slice_get_within m.lanes.items p l u.lane_at in let b = length-map m.lanes.items lane_bits in omega arith
@@ -87,15 +87,15 @@ user_stepped content tests m is w p l l' drive u low steps = record {
     user_here : (j : ℕ) → j < length u.t.chains → u.t.first_wire + j ≡ w →
         bits_at (set (lanes_state m.lanes.items) p (lane_bits l')) p j ≡ next_bits (content.response u.t.id) (chain_at u.t j) (operation_at u.t m.cycle) drive (bits_at (lanes_state m.lanes.items) p j)
     user_here j h wire =
-        let chain : w - l.first_wire ≡ j = omega (arith, first) in
+        let chain : w - l.lane.first_wire ≡ j = omega (arith, first) in
         let steps' = rw chain at steps in
         same_test (lanes_state m.lanes.items) p j (lane_bits l') place ∙ ap (λ bits. get_or bits j []) steps'
         ∙ get_or-set_same (lane_bits l) j _ [] (omega (arith, chains)) ∙ rw (old j, at_operation u.t m.cycle begun) refl
 
     user_others : (j : ℕ) → j < length u.t.chains → u.t.first_wire + j ≢ w → bits_at (set (lanes_state m.lanes.items) p (lane_bits l')) p j ≡ bits_at (lanes_state m.lanes.items) p j
     user_others j h wire =
-        let apart : j ≢ w - l.first_wire = λ e. wire (omega (arith, first, low)) in
-        same_test (lanes_state m.lanes.items) p j (lane_bits l') place ∙ ap (λ bits. get_or bits j []) steps ∙ get_or-set_other (lane_bits l) (w - l.first_wire) j _ [] apart ∙ sym (old j)
+        let apart : j ≢ w - l.lane.first_wire = λ e. wire (omega (arith, first, low)) in
+        same_test (lanes_state m.lanes.items) p j (lane_bits l') place ∙ ap (λ bits. get_or bits j []) steps ∙ get_or-set_other (lane_bits l) (w - l.lane.first_wire) j _ [] apart ∙ sym (old j)
 
     idle_here : (i j : ℕ) (t : PlannedTest) → IsAt tests i t → j < length t.chains → t.first_wire + j ≡ w → i ≢ p → operation_at t m.cycle ≡ None
     idle_here i j t at h wire apart =
@@ -121,7 +121,7 @@ user_stepped content tests m is w p l l' drive u low steps = record {
         (user_others j (subst (λ t. j < length t.chains) (sym t_is) h) (λ e. wire (subst (λ t. t.first_wire + j ≡ w) t_is e)))
     go_others i j t at h wire (inr apart) = other_test (lanes_state m.lanes.items) p i j (lane_bits l') apart
 
-pub user_step : (content : Content) (tests : List PlannedTest) (m : Machine) (is : IsMachine content tests m) (w p : ℕ) (l l' : Lane) (drive : Bool) (u : IsUser content tests m w p l) → l.first_wire ≤ w → StepsLane content u.t m.cycle (w - l.first_wire) drive l l' →
+pub user_step : (content : Content) (tests : List PlannedTest) (m : Machine) (is : IsMachine content tests m) (w p : ℕ) (l l' : SteppedLane) (drive : Bool) (u : IsUser content tests m w p l) → l.lane.first_wire ≤ w → StepsLane content u.t m.cycle (w - l.lane.first_wire) drive l l' →
     IsWireStep content tests m.cycle w drive (lanes_state m.lanes.items) (lanes_state (set m.lanes.items p l'))
 user_step content tests m is w p l l' drive u low steps =
     subst (IsWireStep content tests m.cycle w drive (lanes_state m.lanes.items)) (sym (map-set lane_bits m.lanes.items p l')) (user_stepped content tests m is w p l l' drive u low steps)
@@ -143,16 +143,21 @@ unused_step content tests m is w drive none = record {
         unused (inr no') = no'
 
 -- the machine with one lane stepped
-pub with_lane : (content : Content) (tests : List PlannedTest) (m : Machine) (is : IsMachine content tests m) (w p : ℕ) (l l' : Lane) (u : IsUser content tests m w p l) → IsLane content u.t l' → IsNow l' m.cycle →
+pub with_lane : (content : Content) (tests : List PlannedTest) (m : Machine) (is : IsMachine content tests m) (w p : ℕ) (l l' : SteppedLane) (u : IsUser content tests m w p l) → l'.lane ≡ l.lane → IsSteppable l' → IsNow l' m.cycle →
     IsMachine content tests (record { lanes = with_item m.lanes p l'; users = m.users; cycle = m.cycle; change = m.change })
-with_lane content tests m is w p l l' u lane now = record {
+with_lane content tests m is w p l l' u same can now = record {
   lanes = record {
     long = length-set m.lanes.items p l' ∙ is.lanes.long;
     lane = λ i t k at there. elim (from_set m.lanes.items p i l' k there) [
       | inl here ↦
           let t_is : u.t ≡ t = same_Some _ _ (sym u.at ∙ subst (λ i. IsAt tests i t) here.0 at) in
-          subst (IsLane content t) (sym here.1) (subst (λ t. IsLane content t l') t_is lane)
+          let own : IsLane content t l'.lane = subst (λ t. IsLane content t l'.lane) t_is (subst (IsLane content u.t) (sym same) u.lane) in
+          subst (λ (k : SteppedLane). IsLane content t k.lane) (sym here.1) own
       | inr other ↦ is.lanes.lane i t k at other
+    ];
+    steppable = λ i k there. elim (from_set m.lanes.items p i l' k there) [
+      | inl here ↦ subst IsSteppable (sym here.1) can
+      | inr other ↦ is.lanes.steppable i k other
     ];
   };
   wires = is.wires;
@@ -213,9 +218,9 @@ state_is f n (t ∷ tests) (b ∷ s) long wide each = pair here (state_is f (n +
         let zero' : n + 0 ≡ n = omega arith in
         any_default b j d [] h ∙ each 0 j t refl less ∙ rw zero' (sym (get_or-map-range_with_len (f n t) 0 (length t.chains) j j d less (zero-add j))))
 
-lane_width : (content : Content) (t : PlannedTest) (l : Lane) → IsLane content t l → length (lane_bits l) ≡ length t.chains
-lane_width content t l is = length-map l.paths.items _ ∙ go (cases_Bool t.tam) where
-  go : (t.tam ≡ true) ⊎ (t.tam ≡ false) → length l.paths.items ≡ length t.chains
+lane_width : (content : Content) (t : PlannedTest) (l : SteppedLane) → IsLane content t l.lane → AreRings l → length (lane_bits l) ≡ length t.chains
+lane_width content t l is rings = rings.many ∙ go (cases_Bool t.tam) where
+  go : (t.tam ≡ true) ⊎ (t.tam ≡ false) → length l.lane.paths.items ≡ length t.chains
   go (inl yes') = (is.wired yes').chains
   go (inr no') = let e = is.alone no' in omega (arith, e.0, e.1)
 
@@ -224,7 +229,7 @@ lanes_width content tests m is i t at =
     let long : length m.lanes.items ≡ length tests = is.lanes.long in
     let within : i < length tests = slice_get_within tests i t at in
     let some = some_lane m.lanes.items i (omega arith) in
-    ap length (get_or-map lane_bits m.lanes.items i some.0 [] (omega arith) ∙ ap lane_bits (get_or_from_slice_get m.lanes.items i some.0 some.0 some.1)) ∙ lane_width content t some.0 (is.lanes.lane i t some.0 at some.1)
+    ap length (get_or-map lane_bits m.lanes.items i some.0 [] (omega arith) ∙ ap lane_bits (get_or_from_slice_get m.lanes.items i some.0 some.0 some.1)) ∙ lane_width content t some.0 (is.lanes.lane i t some.0 at some.1) (is.lanes.steppable i some.0 some.1).rings
 
 pub whole_step : (content : Content) (tests : List PlannedTest) (old m : Machine) (is : IsMachine content tests m) (c w : ℕ) (drive : ℕ → Bool) → length m.users.items ≤ w → AreWireSteps content tests c w drive (lanes_state old.lanes.items) (lanes_state m.lanes.items) →
     lanes_state m.lanes.items ≡ step content tests drive c (lanes_state old.lanes.items)

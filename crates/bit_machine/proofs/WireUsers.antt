@@ -22,6 +22,7 @@ use Rattle.bit_machine.specs.Lanes.{lane_bits, IsBusy, IsWired, IsLane, IsNow}
 use Rattle.bit_machine.specs.Machines.{lanes_state, IsMachine, IsSomeMachine, IsUser, HasWire, HasNoUser}
 use Rattle.bit_machine.proofs.Assigning.{from_uses}
 use Rattle.bit_machine.specs.declared.lane.Lane.{Lane}
+use Rattle.bit_machine.specs.declared.stepped.SteppedLane.{SteppedLane}
 use Rattle.bit_machine.specs.declared.machine.Machine.{Machine}
 
 -- a wire without a user
@@ -45,47 +46,47 @@ busy_of content t l c w start active =
     let long : length t.operations ≡ length (phase_ops l.phases) = ap length w.operations in
     record { begun = omega arith; going = omega arith }
 
-pub user_lane : (content : Content) (tests : List PlannedTest) (m : Machine) (is : IsMachine content tests m) (w i : ℕ) (l : Lane) → slice_get m.users.items w ≡ Some (Some i) → slice_get m.lanes.items i ≡ Some l → IsUser content tests m w i l
+pub user_lane : (content : Content) (tests : List PlannedTest) (m : Machine) (is : IsMachine content tests m) (w i : ℕ) (l : SteppedLane) → slice_get m.users.items w ≡ Some (Some i) → slice_get m.lanes.items i ≡ Some l → IsUser content tests m w i l
 user_lane content tests m is w i l there at =
     let u = is.users.user w i there in
     let x : Uses m.cycle w u.0 = uses_is m.cycle w u.0 u.2 in
-    let lane : IsLane content u.0 l = is.lanes.lane i u.0 l u.1 at in
-    let wired : IsWired content u.0 l = lane.wired x.tam in
-    record { t = u.0; at = u.1; lane_at = at; tam = x.tam; used = u.2; lane = lane; first = wired.first_wire; begun = x.active.0; now = is.now i l at (from_uses content u.0 l m.cycle w lane u.2).on }
+    let lane : IsLane content u.0 l.lane = is.lanes.lane i u.0 l u.1 at in
+    let wired : IsWired content u.0 l.lane = lane.wired x.tam in
+    record { t = u.0; at = u.1; lane_at = at; tam = x.tam; used = u.2; lane = lane; steppable = is.lanes.steppable i l at; first = wired.first_wire; begun = x.active.0; now = is.now i l at (from_uses content u.0 l.lane m.cycle w lane u.2).on }
 
-pub has_wire : (m : Machine) (s : IsSomeMachine m) (w i : ℕ) (l : Lane) → slice_get m.users.items w ≡ Some (Some i) → slice_get m.lanes.items i ≡ Some l → HasWire m w l
+pub has_wire : (m : Machine) (s : IsSomeMachine m) (w i : ℕ) (l : SteppedLane) → slice_get m.users.items w ≡ Some (Some i) → slice_get m.lanes.items i ≡ Some l → HasWire m w l
 has_wire m s w i l there at =
     let u : IsUser s.content s.tests m w i l = user_lane s.content s.tests m s.is w i l there at in
     let x : Uses m.cycle w u.t = uses_is m.cycle w u.t u.used in
     let low : u.t.first_wire ≤ w = x.low in
-    let first : l.first_wire ≡ u.t.first_wire = u.first in
+    let first : l.lane.first_wire ≡ u.t.first_wire = u.first in
     record {
-      ready = u.lane.ready;
+      steppable = u.steppable;
       low = omega arith;
       user = λ content tests is. (i, user_lane content tests m is w i l there at);
     }
 
 -- what a wire with a user carries and shows
-first_user : (f : ℕ → PlannedTest → ℕ → Bool) (content : Content) (tests : List PlannedTest) (m : Machine) (is : IsMachine content tests m) (w i : ℕ) (l : Lane) (u : IsUser content tests m w i l) →
-    at_first_user f m.cycle w 0 tests ≡ f i u.t (w - l.first_wire)
+first_user : (f : ℕ → PlannedTest → ℕ → Bool) (content : Content) (tests : List PlannedTest) (m : Machine) (is : IsMachine content tests m) (w i : ℕ) (l : SteppedLane) (u : IsUser content tests m w i l) →
+    at_first_user f m.cycle w 0 tests ≡ f i u.t (w - l.lane.first_wire)
 first_user f content tests m is w i l u =
     at_first_user_is f m.cycle w 0 tests i u.t u.at u.used (λ i' t' at' used'. is.wires.alone m.cycle w i i' u.t t' u.at at' u.used used') ∙ rw (zero-add i, u.first) refl
 
-pub carried_by : (content : Content) (tests : List PlannedTest) (m : Machine) (is : IsMachine content tests m) (w i : ℕ) (l : Lane) (u : IsUser content tests m w i l) (b : Bool) →
-    b ≡ wanted (content.stimulus u.t.id) (chain_at u.t (w - l.first_wire)) (drop (m.cycle - u.t.start) u.t.operations) → b ≡ carried content tests m.cycle w
+pub carried_by : (content : Content) (tests : List PlannedTest) (m : Machine) (is : IsMachine content tests m) (w i : ℕ) (l : SteppedLane) (u : IsUser content tests m w i l) (b : Bool) →
+    b ≡ wanted (content.stimulus u.t.id) (chain_at u.t (w - l.lane.first_wire)) (drop (m.cycle - u.t.start) u.t.operations) → b ≡ carried content tests m.cycle w
 unfolding carried
 carried_by content tests m is w i l u b bit =
     bit ∙ sym (first_user (λ i t j. wanted (content.stimulus t.id) (chain_at t j) (drop (m.cycle - t.start) t.operations)) content tests m is w i l u)
 
-bits_in : (lanes : List Lane) (i j : ℕ) (l : Lane) → slice_get lanes i ≡ Some l → bits_at (lanes_state lanes) i j ≡ get_or (lane_bits l) j []
+bits_in : (lanes : List SteppedLane) (i j : ℕ) (l : SteppedLane) → slice_get lanes i ≡ Some l → bits_at (lanes_state lanes) i j ≡ get_or (lane_bits l) j []
 bits_in lanes i j l at =
     ap (λ bits. get_or bits j []) (get_or-map lane_bits lanes i l [] (slice_get_within lanes i l at) ∙ ap lane_bits (get_or_from_slice_get lanes i l l at))
 
-pub shown_by : (content : Content) (tests : List PlannedTest) (m : Machine) (is : IsMachine content tests m) (w i : ℕ) (l : Lane) (u : IsUser content tests m w i l) (b : Bool) →
-    b ≡ last_bit (get_or (lane_bits l) (w - l.first_wire) []) → b ≡ shown tests (lanes_state m.lanes.items) m.cycle w
+pub shown_by : (content : Content) (tests : List PlannedTest) (m : Machine) (is : IsMachine content tests m) (w i : ℕ) (l : SteppedLane) (u : IsUser content tests m w i l) (b : Bool) →
+    b ≡ last_bit (get_or (lane_bits l) (w - l.lane.first_wire) []) → b ≡ shown tests (lanes_state m.lanes.items) m.cycle w
 unfolding shown
 shown_by content tests m is w i l u b bit =
-    bit ∙ rw (← bits_in m.lanes.items i (w - l.first_wire) l u.lane_at) (sym (first_user (λ i t j. last_bit (bits_at (lanes_state m.lanes.items) i j)) content tests m is w i l u))
+    bit ∙ rw (← bits_in m.lanes.items i (w - l.lane.first_wire) l u.lane_at) (sym (first_user (λ i t j. last_bit (bits_at (lanes_state m.lanes.items) i j)) content tests m is w i l u))
 
 -- a wire without a user carries and shows 0
 pub no_user : (content : Content) (tests : List PlannedTest) (m : Machine) (is : IsMachine content tests m) (w : ℕ) → w < length m.users.items → slice_get m.users.items w ≡ Some None → (i : ℕ) (t : PlannedTest) → IsAt tests i t → uses m.cycle w t ≡ true → ⊥
@@ -105,29 +106,29 @@ shown_none content tests m is w none = sym (nobody (λ i t j. last_bit (bits_at 
 -- ---- the response bit that is read
 
 -- what is read is on a wire that the test uses, some Shifts behind its capture
-pub answer_read : (content : Content) (tests : List PlannedTest) (m : Machine) (is : IsMachine content tests m) (w i : ℕ) (l : Lane) (u : IsUser content tests m w i l) (b : Bool) →
-    ((content : Content) (t : PlannedTest) → t.tam ≡ true → IsLane content t l → b ≡ is_answered (chain_at t (w - l.first_wire)) (moment_behind l.moment)) → (r : IsCompared tests m.cycle w) → b ≡ true
+pub answer_read : (content : Content) (tests : List PlannedTest) (m : Machine) (is : IsMachine content tests m) (w i : ℕ) (l : SteppedLane) (u : IsUser content tests m w i l) (b : Bool) →
+    ((content : Content) (t : PlannedTest) → t.tam ≡ true → IsLane content t l.lane → b ≡ is_answered (chain_at t (w - l.lane.first_wire)) (moment_behind l.moment)) → (r : IsCompared tests m.cycle w) → b ≡ true
 answer_read content tests m is w i l u b answers r =
     let used : uses m.cycle w r.test ≡ true = is.wires.reads r.place r.pattern m.cycle w r.test r.cell r.at r.read in
     let place : r.place ≡ i = is.wires.alone m.cycle w i r.place u.t r.test u.at r.at u.used used in
     let same : u.t ≡ r.test = same_Some _ _ (sym u.at ∙ subst (λ j. IsAt tests j r.test) place r.at) in
-    let lane : IsLane content r.test l = subst (λ t. IsLane content t l) same u.lane in
+    let lane : IsLane content r.test l.lane = subst (λ t. IsLane content t l.lane) same u.lane in
     let x : Uses m.cycle w r.test = uses_is m.cycle w r.test used in
-    let first : l.first_wire ≡ r.test.first_wire = u.first ∙ ap (λ (t : PlannedTest). t.first_wire) same in
+    let first : l.lane.first_wire ≡ r.test.first_wire = u.first ∙ ap (λ (t : PlannedTest). t.first_wire) same in
     reading content r.test l m.cycle w b x.tam lane u.now first (answers content r.test x.tam lane) r.pattern r.cell r.read
   where
-    reading : (content : Content) (t : PlannedTest) (l : Lane) (c w : ℕ) (b : Bool) → t.tam ≡ true → IsLane content t l → IsNow l c → l.first_wire ≡ t.first_wire → b ≡ is_answered (chain_at t (w - l.first_wire)) (moment_behind l.moment) →
+    reading : (content : Content) (t : PlannedTest) (l : SteppedLane) (c w : ℕ) (b : Bool) → t.tam ≡ true → IsLane content t l.lane → IsNow l c → l.lane.first_wire ≡ t.first_wire → b ≡ is_answered (chain_at t (w - l.lane.first_wire)) (moment_behind l.moment) →
         (k : ℕ) (x : Cell) → IsReadAt t k x c w → b ≡ true
     reading content t l c w b tam lane now first a k x read =
-        let wired : IsWired content t l = lane.wired tam in
+        let wired : IsWired content t l.lane = lane.wired tam in
         let begun = begun_at t read.capture (Capture k) read.captures in
         let early : t.start ≤ read.capture = begun.0 in
         let cycle : c ≡ read.capture + 1 + read.shifts = read.cycle in
-        let start : l.start ≡ t.start = lane.start in
+        let start : l.lane.start ≡ t.start = lane.start in
         let wire : w ≡ t.first_wire + read.chain = read.wire in
-        let chain : w - l.first_wire ≡ read.chain = omega arith in
+        let chain : w - l.lane.first_wire ≡ read.chain = omega arith in
         let cells : chain_at t read.chain ≡ read.cells = chain_is t read.chain read.cells read.there in
-        let out : out_length (chain_at t read.chain) ≤ l.phases.so = wired.out_fits read.chain in
+        let out : out_length (chain_at t read.chain) ≤ l.lane.phases.so = wired.out_fits read.chain in
         let within : read.shifts < out_length (chain_at t read.chain) = rw cells read.within in
         let behind : moment_behind l.moment ≡ Some (read.shifts, k) = now.is.every read.shifts k (read.capture - t.start) (rw (← wired.operations) begun.1) (omega arith) (omega arith) in
         a ∙ rw (chain, behind) (lt-ltb read.shifts (out_length (chain_at t read.chain)) within)
@@ -167,19 +168,19 @@ read_there content t l c n w j s k m wired begun at wire now behind few =
           let h' = rw empty at h in
           absurd (omega arith)
 
-pub answer_compared : (content : Content) (tests : List PlannedTest) (m : Machine) (w i : ℕ) (l : Lane) (u : IsUser content tests m w i l) (b : Bool) → l.first_wire ≤ w →
-    ((content : Content) (t : PlannedTest) → t.tam ≡ true → IsLane content t l → b ≡ is_answered (chain_at t (w - l.first_wire)) (moment_behind l.moment)) → b ≡ true → IsCompared tests m.cycle w
+pub answer_compared : (content : Content) (tests : List PlannedTest) (m : Machine) (w i : ℕ) (l : SteppedLane) (u : IsUser content tests m w i l) (b : Bool) → l.lane.first_wire ≤ w →
+    ((content : Content) (t : PlannedTest) → t.tam ≡ true → IsLane content t l.lane → b ≡ is_answered (chain_at t (w - l.lane.first_wire)) (moment_behind l.moment)) → b ≡ true → IsCompared tests m.cycle w
 answer_compared content tests m w i l u b low answers some =
-    let f = from_answered (chain_at u.t (w - l.first_wire)) (moment_behind l.moment) (sym (answers content u.t u.tam u.lane) ∙ some) in
-    let wired : IsWired content u.t l = u.lane.wired u.tam in
-    let start : l.start ≡ u.t.start = u.lane.start in
-    let first : l.first_wire ≡ u.t.first_wire = u.first in
+    let f = from_answered (chain_at u.t (w - l.lane.first_wire)) (moment_behind l.moment) (sym (answers content u.t u.tam u.lane) ∙ some) in
+    let wired : IsWired content u.t l.lane = u.lane.wired u.tam in
+    let start : l.lane.start ≡ u.t.start = u.lane.start in
+    let first : l.lane.first_wire ≡ u.t.first_wire = u.first in
     let begun : u.t.start ≤ m.cycle = u.begun in
     record {
       place = i;
       test = u.t;
       pattern = f.1;
-      cell = from_end (chain_at u.t (w - l.first_wire)) f.0;
+      cell = from_end (chain_at u.t (w - l.lane.first_wire)) f.0;
       at = u.at;
-      read = read_there content u.t l m.cycle (m.cycle - l.start) w (w - l.first_wire) f.0 f.1 l.moment wired begun (ap (λ n. m.cycle - n) (sym start)) (omega (arith, first, low)) u.now.is f.2 f.3;
+      read = read_there content u.t l.lane m.cycle (m.cycle - l.lane.start) w (w - l.lane.first_wire) f.0 f.1 l.moment wired begun (ap (λ n. m.cycle - n) (sym start)) (omega (arith, first, low)) u.now.is f.2 f.3;
     }

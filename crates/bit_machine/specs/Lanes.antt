@@ -1,20 +1,21 @@
--- How the machine of a whole chip keeps one live test.
-use Rattle.std.specs.Prelude.{◌≡◌, ℕ, ◌+◌, ◌-◌, ◌%◌, ◌<◌, ◌≤◌, Bool, true, false, Option, Some, None, List, [], map, length, get_or, slice_get, slice_index, nat_le, nat_lt, ◌&&◌, if◌then◌else◌}
+-- One live test, as its plan places it and as the machine of a whole chip steps it.
+use Rattle.std.specs.Prelude.{◌≡◌, ℕ, ◌+◌, ◌-◌, ◌%◌, ◌<◌, ◌≤◌, Bool, true, false, Option, Some, None, List, map, length, replicate, slice_get, slice_index, nat_le, nat_lt, ◌&&◌, if◌then◌else◌}
 use Rattle.plan_model.specs.Cells.{Cell, out_length}
 use Rattle.plan_model.specs.Operations.{Operation, Setup, Shift, Capture, SelfTest}
 use Rattle.plan_model.specs.Plans.{PlannedTest, end_of}
 use Rattle.plan_model.specs.Runs.{Content, chain_at}
 use Rattle.bit_machine.specs.declared.path.Path.{Path}
 use Rattle.bit_machine.specs.declared.lane.Lane.{Lane}
-use Rattle.bit_machine.specs.declared.lane.Page.{Page}
+use Rattle.bit_machine.specs.declared.stepped.Page.{Page}
+use Rattle.bit_machine.specs.declared.stepped.SteppedLane.{SteppedLane}
 use Rattle.bit_machine.specs.Chips.{holds}
 use Rattle.bit_machine.specs.Packed.{is_set}
-use Rattle.bit_machine.specs.Paths.{made_from, path_bits, path_stimulus, path_response, IsPath}
+use Rattle.bit_machine.specs.Paths.{made_from, path_stimulus, path_response, IsPath}
 use Rattle.plan_model.specs.Moments.{phase_ops, moment_ahead, ArePhases, IsMoment}
 
 -- the bits of the chains
-abbrev pub lane_bits : Lane → List (List Bool)
-lane_bits lane = map path_bits lane.paths.items
+abbrev pub lane_bits : SteppedLane → List (List Bool)
+lane_bits lane = lane.rings.items
 
 -- over the wires and active at the cycle
 abbrev pub lane_on : Lane → ℕ → Bool
@@ -22,8 +23,8 @@ lane_on lane cycle = lane.tam && (nat_le lane.start cycle && nat_lt cycle lane.e
 
 -- a path that can be stepped
 pub record IsSound (p : Path) : Type 0 where
-  pub loads : length p.loads ≤ length p.ring
-  pub answers : length p.answers ≤ length p.ring
+  pub loads : length p.loads ≤ p.cells
+  pub answers : length p.answers ≤ p.cells
 
 -- the bit that the cell at a place loads, 0 past the last one that is loaded
 abbrev pub loaded_bit : (base k : ℕ) → List ℕ → ℕ → Bool
@@ -34,17 +35,28 @@ abbrev pub IsPageWord : (base : ℕ) → Page → List ℕ → (word : ℕ) → 
 IsPageWord base page loads word = (i : ℕ) → i < 64 → is_set word i ≡ loaded_bit base page.pattern loads (page.first + i)
 
 -- there is a word of its page for each chain
-pub record ArePages (lane : Lane) : Type 0 where
-  pub many : length lane.pages.items ≡ length lane.paths.items
-  pub each : (page : Page) → lane.page ≡ Some page → (j : ℕ) (p : Path) → slice_get lane.paths.items j ≡ Some p →
-      IsPageWord lane.base page p.loads (slice_index lane.pages.items j)
+pub record ArePages (s : SteppedLane) : Type 0 where
+  pub many : length s.pages.items ≡ length s.lane.paths.items
+  pub each : (page : Page) → s.page ≡ Some page → (j : ℕ) (p : Path) → slice_get s.lane.paths.items j ≡ Some p →
+      IsPageWord s.lane.base page p.loads (slice_index s.pages.items j)
 
--- a live test that can be stepped
+-- there are the bits of each chain, one for each cell
+pub record AreRings (s : SteppedLane) : Type 0 where
+  pub many : length s.rings.items ≡ length s.lane.paths.items
+  pub each : (j : ℕ) (p : Path) (bits : List Bool) → slice_get s.lane.paths.items j ≡ Some p → slice_get s.rings.items j ≡ Some bits →
+      length bits ≡ p.cells
+
+-- what is counted of a live test fits
 pub record IsReady (lane : Lane) : Type 0 where
   pub base : lane.base < 997
   pub phases : ArePhases lane.phases
-  pub pages : ArePages lane
   pub paths : (j : ℕ) (p : Path) → slice_get lane.paths.items j ≡ Some p → IsSound p
+
+-- a live test that can be stepped
+pub record IsSteppable (s : SteppedLane) : Type 0 where
+  pub ready : IsReady s.lane
+  pub pages : ArePages s
+  pub rings : AreRings s
 
 -- it is in the middle of its operations
 pub record IsBusy (lane : Lane) (cycle : ℕ) : Type 0 where
@@ -74,20 +86,14 @@ pub record IsLane (content : Content) (t : PlannedTest) (lane : Lane) : Type 0 w
   pub alone : t.tam ≡ false → (length lane.paths.items ≡ 0) × (length t.chains ≡ 0)
 
 -- the lane knows what its test does at the cycle, and has the page of what its chains want
-pub record IsNow (lane : Lane) (cycle : ℕ) : Type 0 where
-  pub is : IsMoment lane.phases (cycle - lane.start) lane.moment
-  pub page : (s k : ℕ) → moment_ahead lane.moment ≡ Some (s, k) → lane.page ≡ Some (record { pattern = k; first = s - s % 64 })
+pub record IsNow (s : SteppedLane) (cycle : ℕ) : Type 0 where
+  pub is : IsMoment s.lane.phases (cycle - s.lane.start) s.moment
+  pub page : (n k : ℕ) → moment_ahead s.moment ≡ Some (n, k) → s.page ≡ Some (record { pattern = k; first = n - n % 64 })
 
 -- the same test with the same bits, at another moment
-pub record IsSameTest (old new : Lane) : Type 0 where
-  pub tam : new.tam ≡ old.tam
-  pub base : new.base ≡ old.base
-  pub start : new.start ≡ old.start
-  pub ends : new.end ≡ old.end
-  pub phases : new.phases ≡ old.phases
-  pub first_wire : new.first_wire ≡ old.first_wire
-  pub width : new.width ≡ old.width
-  pub paths : new.paths ≡ old.paths
+pub record IsSameTest (old new : SteppedLane) : Type 0 where
+  pub lane : new.lane ≡ old.lane
+  pub rings : new.rings ≡ old.rings
 
 -- a capture, and whether it finds its stimulus
 abbrev pub capture_answer : (stimulus : ℕ → Cell → Bool) → Option Operation → List (List Cell) → List (List Bool) → Option Bool
@@ -97,12 +103,18 @@ capture_answer stimulus (Some Shift) chains bits = None
 capture_answer stimulus (Some (Capture k)) chains bits = Some (holds (stimulus k) chains bits)
 capture_answer stimulus (Some SelfTest) chains bits = None
 
--- a lane before any cycle
-pub record IsNewLane (content : Content) (t : PlannedTest) (l : Lane) : Type 0 where
-  pub is : IsLane content t l
-  pub bits : (j : ℕ) → j < length t.chains → get_or (lane_bits l) j [] ≡ map (content.initial t.id) (chain_at t j)
+-- bit 0 in each cell of each chain
+abbrev pub resting_bits : List Path → List (List Bool)
+resting_bits paths = map (λ (p : Path). replicate p.cells false) paths
 
--- the lanes of tests before any cycle, in their order
-pub record AreNewLanes (content : Content) (tests : List PlannedTest) (lanes : List Lane) : Type 0 where
-  pub long : length lanes ≡ length tests
-  pub each : (i : ℕ) (t : PlannedTest) (l : Lane) → slice_get tests i ≡ Some t → slice_get lanes i ≡ Some l → IsNewLane content t l
+-- a live test before any cycle
+pub record IsAtRest (lane : Lane) (s : SteppedLane) : Type 0 where
+  pub same : s.lane ≡ lane
+  pub rings : s.rings.items ≡ resting_bits lane.paths.items
+  pub page : s.page ≡ None
+  pub pages : length s.pages.items ≡ length lane.paths.items
+
+-- live tests before any cycle, in their order
+pub record AreAtRest (lanes : List Lane) (stepped : List SteppedLane) : Type 0 where
+  pub long : length stepped ≡ length lanes
+  pub each : (i : ℕ) (l : Lane) (s : SteppedLane) → slice_get lanes i ≡ Some l → slice_get stepped i ≡ Some s → IsAtRest l s

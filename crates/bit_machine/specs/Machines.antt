@@ -6,12 +6,13 @@ use Rattle.plan_model.specs.Plans.{PlannedTest, end_of, uses}
 use Rattle.plan_model.specs.Runs.{Content, State, operation_at, bits_at, chain_at, next_bits}
 use Rattle.plan_model.specs.Right.{IsAt, IsReadAt}
 use Rattle.bit_machine.specs.declared.lane.Lane.{Lane}
+use Rattle.bit_machine.specs.declared.stepped.SteppedLane.{SteppedLane}
 use Rattle.bit_machine.specs.declared.machine.Machine.{Machine}
 use Rattle.bit_machine.specs.Chips.{is_capture, loads_right, IsCompared}
-use Rattle.bit_machine.specs.Lanes.{lane_bits, lane_on, ArePages, IsReady, IsNow, IsLane, IsSameTest}
+use Rattle.bit_machine.specs.Lanes.{lane_bits, lane_on, ArePages, IsNow, IsLane, IsSameTest, IsSteppable}
 
 -- the bits of the chains of each test
-abbrev pub lanes_state : List Lane → State
+abbrev pub lanes_state : List SteppedLane → State
 lanes_state lanes = map lane_bits lanes
 
 -- the lanes of the tests, in their order
@@ -19,7 +20,13 @@ pub record AreLanes (content : Content) (tests : List PlannedTest) (lanes : List
   pub long : length lanes ≡ length tests
   pub lane : (i : ℕ) (t : PlannedTest) (l : Lane) → IsAt tests i t → slice_get lanes i ≡ Some l → IsLane content t l
 
--- what a good plan gives of its tests over so many wires: no wire has two users, and only what is on the wires is captured or read
+-- the same, stepped
+pub record AreStepped (content : Content) (tests : List PlannedTest) (lanes : List SteppedLane) : Type 0 where
+  pub long : length lanes ≡ length tests
+  pub lane : (i : ℕ) (t : PlannedTest) (s : SteppedLane) → IsAt tests i t → slice_get lanes i ≡ Some s → IsLane content t s.lane
+  pub steppable : (i : ℕ) (s : SteppedLane) → slice_get lanes i ≡ Some s → IsSteppable s
+
+-- what a good plan gives of its tests over `wires` wires: no wire has two users, and only what is on the wires is captured or read
 pub record AreOnWires (tests : List PlannedTest) (wires : ℕ) : Type 0 where
   pub alone : (c x i i' : ℕ) (t t' : PlannedTest) → IsAt tests i t → IsAt tests i' t' → uses c x t ≡ true → uses c x t' ≡ true → i' ≡ i
   pub within : (i : ℕ) (t : PlannedTest) → IsAt tests i t → t.tam ≡ true → t.first_wire + t.width ≤ wires
@@ -41,16 +48,16 @@ abbrev pub AreUnchanged : List PlannedTest → ℕ → ℕ → Type 0
 AreUnchanged tests c change = (i : ℕ) (t : PlannedTest) → IsAt tests i t → IsUnchanged c change t.start × IsUnchanged c change (end_of t)
 
 -- each lane that is on knows what its test does
-abbrev pub AreNow : List Lane → ℕ → Type 0
-AreNow lanes c = (i : ℕ) (l : Lane) → slice_get lanes i ≡ Some l → lane_on l c ≡ true → IsNow l c
+abbrev pub AreNow : List SteppedLane → ℕ → Type 0
+AreNow lanes c = (i : ℕ) (s : SteppedLane) → slice_get lanes i ≡ Some s → lane_on s.lane c ≡ true → IsNow s c
 
 -- so does each whose bus begins below a wire
-abbrev pub AreNowBelow : List Lane → (c w : ℕ) → Type 0
-AreNowBelow lanes c w = (i : ℕ) (l : Lane) → slice_get lanes i ≡ Some l → lane_on l c ≡ true → l.first_wire < w → IsNow l c
+abbrev pub AreNowBelow : List SteppedLane → (c w : ℕ) → Type 0
+AreNowBelow lanes c w = (i : ℕ) (s : SteppedLane) → slice_get lanes i ≡ Some s → lane_on s.lane c ≡ true → s.lane.first_wire < w → IsNow s c
 
 -- the machine of the tests of a good plan
 pub record IsMachine (content : Content) (tests : List PlannedTest) (m : Machine) : Type 0 where
-  pub lanes : AreLanes content tests m.lanes.items
+  pub lanes : AreStepped content tests m.lanes.items
   pub wires : AreOnWires tests (length m.users.items)
   pub users : AreUsers tests m.cycle m.users.items
   pub change : AreUnchanged tests m.cycle m.change
@@ -63,10 +70,16 @@ pub record AreSomeLanes (lanes : List Lane) (wires : ℕ) : Type 0 where
   pub are : AreLanes content tests lanes
   pub on : AreOnWires tests wires
 
-pub record AreSomeUsers (lanes : List Lane) (c : ℕ) (users : List (Option ℕ)) : Type 0 where
+pub record AreSomeStepped (lanes : List SteppedLane) (wires : ℕ) : Type 0 where
   pub content : Content
   pub tests : List PlannedTest
-  pub are : AreLanes content tests lanes
+  pub are : AreStepped content tests lanes
+  pub on : AreOnWires tests wires
+
+pub record AreSomeUsers (lanes : List SteppedLane) (c : ℕ) (users : List (Option ℕ)) : Type 0 where
+  pub content : Content
+  pub tests : List PlannedTest
+  pub are : AreStepped content tests lanes
   pub on : AreOnWires tests (length users)
   pub by : AreUsers tests c users
 
@@ -76,22 +89,23 @@ pub record IsSomeMachine (m : Machine) : Type 0 where
   pub is : IsMachine content tests m
 
 -- the test that uses a wire at this cycle, with its lane
-pub record IsUser (content : Content) (tests : List PlannedTest) (m : Machine) (w i : ℕ) (l : Lane) : Type 0 where
+pub record IsUser (content : Content) (tests : List PlannedTest) (m : Machine) (w i : ℕ) (s : SteppedLane) : Type 0 where
   pub t : PlannedTest
   pub at : IsAt tests i t
-  pub lane_at : slice_get m.lanes.items i ≡ Some l
+  pub lane_at : slice_get m.lanes.items i ≡ Some s
   pub tam : t.tam ≡ true
   pub used : uses m.cycle w t ≡ true
-  pub lane : IsLane content t l
-  pub first : l.first_wire ≡ t.first_wire
+  pub lane : IsLane content t s.lane
+  pub steppable : IsSteppable s
+  pub first : s.lane.first_wire ≡ t.first_wire
   pub begun : t.start ≤ m.cycle
-  pub now : IsNow l m.cycle
+  pub now : IsNow s m.cycle
 
 -- a lane that has a wire now
-pub record HasWire (m : Machine) (w : ℕ) (l : Lane) : Type 0 where
-  pub ready : IsReady l
-  pub low : l.first_wire ≤ w
-  pub user : (content : Content) (tests : List PlannedTest) → IsMachine content tests m → (i : ℕ) × IsUser content tests m w i l
+pub record HasWire (m : Machine) (w : ℕ) (s : SteppedLane) : Type 0 where
+  pub steppable : IsSteppable s
+  pub low : s.lane.first_wire ≤ w
+  pub user : (content : Content) (tests : List PlannedTest) → IsMachine content tests m → (i : ℕ) × IsUser content tests m w i s
 
 -- no test uses the wire at this cycle
 abbrev pub HasNoUser : Machine → ℕ → Type 0
@@ -128,8 +142,9 @@ one_right (Some true) = 1
 one_right (Some false) = 0
 
 -- every test over the wires has its wires
-abbrev pub FitLanes : List Lane → ℕ → Type 0
-FitLanes lanes wires = (i : ℕ) (l : Lane) → slice_get lanes i ≡ Some l → l.tam ≡ true → l.first_wire + l.width ≤ wires
+abbrev pub FitLanes : List SteppedLane → ℕ → Type 0
+FitLanes lanes wires = (i : ℕ) (s : SteppedLane) → slice_get lanes i ≡ Some s → s.lane.tam ≡ true →
+    s.lane.first_wire + s.lane.width ≤ wires
 
 -- no lane begins or ends between a cycle and the change
 abbrev pub IsLaneUnchanged : ℕ → ℕ → Lane → Type 0
@@ -147,10 +162,10 @@ pub record IsMark (tests : List PlannedTest) (c w : ℕ) (b : Bool) : Type 0 whe
   pub only : b ≡ true → IsCompared tests c w
 
 -- the lane at a place, where it stands at the cycle if the wire is the first one of its bus
-pub record IsStood (lanes : List Lane) (place wire cycle : ℕ) (new : Lane) : Type 0 where
-  pub old : Lane
+pub record IsStood (lanes : List SteppedLane) (place wire cycle : ℕ) (new : SteppedLane) : Type 0 where
+  pub old : SteppedLane
   pub at : slice_get lanes place ≡ Some old
   pub same : IsSameTest old new
   pub pages : ArePages new
-  pub stands : old.first_wire ≡ wire → IsNow new cycle
+  pub stands : old.lane.first_wire ≡ wire → IsNow new cycle
   pub stays : IsNow old cycle → IsNow new cycle

@@ -11,6 +11,6 @@ is_set word i = nat_eq (bit_at word i) 1
 abbrev pub word_bit : (words : List ℕ) → ℕ → Bool
 word_bit words i = is_set (slice_index words (i / 64)) (i % 64)
 
--- so many bits
+-- the first `count` bits
 abbrev pub packed : (words : List ℕ) (count : ℕ) → List Bool
 packed words count = map (word_bit words) (range_with_len 0 count)

@@ -20,19 +20,15 @@ pub record IsChain (cells : List Cell) : Type 0 where
   pub unread : (r : ℕ) → r + out_length cells < length cells → is_read (get_or cells r (In 0)) ≡ false
   pub read : (r : ℕ) → length cells ≤ r + out_length cells → r < length cells → is_read (get_or cells r (In 0)) ≡ true
 
--- A path is a chain of these cells, with the numbers of the bits that they load and answer.
+-- A path is a chain of these cells, by the numbers of the bits that they load and answer.
 pub record IsPath (inputs : ℕ) (lengths : List ℕ) (cells : List Cell) (p : Path) : Type 0 where
   pub chain : IsChain cells
-  pub long : length p.ring ≡ length cells
+  pub long : p.cells ≡ length cells
   pub loads_long : length p.loads ≡ in_length cells
   pub load : (r : ℕ) → r < in_length cells → slice_index p.loads r ≡ stimulus_place inputs lengths (get_or cells r (In 0))
   pub answers_long : length p.answers ≡ out_length cells
   pub answer : (r q : ℕ) → r + out_length cells ≡ length cells + q → r < length cells →
       slice_index p.answers q ≡ response_place lengths (get_or cells r (In 0))
-
--- the bits of a path
-abbrev pub path_bits : Path → List Bool
-path_bits p = p.ring
 
 -- what a path loads and answers by made bits
 abbrev pub path_stimulus : (base inputs : ℕ) (lengths : List ℕ) → ℕ → Cell → Bool
@@ -41,7 +37,7 @@ path_stimulus base inputs lengths k x = made_from base k (stimulus_place inputs 
 abbrev pub path_response : (base : ℕ) (lengths : List ℕ) → ℕ → Cell → Bool
 path_response base lengths k x = made_from base k (response_place lengths x) 1
 
--- a chain shows a response bit so many Shifts behind a capture
+-- a chain shows a response bit, some Shifts behind a capture
 abbrev pub is_answered : List Cell → Option (ℕ × ℕ) → Bool
 is_answered cells None = false
 is_answered cells (Some b) = nat_lt b.0 (out_length cells)

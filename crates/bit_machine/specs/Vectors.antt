@@ -58,17 +58,17 @@ pub record AreVectors (soc : SocValue) (plan : PlanValue) (seed wires : ℕ) (la
 
 -- ---- bytes that are put
 
--- another column than this one of so many lines
+-- another column than this one of `count` lines
 abbrev pub IsElsewhere : (row count column r c : ℕ) → Type 0
 IsElsewhere row count column r c = (c ≢ column) ⊎ ((r < row) ⊎ (row + count ≤ r))
 
--- so many bytes were put below one another
+-- `count` bytes were put below one another
 pub record ArePutDown (wires row count column : ℕ) (byte : ℕ → ℕ) (old new : List ℕ) : Type 0 where
   pub long : length new ≡ length old
   pub put : (i : ℕ) → i < count → byte_at new wires (row + i) column ≡ Some (byte i)
   pub others : (r c : ℕ) → c < 2 * wires + 2 → IsElsewhere row count column r c → byte_at new wires r c ≡ byte_at old wires r c
 
--- so many equal bytes were put beside one another
+-- `count` equal bytes were put beside one another
 pub record ArePutAcross (wires row column count byte : ℕ) (old new : List ℕ) : Type 0 where
   pub long : length new ≡ length old
   pub put : (c : ℕ) → column ≤ c → c < column + count → byte_at new wires row c ≡ Some byte
@@ -95,7 +95,7 @@ earlier i a = option_map (λ (t : Turn). record { shifts = t.shifts - i; pattern
 abbrev pub later : ℕ → Option Turn → Option Turn
 later i b = option_map (λ (t : Turn). record { shifts = t.shifts + i; pattern = t.pattern }) b
 
--- from an operation on there are so many Shifts
+-- from an operation on there are `count` Shifts
 abbrev pub AreShifts : Phases → (n : ℕ) (ahead behind : Option Turn) (count : ℕ) → Type 0
 AreShifts p n ahead behind count = (i : ℕ) → i < count → IsMoment p (n + i) (moment.Shift (earlier i ahead) (later i behind))
 
@@ -120,7 +120,7 @@ abbrev pub IsKeptElsewhere : (wires row count column : ℕ) (old new : List ℕ)
 IsKeptElsewhere wires row count column old new =
     (r c : ℕ) → c < 2 * wires + 2 → IsElsewhere row count column r c → byte_at new wires r c ≡ byte_at old wires r c
 
--- a column of other wires than so many, or another line
+-- a column of other wires than `many` of them, or another line
 abbrev pub IsApart : (wires row count first many r c : ℕ) → Type 0
 IsApart wires row count first many r c =
     (((c < first) ⊎ (first + many ≤ c)) × ((c < wires + 1 + first) ⊎ (wires + 1 + (first + many) ≤ c))) ⊎ ((r < row) ⊎ (row + count ≤ r))
@@ -136,7 +136,7 @@ pub record AreChainsPut (base : ℕ) (paths : List Path) (many wires row count f
 
 -- ---- one live test
 
--- a lane of a test among tests on so many wires
+-- a lane of a test among tests on `wires` wires
 pub record HasLane (content : Content) (tests : List PlannedTest) (wires i : ℕ) (t : PlannedTest) (lane : Lane) : Type 0 where
   pub at : IsAt tests i t
   pub on : AreOnWires tests wires

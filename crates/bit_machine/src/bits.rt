@@ -45,7 +45,7 @@ pub fn with_bit(word: u64, place: usize, bit: bool) -> u64
     if bit { word | mask } else { word & !mask }
 }
 
-/// So many words without a bit.
+/// `count` words without a bit.
 fn zero_words(alloc: Global, count: usize) -> Result<Vec<u64>, NoMemory>
     ensures { IfOk result (λ words. words.items ≡ replicate count 0) }
 {
@@ -53,7 +53,7 @@ fn zero_words(alloc: Global, count: usize) -> Result<Vec<u64>, NoMemory>
 }
 
 impl Bits {
-    /// So many bits 0.
+    /// `count` bits 0.
     pub fn zeros(alloc: Global, count: usize) -> Result<Bits, NoMemory>
         ensures { IfOk result (λ bits. bits ≡ replicate count false) }
     {

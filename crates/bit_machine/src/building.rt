@@ -1,20 +1,20 @@
-//! The chains of a test over the wires, made ready for the first cycle.
+//! The chains of a test over the wires, by the numbers of their bits.
 ghost use Rattle.std.specs.Prelude.{◌≡◌, ℕ, ◌+◌, ◌^◌, ◌<◌, ◌≤◌, ◌++◌, length, OnOk, IfOk};
 ghost use Rattle.std.specs.List.{All, sum, sum_by, flat_map, range_with_len};
 ghost use Rattle.plan_model.specs.Views.{chain_value};
 ghost use Rattle.bit_machine.specs.Layouts.{chain_of, chain_length, layout_cells, IsLayout};
 ghost use Rattle.bit_machine.specs.Numbers.{all_numbers, IsFull};
-ghost use Rattle.bit_machine.specs.Building.{flop_numbers, IsNewPath, AreNewPaths};
+ghost use Rattle.bit_machine.specs.Building.{flop_numbers, ArePaths};
+ghost use Rattle.bit_machine.specs.Paths.{IsPath};
 
 use crate::layout::Layout;
 use crate::numbers::{NumberRun, Numbers};
 use crate::path::Path;
-use crate::ring::Ring;
 use outside::{NoMemory, push};
 use plan_model::ChainPlan;
 use std::alloc::Global;
 
-/// Appends so many numbers from one on.
+/// Appends `count` numbers, from `from` on.
 fn push_numbers(runs: &mut Vec<NumberRun>, from: u64, count: u64) -> Result<(), NoMemory>
     requires full { All IsFull runs.old.items }
     requires fits { from + count < 2 ^ 64 }
@@ -128,25 +128,25 @@ fn path_of(
     requires ins { ins_from + chain.now.ins < 2 ^ 63 }
     requires outs { outs_from + chain.now.outs < 2 ^ 63 }
     ensures { (o : ℕ) → outs_from ≡ sum layout.now.lengths.items + o →
-        IfOk result (IsNewPath inputs layout.now.lengths.items (chain_of layout.now.lengths.items ins_from o (chain_value chain.now))) }
+        IfOk result (IsPath inputs layout.now.lengths.items (chain_of layout.now.lengths.items ins_from o (chain_value chain.now))) }
 {
     let loads = loads_of(alloc, inputs, layout, chain, ins_from)?;
     let answers = answers_of(alloc, layout, chain, outs_from)?;
-    let ring = Ring::zeros(alloc, loads.len() + chain.outs as usize)?;
+    let cells = loads.len() + chain.outs as usize;
     Ok(Path {
-        ring,
+        cells,
         loads,
         answers,
     })
 }
 
-/// The chains of a wrapper, for a module of so many input cells.
+/// The chains of a wrapper, for a module of `inputs` input cells.
 pub fn paths_of(alloc: Global, inputs: u64, layout: &Layout) -> Result<Vec<Path>, NoMemory>
     requires layout { IsLayout layout.now }
     requires fits { inputs + sum layout.now.lengths.items < 2 ^ 62 }
     requires ins { sum_by (λ c. c.ins) layout.now.chains.items < 2 ^ 62 }
     requires outs { sum_by (λ c. c.outs) layout.now.chains.items < 2 ^ 62 }
-    ensures { IfOk result (λ paths. AreNewPaths inputs layout.now.lengths.items (layout_cells layout.now)
+    ensures { IfOk result (λ paths. ArePaths inputs layout.now.lengths.items (layout_cells layout.now)
         (length layout.now.chains.items) paths.items) }
 {
     let mut ins_from = 0;

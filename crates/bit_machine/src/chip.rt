@@ -8,7 +8,8 @@ ghost use Rattle.plan_model.specs.Views.{plan_value};
 ghost use Rattle.bit_machine.specs.Chips.{at_first, wires_of, carried_bits, shown_bits, chip_content, chip_tests, IsCompared, captures_at, right_loads_at};
 
 use crate::machine::Machine;
-use crate::placing::{Setting, cycles_of};
+use crate::placing::{cycles_of, placed_lanes};
+use crate::stepped::resting_lanes;
 use live_tests::first_wires;
 use outside::NoMemory;
 use plan_model::Plan;
@@ -77,14 +78,9 @@ impl<'a> Chip<'a> {
         let firsts = first_wires(alloc, plan)?;
         let wires = firsts[plan.buses.len()] as usize;
         let users = nobody(alloc, wires)?;
-        let setting = Setting {
-            soc,
-            plan,
-            seed,
-            firsts: &firsts,
-        };
-        let lanes = setting.lanes(alloc)?;
-        let machine = Machine::new(lanes, users);
+        let lanes = placed_lanes(alloc, soc, plan, seed, &firsts)?;
+        let stepped = resting_lanes(alloc, lanes)?;
+        let machine = Machine::new(stepped, users);
         Ok(Chip {
             soc,
             plan,

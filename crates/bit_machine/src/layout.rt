@@ -92,7 +92,7 @@ fn put_bits(bits: &mut Ring, at: usize, answer: &[bool])
     }
 }
 
-/// So many bits from a place on.
+/// `count` bits from a place on.
 fn part(bits: &[bool], from: usize, count: usize) -> &[bool]
     requires { from + count ≤ length bits.now }
     ensures part { result.now ≡ take count (drop from bits.now) }

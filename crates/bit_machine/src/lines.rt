@@ -7,7 +7,7 @@ use crate::bits::is_set;
 use crate::made::Line;
 use crate::numbers::Numbers;
 
-/// A column of a line, in lines for so many wires.
+/// A column of a line, in lines for `wires` wires.
 #[derive(Clone, Copy, Drop)]
 pub struct Place {
     pub wires: usize,
@@ -22,7 +22,7 @@ pub fn digit(bit: bool) -> u8
     if bit { b'1' } else { b'0' }
 }
 
-/// Writes a byte into a column, so many lines below a place.
+/// Writes a byte into a column, `below` lines below a place.
 pub fn put_byte(text: &mut [u8], at: Place, below: usize, byte: u8)
     requires narrow { at.wires ≤ 256 }
     requires column { at.column < 2 * at.wires + 2 }
@@ -32,7 +32,7 @@ pub fn put_byte(text: &mut [u8], at: Place, below: usize, byte: u8)
     text[(at.row + below) * (2 * at.wires + 2) + at.column] = byte;
 }
 
-/// Writes a byte into so many columns of a row from one on.
+/// Writes a byte into `count` columns of a row, from the column `from` on.
 fn put_across(text: &mut [u8], wires: usize, row: usize, from: usize, count: usize, byte: u8)
     requires narrow { wires ≤ 256 }
     requires column { from + count ≤ 2 * wires + 2 }
@@ -59,7 +59,7 @@ fn put_blank(text: &mut [u8], wires: usize, row: usize)
     put_across(text, wires, row, wires + 1 + wires, 1, b'\n');
 }
 
-/// Writes so many such lines.
+/// Writes `count` such lines.
 pub fn put_blanks(text: &mut [u8], wires: usize, count: usize)
     requires narrow { wires ≤ 256 }
     requires rows { count * (2 * wires + 2) ≤ length text.old }

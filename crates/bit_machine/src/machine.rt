@@ -3,16 +3,17 @@ ghost use Rattle.std.specs.Prelude.{◌≡◌, ◌≢◌, ℕ, ◌+◌, ◌^◌,
 ghost use Rattle.plan_model.specs.Plans.{PlannedTest};
 ghost use Rattle.plan_model.specs.Runs.{Content, carried, shown, step};
 ghost use Rattle.bit_machine.specs.Chips.{captures_at, right_loads_at};
-ghost use Rattle.bit_machine.specs.Lanes.{lane_on, IsBusy, IsReady};
-ghost use Rattle.bit_machine.specs.declared.lane.Lane.{Lane};
-ghost use Rattle.bit_machine.specs.Machines.{lanes_state, FitLanes, AreLanes, AreOnWires, AreUsers, AreNow, AreNowBelow, AreSomeLanes, AreSomeUsers, IsStood, IsUnchanged, IsLaneUnchanged, IsMachine, IsSomeMachine, HasWire, HasNoUser, IsWireStep, IsWireCapture, IsMark, one_capture, one_right};
+ghost use Rattle.bit_machine.specs.Lanes.{lane_on, IsBusy, IsSteppable};
+ghost use Rattle.bit_machine.specs.declared.stepped.SteppedLane.{SteppedLane};
+ghost use Rattle.bit_machine.specs.Machines.{lanes_state, FitLanes, AreStepped, AreOnWires, AreUsers, AreNow, AreNowBelow, AreSomeStepped, AreSomeUsers, IsStood, IsUnchanged, IsLaneUnchanged, IsMachine, IsSomeMachine, HasWire, HasNoUser, IsWireStep, IsWireCapture, IsMark, one_capture, one_right};
 
 use crate::lane::Lane;
+use crate::stepped::SteppedLane;
 
 /// The live tests of a chip under test, in the order of the chip, and for each wire the place of the test that uses it.
 #[derive(Drop)]
 pub struct Machine {
-    pub lanes: Vec<Lane>,
+    pub lanes: Vec<SteppedLane>,
     pub users: Vec<Option<usize>>,
     /// The cycle that is next, and the next one at which a test begins or has ended.
     pub cycle: u64,
@@ -20,7 +21,7 @@ pub struct Machine {
 }
 
 /// Counts a capture, and whether it found its stimulus.
-fn count(counts: (u64, u64), found: Option<bool>) -> (u64, u64)
+fn count_capture(counts: (u64, u64), found: Option<bool>) -> (u64, u64)
     requires few { counts.1 ≤ counts.0 }
     requires fit { counts.0 < 2 ^ 63 }
     ensures captures { result.0 ≡ counts.0 + one_capture found }
@@ -80,12 +81,12 @@ fn sooner(lane: &Lane, cycle: u64, change: u64) -> u64
 }
 
 /// The next cycle after this one at which a test begins or has ended.
-fn next_change(lanes: &[Lane], cycle: u64) -> u64
-    ensures { (i : ℕ) (l : Lane) → slice_get lanes.now i ≡ Some l → IsLaneUnchanged cycle result l }
+fn next_change(lanes: &[SteppedLane], cycle: u64) -> u64
+    ensures { (i : ℕ) (l : SteppedLane) → slice_get lanes.now i ≡ Some l → IsLaneUnchanged cycle result l.lane }
 {
     let mut change = u64::MAX;
-    for lane in lanes {
-        change = sooner(lane, cycle, change);
+    for stepped in lanes {
+        change = sooner(&stepped.lane, cycle, change);
     }
     change
 }
@@ -106,40 +107,41 @@ fn give_active(users: &mut [Option<usize>], lane: &Lane, place: usize, cycle: u6
 }
 
 /// Which test each wire belongs to at a cycle.
-fn assign_wires(users: &mut [Option<usize>], lanes: &[Lane], cycle: u64)
+fn assign_wires(users: &mut [Option<usize>], lanes: &[SteppedLane], cycle: u64)
     requires { FitLanes lanes.now (length users.old) }
     ensures long { length users.new ≡ length users.old }
-    ensures users { (content : Content) (tests : List PlannedTest) → AreLanes content tests lanes.now →
+    ensures users { (content : Content) (tests : List PlannedTest) → AreStepped content tests lanes.now →
         AreOnWires tests (length users.old) → AreUsers tests cycle users.new }
 {
     clear_users(users);
     for place in 0..lanes.len() {
-        give_active(users, &lanes[place], place, cycle);
+        give_active(users, &lanes[place].lane, place, cycle);
     }
 }
 
 /// The test of a place stands at a cycle, where a wire is the first one of its bus.
-fn stand_at(lanes: &mut [Lane], place: usize, wire: usize, cycle: u64)
+fn stand_at(lanes: &mut [SteppedLane], place: usize, wire: usize, cycle: u64)
     requires within { place < length lanes.old }
-    requires ready { (l : Lane) → slice_get lanes.old place ≡ Some l → IsReady l × IsBusy l cycle }
+    requires ready { (l : SteppedLane) → slice_get lanes.old place ≡ Some l → IsSteppable l × IsBusy l.lane cycle }
     ensures long { length lanes.new ≡ length lanes.old }
     ensures others { (i : ℕ) → i ≢ place → slice_get lanes.new i ≡ slice_get lanes.old i }
-    ensures own { (l : Lane) → slice_get lanes.new place ≡ Some l → IsStood lanes.old place wire cycle l }
+    ensures own { (l : SteppedLane) → slice_get lanes.new place ≡ Some l → IsStood lanes.old place wire cycle l }
 {
-    if lanes[place].first_wire != wire {
+    if lanes[place].lane.first_wire != wire {
         return;
     }
     lanes[place].stand(cycle);
 }
 
 /// The test that uses a wire stands at a cycle, where the wire is the first one of its bus.
-fn stand_wire(lanes: &mut [Lane], users: &[Option<usize>], wire: usize, cycle: u64)
+fn stand_wire(lanes: &mut [SteppedLane], users: &[Option<usize>], wire: usize, cycle: u64)
     requires some { AreSomeUsers lanes.old cycle users.now }
     requires wire { wire < length users.now }
     ensures long { length lanes.new ≡ length lanes.old }
     ensures some { AreSomeUsers lanes.new cycle users.now }
     ensures state { lanes_state lanes.new ≡ lanes_state lanes.old }
-    ensures lanes { (content : Content) (tests : List PlannedTest) → AreLanes content tests lanes.old → AreLanes content tests lanes.new }
+    ensures lanes { (content : Content) (tests : List PlannedTest) → AreStepped content tests lanes.old →
+        AreStepped content tests lanes.new }
     ensures now { AreNowBelow lanes.old cycle wire → AreNowBelow lanes.new cycle (wire + 1) }
 {
     match users[wire] {
@@ -149,11 +151,12 @@ fn stand_wire(lanes: &mut [Lane], users: &[Option<usize>], wire: usize, cycle: u
 }
 
 /// All tests that have wires stand at a cycle.
-fn stand_all(lanes: &mut [Lane], users: &[Option<usize>], cycle: u64)
+fn stand_all(lanes: &mut [SteppedLane], users: &[Option<usize>], cycle: u64)
     requires { AreSomeUsers lanes.old cycle users.now }
     ensures long { length lanes.new ≡ length lanes.old }
     ensures state { lanes_state lanes.new ≡ lanes_state lanes.old }
-    ensures lanes { (content : Content) (tests : List PlannedTest) → AreLanes content tests lanes.old → AreLanes content tests lanes.new }
+    ensures lanes { (content : Content) (tests : List PlannedTest) → AreStepped content tests lanes.old →
+        AreStepped content tests lanes.new }
     ensures now { AreNow lanes.new cycle }
 {
     for wire in 0..users.len() {
@@ -163,12 +166,12 @@ fn stand_all(lanes: &mut [Lane], users: &[Option<usize>], cycle: u64)
 
 impl Machine {
     /// Stands before the first cycle.
-    pub fn new(lanes: Vec<Lane>, users: Vec<Option<usize>>) -> Machine
-        requires { AreSomeLanes lanes.items (length users.items) }
+    pub fn new(lanes: Vec<SteppedLane>, users: Vec<Option<usize>>) -> Machine
+        requires { AreSomeStepped lanes.items (length users.items) }
         ensures cycle { result.cycle ≡ 0 }
         ensures state { lanes_state result.lanes.items ≡ lanes_state lanes.items }
         ensures long { length result.users.items ≡ length users.items }
-        ensures machine { (content : Content) (tests : List PlannedTest) → AreLanes content tests lanes.items →
+        ensures machine { (content : Content) (tests : List PlannedTest) → AreStepped content tests lanes.items →
             AreOnWires tests (length users.items) → IsMachine content tests result }
     {
         let mut machine = Machine {
@@ -183,11 +186,11 @@ impl Machine {
 
     /// Stands at a cycle.
     fn stand(&mut self, cycle: u64)
-        requires { AreSomeLanes self.old.lanes.items (length self.old.users.items) }
+        requires { AreSomeStepped self.old.lanes.items (length self.old.users.items) }
         ensures cycle { self.new.cycle ≡ cycle }
         ensures state { lanes_state self.new.lanes.items ≡ lanes_state self.old.lanes.items }
         ensures long { length self.new.users.items ≡ length self.old.users.items }
-        ensures machine { (content : Content) (tests : List PlannedTest) → AreLanes content tests self.old.lanes.items →
+        ensures machine { (content : Content) (tests : List PlannedTest) → AreStepped content tests self.old.lanes.items →
             AreOnWires tests (length self.old.users.items) → IsMachine content tests self.new }
     {
         self.cycle = cycle;
@@ -197,10 +200,10 @@ impl Machine {
     }
 
     /// The test that uses a wire.
-    fn user(&self, wire: usize) -> Option<&Lane>
+    fn user(&self, wire: usize) -> Option<&SteppedLane>
         requires machine { IsSomeMachine self.now }
         requires wire { wire < length self.now.users.items }
-        ensures some { IfSome result (λ lane. HasWire self.now wire lane.now) }
+        ensures some { IfSome result (λ stepped. HasWire self.now wire stepped.now) }
         ensures none { IfNone result (HasNoUser self.now wire) }
     {
         match self.users[wire] {
@@ -217,7 +220,7 @@ impl Machine {
             result ≡ carried content tests self.now.cycle wire }
     {
         match self.user(wire) {
-            Some(lane) => lane.wanted(wire - lane.first_wire),
+            Some(stepped) => stepped.wanted(wire - stepped.lane.first_wire),
             None => false,
         }
     }
@@ -230,7 +233,7 @@ impl Machine {
             result ≡ shown tests (lanes_state self.now.lanes.items) self.now.cycle wire }
     {
         match self.user(wire) {
-            Some(lane) => lane.shown(wire - lane.first_wire),
+            Some(stepped) => stepped.shown(wire - stepped.lane.first_wire),
             None => false,
         }
     }
@@ -243,7 +246,7 @@ impl Machine {
             IsMark tests self.now.cycle wire result }
     {
         match self.user(wire) {
-            Some(lane) => lane.is_read(wire - lane.first_wire),
+            Some(stepped) => stepped.is_read(wire - stepped.lane.first_wire),
             None => false,
         }
     }
@@ -295,9 +298,9 @@ impl Machine {
             IsWireCapture content tests self.now.cycle wire (lanes_state self.now.lanes.items) result }
     {
         match self.user(wire) {
-            Some(lane) => {
-                if lane.first_wire == wire {
-                    lane.capture_of()
+            Some(stepped) => {
+                if stepped.lane.first_wire == wire {
+                    stepped.capture_of()
                 } else {
                     None
                 }
@@ -317,7 +320,7 @@ impl Machine {
     {
         let mut counts = (0, 0);
         for wire in 0..self.users.len() {
-            counts = count(counts, self.capture_of(wire));
+            counts = count_capture(counts, self.capture_of(wire));
         }
         counts
     }
@@ -336,9 +339,9 @@ impl Machine {
     {
         match self.users[wire] {
             Some(place) => {
-                let lane = &mut self.lanes[place];
-                let chain = wire - lane.first_wire;
-                lane.step(chain, drive);
+                let stepped = &mut self.lanes[place];
+                let chain = wire - stepped.lane.first_wire;
+                stepped.step(chain, drive);
             }
             None => {}
         }

@@ -10,7 +10,7 @@ use crate::lines::{Place, digit, put_byte};
 use crate::made::{Line, bit_of};
 use std::marker::Model;
 
-/// So many numbers from one on, at least one.
+/// `count` numbers one after another, from `from` on: at least one.
 #[derive(Clone, Copy, Drop)]
 pub struct NumberRun {
     pub from: u64,
@@ -106,7 +106,7 @@ fn next_bit(runs: &[NumberRun], line: &Line, walk: &mut Walk) -> bool
     bit_of(here.value)
 }
 
-/// The made bits of so many numbers from a place on.
+/// The made bits of `count` numbers from a place on.
 fn word_of(runs: &[NumberRun], line: &Line, first: usize, count: usize) -> u64
     requires first { line.now.first < 997 }
     requires step { line.now.step < 997 }
@@ -126,7 +126,7 @@ fn word_of(runs: &[NumberRun], line: &Line, first: usize, count: usize) -> u64
     word
 }
 
-/// Writes the made bits of so many numbers as digits into a column, one a line: that of the number at the place `last`, and then those
+/// Writes the made bits of `count` numbers as digits into a column, one a line: that of the number at the place `last`, and then those
 /// of the numbers before it.
 fn put_back(runs: &[NumberRun], line: &Line, last: usize, count: usize, text: &mut [u8], at: Place)
     requires first { line.now.first < 997 }
@@ -188,7 +188,7 @@ impl Numbers {
         self.bits(line, first, WORD_BITS)
     }
 
-    /// The made bits of so many numbers from a place on, at most 64: 0 past the last number.
+    /// The made bits of `count` numbers from a place on, at most 64: 0 past the last number.
     pub fn bits(&self, line: &Line, first: usize, count: usize) -> u64
         requires first { line.now.first < 997 }
         requires step { line.now.step < 997 }
@@ -201,7 +201,7 @@ impl Numbers {
         word_of(&self.runs, line, first, (self.count - first).min(count))
     }
 
-    /// Writes the made bits of so many numbers as digits into a column, one a line: that of the number at the place `last`, and then
+    /// Writes the made bits of `count` numbers as digits into a column, one a line: that of the number at the place `last`, and then
     /// those of the numbers before it.
     pub fn put_back(&self, line: &Line, last: usize, count: usize, text: &mut [u8], at: Place)
         requires first { line.now.first < 997 }

@@ -1,4 +1,4 @@
-//! One chain of a test over the wires, with the numbers of its bits in the patterns.
+//! One chain of a test over the wires, by the numbers of its bits in the patterns.
 ghost use Rattle.std.specs.Prelude.{◌≡◌, ℕ, ◌-◌, ◌%◌, ◌<◌, ◌≤◌, Some, List, length};
 ghost use Rattle.plan_model.specs.Cells.{Cell};
 ghost use Rattle.plan_model.specs.Runs.{captured, next_bits};
@@ -13,11 +13,11 @@ use crate::numbers::Numbers;
 use crate::ring::Ring;
 use plan_model::Moment;
 
-/// The bits of a chain, and for each cell that is loaded and each that is read the number of its bit in a stimulus and in
-/// a response, both from wire in on.
+/// How many cells a chain has, and for each one that is loaded and each that is read the number of its bit in a stimulus and
+/// in a response, both from wire in on.
 #[derive(Drop)]
 pub struct Path {
-    pub ring: Ring,
+    pub cells: usize,
     pub loads: Numbers,
     pub answers: Numbers,
 }
@@ -38,17 +38,17 @@ fn word_at(numbers: &Numbers, line: &Line, place: usize, word: u64) -> u64
 
 impl Path {
     /// Whether the cells that are loaded hold a pattern.
-    pub fn holds(&self, base: u64, pattern: u64) -> bool
+    pub fn holds(&self, ring: &Ring, base: u64, pattern: u64) -> bool
         requires base { base < 997 }
-        requires fits { length self.now.loads ≤ length self.now.ring }
+        requires fits { length self.now.loads ≤ length ring.now }
         ensures { (inputs : ℕ) (lengths : List ℕ) (cells : List Cell) → IsPath inputs lengths cells self.now →
-            result ≡ chain_holds (path_stimulus base inputs lengths pattern) cells self.now.ring }
+            length ring.now ≡ self.now.cells → result ≡ chain_holds (path_stimulus base inputs lengths pattern) cells ring.now }
     {
         let line = Line::of(base, pattern, 0);
         let mut word = 0;
         for cell in 0..self.loads.len() {
             word = word_at(&self.loads, &line, cell, word);
-            if self.ring.bit(cell) != is_set(word, cell % WORD_BITS) {
+            if ring.bit(cell) != is_set(word, cell % WORD_BITS) {
                 return false;
             }
         }
@@ -56,39 +56,37 @@ impl Path {
     }
 
     /// The cells that are read take the response of a pattern.
-    fn capture(&mut self, base: u64, pattern: u64)
+    fn capture(&self, ring: &mut Ring, base: u64, pattern: u64)
         requires base { base < 997 }
-        requires fits { length self.old.answers ≤ length self.old.ring }
-        ensures loads { self.new.loads ≡ self.old.loads }
-        ensures answers { self.new.answers ≡ self.old.answers }
-        ensures bits { (inputs : ℕ) (lengths : List ℕ) (cells : List Cell) → IsPath inputs lengths cells self.old →
-            self.new.ring ≡ captured (path_response base lengths pattern) cells self.old.ring }
+        requires fits { length self.now.answers ≤ length ring.old }
+        ensures long { length ring.new ≡ length ring.old }
+        ensures bits { (inputs : ℕ) (lengths : List ℕ) (cells : List Cell) → IsPath inputs lengths cells self.now →
+            length ring.old ≡ self.now.cells → ring.new ≡ captured (path_response base lengths pattern) cells ring.old }
     {
         let line = Line::of(base, pattern, 1);
         let count = self.answers.len();
-        let from = self.ring.len() - count;
+        let from = ring.len() - count;
         let mut word = 0;
         for place in 0..count {
             word = word_at(&self.answers, &line, place, word);
             let bit = is_set(word, place % WORD_BITS);
-            self.ring.put(from + place, bit);
+            ring.put(from + place, bit);
         }
     }
 
     /// One cycle of the chain, with the bit on its wire.
-    pub fn step(&mut self, base: u64, moment: Moment, drive: bool)
+    pub fn step(&self, ring: &mut Ring, base: u64, moment: Moment, drive: bool)
         requires base { base < 997 }
-        requires fits { length self.old.answers ≤ length self.old.ring }
-        ensures loads { self.new.loads ≡ self.old.loads }
-        ensures path { (inputs : ℕ) (lengths : List ℕ) (cells : List Cell) → IsPath inputs lengths cells self.old →
-            IsPath inputs lengths cells self.new }
-        ensures bits { (inputs : ℕ) (lengths : List ℕ) (cells : List Cell) → IsPath inputs lengths cells self.old →
-            self.new.ring ≡ next_bits (path_response base lengths) cells (Some (moment_operation moment)) drive self.old.ring }
+        requires fits { length self.now.answers ≤ length ring.old }
+        ensures long { length ring.new ≡ length ring.old }
+        ensures bits { (inputs : ℕ) (lengths : List ℕ) (cells : List Cell) → IsPath inputs lengths cells self.now →
+            length ring.old ≡ self.now.cells →
+            ring.new ≡ next_bits (path_response base lengths) cells (Some (moment_operation moment)) drive ring.old }
     {
         match moment {
             Moment::Setup => {}
-            Moment::Shift { .. } => self.ring.enter(drive),
-            Moment::Capture { pattern } => self.capture(base, pattern),
+            Moment::Shift { .. } => ring.enter(drive),
+            Moment::Capture { pattern } => self.capture(ring, base, pattern),
         }
     }
 }

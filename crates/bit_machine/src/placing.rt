@@ -1,28 +1,31 @@
 //! The live tests of a chip as a plan places them.
-ghost use Rattle.std.specs.Prelude.{◌≡◌, ℕ, ◌^◌, ◌<◌, ◌≤◌, Some, length, map, slice_get, IfOk};
-ghost use Rattle.soc_model.specs.Chips.{module_value, soc_value};
+ghost use Rattle.std.specs.Prelude.{◌≡◌, ◌+◌, ◌^◌, ◌<◌, ◌≤◌, ◌++◌, ◌∷◌, [], List, Some, length, map, slice_get, slice_index, sum, take, IfOk, IsTrue, OnOk};
+ghost use Rattle.soc_model.specs.Chips.{is_live, module_value, soc_value};
+ghost use Rattle.soc_model.specs.Modes.{scan_lengths};
 ghost use Rattle.soc_model.specs.SoundChips.{IsSoundChip};
-ghost use Rattle.soc_model.specs.declared.Test.{Test};
-ghost use Rattle.plan_model.specs.Cells.{IsProper};
+ghost use Rattle.plan_model.specs.Cells.{IsProper, chain_cells};
 ghost use Rattle.plan_model.specs.Listing.{module_size};
-ghost use Rattle.plan_model.specs.Plans.{PlannedTest, planned, widths};
-ghost use Rattle.plan_model.specs.Right.{IsAt};
+ghost use Rattle.plan_model.specs.Plans.{PlannedTest, planned, planned_test, widths};
 ghost use Rattle.plan_model.specs.Rules.{IsGoodAlone};
 ghost use Rattle.plan_model.specs.Views.{chain_value, plan_value};
-ghost use Rattle.live_tests.specs.Placed.{placed_of, placed_tests};
+ghost use Rattle.live_tests.specs.Placed.{placed_of};
 ghost use Rattle.live_tests.specs.Wires.{AreFirstWires};
+ghost use Rattle.live_tests.specs.Wrapped.{AreModeWrappers};
+ghost use Rattle.bit_machine.specs.Building.{ArePaths};
 ghost use Rattle.bit_machine.specs.Chips.{made_content};
-ghost use Rattle.bit_machine.specs.Lanes.{AreNewLanes, IsNewLane};
-ghost use Rattle.bit_machine.specs.Placed.{IsInWrapper, IsSelfLane, IsWiredLane};
+ghost use Rattle.bit_machine.specs.Lanes.{IsLane};
+ghost use Rattle.bit_machine.specs.Machines.{AreLanes};
+ghost use Rattle.bit_machine.specs.Placed.{IsSelfLane, planned_in};
 
 use crate::building::paths_of;
 use crate::lane::Lane;
 use crate::layout::Layout;
 use crate::made::base_of;
-use live_tests::{PlacedTest, tests_placed};
+use crate::path::Path;
+use live_tests::{ModeWrappers, PlacedTest, PlanIndex, PlannedChip};
 use outside::{NoMemory, push};
-use plan_model::{Moment, Phases, Plan, Wrapper, lengths, wrapper_of};
-use soc_model::{Module, Soc, find_test, module_at};
+use plan_model::{Phases, Plan, Wrapper};
+use soc_model::{Module, Soc, Test, live, module_at};
 use std::alloc::Global;
 
 /// The cycles of a plan. The call tells that they are a machine's number.
@@ -51,141 +54,219 @@ fn self_test(alloc: Global, placed: &PlacedTest) -> Lane
         first_wire: 0,
         width: 0,
         paths: Vec::new(alloc),
-        moment: Moment::Setup,
-        page: None,
-        pages: Vec::new(alloc),
     }
 }
 
-/// A word for each chain.
-fn no_pages(alloc: Global, chains: usize) -> Result<Vec<u64>, NoMemory>
-    ensures { IfOk result (λ pages. length pages.items ≡ chains) }
+/// The chains of a module in a wrapper.
+fn wrapped_paths(alloc: Global, module: &Module, wrapper: &Wrapper) -> Result<Vec<Path>, NoMemory>
+    requires proper { IsProper (module_value «module».now) wrapper.now.scan (map chain_value wrapper.now.chains.items) }
+    requires small { module_size (module_value «module».now) ≤ 10 ^ 18 }
+    ensures { IfOk result (λ paths. ArePaths («module».now.inputs + «module».now.bidirs)
+        (scan_lengths (module_value «module».now) wrapper.now.scan)
+        (chain_cells (module_value «module».now) wrapper.now.scan (map chain_value wrapper.now.chains.items))
+        (length wrapper.now.chains.items) paths.items) }
 {
-    vec![in alloc; 0u64; chains].map_err(|_| NoMemory)
+    let layout = Layout::new(alloc, module, wrapper)?;
+    paths_of(alloc, module.inputs + module.bidirs, &layout)
 }
 
-/// A chip, its plan with the first wires of its buses, and the seed of its contents.
+/// The module at a place of a chip, with its wrappers in a good plan.
 #[derive(Clone, Copy, Drop)]
-pub struct Setting<'a> {
-    pub soc: &'a Soc,
-    pub plan: &'a Plan,
-    pub seed: u64,
-    /// The first wire of each bus, and behind them the number of all wires.
-    pub firsts: &'a [u64],
+struct WrappedModule<'a> {
+    place: usize,
+    module: &'a Module,
+    wrappers: &'a ModeWrappers,
+}
+
+/// A chip and a good plan for it, the seed of the contents, and the first wires of the plan's buses.
+#[derive(Clone, Copy, Drop)]
+struct Setting<'a> {
+    chip: PlannedChip<'a>,
+    seed: u64,
+    firsts: &'a [u64],
 }
 
 impl<'a> Setting<'a> {
-    /// A test over the wires, the one at a place of its module, in its wrapper.
-    fn wrapped_test(
+    /// The first wire of a bus, and how many it has.
+    fn bus_wires(&self, bus: usize) -> (usize, usize)
+        requires firsts { AreFirstWires (widths self.now.chip.index.now) self.now.firsts.now }
+        requires bus { bus < length self.now.chip.index.now.buses }
+        ensures first { result.0 ≡ sum (take bus (widths self.now.chip.index.now)) }
+        ensures width { result.1 ≡ slice_index (widths self.now.chip.index.now) bus }
+    {
+        let plan = self.chip.index.plan();
+        (self.firsts[bus] as usize, plan.buses[bus].width as usize)
+    }
+
+    /// A live test over the wires of a bus, the one at a place of its module.
+    fn wired_test(
         &self,
         alloc: Global,
+        core: &WrappedModule<'_>,
+        at: usize,
+        test: &Test,
         placed: &PlacedTest,
         bus: usize,
-        module: &Module,
-        at: usize,
-        wrapper: &Wrapper,
     ) -> Result<Lane, NoMemory>
-        requires firsts { AreFirstWires (widths (plan_value self.now.plan.now)) self.now.firsts.now }
-        requires at { at < length «module».now.tests.items }
-        requires small { module_size (module_value «module».now) ≤ 10 ^ 18 }
-        requires proper { IsProper (module_value «module».now) wrapper.now.scan (map chain_value wrapper.now.chains.items) }
-        requires test { (test : Test) → slice_get «module».now.tests.items at ≡ Some test →
-            IsInWrapper (plan_value self.now.plan.now) (module_value «module».now) test wrapper.now }
-        requires bus { bus < length self.now.plan.now.buses.items }
-        ensures { (test : Test) → slice_get «module».now.tests.items at ≡ Some test →
-            IfOk result (IsWiredLane (plan_value self.now.plan.now) self.now.seed placed.now bus at (module_value «module».now) test) }
+        requires sound { IsSoundChip (soc_value self.now.chip.soc.now) }
+        requires good { IsGoodAlone (soc_value self.now.chip.soc.now) self.now.chip.index.now }
+        requires firsts { AreFirstWires (widths self.now.chip.index.now) self.now.firsts.now }
+        requires module_there { slice_get (soc_value self.now.chip.soc.now).modules core.now.place
+            ≡ Some (module_value core.now.«module».now) }
+        requires wrappers { AreModeWrappers self.now.chip.index.now (module_value core.now.«module».now) core.now.wrappers.now }
+        requires test_there { slice_get core.now.«module».now.tests.items at ≡ Some test.now }
+        requires live { IsTrue (is_live test.now) }
+        requires placed { placed.now
+            ≡ placed_of (planned_test self.now.chip.index.now core.now.place (module_value core.now.«module».now) test.now) }
+        requires over { placed.now.bus ≡ Some bus }
+        ensures { IfOk result (IsLane (made_content (soc_value self.now.chip.soc.now) self.now.seed)
+            (planned_test self.now.chip.index.now core.now.place (module_value core.now.«module».now) test.now)) }
     {
-        let test = &module.tests[at];
-        let layout = Layout::new(alloc, module, wrapper)?;
-        let (si, so) = lengths(module, wrapper);
+        let module = core.module;
+        let Some(long) = core.wrappers.in_mode(test.scan) else {
+            unreachable!()
+        };
+        let wrapper = &self.chip.index.plan().wrappers[long.place];
+        let paths = wrapped_paths(alloc, module, wrapper)?;
         let phases = Phases {
             setup: module.setup,
-            si,
-            so,
+            si: long.si,
+            so: long.so,
             patterns: test.patterns,
         };
-        let paths = paths_of(alloc, module.inputs + module.bidirs, &layout)?;
-        let pages = no_pages(alloc, paths.len())?;
+        let (first_wire, width) = self.bus_wires(bus);
         Ok(Lane {
             tam: true,
-            base: base_of(self.seed, placed.place, at),
+            base: base_of(self.seed, core.place, at),
             start: placed.start,
             end: placed.end,
             phases,
-            first_wire: self.firsts[bus] as usize,
-            width: self.plan.buses[bus].width as usize,
+            first_wire,
+            width,
             paths,
-            moment: Moment::Setup,
-            page: None,
-            pages,
         })
     }
 
-    /// A test over the wires of a bus.
-    fn wired_test(&self, alloc: Global, placed: &PlacedTest, bus: usize) -> Result<Lane, NoMemory>
-        requires sound { IsSoundChip (soc_value self.now.soc.now) }
-        requires good { IsGoodAlone (soc_value self.now.soc.now) (plan_value self.now.plan.now) }
-        requires firsts { AreFirstWires (widths (plan_value self.now.plan.now)) self.now.firsts.now }
-        requires over { placed.now.bus ≡ Some bus }
-        requires there { (i : ℕ) × (t : PlannedTest) × IsAt (planned (soc_value self.now.soc.now) (plan_value self.now.plan.now)) i t
-            × (placed.now ≡ placed_of t) }
-        ensures { (i : ℕ) (t : PlannedTest) → IsAt (planned (soc_value self.now.soc.now) (plan_value self.now.plan.now)) i t →
-            placed.now ≡ placed_of t → IfOk result (IsNewLane (made_content (soc_value self.now.soc.now) self.now.seed) t) }
+    /// The live test at a place of a module.
+    fn lane_of(
+        &self,
+        alloc: Global,
+        core: &WrappedModule<'_>,
+        at: usize,
+        test: &Test,
+    ) -> Result<Lane, NoMemory>
+        requires sound { IsSoundChip (soc_value self.now.chip.soc.now) }
+        requires good { IsGoodAlone (soc_value self.now.chip.soc.now) self.now.chip.index.now }
+        requires firsts { AreFirstWires (widths self.now.chip.index.now) self.now.firsts.now }
+        requires module_there { slice_get (soc_value self.now.chip.soc.now).modules core.now.place
+            ≡ Some (module_value core.now.«module».now) }
+        requires wrappers { AreModeWrappers self.now.chip.index.now (module_value core.now.«module».now) core.now.wrappers.now }
+        requires test_there { slice_get core.now.«module».now.tests.items at ≡ Some test.now }
+        requires live { IsTrue (is_live test.now) }
+        ensures { IfOk result (IsLane (made_content (soc_value self.now.chip.soc.now) self.now.seed)
+            (planned_test self.now.chip.index.now core.now.place (module_value core.now.«module».now) test.now)) }
     {
-        let Some((place, at)) = find_test(self.soc, placed.id) else {
-            unreachable!()
-        };
-        let module = module_at(self.soc, place);
-        match wrapper_of(&self.plan.wrappers, module.number, module.tests[at].scan) {
-            Some(found) => {
-                let wrapper = &self.plan.wrappers[found];
-                self.wrapped_test(alloc, placed, bus, module, at, wrapper)
-            }
-            None => unreachable!(),
-        }
-    }
-
-    /// A live test as the plan places it.
-    fn lane_of(&self, alloc: Global, placed: &PlacedTest) -> Result<Lane, NoMemory>
-        requires sound { IsSoundChip (soc_value self.now.soc.now) }
-        requires good { IsGoodAlone (soc_value self.now.soc.now) (plan_value self.now.plan.now) }
-        requires firsts { AreFirstWires (widths (plan_value self.now.plan.now)) self.now.firsts.now }
-        requires there { (i : ℕ) × (t : PlannedTest) × IsAt (planned (soc_value self.now.soc.now) (plan_value self.now.plan.now)) i t
-            × (placed.now ≡ placed_of t) }
-        ensures { (i : ℕ) (t : PlannedTest) → IsAt (planned (soc_value self.now.soc.now) (plan_value self.now.plan.now)) i t →
-            placed.now ≡ placed_of t → IfOk result (IsNewLane (made_content (soc_value self.now.soc.now) self.now.seed) t) }
-    {
+        let placed = self.chip.test(core.place, core.module, core.wrappers, test);
         match placed.bus {
-            Some(bus) => self.wired_test(alloc, placed, bus),
-            None => Ok(self_test(alloc, placed)),
+            Some(bus) => self.wired_test(alloc, core, at, test, &placed, bus),
+            None => Ok(self_test(alloc, &placed)),
         }
     }
 
-    /// The live tests of the chip, as they are placed.
-    fn lanes_of(&self, alloc: Global, placed: &[PlacedTest]) -> Result<Vec<Lane>, NoMemory>
-        requires sound { IsSoundChip (soc_value self.now.soc.now) }
-        requires good { IsGoodAlone (soc_value self.now.soc.now) (plan_value self.now.plan.now) }
-        requires firsts { AreFirstWires (widths (plan_value self.now.plan.now)) self.now.firsts.now }
-        requires placed { placed.now ≡ placed_tests (soc_value self.now.soc.now) (plan_value self.now.plan.now) }
-        ensures { IfOk result (λ lanes. AreNewLanes (made_content (soc_value self.now.soc.now) self.now.seed)
-            (planned (soc_value self.now.soc.now) (plan_value self.now.plan.now)) lanes.items) }
+    /// Adds the test at a place of a module, where it is live.
+    fn push_test(
+        &self,
+        alloc: Global,
+        lanes: &mut Vec<Lane>,
+        core: &WrappedModule<'_>,
+        at: usize,
+        test: &Test,
+    ) -> Result<(), NoMemory>
+        requires sound { IsSoundChip (soc_value self.now.chip.soc.now) }
+        requires good { IsGoodAlone (soc_value self.now.chip.soc.now) self.now.chip.index.now }
+        requires firsts { AreFirstWires (widths self.now.chip.index.now) self.now.firsts.now }
+        requires module_there { slice_get (soc_value self.now.chip.soc.now).modules core.now.place
+            ≡ Some (module_value core.now.«module».now) }
+        requires wrappers { AreModeWrappers self.now.chip.index.now (module_value core.now.«module».now) core.now.wrappers.now }
+        requires test_there { slice_get core.now.«module».now.tests.items at ≡ Some test.now }
+        ensures { (done : List PlannedTest) → AreLanes (made_content (soc_value self.now.chip.soc.now) self.now.seed) done lanes.old.items →
+            OnOk result (AreLanes (made_content (soc_value self.now.chip.soc.now) self.now.seed)
+            (done ++ planned_in self.now.chip.index.now core.now.place (module_value core.now.«module».now) (test.now ∷ []))
+            lanes.new.items) }
     {
-        let mut lanes = Vec::new(alloc);
-        for test in placed {
-            push(&mut lanes, self.lane_of(alloc, test)?)?;
+        if !live(test) {
+            return Ok(());
         }
-        Ok(lanes)
+        push(lanes, self.lane_of(alloc, core, at, test)?)
+    }
+
+    /// Adds the live tests of the module at a place. Its wrappers are found and walked once.
+    fn push_module(
+        &self,
+        alloc: Global,
+        lanes: &mut Vec<Lane>,
+        module: &Module,
+        place: usize,
+    ) -> Result<(), NoMemory>
+        requires sound { IsSoundChip (soc_value self.now.chip.soc.now) }
+        requires good { IsGoodAlone (soc_value self.now.chip.soc.now) self.now.chip.index.now }
+        requires firsts { AreFirstWires (widths self.now.chip.index.now) self.now.firsts.now }
+        requires module_there { slice_get (soc_value self.now.chip.soc.now).modules place ≡ Some (module_value «module».now) }
+        ensures { (done : List PlannedTest) → AreLanes (made_content (soc_value self.now.chip.soc.now) self.now.seed) done lanes.old.items →
+            OnOk result (AreLanes (made_content (soc_value self.now.chip.soc.now) self.now.seed)
+            (done ++ planned_in self.now.chip.index.now place (module_value «module».now) «module».now.tests.items) lanes.new.items) }
+    {
+        let wrappers = ModeWrappers::new(self.chip.soc, self.chip.index, place, module);
+        let core = WrappedModule {
+            place,
+            module,
+            wrappers: &wrappers,
+        };
+        for at in 0..module.tests.len() {
+            self.push_test(alloc, lanes, &core, at, &module.tests[at])?;
+        }
+        Ok(())
     }
 
     /// The live tests of the chip, in its order.
-    pub fn lanes(&self, alloc: Global) -> Result<Vec<Lane>, NoMemory>
-        requires sound { IsSoundChip (soc_value self.now.soc.now) }
-        requires good { IsGoodAlone (soc_value self.now.soc.now) (plan_value self.now.plan.now) }
-        requires firsts { AreFirstWires (widths (plan_value self.now.plan.now)) self.now.firsts.now }
-        ensures { IfOk result (λ lanes. AreNewLanes (made_content (soc_value self.now.soc.now) self.now.seed)
-            (planned (soc_value self.now.soc.now) (plan_value self.now.plan.now)) lanes.items) }
+    fn lanes(&self, alloc: Global) -> Result<Vec<Lane>, NoMemory>
+        requires sound { IsSoundChip (soc_value self.now.chip.soc.now) }
+        requires good { IsGoodAlone (soc_value self.now.chip.soc.now) self.now.chip.index.now }
+        requires firsts { AreFirstWires (widths self.now.chip.index.now) self.now.firsts.now }
+        ensures { IfOk result (λ lanes. AreLanes (made_content (soc_value self.now.chip.soc.now) self.now.seed)
+            (planned (soc_value self.now.chip.soc.now) self.now.chip.index.now) lanes.items) }
     {
-        let tests = tests_placed(alloc, self.soc, self.plan)?;
-        self.lanes_of(alloc, &tests)
+        let mut lanes = Vec::new(alloc);
+        for place in 0..self.chip.soc.modules.len() {
+            self.push_module(alloc, &mut lanes, module_at(self.chip.soc, place), place)?;
+        }
+        Ok(lanes)
     }
+}
+
+/// The live tests of a chip in its order, as a good plan places them, with the made contents of a seed. `firsts` has the first wire of
+/// each bus, and behind them the number of all wires.
+pub fn placed_lanes<'a>(
+    alloc: Global,
+    soc: &'a Soc,
+    plan: &'a Plan,
+    seed: u64,
+    firsts: &'a [u64],
+) -> Result<Vec<Lane>, NoMemory>
+    requires sound { IsSoundChip (soc_value soc.now) }
+    requires good { IsGoodAlone (soc_value soc.now) (plan_value plan.now) }
+    requires firsts { AreFirstWires (widths (plan_value plan.now)) firsts.now }
+    ensures { IfOk result (λ lanes. AreLanes (made_content (soc_value soc.now) seed)
+        (planned (soc_value soc.now) (plan_value plan.now)) lanes.items) }
+{
+    let index = PlanIndex::new(alloc, plan)?;
+    let setting = Setting {
+        chip: PlannedChip { soc, index: &index },
+        seed,
+        firsts,
+    };
+    let lanes = setting.lanes(alloc);
+    // dropped by a call: the end of the scope would drop each of its parts, and be proved for each
+    drop(index);
+    lanes
 }

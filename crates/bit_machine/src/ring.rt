@@ -53,7 +53,7 @@ fn place_of(head: usize, cells: usize, cell: usize) -> usize
 }
 
 impl Ring {
-    /// A chain of so many cells, each with bit 0.
+    /// A chain of `cells` cells, each with bit 0.
     pub fn zeros(alloc: Global, cells: usize) -> Result<Ring, NoMemory>
         ensures { IfOk result (λ ring. ring ≡ replicate cells false) }
     {

@@ -19,7 +19,7 @@ use plan_model::{Moment, Phases, Turn};
 /// The most Shifts of a stretch, the bits of a word.
 const MOST: u64 = 64;
 
-/// So many Shifts, one a cycle, and the captures ahead of the first one and behind it.
+/// `count` Shifts, one a cycle, and the captures ahead of the first one and behind it.
 #[derive(Clone, Copy, Drop)]
 struct Stretch {
     ahead: Option<Turn>,
@@ -135,7 +135,7 @@ fn put_chains(text: &mut [u8], wires: usize, row: usize, lane: &Lane, stretch: S
 }
 
 /// Writes what a test drives and compares in a stretch that begins with a cycle, or in that cycle where it is no Shift.
-/// Answers how many cycles these are, at least one and at most so many.
+/// Answers how many cycles these are, at least one and at most `most`.
 fn put_stretch(text: &mut [u8], wires: usize, row: usize, lane: &Lane, cycle: u64, most: u64) -> u64
     requires narrow { wires ≤ 256 }
     requires lane { HasSomeLane wires lane.now }
@@ -166,7 +166,7 @@ fn put_stretch(text: &mut [u8], wires: usize, row: usize, lane: &Lane, cycle: u6
     }
 }
 
-/// Writes what a test drives and compares in so many cycles from one on, each into a line of its own. In a blank line of a
+/// Writes what a test drives and compares in `count` cycles from one on, each into a line of its own. In a blank line of a
 /// cycle its bits then stand on the wires of its bus.
 fn put_test(text: &mut [u8], wires: usize, lane: &Lane, from: u64, count: u64)
     requires narrow { wires ≤ 256 }
@@ -188,7 +188,7 @@ fn put_test(text: &mut [u8], wires: usize, lane: &Lane, from: u64, count: u64)
     }
 }
 
-/// Writes the lines of so many cycles from one on: first blank ones, and then test by test what is driven and compared.
+/// Writes the lines of `count` cycles from one on: first blank ones, and then test by test what is driven and compared.
 pub fn put_tests(text: &mut [u8], wires: usize, lanes: &[Lane], from: u64, count: u64)
     requires narrow { wires ≤ 256 }
     requires lanes { AreSomeLanes lanes.now wires }

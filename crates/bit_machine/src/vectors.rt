@@ -8,7 +8,7 @@ ghost use Rattle.bit_machine.specs.Chips.{wires_of};
 ghost use Rattle.bit_machine.specs.Vectors.{vectors_content, vectors_tests, IsLineOf};
 
 use crate::lane::Lane;
-use crate::placing::Setting;
+use crate::placing::placed_lanes;
 use crate::stretches::put_tests;
 use live_tests::first_wires;
 use outside::NoMemory;
@@ -54,13 +54,7 @@ impl<'a> Vectors<'a> {
     {
         let firsts = first_wires(alloc, plan)?;
         let wires = firsts[plan.buses.len()] as usize;
-        let setting = Setting {
-            soc,
-            plan,
-            seed,
-            firsts: &firsts,
-        };
-        let lanes = setting.lanes(alloc)?;
+        let lanes = placed_lanes(alloc, soc, plan, seed, &firsts)?;
         Ok(Vectors {
             soc,
             plan,
@@ -70,7 +64,7 @@ impl<'a> Vectors<'a> {
         })
     }
 
-    /// Writes the lines of so many cycles from one on: in each the bits that the wires carry as digits, a space, for each
+    /// Writes the lines of `count` cycles from one on: in each the bits that the wires carry as digits, a space, for each
     /// wire the response bit that is read there or `-`, and a line feed.
     pub fn put_lines(&self, text: &mut [u8], from: u64, count: u64)
         requires narrow { wires_of self.now.plan ≤ 256 }

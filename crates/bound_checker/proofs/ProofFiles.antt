@@ -1,5 +1,5 @@
 -- A file with a proof: the files give one answer of it, and the bound that is printed is one.
-use Rattle.std.proofs.Common.{◌≡◌, ◌∙◌, ℕ, inl, inr, List, Option, Some, true, sym, subst, ap}
+use Rattle.std.proofs.Common.{◌≡◌, ◌∙◌, ℕ, List, Option, Some, true, sym, subst, ap}
 use Rattle.std.specs.FinMap.{get}
 use Rattle.outside.specs.Held.{Files, Appended}
 use Rattle.outside.specs.Words.{words_of}
@@ -10,7 +10,7 @@ use Rattle.soc_reader.specs.ChipForm.{SaysChip}
 use Rattle.soc_reader.proofs.ChipsSaid.{sound_chip}
 use Rattle.bus_proofs.specs.declared.ProofFault.{ProofFault}
 use Rattle.bus_proofs.specs.Proofs.{ProofValue}
-use Rattle.bus_proofs.specs.Answers.{SaysProof}
+use Rattle.bus_proofs.specs.Answers.{SaysProof, RefusesText}
 use Rattle.bus_proofs.specs.Bounds.{IsAccepted, IsProofFault}
 use Rattle.bus_proofs.specs.Laws.{AcceptedProofsAreBounds, ProofsHaveOneFault, AcceptedProofsHaveNoFault}
 use Rattle.bus_proofs.specs.TextLaws.{SayOneProof, ProofsAreNotRefused, ProofsAreRefusedOnce}
@@ -24,6 +24,7 @@ use Rattle.commands.specs.Procedures.{asked, done_with}
 use Rattle.commands.specs.Readings.{IsRead, SaysLimits}
 use Rattle.commands.specs.Settled.{SaysOne, RefusesOne, IsSettled, FilesSayOneThing}
 use Rattle.commands.proofs.Completeness.{settled_both}
+use Rattle.commands.proofs.Judged.{JudgedLaws, judged_one, judged_refused_one}
 use Rattle.commands.proofs.Settled.{done_once}
 use Rattle.commands.proofs.Trusted.{both_done, done_answer, read_as_well, stage_done}
 use Rattle.bound_checker.specs.Headlines.{IsProvedBound, Headline}
@@ -41,23 +42,24 @@ pub record ProofLaws : Type 0 where
 
 -- ---- one answer
 
+-- a proof is refused for a fault
+abbrev RefusedProof : SocValue → LimitsValue → ProofValue → List ℕ → Type 0
+RefusedProof chip bounds value text = (fault : ProofFault) × IsProofFault chip bounds value fault × (text ≡ proof_fault_line fault)
+
+judged_proofs : ProofLaws → (chip : SocValue) (bounds : LimitsValue) → JudgedLaws SaysProof RefusesText (IsAccepted chip bounds) (RefusedProof chip bounds)
+judged_proofs laws chip bounds = record {
+  one = λ bytes v w a b. laws.say_one (words_of bytes) v w a b;
+  not_refused = λ bytes line v says refused. laws.not_refused (words_of bytes) (last_line bytes) line (v, says) refused;
+  refused_once = λ bytes m n a b. laws.refused_once (words_of bytes) (last_line bytes) m n a b;
+  one_line = λ v t t' a b. a.2 ∙ ap proof_fault_line (laws.one_fault chip bounds v a.0 b.0 a.1 b.1) ∙ sym b.2;
+  not_both = λ bytes v t says right refused. laws.no_fault chip bounds v refused.0 right refused.1;
+}
+
 proof_one : ProofLaws → (chip : SocValue) (bounds : LimitsValue) → SaysOne (SaysBound chip bounds)
-proof_one laws chip bounds bytes v w a b = laws.say_one (words_of bytes) v w a.0 b.0
+proof_one laws chip bounds = judged_one SaysProof RefusesText (IsAccepted chip bounds) (RefusedProof chip bounds) (judged_proofs laws chip bounds)
 
 proof_refused_one : ProofLaws → (chip : SocValue) (bounds : LimitsValue) → RefusesOne (SaysBound chip bounds) (RefusesProof chip bounds)
-proof_refused_one laws chip bounds = record { one = lines; none = no_proof } where
-  same_fault : (bytes : List ℕ) (v w : ProofValue) (f g : ProofFault) → SaysProof bytes v → SaysProof bytes w → IsProofFault chip bounds v f → IsProofFault chip bounds w g → f ≡ g
-  same_fault bytes v w f g a b is_f is_g = laws.one_fault chip bounds w f g (subst (λ x. IsProofFault chip bounds x f) (laws.say_one (words_of bytes) v w a b) is_f) is_g
-
-  lines : (bytes t t' : List ℕ) → RefusesProof chip bounds bytes t → RefusesProof chip bounds bytes t' → t ≡ t'
-  lines bytes t t' (inl a) (inl b) = a.2 ∙ ap proof_line (laws.refused_once (words_of bytes) (last_line bytes) a.0 b.0 a.1 b.1) ∙ sym b.2
-  lines bytes t t' (inl a) (inr b) = absurd (laws.not_refused (words_of bytes) (last_line bytes) a.0 (b.0, b.1) a.1)
-  lines bytes t t' (inr a) (inl b) = absurd (laws.not_refused (words_of bytes) (last_line bytes) b.0 (a.0, a.1) b.1)
-  lines bytes t t' (inr a) (inr b) = a.2.2 ∙ ap proof_fault_line (same_fault bytes a.0 b.0 a.2.0 b.2.0 a.1 b.1 a.2.1 b.2.1) ∙ sym b.2.2
-
-  no_proof : (bytes t : List ℕ) (v : ProofValue) → RefusesProof chip bounds bytes t → SaysBound chip bounds bytes v → ⊥
-  no_proof bytes t v (inl a) says = laws.not_refused (words_of bytes) (last_line bytes) a.0 (v, says.0) a.1
-  no_proof bytes t v (inr a) says = laws.no_fault chip bounds a.0 a.2.0 (subst (IsAccepted chip bounds) (laws.say_one (words_of bytes) v a.0 says.0 a.1) says.1) a.2.1
+proof_refused_one laws chip bounds = judged_refused_one SaysProof RefusesText (IsAccepted chip bounds) (RefusedProof chip bounds) proof_line (judged_proofs laws chip bounds)
 
 bound_settled : ProofLaws → (proof : List ℕ) (chip : SocValue) (bounds : LimitsValue) → IsSettled true (with_proof proof chip bounds)
 bound_settled laws proof chip bounds = (proof_one laws chip bounds, proof_refused_one laws chip bounds, λ value. done_once true (bound_line value))

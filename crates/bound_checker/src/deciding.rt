@@ -1,5 +1,5 @@
 //! Decides how a call ends before anything is written.
-ghost use Rattle.std.specs.Prelude.{◌≡◌, ◌≤◌, map, string_bytes, IfOk, IfSome};
+ghost use Rattle.std.specs.Prelude.{◌≡◌, ◌≤◌, map, string_bytes, IfSome};
 ghost use Rattle.soc_model.specs.Chips.{soc_value};
 ghost use Rattle.soc_model.specs.SoundChips.{IsSoundChip};
 ghost use Rattle.plan_model.specs.SoundLimits.{IsSoundLimits};
@@ -20,9 +20,9 @@ use commands::{
     Both, Command, FileKind, Status, Verdict, answered_with, bad_words, command_of, load_both,
     load_file, refused_with,
 };
-use limits_text::noted_tests;
-use live_tests::{LiveTests, Resolved};
-use outside::{NoMemory, Shelf};
+use limits_text::resolved_of;
+use live_tests::Resolved;
+use outside::Shelf;
 use plan_model::Limits;
 use soc_model::Soc;
 use std::alloc::Global;
@@ -76,20 +76,6 @@ fn answer_file<H: Shelf>(
         Ok(bytes) => answer_proof(alloc, soc, limits, resolved, bytes.as_slice()),
         Err(verdict) => verdict,
     }
-}
-
-/// A chip and its limits, resolved. The live tests of the chip are made where they weren't noted. `NoMemory` where there is none.
-fn resolved_of(
-    alloc: Global,
-    soc: &Soc,
-    limits: &Limits,
-    live: Option<LiveTests>,
-) -> Result<Resolved, NoMemory>
-    requires live { IfSome live (λ tests. tests ≡ live_ids (soc_value soc.now)) }
-    ensures { IfOk result (λ resolved. IsResolved (soc_value soc.now) limits.now resolved) }
-{
-    let tests = noted_tests(alloc, soc, live)?;
-    Resolved::with_tests(alloc, soc, limits, tests)
 }
 
 /// Resolves a chip and its limits, and answers the proof of this name for them.

@@ -1,4 +1,3 @@
 pub mod Answering
 pub mod Nothing
 pub mod Printing
-pub mod Reports

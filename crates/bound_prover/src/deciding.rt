@@ -5,7 +5,6 @@ ghost use Rattle.soc_model.specs.SoundChips.{IsSoundChip};
 ghost use Rattle.plan_model.specs.SoundLimits.{IsSoundLimits};
 ghost use Rattle.plan_model.specs.Views.{limits_value, plan_value};
 ghost use Rattle.plan_model.specs.Rules.{live_ids};
-ghost use Rattle.live_tests.specs.Resolved.{IsResolved};
 ghost use Rattle.commands.specs.Commands.{Prove, command_of as asked_command};
 ghost use Rattle.commands.specs.Procedures.{asked};
 ghost use Rattle.commands.specs.Decides.{Follows, Decides};
@@ -19,26 +18,9 @@ use crate::proving::proved_with;
 use commands::{
     Accepted, Command, Status, Verdict, answered_with, bad_words, command_of, load_all,
 };
-use limits_text::noted_tests;
-use live_tests::{LiveTests, Resolved};
+use limits_text::resolved_of;
 use outside::{NoMemory, Shelf, Sink};
-use plan_model::Limits;
-use soc_model::Soc;
 use std::alloc::Global;
-
-/// A chip and its limits, resolved. The live tests of the chip are made where they weren't noted. `NoMemory` where there is none.
-fn resolved_of(
-    alloc: Global,
-    soc: &Soc,
-    limits: &Limits,
-    live: Option<LiveTests>,
-) -> Result<Resolved, NoMemory>
-    requires live { IfSome live (λ tests. tests ≡ live_ids (soc_value soc.now)) }
-    ensures { IfOk result (λ resolved. IsResolved (soc_value soc.now) limits.now resolved) }
-{
-    let tests = noted_tests(alloc, soc, live)?;
-    Resolved::with_tests(alloc, soc, limits, tests)
-}
 
 /// The text of a proof of a bound, which claims at most the cycles of an accepted plan.
 fn text_of<T: Sink>(

@@ -10,8 +10,9 @@ ghost use Rattle.bound_prover.specs.Proved.{IsProofText};
 ghost use Rattle.bound_prover.specs.Reports.{MayReport};
 
 use crate::accepting::{accepted_text, nothing_text};
-use crate::progress::{line_room, run_reported};
+use crate::progress::run_reported;
 use bus_proofs::Proof;
+use commands::line_room;
 use live_tests::Resolved;
 use outside::{NoMemory, Sink};
 use plan_model::Limits;

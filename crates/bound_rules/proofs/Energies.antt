@@ -61,17 +61,17 @@ pub grow-less : (from lower : ℕ) (steps : List (ℕ × ℕ)) → lower ≤ fro
 grow-less from lower [] less grow = tt
 grow-less from lower (s ∷ steps) less grow = (omega (arith, grow.0), grow.1)
 
--- The power of the steps before the one at `i` is added up over the cycles below `begun`; from there on it is `power`,
--- until that step begins.
-pub record Added (steps : List (ℕ × ℕ)) (n i begun power sum : ℕ) : Type 0 where
-  pub sum_is : sum ≡ sum_below (λ r. step_power r 0 steps) begun
+-- What `f` says of a power is added up for the steps before the one at `i`, over the cycles below `begun`, to at most `most` a
+-- cycle; from there on the power is `power`, until that step begins.
+pub record Added (f : ℕ → ℕ) (most : ℕ) (steps : List (ℕ × ℕ)) (n i begun power sum : ℕ) : Type 0 where
+  pub sum_is : sum ≡ sum_below (λ r. f (step_power r 0 steps)) begun
   pub within : begun ≤ n
   pub grow : Grow begun (drop i steps)
   pub rest : (r : ℕ) → begun ≤ r → r < n → step_power r 0 steps ≡ step_power r power (drop i steps)
-  pub few : sum ≤ 2 ^ 64 * begun
+  pub few : sum ≤ most * begun
 
-pub none_added : (steps : List (ℕ × ℕ)) (n : ℕ) → Grow 0 steps → Added steps n 0 0 0 0
-none_added steps n grow = record { sum_is = sym (sum_below-none (λ r. step_power r 0 steps)); within = omega arith; grow = grow; rest = λ r a b. refl; few = omega arith }
+pub none_added : (f : ℕ → ℕ) (most : ℕ) (steps : List (ℕ × ℕ)) (n : ℕ) → Grow 0 steps → Added f most steps n 0 0 0 0
+none_added f most steps n grow = record { sum_is = sym (sum_below-none (λ r. f (step_power r 0 steps))); within = omega arith; grow = grow; rest = λ r a b. refl; few = omega arith }
 
 few-more : (k power d begun sum : ℕ) → power * d ≤ k * d → sum ≤ k * begun → sum + power * d ≤ k * (begun + d)
 few-more k power d begun sum few so_far =
@@ -81,20 +81,19 @@ few-more k power d begun sum few so_far =
 begins : (r : ℕ) (now : ℕ) (s : ℕ × ℕ) (steps : List (ℕ × ℕ)) → s.0 ≤ r → step_power r now (s ∷ steps) ≡ step_power r s.1 steps
 begins r now s steps h = rw (le-leb s.0 r h) refl
 
-pub next_added : (steps : List (ℕ × ℕ)) (n i begun power sum : ℕ) (d : ℕ × ℕ) → i < length steps → power * (min n (get_or steps i d).0 - begun) ≤ 2 ^ 64 * (min n (get_or steps i d).0 - begun) → Added steps n i begun power sum →
-    Added steps n (i + 1) (min n (get_or steps i d).0) (get_or steps i d).1 (sum + power * (min n (get_or steps i d).0 - begun))
-next_added steps n i begun power sum d h few so_far =
-    let s : ℕ × ℕ = get_or steps i d in
+pub next_added : (f : ℕ → ℕ) (most : ℕ) (steps : List (ℕ × ℕ)) (n i begun power sum : ℕ) (d : ℕ × ℕ) → i < length steps → f power * (min n (get_or steps i d).0 - begun) ≤ most * (min n (get_or steps i d).0 - begun) → Added f most steps n i begun power sum →
+    Added f most steps n (i + 1) (min n (get_or steps i d).0) (get_or steps i d).1 (sum + f power * (min n (get_or steps i d).0 - begun))
+next_added f most steps n i begun power sum d h few so_far =
     let cut : drop i steps ≡ get_or steps i d ∷ drop (suc i) steps = drop-cons steps i d h in
     let grow = rw cut at so_far.grow in
     let less : begun ≤ (get_or steps i d).0 = grow.0 in
-    let end : ℕ = min n (get_or steps i d).0 in
     let within : begun ≤ n = so_far.within in
-    let flat : (r : ℕ) → begun ≤ r → r < min n (get_or steps i d).0 → step_power r 0 steps ≡ power = λ r a b. so_far.rest r a (omega arith) ∙ before_steps r power (drop i steps) (r + 1) (omega arith) (grow-from r b so_far.grow cut) in
-    let total : sum_below (λ r. step_power r 0 steps) (min n (get_or steps i d).0) ≡ sum_below (λ r. step_power r 0 steps) begun + power * (min n (get_or steps i d).0 - begun) =
-    stretch (λ r. step_power r 0 steps) power begun (min n (get_or steps i d).0) (omega arith) flat in
+    let flat : (r : ℕ) → begun ≤ r → r < min n (get_or steps i d).0 → f (step_power r 0 steps) ≡ f power =
+    λ r a b. ap f (so_far.rest r a (omega arith) ∙ before_steps r power (drop i steps) (r + 1) (omega arith) (grow-from r b so_far.grow cut)) in
+    let total : sum_below (λ r. f (step_power r 0 steps)) (min n (get_or steps i d).0) ≡ sum_below (λ r. f (step_power r 0 steps)) begun + f power * (min n (get_or steps i d).0 - begun) =
+    stretch (λ r. f (step_power r 0 steps)) (f power) begun (min n (get_or steps i d).0) (omega arith) flat in
     let up : begun + (min n (get_or steps i d).0 - begun) ≡ min n (get_or steps i d).0 = omega arith in
-    let more : sum + power * (min n (get_or steps i d).0 - begun) ≤ 2 ^ 64 * (begun + (min n (get_or steps i d).0 - begun)) = few-more (2 ^ 64) power (min n (get_or steps i d).0 - begun) begun sum few so_far.few in
+    let more : sum + f power * (min n (get_or steps i d).0 - begun) ≤ most * (begun + (min n (get_or steps i d).0 - begun)) = few-more most (f power) (min n (get_or steps i d).0 - begun) begun sum few so_far.few in
     record {
       sum_is = omega (arith, so_far.sum_is, total);
       within = omega arith;
@@ -108,11 +107,11 @@ next_added steps n i begun power sum d h few so_far =
         let g = rw cut at grow in
         rw cut (omega arith, g.1)
 
-pub all_added : (steps : List (ℕ × ℕ)) (n i begun power sum : ℕ) → length steps ≤ i → Added steps n i begun power sum → sum + power * (n - begun) ≡ sum_below (λ r. step_power r 0 steps) n
-all_added steps n i begun power sum all so_far =
+pub all_added : (f : ℕ → ℕ) (most : ℕ) (steps : List (ℕ × ℕ)) (n i begun power sum : ℕ) → length steps ≤ i → Added f most steps n i begun power sum → sum + f power * (n - begun) ≡ sum_below (λ r. f (step_power r 0 steps)) n
+all_added f most steps n i begun power sum all so_far =
     let none : drop i steps ≡ [] = drop_all i steps all in
-    let total : sum_below (λ r. step_power r 0 steps) n ≡ sum_below (λ r. step_power r 0 steps) begun + power * (n - begun) =
-    stretch (λ r. step_power r 0 steps) power begun n so_far.within (λ r a b. so_far.rest r a b ∙ rw none refl) in
+    let total : sum_below (λ r. f (step_power r 0 steps)) n ≡ sum_below (λ r. f (step_power r 0 steps)) begun + f power * (n - begun) =
+    stretch (λ r. f (step_power r 0 steps)) (f power) begun n so_far.within (λ r a b. ap f (so_far.rest r a b ∙ rw none refl)) in
     omega (arith, so_far.sum_is)
 
 -- ---- the energy of a test, by its profile or its own power

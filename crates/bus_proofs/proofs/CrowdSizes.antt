@@ -1,44 +1,23 @@
 -- A crowd has no more tests than the chip has live tests.
-use Rattle.std.proofs.Common.{◌≡◌, ℕ, suc, ◌+◌, ◌*◌, ◌≤◌, ◌<◌, Bool, true, Some, List, [], ◌∷◌, length, get_or, take, refl, sym, subst, ◌∙◌, arith, inl, inr}
+use Rattle.std.proofs.Common.{◌≡◌, ℕ, suc, ◌+◌, ◌*◌, ◌≤◌, ◌<◌, Bool, true, Some, List, [], ◌∷◌, length, get_or, take, refl, sym, subst, ◌∙◌, arith}
 use Rattle.std.specs.Prelude.{slice_get}
-use Rattle.std.specs.List.{Contains, sum_by, filter, flat_map}
-use Rattle.std.proofs.lemmas.Bool.{cases_Bool, eq-eqb}
-use Rattle.std.proofs.lemmas.List.{length-append, length-map, length-take-le, get_or-take}
+use Rattle.std.specs.List.{Contains, sum_by}
+use Rattle.std.proofs.lemmas.Bool.{eq-eqb}
+use Rattle.std.proofs.lemmas.List.{length-take-le, get_or-take}
 use Rattle.std.proofs.lemmas.List.Sums.{sum_by-cons, sum_by-le}
 use Rattle.std.proofs.lemmas.Option.{slice_get_within, get_or_from_slice_get}
-use Rattle.soc_model.specs.declared.Test.{Test}
 use Rattle.soc_model.specs.declared.TestId.{TestId}
-use Rattle.soc_model.specs.Chips.{ModuleValue, SocValue, LiveTest, is_live, live_of, live_from, live_tests, id_of, same_test}
+use Rattle.soc_model.specs.Chips.{SocValue, LiveTest, live_tests, id_of, same_test}
 use Rattle.soc_model.specs.SoundChips.{IsSoundChip}
-use Rattle.soc_model.proofs.Limits.{tests-le}
 use Rattle.plan_model.specs.Plans.{LimitsValue}
 use Rattle.plan_model.specs.Rules.{live_ids}
 use Rattle.plan_model.proofs.Lists.{contains_at, from_map}
 use Rattle.plan_model.proofs.Sums.{at_most_one, item-le-sum_by, one_if}
 use Rattle.plan_model.proofs.CertificatesAreBounds.{same_test_is}
-use Rattle.bound_rules.proofs.Modules.{same_sum, the_live}
+use Rattle.live_tests.proofs.HowMany.{live_tests-le}
+use Rattle.bound_rules.proofs.Modules.{same_sum}
 use Rattle.bus_proofs.specs.Proofs.{ListValue, OfTurns, OfTurnsOn, OfCrowd, OfPower}
 use Rattle.bus_proofs.specs.Lists.{IsCrowd, KeepsList, room_of}
-
--- ---- the live tests of a sound chip
-
-filter_le : (tests : List Test) → length (filter is_live tests) ≤ length tests
-filter_le [] = omega arith
-filter_le (t ∷ ts) = elim (cases_Bool (is_live t)) [
-  | inl yes' ↦ rw yes' (omega (arith, filter_le ts))
-  | inr no' ↦ rw no' (omega (arith, filter_le ts))
-]
-
-live_le : (base : ℕ) (ms : List ModuleValue) → length (live_from base ms) ≤ length (flat_map (λ (m : ModuleValue). m.tests) ms)
-unfolding live_from
-live_le base [] = omega arith
-live_le base (m ∷ ms) =
-    let here : length (live_of base m) ≤ length m.tests = omega (arith, filter_le m.tests, length-map (filter is_live m.tests) (the_live base m)) in
-    let rest : length (live_from (base + 1) ms) ≤ length (flat_map (λ (m : ModuleValue). m.tests) ms) = live_le (base + 1) ms in
-    rw (length-append (live_of base m) (live_from (base + 1) ms), length-append m.tests (flat_map (λ (m : ModuleValue). m.tests) ms)) (omega (arith, here, rest))
-
-pub live_few : (soc : SocValue) → IsSoundChip soc → length (live_tests soc) ≤ 4096
-live_few soc sound = omega (arith, live_le 0 soc.modules, tests-le soc sound.size)
 
 -- ---- each of some things is met by another one, and none of these meets two
 
@@ -88,5 +67,5 @@ crowd_long soc limits most tests crowd =
 pub room-le : (soc : SocValue) (limits : LimitsValue) (list : ListValue) → IsSoundChip soc → KeepsList soc limits list → room_of list ≤ 4096
 room-le soc limits (OfTurns tests) sound kept = omega arith
 room-le soc limits (OfTurnsOn rank tests) sound kept = omega arith
-room-le soc limits (OfCrowd most tests) sound kept = omega (arith, kept.many, crowd_long soc limits most tests kept, live_few soc sound)
+room-le soc limits (OfCrowd most tests) sound kept = omega (arith, kept.many, crowd_long soc limits most tests kept, live_tests-le soc sound)
 room-le soc limits (OfPower near) sound kept = omega arith

@@ -2,7 +2,7 @@
 use Rattle.std.proofs.Common.{◌≡◌, ◌≢◌, inl, inr, ℕ, zero, suc, ◌+◌, ◌≤◌, ◌<◌, Bool, true, false, true≢false, Some, List, [], ◌∷◌, ◌++◌, length, map, take, get_or, set, replicate, refl, sym, ap, ◌∙◌, subst, arith, append_assoc}
 use Rattle.std.specs.Prelude.{slice_get, ◌&&◌, ◌||◌}
 use Rattle.std.specs.List.{list_all, position, position_or_len, Contains}
-use Rattle.std.proofs.lemmas.Bool.{cases_eq, cases_lt, cases_Bool, lt-ltb, le-ltb, and_parts, false_from_ne_true}
+use Rattle.std.proofs.lemmas.Bool.{cases_lt, cases_Bool, lt-ltb, le-ltb, and_parts, false_from_ne_true}
 use Rattle.std.proofs.lemmas.List.{length-map, take_all, take_more, map-append}
 use Rattle.std.proofs.lemmas.List.Folds.{list_any-append, list_all-append}
 use Rattle.std.proofs.lemmas.Option.{slice_get_within, slice_get-map, slice_get-get_or, get_or_from_slice_get}
@@ -10,9 +10,10 @@ use Rattle.soc_model.specs.declared.TestId.{TestId}
 use Rattle.soc_model.specs.Chips.{SocValue, LiveTest, live_tests, same_test, id_of}
 use Rattle.soc_model.specs.SoundChips.{IsSoundChip}
 use Rattle.plan_model.specs.Plans.{LimitsValue}
-use Rattle.plan_model.specs.Rules.{Each, IsFirstBreach, live_ids}
+use Rattle.plan_model.specs.Rules.{live_ids}
 use Rattle.plan_model.proofs.CertificatesAreBounds.{same_test_is, is_same_test}
 use Rattle.plan_model.specs.Certificates.{is_called}
+use Rattle.plan_model.proofs.FirstBreaches.{EachTo, each_more, each_all}
 use Rattle.plan_model.proofs.Lists.{at_contains, contains_at, any_at, any_from}
 use Rattle.plan_model.proofs.PlannedTests.{of_first_is}
 use Rattle.exclusions.specs.Exclusions.{excludes, least_power}
@@ -25,29 +26,6 @@ use Rattle.bus_proofs.specs.declared.list_rules.CrowdMarks.{CrowdMarks}
 use Rattle.bus_proofs.specs.Lists.{is_among, names_exclude, excludes_all, least_power_of, IsTurn, IsCrowdItem}
 use Rattle.bus_proofs.specs.ListRules.{among_of, apart_of, both_marked, chip_ruled, limits_ruled, AreCrowdMarks, AreTurnMarks, IsListRules, MemberAdded, MembersMarked, TurnAdded, TurnsMarked}
 use Rattle.bus_proofs.proofs.Turns.{one_place, place_is, name_at}
-
--- ---- items that keep their rules, up to a place
-
-abbrev pub EachTo : {X : Type 0} → (List X → X → Type 0) → List X → ℕ → Type 0
-EachTo {X} P xs n = (m : ℕ) (x : X) → m < n → slice_get xs m ≡ Some x → P (take m xs) x
-
-pub each_none : {X : Type 0} (P : List X → X → Type 0) (xs : List X) → EachTo P xs 0
-each_none P xs m x h at = absurd (omega arith)
-
-pub each_more : {X : Type 0} (P : List X → X → Type 0) (xs : List X) (n : ℕ) (x : X) → EachTo P xs n → slice_get xs n ≡ Some x → P (take n xs) x → EachTo P xs (n + 1)
-each_more P xs n x h at here m y less at' = elim (cases_eq m n) [
-  | inl same ↦
-      let there : slice_get xs m ≡ Some x = rw same at in
-      let one : x ≡ y = cc in
-      rw same (subst (P (take n xs)) one here)
-  | inr other ↦ h m y (omega (arith, other)) at'
-]
-
-pub each_all : {X : Type 0} (P : List X → X → Type 0) (xs : List X) (n : ℕ) → length xs ≤ n → EachTo P xs n → Each P xs
-each_all P xs n all h m x at = h m x (omega (arith, slice_get_within xs m x at)) at
-
-pub first_here : {X : Type 0} (P : List X → X → Type 0) (xs : List X) (n : ℕ) (x : X) → EachTo P xs n → slice_get xs n ≡ Some x → (P (take n xs) x → ⊥) → IsFirstBreach P xs n x
-first_here P xs n x h at broken = record { there = at; breaks = broken; earlier = h }
 
 -- ---- where a name stands
 

@@ -1,14 +1,13 @@
 -- The printed text of a proof says the proof.
-use Rattle.std.proofs.Common.{◌≡◌, ◌<◌, ℕ, List, [], ◌∷◌, ◌++◌, length, map, decimal, true, not, Some, refl, sym, ◌∙◌, ap, arith, append_assoc}
+use Rattle.std.proofs.Common.{◌≡◌, ℕ, List, [], ◌∷◌, ◌++◌, map, decimal, Some, refl, sym, ◌∙◌, ap, arith, append_assoc}
 use Rattle.std.specs.Prelude.{Result, Ok, Err, OnOk}
-use Rattle.std.specs.List.{flat_map, list_all}
-use Rattle.outside.specs.Words.{ends_word}
+use Rattle.std.specs.List.{flat_map}
 use Rattle.keyword_text.specs.declared.tokens.Token.{Token}
 use Rattle.keyword_text.specs.declared.tokens.Token.TheVariants.{Key, Number}
 use Rattle.keyword_text.specs.Tokens.{token_of}
 use Rattle.keyword_text.specs.Lines.{spaced, spaced_numbers, text_of}
 use Rattle.keyword_text.proofs.Listed.{text_append}
-use Rattle.keyword_text.proofs.Printed.{IsPrinted, printed_lines}
+use Rattle.keyword_text.proofs.Printed.{IsPrinted, are_printed, printed_lines}
 use Rattle.bus_proofs.specs.declared.tokens.Keyword.{Keyword}
 use Rattle.bus_proofs.specs.declared.tokens.Keyword.TheVariants as key
 use Rattle.bus_proofs.specs.Proofs.{WeightsValue, ProofValue}
@@ -31,32 +30,8 @@ key_back key.Place = refl
 key_back key.Sum = refl
 key_back key.Of = refl
 
-key_in_word : (k : Keyword) → list_all (λ b. not (ends_word b)) (spelling k) ≡ true
-key_in_word key.Proof = refl
-key_in_word key.Bound = refl
-key_in_word key.Turns = refl
-key_in_word key.TurnsOn = refl
-key_in_word key.Crowd = refl
-key_in_word key.Power = refl
-key_in_word key.Wide = refl
-key_in_word key.Place = refl
-key_in_word key.Sum = refl
-key_in_word key.Of = refl
-
-key_nonempty : (k : Keyword) → 0 < length (spelling k)
-key_nonempty key.Proof = omega arith
-key_nonempty key.Bound = omega arith
-key_nonempty key.Turns = omega arith
-key_nonempty key.TurnsOn = omega arith
-key_nonempty key.Crowd = omega arith
-key_nonempty key.Power = omega arith
-key_nonempty key.Wide = omega arith
-key_nonempty key.Place = omega arith
-key_nonempty key.Sum = omega arith
-key_nonempty key.Of = omega arith
-
 keys_printed : IsPrinted proof_lexicon spelling
-keys_printed = record { read_back = key_back; in_word = key_in_word; some = key_nonempty; fits = omega arith }
+keys_printed = are_printed proof_lexicon spelling key_back refl (omega arith)
 
 pub printed_is_read : PrintedProofsAreRead
 unfolding proof_tokens proof_text

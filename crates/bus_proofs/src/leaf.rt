@@ -13,7 +13,7 @@ ghost use Rattle.bus_proofs.specs.LeafAnswers.{HasLeafSpace, IsCaseFor, IsLeafAn
 
 use crate::basis::Basis;
 use crate::case::CaseRoom;
-use crate::leaf_costs::{Weighed, self_cost, weigh};
+use crate::leaf_costs::{Weighed, self_cost, weigh_leaf};
 use crate::leaf_sums::{conclusion, sum_of_least, worth_of_cycle};
 use crate::widths::{is_empty, known_ranks};
 use crate::{TestList, Weights};
@@ -140,6 +140,6 @@ pub(crate) fn check_leaf(
     if is_empty(&case.widths) {
         return LeafAnswer::Holds;
     }
-    weigh(basis, weights, &mut room.weighed);
+    weigh_leaf(basis, weights, &mut room.weighed);
     weighed_leaf(basis, case, weights, &room.weighed)
 }

@@ -217,7 +217,7 @@ fn weigh_totals(basis: &Basis<'_>, room: &mut Weighed)
 }
 
 /// Makes ready what a leaf weighs. However often it names a list, the list's tests are gone over once.
-pub(crate) fn weigh(basis: &Basis<'_>, weights: &Weights, room: &mut Weighed)
+pub(crate) fn weigh_leaf(basis: &Basis<'_>, weights: &Weights, room: &mut Weighed)
     requires basis { IsBasis basis.now }
     requires kept { AllKept basis.now }
     requires uses { AreUses basis.now (weights_value weights.now) }

@@ -6,7 +6,7 @@ ghost use Rattle.bus_proofs.specs.Words.{step as step_value};
 
 use crate::parts::{Part, ReadSoFar};
 use crate::tokens::{KEYWORDS, Keyword};
-use crate::words::{end_proof, new_draft, step};
+use crate::words::{end_proof, new_draft, step_token};
 use crate::{Proof, ProofTextFault};
 use keyword_text::{Format, Spelled, Token, read_by};
 use outside::{Stop, Unread};
@@ -59,7 +59,7 @@ impl Format for ProofText {
     {
         let ProofText { alloc, mut read } = self;
         let so_far = &mut *read;
-        match step(alloc, &mut so_far.draft, &mut so_far.part, token) {
+        match step_token(alloc, &mut so_far.draft, &mut so_far.part, token) {
             Ok(()) => Ok(ProofText { alloc, read }),
             Err(stop) => Err(stop),
         }

@@ -419,7 +419,7 @@ fn step_number(alloc: Global, draft: &mut Draft, part: &mut Part, n: u64) -> Res
 }
 
 /// The next word.
-pub fn step(
+pub fn step_token(
     alloc: Global,
     draft: &mut Draft,
     part: &mut Part,

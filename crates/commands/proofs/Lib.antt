@@ -2,8 +2,10 @@ pub mod AllFiles
 pub mod Completeness
 pub mod FileStages
 pub mod LineFacts
+pub mod Judged
 pub mod Refusals
 pub mod OwnFiles
+pub mod Reporting
 mod Rows
 pub mod SaidOnce
 pub mod Settled

@@ -1,5 +1,5 @@
 -- A text of a chip, of limits for a chip or of a plan for both says one thing.
-use Rattle.std.proofs.Common.{◌≡◌, ℕ, inl, inr, List, None, Some, sym, ◌∙◌, ap, subst}
+use Rattle.std.proofs.Common.{◌≡◌, ℕ, inl, inr, List, None, Some, sym, ◌∙◌, ap}
 use Rattle.outside.specs.Words.{words_of}
 use Rattle.outside.specs.Grammars.{last_line}
 use Rattle.soc_model.specs.Chips.{SocValue}
@@ -11,10 +11,11 @@ use Rattle.soc_reader.proofs.OneAnswer.{one_line, one_limit, no_line-from_chip, 
 use Rattle.limits_text.specs.Answers.{read_as}
 use Rattle.limits_text.specs.Laws.{TextsHaveOneAnswer}
 use Rattle.plan_text.specs.Laws.{SayOnePlan, PlansAreNotRefused, RefusedOnce}
-use Rattle.plan_text.specs.Answers.{SaysPlan}
+use Rattle.plan_text.specs.Answers.{SaysPlan, RefusesText}
 use Rattle.commands.specs.Texts.{chip_line, chip_limit_line, plan_line, fault_line}
 use Rattle.commands.specs.Readings.{RefusesChip, SaysLimits, refusal_of, RefusesLimits, SaysAccepted, RefusesPlan}
 use Rattle.commands.specs.Settled.{SaysOne, RefusesOne, FilesSayOneThing}
+use Rattle.commands.proofs.Judged.{JudgedLaws, judged_one, judged_refused_one}
 
 -- the laws of the readers and the checker that this rests on
 pub record ReaderLaws : Type 0 where
@@ -60,23 +61,24 @@ limits_refused_one law soc = record { one = lines; none = no_limits } where
 
 -- ---- plans
 
-plan_one : SayOnePlan → (soc : SocValue) (limits : LimitsValue) → SaysOne (SaysAccepted soc limits)
-plan_one law soc limits bytes v w a b = law (words_of bytes) v w a.0 b.0
+-- a plan is refused for a fault
+abbrev RefusedPlan : SocValue → LimitsValue → PlanValue → List ℕ → Type 0
+RefusedPlan soc limits plan text = (fault : FaultValue) × IsFault soc limits plan fault × (text ≡ fault_line fault)
+
+judged_plans : ReaderLaws → (soc : SocValue) (limits : LimitsValue) → JudgedLaws SaysPlan RefusesText (IsFaultless soc limits) (RefusedPlan soc limits)
+judged_plans laws soc limits = record {
+  one = λ bytes v w a b. laws.one_plan (words_of bytes) v w a b;
+  not_refused = λ bytes line v says refused. laws.not_refused (words_of bytes) (last_line bytes) line (v, says) refused;
+  refused_once = λ bytes m n a b. laws.refused_once (words_of bytes) (last_line bytes) m n a b;
+  one_line = λ v t t' a b. a.2 ∙ ap fault_line (laws.one_fault soc limits v a.0 b.0 a.1 b.1) ∙ sym b.2;
+  not_both = λ bytes v t says right refused. laws.no_fault soc limits v refused.0 refused.1 right;
+}
+
+plan_one : ReaderLaws → (soc : SocValue) (limits : LimitsValue) → SaysOne (SaysAccepted soc limits)
+plan_one laws soc limits = judged_one SaysPlan RefusesText (IsFaultless soc limits) (RefusedPlan soc limits) (judged_plans laws soc limits)
 
 plan_refused_one : ReaderLaws → (soc : SocValue) (limits : LimitsValue) → RefusesOne (SaysAccepted soc limits) (RefusesPlan soc limits)
-plan_refused_one laws soc limits = record { one = lines; none = no_plan } where
-  same_fault : (bytes : List ℕ) (v w : PlanValue) (f g : FaultValue) → SaysPlan bytes v → SaysPlan bytes w → IsFault soc limits v f → IsFault soc limits w g → f ≡ g
-  same_fault bytes v w f g a b is_f is_g = laws.one_fault soc limits w f g (subst (λ x. IsFault soc limits x f) (laws.one_plan (words_of bytes) v w a b) is_f) is_g
-
-  lines : (bytes t t' : List ℕ) → RefusesPlan soc limits bytes t → RefusesPlan soc limits bytes t' → t ≡ t'
-  lines bytes t t' (inl a) (inl b) = a.2 ∙ ap plan_line (laws.refused_once (words_of bytes) (last_line bytes) a.0 b.0 a.1 b.1) ∙ sym b.2
-  lines bytes t t' (inl a) (inr b) = absurd (laws.not_refused (words_of bytes) (last_line bytes) a.0 (b.0, b.1) a.1)
-  lines bytes t t' (inr a) (inl b) = absurd (laws.not_refused (words_of bytes) (last_line bytes) b.0 (a.0, a.1) b.1)
-  lines bytes t t' (inr a) (inr b) = a.2.2 ∙ ap fault_line (same_fault bytes a.0 b.0 a.2.0 b.2.0 a.1 b.1 a.2.1 b.2.1) ∙ sym b.2.2
-
-  no_plan : (bytes t : List ℕ) (v : PlanValue) → RefusesPlan soc limits bytes t → SaysAccepted soc limits bytes v → ⊥
-  no_plan bytes t v (inl a) says = laws.not_refused (words_of bytes) (last_line bytes) a.0 (v, says.0) a.1
-  no_plan bytes t v (inr a) says = laws.no_fault soc limits a.0 a.2.0 a.2.1 (subst (IsFaultless soc limits) (laws.one_plan (words_of bytes) v a.0 says.0 a.1) says.1)
+plan_refused_one laws soc limits = judged_refused_one SaysPlan RefusesText (IsFaultless soc limits) (RefusedPlan soc limits) plan_line (judged_plans laws soc limits)
 
 -- ---- all three
 
@@ -86,6 +88,6 @@ said_once laws = record {
   refused_chips = chip_refused_one;
   limits = limits_one laws.reading;
   refused_limits = limits_refused_one laws.reading;
-  plans = plan_one laws.one_plan;
+  plans = plan_one laws;
   refused_plans = plan_refused_one laws;
 }

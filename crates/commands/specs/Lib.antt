@@ -3,6 +3,7 @@ pub mod Commands
 pub mod Decides
 pub mod Ends
 pub mod Procedures
+pub mod Progress
 pub mod Readings
 pub mod Settled
 pub mod Texts

@@ -1,5 +1,5 @@
 -- The lines that programs over files have in common.
-use Rattle.std.specs.Prelude.{ℕ, ◌++◌, List, [], ◌∷◌, Bool, false, not, ◌&&◌, nat_eq, codes, decimal, if◌then◌else◌}
+use Rattle.std.specs.Prelude.{ℕ, Option, option_map, ◌++◌, List, [], ◌∷◌, Bool, false, not, ◌&&◌, nat_eq, codes, decimal, if◌then◌else◌}
 use Rattle.std.specs.List.{list_all, flat_map}
 use Rattle.outside.specs.Decimal.{dotted_numbers}
 use Rattle.soc_model.specs.declared.TestId.{TestId}
@@ -144,3 +144,7 @@ fault_line fault = codes "refused plan " ++ fault_keyword fault ++ carried_text 
 -- a run of so many wire cycles, which is too long
 abbrev pub run_line : ℕ → List ℕ
 run_line cells = codes "refused run " ++ decimal cells ++ codes "\n"
+
+-- the line that refuses a run, where it has so many wire cycles that it is too long
+abbrev pub run_refusal : Option ℕ → Option (List ℕ)
+run_refusal cells = option_map run_line cells

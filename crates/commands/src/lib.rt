@@ -7,16 +7,20 @@ ghost use Rattle.std.specs.Prelude.{◌≡◌};
 mod laws;
 mod lines;
 mod loading;
+mod progress;
 mod top_calls;
 mod words;
 mod writing;
 
 pub use laws::files_say_one_thing;
-pub use lines::{limit_word, numbered, push, push_decimal, push_test, push_two, run_line};
+pub use lines::{
+    less_line, limit_word, numbered, push_decimal, push_test, push_text, push_two, run_line,
+};
 pub use loading::{
     Accepted, Both, answered_with, bad_words, load_accepted_plan, load_all, load_both, load_chip,
     load_file, load_limits, refused_with,
 };
+pub use progress::{REPORTS, line_room, report_line};
 pub use top_calls::{TopCall, top_call};
 pub use words::{command_of, each_command_has_words, words_after_name};
 pub use writing::write_verdict;

@@ -58,7 +58,7 @@ pub fn limit_word(which: Which) -> &'static [u8]
 }
 
 /// Appends a text.
-pub fn push(to: &mut Vec<u8>, text: &[u8]) -> Result<(), NoMemory>
+pub fn push_text(to: &mut Vec<u8>, text: &[u8]) -> Result<(), NoMemory>
     ensures text { OnOk result (to.new.items ≡ to.old.items ++ text.now) }
     ensures plain { OnOk result (no_feed to.new.items ≡ (no_feed to.old.items && no_feed text.now)) }
 {
@@ -86,7 +86,7 @@ fn push_pair(to: &mut Vec<u8>, a: &TestId, b: &TestId) -> Result<(), NoMemory>
     ensures plain { OnOk result (IsTrue (no_feed to.old.items) → IsTrue (no_feed to.new.items)) }
 {
     push_test(to, a)?;
-    push(to, b" ")?;
+    push_text(to, b" ")?;
     push_test(to, b)
 }
 
@@ -95,7 +95,7 @@ fn push_clash(to: &mut Vec<u8>, a: &TestId, b: &TestId, cycle: u64) -> Result<()
     ensures plain { OnOk result (IsTrue (no_feed to.old.items) → IsTrue (no_feed to.new.items)) }
 {
     push_pair(to, a, b)?;
-    push(to, b" ")?;
+    push_text(to, b" ")?;
     push_decimal(to, u128::from(cycle))
 }
 
@@ -105,9 +105,9 @@ fn push_wrapper(to: &mut Vec<u8>, module: u64, scan: bool) -> Result<(), NoMemor
 {
     push_decimal(to, u128::from(module))?;
     if scan {
-        push(to, b" scan")
+        push_text(to, b" scan")
     } else {
-        push(to, b" terminals")
+        push_text(to, b" terminals")
     }
 }
 
@@ -117,7 +117,7 @@ pub fn push_two(to: &mut Vec<u8>, a: u128, b: u128) -> Result<(), NoMemory>
     ensures plain { OnOk result (IsTrue (no_feed to.old.items) → IsTrue (no_feed to.new.items)) }
 {
     push_decimal(to, a)?;
-    push(to, b" ")?;
+    push_text(to, b" ")?;
     push_decimal(to, b)
 }
 
@@ -127,11 +127,11 @@ fn push_certificate(to: &mut Vec<u8>, fault: &BoundFault) -> Result<(), NoMemory
 {
     match fault {
         BoundFault::BadList { place } => {
-            push(to, b"list ")?;
+            push_text(to, b"list ")?;
             push_decimal(to, *place as u128)
         }
         BoundFault::Less { claimed, shown } => {
-            push(to, b"less ")?;
+            push_text(to, b"less ")?;
             push_two(to, u128::from(*claimed), *shown)
         }
     }
@@ -190,9 +190,30 @@ pub fn numbered(alloc: Global, words: &[u8], number: u128) -> Result<Vec<u8>, No
     ensures line { IfOk result (λ text. IsTrue (is_line text.items)) }
 {
     let mut text = Vec::new(alloc);
-    push(&mut text, words)?;
+    push_text(&mut text, words)?;
     push_decimal(&mut text, number)?;
-    push(&mut text, b"\n")?;
+    push_text(&mut text, b"\n")?;
+    Ok(text)
+}
+
+/// A line of words, which have no line feed, a place, a claim and what is shown there, which is less.
+pub fn less_line(
+    alloc: Global,
+    words: &[u8],
+    place: usize,
+    claimed: u64,
+    shown: u128,
+) -> Result<Vec<u8>, NoMemory>
+    requires { IsTrue (no_feed words.now) }
+    ensures text { IfOk result (λ text. text.items ≡ words.now ++ decimal place ++ codes " " ++ two_numbers claimed shown ++ codes "\n") }
+    ensures line { IfOk result (λ text. IsTrue (is_line text.items)) }
+{
+    let mut text = Vec::new(alloc);
+    push_text(&mut text, words)?;
+    push_decimal(&mut text, place as u128)?;
+    push_text(&mut text, b" ")?;
+    push_two(&mut text, u128::from(claimed), shown)?;
+    push_text(&mut text, b"\n")?;
     Ok(text)
 }
 
@@ -210,10 +231,10 @@ pub(crate) fn chip_limit_line(alloc: Global, limit: &SocLimit) -> Result<Vec<u8>
     ensures line { IfOk result (λ text. IsTrue (is_line text.items)) }
 {
     let mut text = Vec::new(alloc);
-    push(&mut text, b"refused soc limit ")?;
-    push(&mut text, limit_word(limit.which))?;
+    push_text(&mut text, b"refused soc limit ")?;
+    push_text(&mut text, limit_word(limit.which))?;
     push_decimal(&mut text, limit.value)?;
-    push(&mut text, b"\n")?;
+    push_text(&mut text, b"\n")?;
     Ok(text)
 }
 
@@ -243,7 +264,7 @@ fn push_tests(to: &mut Vec<u8>, tests: &[TestId]) -> Result<(), NoMemory>
     ensures plain { OnOk result (IsTrue (no_feed to.old.items) → IsTrue (no_feed to.new.items)) }
 {
     for test in tests {
-        push(to, b" ")?;
+        push_text(to, b" ")?;
         push_test(to, test)?;
     }
     Ok(())
@@ -255,9 +276,9 @@ pub(crate) fn loop_line(alloc: Global, tests: &[TestId]) -> Result<Vec<u8>, NoMe
     ensures line { IfOk result (λ text. IsTrue (is_line text.items)) }
 {
     let mut text = Vec::new(alloc);
-    push(&mut text, b"refused limits cycle")?;
+    push_text(&mut text, b"refused limits cycle")?;
     push_tests(&mut text, tests)?;
-    push(&mut text, b"\n")?;
+    push_text(&mut text, b"\n")?;
     Ok(text)
 }
 
@@ -267,11 +288,11 @@ pub(crate) fn test_power_line(alloc: Global, test: &TestId, power: u64) -> Resul
     ensures line { IfOk result (λ text. IsTrue (is_line text.items)) }
 {
     let mut text = Vec::new(alloc);
-    push(&mut text, b"refused limits power ")?;
+    push_text(&mut text, b"refused limits power ")?;
     push_test(&mut text, test)?;
-    push(&mut text, b" ")?;
+    push_text(&mut text, b" ")?;
     push_decimal(&mut text, u128::from(power))?;
-    push(&mut text, b"\n")?;
+    push_text(&mut text, b"\n")?;
     Ok(text)
 }
 
@@ -289,10 +310,10 @@ pub(crate) fn fault_line(alloc: Global, fault: &PlanFault) -> Result<Vec<u8>, No
     ensures line { IfOk result (λ text. IsTrue (is_line text.items)) }
 {
     let mut text = Vec::new(alloc);
-    push(&mut text, b"refused plan ")?;
-    push(&mut text, keyword(fault))?;
+    push_text(&mut text, b"refused plan ")?;
+    push_text(&mut text, keyword(fault))?;
     push_carried(&mut text, fault)?;
-    push(&mut text, b"\n")?;
+    push_text(&mut text, b"\n")?;
     Ok(text)
 }
 

@@ -58,7 +58,7 @@ fn sample<'a>(n: &str, seed: &str) -> Option<Command<'a>>
 }
 
 /// `split` with a word for the patterns of a part, where that is a number of at least 1.
-fn split<'a>(soc: &'a str, limits: &'a str, most: &str) -> Option<Command<'a>>
+fn split_words<'a>(soc: &'a str, limits: &'a str, most: &str) -> Option<Command<'a>>
     ensures value { option_map command_value result ≡ split_of soc.now limits.now (number_of most.now NUMBER_WORD_MOST) }
     ensures range { IfSome result (λ c. IsInRange (command_value c)) }
 {
@@ -70,7 +70,7 @@ fn split<'a>(soc: &'a str, limits: &'a str, most: &str) -> Option<Command<'a>>
 }
 
 /// `improve` with words for the tries and for the seed, where both are numbers, the tries at most 10,000,000.
-fn improve<'a>(
+fn improve_words<'a>(
     soc: &'a str,
     limits: &'a str,
     plan: &'a str,
@@ -93,7 +93,7 @@ fn improve<'a>(
 }
 
 /// `prove` with a word for the nodes, where that is a number from 1 to 1,000,000.
-fn prove<'a>(soc: &'a str, limits: &'a str, plan: &'a str, nodes: &str) -> Option<Command<'a>>
+fn prove_words<'a>(soc: &'a str, limits: &'a str, plan: &'a str, nodes: &str) -> Option<Command<'a>>
     ensures value { option_map command_value result ≡ prove_of soc.now limits.now plan.now (number_of nodes.now NODES_MOST) }
     ensures range { IfSome result (λ c. IsInRange (command_value c)) }
 {
@@ -184,7 +184,7 @@ fn three<'a>(word: &str, soc: &'a str, limits: &'a str, last: &'a str) -> Option
         });
     }
     if word == "split" {
-        return split(soc, limits, last);
+        return split_words(soc, limits, last);
     }
     None
 }
@@ -236,7 +236,7 @@ fn four<'a>(
         });
     }
     if word == "prove" {
-        return prove(soc, limits, plan, last);
+        return prove_words(soc, limits, plan, last);
     }
     None
 }
@@ -255,7 +255,7 @@ fn five<'a>(
     ensures range { IfSome result (λ c. IsInRange (command_value c)) }
 {
     if word == "improve" {
-        return improve(soc, limits, plan, tries, seed);
+        return improve_words(soc, limits, plan, tries, seed);
     }
     None
 }

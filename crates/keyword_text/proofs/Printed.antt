@@ -1,15 +1,18 @@
 -- The words of printed lines are those of the lines.
-use Rattle.std.proofs.Common.{◌≡◌, ◌<◌, ◌≤◌, ◌^◌, ◌+◌, ℕ, List, [], ◌∷◌, ◌++◌, length, map, decimal, Bool, true, false, not, ◌&&◌, Some, refl, sym, ◌∙◌, ap, arith, append_assoc}
+use Rattle.std.proofs.Common.{◌≡◌, ◌<◌, ◌≤◌, ◌^◌, ◌+◌, ℕ, List, [], ◌∷◌, ◌++◌, length, map, decimal, Bool, true, false, not, ◌&&◌, Some, None, Option, cond, nat_eq, refl, sym, ◌∙◌, ap, arith, append_assoc}
 use Rattle.std.specs.List.{list_all}
 use Rattle.std.proofs.lemmas.List.{map-append}
 use Rattle.std.proofs.lemmas.Fmt.{decimal_nonempty}
-use Rattle.std.proofs.lemmas.Bool.{not-true}
-use Rattle.outside.specs.Words.{words_left, words_of, AllInWord, IsEnd, ends_word}
+use Rattle.std.specs.Char.{to_ascii_lowercase}
+use Rattle.std.proofs.lemmas.Grind.{common_steps}
+use Rattle.std.proofs.lemmas.Bool.{not-true, and_parts, and_from, eqb-true}
+use Rattle.outside.specs.Words.{words_left, words_of, AllInWord, IsEnd, ends_word, same_letters}
+use Rattle.outside.specs.Decimal.{number_of}
 use Rattle.outside.proofs.WordLemmas.{first_word}
 use Rattle.outside.proofs.DecimalLemmas.{decimal_in_word}
 use Rattle.keyword_text.specs.declared.tokens.Token.{Token}
 use Rattle.keyword_text.specs.declared.tokens.Token.TheVariants.{Key, Number}
-use Rattle.keyword_text.specs.Tokens.{Lexicon, token_of}
+use Rattle.keyword_text.specs.Tokens.{Lexicon, token_of, named, number_or_key}
 use Rattle.keyword_text.specs.Texts.{meanings, Spells, IsSmall, AllSmall}
 use Rattle.keyword_text.specs.Lines.{Line, line_tokens, tokens_of, token_text, spaced, spaced_numbers, listed_text, line_text, text_of}
 use Rattle.keyword_text.proofs.Ranges.{small_split, number_back}
@@ -21,16 +24,80 @@ pub record IsPrinted {K : Type 0} (l : Lexicon K) (spelling : K → List ℕ) : 
   pub some : (k : K) → 0 < length (spelling k)
   pub fits : l.most < 2 ^ 64
 
--- ---- one word
+-- ---- a word for each keyword
 
-both_true : (p q : Bool) → (p && q) ≡ true → (p ≡ true) × (q ≡ true)
-both_true true q e = (refl, e)
-both_true false q e = cc
+-- some bytes, none of which ends a word
+abbrev pub is_word : List ℕ → Bool
+is_word [] = false
+is_word (b ∷ w) = list_all (λ b. not (ends_word b)) (b ∷ w)
+
+abbrev pub are_words : {K : Type 0} → List (K × List ℕ) → Bool
+are_words [] = true
+are_words (e ∷ es) = is_word e.1 && are_words es
+
+byte_in_word : (b c : ℕ) → to_ascii_lowercase b ≡ to_ascii_lowercase c → not (ends_word c) ≡ true → not (ends_word b) ≡ true
+byte_in_word b c same inside = grind (arith, common_steps)
+
+bytes_in_word : (w x : List ℕ) → same_letters w x ≡ true → list_all (λ b. not (ends_word b)) x ≡ true → list_all (λ b. not (ends_word b)) w ≡ true
+bytes_in_word [] x same inside = refl
+bytes_in_word (b ∷ w) [] same inside = cc
+bytes_in_word (b ∷ w) (c ∷ x) same inside =
+    let alike = and_parts (nat_eq (to_ascii_lowercase b) (to_ascii_lowercase c)) (same_letters w x) same in
+    let parts = and_parts (not (ends_word c)) (list_all (λ b. not (ends_word b)) x) inside in
+    and_from (not (ends_word b)) (list_all (λ b. not (ends_word b)) w) (byte_in_word b c (eqb-true (to_ascii_lowercase b) (to_ascii_lowercase c) alike.0) parts.0) (bytes_in_word w x alike.1 parts.1)
+
+-- a word in other letters is a word
+is_word-same : (w x : List ℕ) → same_letters w x ≡ true → is_word x ≡ true → is_word w ≡ true
+is_word-same w [] same inside = cc
+is_word-same [] (c ∷ x) same inside = cc
+is_word-same (b ∷ w) (c ∷ x) same inside = bytes_in_word (b ∷ w) (c ∷ x) same inside
+
+-- what a table of words names is a word
+named_word : {K : Type 0} (es : List (K × List ℕ)) (w : List ℕ) (k : K) → are_words es ≡ true → named es w ≡ Some k → is_word w ≡ true
+named_word [] w k words is = cc
+named_word (e ∷ es) w k words is =
+    let parts = and_parts (is_word e.1) (are_words es) words in
+    by parts.0 (named_word es w k parts.1) (same_letters w e.1) refl is
+  where
+    by : is_word e.1 ≡ true → (named es w ≡ Some k → is_word w ≡ true) → (b : Bool) → same_letters w e.1 ≡ b → cond b (Some e.0) (named es w) ≡ Some k → is_word w ≡ true
+    by here later true same is = is_word-same w e.1 same here
+    by here later false other is = later is
+
+key_named : {K : Type 0} (n : Option ℕ) (o : Option K) (k : K) → number_or_key n o ≡ Some (Key k) → (j : K) × (o ≡ Some j)
+key_named (Some n) o k is = cc
+key_named None None k is = cc
+key_named None (Some j) k is = (j, refl)
+
+keyword_word : {K : Type 0} (l : Lexicon K) (w : List ℕ) (k : K) → are_words l.table ≡ true → token_of l w ≡ Some (Key k) → is_word w ≡ true
+unfolding token_of
+keyword_word l w k words is =
+    let found = key_named (number_of w l.most) (named l.table w) k is in
+    named_word l.table w found.0 words found.1
+
+word_some : (w : List ℕ) → is_word w ≡ true → 0 < length w
+word_some [] is = cc
+word_some (b ∷ w) is = omega arith
+
+word_unbroken : (w : List ℕ) → is_word w ≡ true → list_all (λ b. not (ends_word b)) w ≡ true
+word_unbroken [] is = refl
+word_unbroken (b ∷ w) is = is
+
+-- a format whose table has words alone, each read back
+pub are_printed : {K : Type 0} (l : Lexicon K) (spelling : K → List ℕ) → ((k : K) → token_of l (spelling k) ≡ Some (Key k)) → are_words l.table ≡ true → l.most < 2 ^ 64 → IsPrinted l spelling
+are_printed l spelling back words fits =
+    record {
+      read_back = back;
+      in_word = λ k. word_unbroken (spelling k) (keyword_word l (spelling k) k words (back k));
+      some = λ k. word_some (spelling k) (keyword_word l (spelling k) k words (back k));
+      fits = fits;
+    }
+
+-- ---- one word
 
 in_word_by : (w : List ℕ) → list_all (λ b. not (ends_word b)) w ≡ true → AllInWord w
 in_word_by [] e = tt
 in_word_by (b ∷ w) e =
-    let parts = both_true (not (ends_word b)) (list_all (λ b. not (ends_word b)) w) e in
+    let parts = and_parts (not (ends_word b)) (list_all (λ b. not (ends_word b)) w) e in
     (not-true (ends_word b) parts.0, in_word_by w parts.1)
 
 number_first : {K : Type 0} (l : Lexicon K) → l.most < 2 ^ 64 → (m n : ℕ) (rest : List ℕ) → m ≤ l.most → IsEnd rest → meanings l (words_left n (decimal m ++ rest)) ≡ Some (Number m) ∷ meanings l (words_left n rest)

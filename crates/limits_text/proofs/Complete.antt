@@ -4,6 +4,7 @@ use Rattle.std.specs.Prelude.{nat_le}
 use Rattle.std.specs.List.{All}
 use Rattle.std.proofs.lemmas.List.Elements.{All-head, All-tail}
 use Rattle.std.proofs.lemmas.Bool.Decides.{nat_tests}
+use Rattle.std.proofs.lemmas.Option.{same_Some}
 use Rattle.outside.proofs.Runs.{run-none, run-append}
 use Rattle.soc_model.specs.declared.TestId.{TestId}
 use Rattle.soc_model.specs.declared.TheConstants.{POWER_MOST}
@@ -18,9 +19,6 @@ use Rattle.limits_text.specs.Grammar.{AmountComes, BeforeComes, ProfileComes, Co
 use Rattle.limits_text.specs.Steps.{Part, title, version, between, wants, module_for, test_for, steps_for, power_for, State, start, at, last_from, may_follow, begin, step_at, step, run, ended_at, ended}
 use Rattle.limits_text.proofs.WordFacts.{key_no_number}
 
-pub some_same : {X : Type 0} (a b : X) → Some a ≡ Some b → a ≡ b
-some_same a b e = cc
-
 -- the items that the words are, as the reader has them
 pub record IsRead (s : State) (form : Bool) (items : List Item) : Type 0 where
   pub form_is : s.form ≡ form
@@ -34,12 +32,12 @@ Read (Some s) form items = IsRead s form items
 enters : (form : Bool) (done : List Item) (part : Part) (earlier : List Item) (w : Word) → ended_at done part ≡ Some earlier → number w.0 ≡ None → step_at form done part w ≡ begin form earlier w
 enters form done title earlier w e none = cc
 enters form done version earlier w e none = cc
-enters form done between earlier w e none = ap (λ l. begin form l w) (some_same done earlier e)
+enters form done between earlier w e none = ap (λ l. begin form l w) (same_Some done earlier e)
 enters form done (wants a) earlier w e none = cc
 enters form done (module_for n) earlier w e none = cc
 enters form done (test_for n m) earlier w e none = cc
 enters form done (steps_for line id []) earlier w e none = cc
-enters form done (steps_for line id (s ∷ steps)) earlier w e none = rw none (ap (λ l. begin form l w) (some_same (profile_item line id (s ∷ steps) ∷ done) earlier e))
+enters form done (steps_for line id (s ∷ steps)) earlier w e none = rw none (ap (λ l. begin form l w) (same_Some (profile_item line id (s ∷ steps) ∷ done) earlier e))
 enters form done (power_for line id steps from) earlier w e none = cc
 
 -- ---- the steps of a profile

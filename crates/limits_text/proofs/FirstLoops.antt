@@ -2,14 +2,12 @@
 use Rattle.std.proofs.Common.{◌≡◌, ◌⊎◌, inl, inr, ℕ, zero, suc, ◌+◌, ◌-◌, ◌<◌, ◌≤◌, List, [], ◌∷◌, length, get_or, Bool, true, false, cond, ◌&&◌, not, nat_eq, Some, None, slice_get, position, refl, sym, ◌∙◌, ap, subst, arith, add-one}
 use Rattle.std.specs.Prelude.{min}
 use Rattle.std.specs.List.{All, Contains}
-use Rattle.std.proofs.lemmas.Bool.{cases_lt, eqb-true}
+use Rattle.std.proofs.lemmas.Bool.{cases_lt, eqb-true, eq-eqb}
 use Rattle.std.proofs.lemmas.List.Elements.{All-contains}
-use Rattle.std.proofs.lemmas.Option.{slice_get-get_or, slice_get_within}
+use Rattle.std.proofs.lemmas.Option.{slice_get-get_or, slice_get_within, same_Some}
 use Rattle.plan_model.proofs.Finding.{none_passes}
 use Rattle.limits_text.specs.Loops.{IsTaken, take_away, Remains, IsFirstRemaining, IsForerunner, IsWalk, IsFirstLoop, HasRank}
 use Rattle.limits_text.specs.Orders.{is_in, least_before, Counts, IsTaking, AreMarked, ComesAgain, IsBack}
-use Rattle.limits_text.proofs.Complete.{some_same}
-use Rattle.limits_text.proofs.GraphSteps.{eq_true}
 use Rattle.limits_text.proofs.Positions.{fails_before, passes_at}
 use Rattle.limits_text.proofs.Taking.{in_at, in_take_at, contains_from, contains_here}
 
@@ -44,7 +42,7 @@ rank_in (y ∷ xs) j = cond (nat_eq j y) 0 (suc (rank_in xs j))
 rank-upto : (xs : List ℕ) (q x : ℕ) → slice_get xs q ≡ Some x → rank_in xs x ≤ q
 unfolding rank_in
 rank-upto [] q x at = cc
-rank-upto (y ∷ xs) zero x at = here (nat_eq x y) (eq_true x y (sym (some_same y x at)))
+rank-upto (y ∷ xs) zero x at = here (nat_eq x y) (eq-eqb x y (sym (same_Some y x at)))
   where
     here : (b : Bool) → b ≡ true → cond b 0 (suc (rank_in xs x)) ≤ 0
     here true f = omega arith
@@ -117,7 +115,7 @@ module _ (pairs : List (ℕ × ℕ)) (count : ℕ) (order : List ℕ) (gone : Li
   -- no test that is left stands before `j` and is less
   least_le : (none : ℕ) (ps : List (ℕ × ℕ)) (p i j : ℕ) → slice_get ps p ≡ Some (i, j) → get_or gone i false ≡ false → least_before gone none ps j ≤ i
   least_le none [] p i j at left = cc
-  least_le none (e ∷ ps) zero i j at left = by e (some_same e (i, j) at)
+  least_le none (e ∷ ps) zero i j at left = by e (same_Some e (i, j) at)
     where
       here : (b c : Bool) (x : ℕ) → b ≡ true → c ≡ false → cond (b && not c) (min i x) x ≤ i
       here true false x f g = omega arith
@@ -125,7 +123,7 @@ module _ (pairs : List (ℕ × ℕ)) (count : ℕ) (order : List ℕ) (gone : Li
       here false c x f g = cc
 
       by : (e : ℕ × ℕ) → e ≡ (i, j) → least_before gone none (e ∷ ps) j ≤ i
-      by e same = subst (λ (y : ℕ × ℕ). least_before gone none (y ∷ ps) j ≤ i) (sym same) (here (nat_eq j j) (get_or gone i false) (least_before gone none ps j) (eq_true j j refl) left)
+      by e same = subst (λ (y : ℕ × ℕ). least_before gone none (y ∷ ps) j ≤ i) (sym same) (here (nat_eq j j) (get_or gone i false) (least_before gone none ps j) (eq-eqb j j refl) left)
   least_le none (e ∷ ps) (suc p) i j at left = by (nat_eq j e.1 && not (get_or gone e.0 false)) (least_le none ps p i j at left)
     where
       by : (b : Bool) → least_before gone none ps j ≤ i → cond b (min e.0 (least_before gone none ps j)) (least_before gone none ps j) ≤ i
@@ -198,7 +196,7 @@ module _ (pairs : List (ℕ × ℕ)) (count : ℕ) (order : List ℕ) (gone : Li
   walk_is least start walk meets found long are w =
       let begin = first_left start found in
       record {
-        begins = λ x at. subst (IsFirstRemaining pairs count) (some_same start x (sym w.begins ∙ at)) begin.0;
+        begins = λ x at. subst (IsFirstRemaining pairs count) (same_Some start x (sym w.begins ∙ at)) begin.0;
         goes = λ k x y at there. (let l = left k x at begin.1 in subst (IsForerunner pairs x) (next k x y at there l) (forerunner x l).0);
       }
     where
@@ -206,7 +204,7 @@ module _ (pairs : List (ℕ × ℕ)) (count : ℕ) (order : List ℕ) (gone : Li
       next k x y at there l = sym (w.goes k x y at there ∙ are x (omega (arith, l.0, m.long, long)))
 
       left : (k x : ℕ) → slice_get walk k ≡ Some x → IsLeft count gone start → IsLeft count gone x
-      left zero x at begin = subst (IsLeft count gone) (some_same start x (sym w.begins ∙ at)) begin
+      left zero x at begin = subst (IsLeft count gone) (same_Some start x (sym w.begins ∙ at)) begin
       left (suc k) x at begin =
           let within = slice_get_within walk (suc k) x at in
           let before : slice_get walk k ≡ Some (get_or walk k 0) = slice_get-get_or walk k 0 (omega (arith, within)) in

@@ -4,13 +4,13 @@ use Rattle.std.specs.Prelude.{find, IfSome, MatchOption}
 use Rattle.std.specs.List.{filter}
 use Rattle.std.proofs.Math.Seq.{drop-cons}
 use Rattle.std.proofs.lemmas.Bool.{cases_order}
+use Rattle.std.proofs.lemmas.Option.{same_Some}
 use Rattle.soc_model.specs.declared.Test.{Test}
 use Rattle.soc_model.specs.declared.TestId.{TestId}
 use Rattle.soc_model.specs.Chips.{ModuleValue, SocValue, LiveTest, is_live, live_of, live_from, live_tests, id_of}
 use Rattle.plan_model.specs.Plans.{ProfileValue, LimitsValue}
 use Rattle.limits_text.specs.Meaning.{or_first, powers_of, NonePasses, IsFirstPassing}
 use Rattle.limits_text.specs.Passing.{live_at, passing, first_passing}
-use Rattle.limits_text.proofs.Complete.{some_same}
 
 none_some : {X : Type 0} (o : Option X) (x : X) → o ≡ None → o ≡ Some x → ⊥
 none_some o x e f = cc
@@ -27,16 +27,16 @@ pub one_passing : (soc : SocValue) (limits : LimitsValue) (s t : TestId) (m n : 
 one_passing soc limits s t m n x y = by (cases_order x.place y.place)
   where
     most : x.most ≡ y.most
-    most = some_same x.most y.most (sym x.limit ∙ y.limit)
+    most = same_Some x.most y.most (sym x.limit ∙ y.limit)
 
     not_before : (s t : TestId) (m n : ℕ) (x : IsFirstPassing soc limits s m) (y : IsFirstPassing soc limits t n) → x.most ≡ y.most → x.place < y.place → ⊥
     not_before s t m n x y same less = none_some (find (nat_lt y.most) (powers_of limits.profiles x.live)) m (y.earlier x.place x.live less x.there) (ap (λ (k : ℕ). find (nat_lt k) (powers_of limits.profiles x.live)) (sym same) ∙ x.passes)
 
     at_one : x.place ≡ y.place → (s ≡ t) × (m ≡ n)
     at_one same =
-        let live : x.live ≡ y.live = some_same x.live y.live (sym x.there ∙ ap (slice_get (live_tests soc)) same ∙ y.there) in (
+        let live : x.live ≡ y.live = same_Some x.live y.live (sym x.there ∙ ap (slice_get (live_tests soc)) same ∙ y.there) in (
           x.named ∙ ap id_of live ∙ sym y.named,
-          some_same m n (sym x.passes ∙ ap (λ (k : ℕ). find (nat_lt k) (powers_of limits.profiles x.live)) most ∙ ap (λ (l : LiveTest). find (nat_lt y.most) (powers_of limits.profiles l)) live ∙ y.passes),
+          same_Some m n (sym x.passes ∙ ap (λ (k : ℕ). find (nat_lt k) (powers_of limits.profiles x.live)) most ∙ ap (λ (l : LiveTest). find (nat_lt y.most) (powers_of limits.profiles l)) live ∙ y.passes),
         )
 
     by : (x.place ≡ y.place) ⊎ ((x.place < y.place) ⊎ (y.place < x.place)) → (s ≡ t) × (m ≡ n)
@@ -62,12 +62,12 @@ found_later : (profiles : List ProfileValue) (most : ℕ) (l : LiveTest) (tests 
 found_later profiles most l tests test power none f = record { place = suc f.place; live = f.live; there = f.there; named = f.named; passes = f.passes; earlier = λ n k less at. before n k less at }
   where
     before : (n : ℕ) (k : LiveTest) → n < suc f.place → slice_get (l ∷ tests) n ≡ Some k → find (nat_lt most) (powers_of profiles k) ≡ None
-    before zero k less at = subst (λ (x : LiveTest). find (nat_lt most) (powers_of profiles x) ≡ None) (some_same l k at) none
+    before zero k less at = subst (λ (x : LiveTest). find (nat_lt most) (powers_of profiles x) ≡ None) (same_Some l k at) none
     before (suc n) k less at = f.earlier n k (omega (arith, less)) at
 
 none_more : (profiles : List ProfileValue) (most : ℕ) (l : LiveTest) (tests : List LiveTest) → find (nat_lt most) (powers_of profiles l) ≡ None → ((n : ℕ) (k : LiveTest) → slice_get tests n ≡ Some k → find (nat_lt most) (powers_of profiles k) ≡ None)
     → (n : ℕ) (k : LiveTest) → slice_get (l ∷ tests) n ≡ Some k → find (nat_lt most) (powers_of profiles k) ≡ None
-none_more profiles most l tests none rest zero k at = subst (λ (x : LiveTest). find (nat_lt most) (powers_of profiles x) ≡ None) (some_same l k at) none
+none_more profiles most l tests none rest zero k at = subst (λ (x : LiveTest). find (nat_lt most) (powers_of profiles x) ≡ None) (same_Some l k at) none
 none_more profiles most l tests none rest (suc n) k at = rest n k at
 
 -- what the search test by test finds

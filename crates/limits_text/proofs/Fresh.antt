@@ -2,9 +2,8 @@
 use Rattle.std.proofs.Common.{◌≡◌, ℕ, zero, suc, ◌<◌, List, [], ◌∷◌, ◌++◌, length, Bool, true, false, ◌||◌, refl, sym, ◌∙◌, ap, arith, length-append}
 use Rattle.std.specs.List.{list_any}
 use Rattle.std.proofs.lemmas.List.Folds.{list_any-append}
-use Rattle.std.proofs.lemmas.Bool.{eqb-true}
+use Rattle.std.proofs.lemmas.Bool.{eqb-true, and_parts}
 use Rattle.limits_text.specs.Items.{Item, amount_item, before_item, profile_item, gives_profile, has_profile}
-use Rattle.limits_text.proofs.WordFacts.{both_true}
 
 -- an element that passes, and those before and behind it
 record Picked {X : Type 0} (p : X → Bool) (xs : List X) : Type 0 where
@@ -53,7 +52,7 @@ one_test : (m : ℕ) (x : Item) (t u : ℕ) → gives_profile (record { «module
 one_test m (amount_item a n) t u e f = cc
 one_test m (before_item line a b) t u e f = cc
 one_test m (profile_item line id steps) t u e f =
-    eqb-true t id.test (both_true _ _ e).1 ∙ sym (eqb-true u id.test (both_true _ _ f).1)
+    eqb-true t id.test (and_parts _ _ e).1 ∙ sym (eqb-true u id.test (and_parts _ _ f).1)
 
 -- fewer items than numbers leave a test of the module without a profile
 pub fresh_test : (m n : ℕ) (items : List Item) → length items < n → (t : ℕ) × (t < n) × (has_profile (record { «module» = m; test = t }) items ≡ false)

@@ -10,7 +10,7 @@ use Rattle.std.proofs.lemmas.Grind.{flat_map-append}
 use Rattle.std.proofs.lemmas.List.{take_more, map-append, append-nil, reverse-append, reverse-reverse, length-replicate, length-set, get_or-replicate, get_or-set_same, get_or-set_other, same_lists}
 use Rattle.std.proofs.lemmas.List.Folds.{list_any-append}
 use Rattle.std.proofs.lemmas.List.FromFn.{get_or-map-range_with_len, length-map-range_with_len}
-use Rattle.std.proofs.lemmas.Option.{slice_get-map, get_or_from_slice_get}
+use Rattle.std.proofs.lemmas.Option.{slice_get-map, get_or_from_slice_get, same_Some}
 use Rattle.soc_model.specs.declared.Module.{Module}
 use Rattle.soc_model.specs.declared.Soc.{Soc}
 use Rattle.soc_model.specs.declared.Test.{Test}
@@ -38,7 +38,6 @@ use Rattle.limits_text.specs.declared.LimFault.TheVariants as fault
 use Rattle.limits_text.specs.declared.items.Item.{Item as ReadItem}
 use Rattle.limits_text.proofs.Reading.{unknown_said}
 use Rattle.outside.specs.Words.{words_of}
-use Rattle.limits_text.proofs.Complete.{some_same}
 
 -- one item more of a list that is mapped
 pub map_more : {X Y : Type 0} (f : X → Y) (xs : List X) (k : ℕ) (d x : X) (ys : List Y) → ys ≡ map f (take k xs) → k < length xs → x ≡ get_or xs k d → ys ++ f x ∷ [] ≡ map f (take (k + 1) xs)
@@ -197,7 +196,7 @@ unknown_if f (Some x) e = cc
 
 known_if : {X Y : Type 0} (y z : Y) (o : Option X) → option_map (λ x. y) o ≡ Some z → (is_some o ≡ true) × (z ≡ y)
 known_if y z None e = cc
-known_if y z (Some x) e = (refl, sym (some_same y z e))
+known_if y z (Some x) e = (refl, sym (same_Some y z e))
 
 -- the line of an item, by whether its tests are known
 line_first : (x y : Bool) (line : ℕ) → x ≡ false → line_if (not (x && y)) line ≡ Some line

@@ -2,14 +2,13 @@
 use Rattle.std.proofs.Common.{◌≡◌, ◌⊎◌, inl, inr, ℕ, zero, suc, ◌-◌, ◌<◌, ◌≤◌, List, [], ◌∷◌, length, get_or, map, Some, slice_get, refl, sym, ◌∙◌, ap, subst, arith, add-one}
 use Rattle.std.proofs.lemmas.Bool.{cases_order}
 use Rattle.std.proofs.lemmas.List.{same_lists}
-use Rattle.std.proofs.lemmas.Option.{slice_get-get_or, slice_get_within, get_or_from_slice_get}
+use Rattle.std.proofs.lemmas.Option.{slice_get-get_or, slice_get_within, get_or_from_slice_get, same_Some}
 use Rattle.soc_model.specs.declared.TestId.{TestId}
 use Rattle.soc_model.specs.Chips.{SocValue}
 use Rattle.plan_model.specs.Plans.{LimitsValue}
 use Rattle.plan_model.specs.Rules.{live_ids}
 use Rattle.limits_text.specs.Loops.{IsTaken, take_away, IsFirstRemaining, IsForerunner, IsWalk, IsFirstLoop, IsLoopOf, HasRank}
 use Rattle.live_tests.specs.Names.{precedences}
-use Rattle.limits_text.proofs.Complete.{some_same}
 
 -- ---- one walk
 
@@ -95,7 +94,7 @@ all_some (x ∷ xs) [] e = cc
 all_some (x ∷ xs) (y ∷ ys) e =
     let first : Some x ≡ Some y = cc in
     let rest : map Some xs ≡ map Some ys = cc in
-    ap (λ z. z ∷ xs) (some_same x y first) ∙ ap (λ l. y ∷ l) (all_some xs ys rest)
+    ap (λ z. z ∷ xs) (same_Some x y first) ∙ ap (λ l. y ∷ l) (all_some xs ys rest)
 
 -- a chip refuses of limits at most one loop
 pub one_loop_of : (soc : SocValue) (limits : LimitsValue) (a b : List TestId) → IsLoopOf soc limits a → IsLoopOf soc limits b → a ≡ b

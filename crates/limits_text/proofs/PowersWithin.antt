@@ -4,13 +4,13 @@ use Rattle.std.specs.Prelude.{nat_le, IfSome, find}
 use Rattle.std.specs.List.{All}
 use Rattle.std.proofs.lemmas.Bool.Decides.{nat_tests}
 use Rattle.std.proofs.lemmas.List.Elements.{All-head, All-tail}
+use Rattle.std.proofs.lemmas.Option.{same_Some}
 use Rattle.soc_model.specs.declared.TestId.{TestId}
 use Rattle.soc_model.specs.Chips.{SocValue, LiveTest, live_tests, id_of, same_test}
 use Rattle.plan_model.specs.Plans.{ProfileValue, LimitsValue, of_first, step_power, power_of_id}
 use Rattle.plan_model.specs.SoundLimits.{Grow, IsSoundProfile, IsSoundLimits}
 use Rattle.plan_model.proofs.Lists.{from_map}
 use Rattle.limits_text.specs.Meaning.{powers_named, powers_of, NonePasses}
-use Rattle.limits_text.proofs.Complete.{some_same}
 
 -- ---- the steps of a profile
 
@@ -29,7 +29,7 @@ step_before r now from (s ∷ steps) late g = rw (le_false s.0 r (omega (arith, 
 step_begins : (from now n : ℕ) (steps : List (ℕ × ℕ)) (s : ℕ × ℕ) → Grow from steps → slice_get steps n ≡ Some s → step_power s.0 now steps ≡ s.1
 step_begins from now n [] s g at = cc
 step_begins from now zero (t ∷ steps) s g at =
-    let same : t ≡ s = some_same t s at in
+    let same : t ≡ s = same_Some t s at in
     subst (λ (x : ℕ × ℕ). step_power x.0 now (t ∷ steps) ≡ x.1) same (rw (le_true t.0 t.0 (omega arith)) (step_before t.0 t.1 (t.0 + 1) steps (omega arith) g.1))
 step_begins from now (suc n) (t ∷ steps) s g at = by (nat_le t.0 s.0) (step_begins (t.0 + 1) t.1 n steps s g.1 at) (step_begins (t.0 + 1) now n steps s g.1 at)
   where

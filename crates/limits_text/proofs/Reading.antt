@@ -1,6 +1,7 @@
 -- What is answered of a text, once its items are read.
 use Rattle.std.proofs.Common.{◌≡◌, ℕ, List, reverse, Bool, None, Some, refl, sym, ◌∙◌, ap, subst}
 use Rattle.std.proofs.lemmas.List.{reverse-reverse}
+use Rattle.std.proofs.lemmas.Option.{same_Some}
 use Rattle.outside.specs.Words.{words_of}
 use Rattle.soc_model.specs.Chips.{SocValue}
 use Rattle.plan_model.specs.Plans.{LimitsValue}
@@ -9,7 +10,6 @@ use Rattle.limits_text.specs.Items.{Item}
 use Rattle.limits_text.specs.Grammar.{IsText}
 use Rattle.limits_text.specs.Meaning.{limits_of, first_line, first_unknown, NonePasses}
 use Rattle.limits_text.specs.Answers.{SaysLimits, SaysKnown, AreReadLimits, NamesUnknown}
-use Rattle.limits_text.proofs.Complete.{some_same}
 use Rattle.limits_text.proofs.SoundText.{text_sound}
 use Rattle.limits_text.proofs.Viable.{one_text}
 
@@ -39,4 +39,4 @@ one_limits bytes a b x y =
 -- a text that says limits first names at most one line's test that the chip hasn't, and then it says no known ones
 pub one_unknown : (bytes : List ℕ) (soc : SocValue) (a b : ℕ) → NamesUnknown bytes soc a → NamesUnknown bytes soc b → a ≡ b
 one_unknown bytes soc a b x y =
-    some_same a b (sym x.first ∙ ap (first_unknown soc) (one_text (words_of bytes) x.says.form y.says.form x.says.items y.says.items x.says.text y.says.text).1 ∙ y.first)
+    same_Some a b (sym x.first ∙ ap (first_unknown soc) (one_text (words_of bytes) x.says.form y.says.form x.says.items y.says.items x.says.text y.says.text).1 ∙ y.first)

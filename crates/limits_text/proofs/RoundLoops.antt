@@ -2,7 +2,7 @@
 use Rattle.std.proofs.Common.{◌≡◌, ◌⊎◌, inl, inr, ℕ, zero, suc, ◌+◌, ◌-◌, ◌<◌, List, [], ◌∷◌, length, get_or, Some, slice_get, refl, sym, ◌∙◌, ap, arith}
 use Rattle.std.specs.List.{Contains}
 use Rattle.std.proofs.lemmas.List.{length-map}
-use Rattle.std.proofs.lemmas.Option.{slice_get-get_or, slice_get_within}
+use Rattle.std.proofs.lemmas.Option.{slice_get-get_or, slice_get_within, same_Some}
 use Rattle.soc_model.specs.declared.TestId.{TestId}
 use Rattle.soc_model.specs.Chips.{SocValue}
 use Rattle.plan_model.specs.Plans.{LimitsValue}
@@ -12,7 +12,6 @@ use Rattle.live_tests.proofs.Precedences.{place_among, StandsFor, stands_for}
 use Rattle.limits_text.specs.Loops.{IsFirstLoop, AreAt, GoesRound}
 use Rattle.live_tests.specs.Names.{precedences}
 use Rattle.limits_text.specs.Laws.{LoopsGoRound}
-use Rattle.limits_text.proofs.Complete.{some_same}
 
 -- the place of a shown test
 place_at : (ids : List TestId) (places : List ℕ) (tests : List TestId) (k : ℕ) (a : TestId) → AreAt ids places tests → slice_get tests k ≡ Some a → (x : ℕ) × (slice_get places k ≡ Some x) × (slice_get ids x ≡ Some a)
@@ -40,8 +39,8 @@ module _ (soc : SocValue) (limits : LimitsValue) (tests : List TestId) (circle :
     where
       by : StandsFor (live_ids soc) limits.before y x → Contains limits.before (b, a)
       by s =
-          let first : s.first ≡ b = some_same s.first b (sym s.first_at ∙ at_b) in
-          let second : s.second ≡ a = some_same s.second a (sym s.second_at ∙ at_a) in
+          let first : s.first ≡ b = same_Some s.first b (sym s.first_at ∙ at_b) in
+          let second : s.second ≡ a = same_Some s.second a (sym s.second_at ∙ at_a) in
           rw (← first) (rw (← second) s.precedes)
 
   -- where a shown test stands in the walk
@@ -88,7 +87,7 @@ module _ (soc : SocValue) (limits : LimitsValue) (tests : List TestId) (circle :
       here = ap (slice_get c.walk) room ∙ walked k x at
 
       by : StandsFor (live_ids soc) limits.before x before → place_among (live_ids soc) a ≡ Some x
-      by s = let first : s.first ≡ a = some_same s.first a (sym s.first_at ∙ at_a) in ap (place_among (live_ids soc)) (sym first) ∙ s.first_place
+      by s = let first : s.first ≡ a = same_Some s.first a (sym s.first_at ∙ at_a) in ap (place_among (live_ids soc)) (sym first) ∙ s.first_place
 
   -- a place that stands before the end of the walk, and goes to the same test
   early : (k x : ℕ) → slice_get circle k ≡ Some x → (p : ℕ) × (p < c.last) × (slice_get c.walk p ≡ Some x) × ((p ≡ c.last - k) ⊎ ((p ≡ c.meets) × (k ≡ 0)))
@@ -99,7 +98,7 @@ module _ (soc : SocValue) (limits : LimitsValue) (tests : List TestId) (circle :
   once p q a at there =
       let i = place_at (live_ids soc) circle tests p a are at in
       let j = place_at (live_ids soc) circle tests q a are there in
-      let same : j.0 ≡ i.0 = some_same j.0 i.0 (sym (own_place q j.0 a j.1 j.2) ∙ own_place p i.0 a i.1 i.2) in
+      let same : j.0 ≡ i.0 = same_Some j.0 i.0 (sym (own_place q j.0 a j.1 j.2) ∙ own_place p i.0 a i.1 i.2) in
       let e = early p i.0 i.1 in
       let f = early q j.0 j.1 in
       let places : e.0 ≡ f.0 = c.differ e.0 f.0 i.0 e.1 f.1 e.2 (f.2 ∙ ap Some same) in

@@ -3,7 +3,8 @@ use Rattle.std.proofs.Common.{◌≡◌, ℕ, ◌+◌, ◌<◌, ◌≤◌, List,
 use Rattle.std.specs.Prelude.{nat_le}
 use Rattle.std.proofs.lemmas.List.Elements.{All-nil, All-push}
 use Rattle.std.proofs.lemmas.Bool.Decides.{nat_tests}
-use Rattle.std.proofs.lemmas.Bool.{eqb-true}
+use Rattle.std.proofs.lemmas.Bool.{eqb-true, and_parts}
+use Rattle.std.proofs.lemmas.Option.{same_Some}
 use Rattle.soc_model.specs.declared.TestId.{TestId}
 use Rattle.soc_model.specs.declared.TheConstants.{POWER_MOST}
 use Rattle.plan_model.specs.declared.TheConstants.{STEPS_MOST}
@@ -18,8 +19,6 @@ use Rattle.outside.specs.Words.{Word}
 use Rattle.limits_text.specs.Items.{number, is_title, key_of, is_in_range, Item, amount_item, before_item, profile_item, has_amount, has_profile, NamesTest, ArePairs, AreSteps}
 use Rattle.limits_text.specs.Grammar.{Comes, AreItems, form_number, IsText}
 use Rattle.limits_text.specs.Steps.{ended_at, Part, title, version, between, wants, module_for, test_for, steps_for, power_for, State, start, at, at_if, last_from, may_follow, begin_by, after_title, after_version, after_amount, after_module, named, after_test, end_profile, after_step, after_power, step_at, step_from, run}
-use Rattle.limits_text.proofs.Complete.{some_same}
-use Rattle.limits_text.proofs.WordFacts.{both_true}
 
 -- ---- what was read of an unfinished item
 
@@ -356,7 +355,7 @@ so_far_more [] from power so may small =
     let zero_is = eqb-true from 0 may in
     record { begins = (power, [], ap (λ n. (n, power) ∷ []) zero_is); few = omega arith; grows = (omega arith, tt); small = All-push (λ (s : ℕ × ℕ). s.1 ≤ POWER_MOST) [] (from, power) (All-nil (λ (s : ℕ × ℕ). s.1 ≤ POWER_MOST)) (most_true power POWER_MOST small) }
 so_far_more (s ∷ steps) from power so may small =
-    let parts = both_true (nat_lt (last_from s.0 steps) from) (nat_lt (length (s ∷ steps)) STEPS_MOST) may in
+    let parts = and_parts (nat_lt (last_from s.0 steps) from) (nat_lt (length (s ∷ steps)) STEPS_MOST) may in
     let few : length (s ∷ steps) < STEPS_MOST = less_true (length (s ∷ steps)) STEPS_MOST parts.1 in
     record {
       begins = (so.begins.0, so.begins.1 ++ (from, power) ∷ [], ap (λ l. l ++ (from, power) ∷ []) so.begins.2);
@@ -427,7 +426,7 @@ text_of form done (test_for n m) items ws v e wires = none_at items e
 text_of form done (power_for line id steps from) items ws v e wires = none_at items e
 text_of form done (steps_for line id []) items ws v e wires = none_at items e
 text_of form done between items ws v e wires =
-    let same = some_same done items e in
+    let same = same_Some done items e in
     record {
       title = v.first;
       version = v.second;
@@ -439,7 +438,7 @@ text_of form done between items ws v e wires =
       wires = wires;
     }
 text_of form done (steps_for line id (s ∷ steps)) items ws v e wires =
-    let same = some_same (profile_item line id (s ∷ steps) ∷ done) items e in
+    let same = same_Some (profile_item line id (s ∷ steps) ∷ done) items e in
     let u = profile_ended form done line id s steps ws v in
     record {
       title = u.first;

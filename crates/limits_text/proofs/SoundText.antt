@@ -6,6 +6,8 @@ use Rattle.std.proofs.lemmas.Grind.{common_steps}
 use Rattle.std.proofs.lemmas.Bool.Decides.{nat_tests}
 use Rattle.std.proofs.lemmas.List.{reverse-append}
 use Rattle.std.proofs.lemmas.List.Elements.{All-nil, All-push, All-cons, All-head, All-tail}
+use Rattle.std.proofs.lemmas.Bool.{and_parts}
+use Rattle.std.proofs.lemmas.Option.{same_Some}
 use Rattle.soc_model.specs.declared.TestId.{TestId}
 use Rattle.soc_model.specs.declared.TheConstants.{NUMBER_WORD_MOST, POWER_MOST}
 use Rattle.soc_model.specs.Chips.{SocValue, LiveTest, live_tests, id_of, same_test}
@@ -17,8 +19,6 @@ use Rattle.outside.specs.Words.{Word}
 use Rattle.limits_text.specs.Items.{number, Item, amount_item, before_item, profile_item, has_amount, has_profile, ArePairs}
 use Rattle.limits_text.specs.Grammar.{AreItems, IsText, ProfileComes}
 use Rattle.limits_text.specs.Meaning.{limits_of, is_known, line_if, unknown_line, or_first, first_line, first_unknown, powers_named, powers_of, NonePasses}
-use Rattle.limits_text.proofs.WordFacts.{both_true}
-use Rattle.limits_text.proofs.Complete.{some_same}
 
 -- ---- ranges
 
@@ -32,7 +32,7 @@ pub record HasWires (limits : LimitsValue) : Type 0 where
 pub wires_in_range : (form : Bool) (items : List Item) (ws : List Word) → AreItems form items ws → has_amount Wires items ≡ true → HasWires (limits_of items)
 wires_in_range form [] ws is has = cc
 wires_in_range form (amount_item Wires n ∷ earlier) ws is has =
-    let parts = both_true (nat_le 1 n) (nat_le n WIRES_MOST) is.4.range in
+    let parts = and_parts (nat_le 1 n) (nat_le n WIRES_MOST) is.4.range in
     record { some = most_true 1 n parts.0; few = most_true n WIRES_MOST parts.1 }
 wires_in_range form (amount_item Power n ∷ earlier) ws is has = let e = wires_in_range form earlier is.0 is.3 has in record { some = e.some; few = e.few }
 wires_in_range form (amount_item Budget n ∷ earlier) ws is has = let e = wires_in_range form earlier is.0 is.3 has in record { some = e.some; few = e.few }
@@ -93,7 +93,7 @@ before_known soc (amount_item Budget n ∷ earlier) e = before_known soc earlier
 before_known soc (profile_item line id steps ∷ earlier) e = before_known soc earlier (none_unknown soc (profile_item line id steps) earlier e).0
 before_known soc (before_item line a b ∷ earlier) e =
     let parts = none_unknown soc (before_item line a b) earlier e in
-    let known = both_true (is_known soc a) (is_known soc b) (none_if (is_known soc a && is_known soc b) line parts.1) in
+    let known = and_parts (is_known soc a) (is_known soc b) (none_if (is_known soc a && is_known soc b) line parts.1) in
     All-push (λ (p : TestId × TestId). HasTest soc p.0 × HasTest soc p.1) (limits_of earlier).before (a, b) (before_known soc earlier parts.0) known
 
 -- ---- profiles
@@ -131,7 +131,7 @@ profiles_sound soc form (profile_item line id steps ∷ earlier) ws is e =
 
 -- what stands in a list and one more element
 pub push_cases : {X : Type 0} (xs : List X) (y x : X) (p : ℕ) → slice_get (xs ++ y ∷ []) p ≡ Some x → (slice_get xs p ≡ Some x) ⊎ ((p ≡ length xs) × (y ≡ x))
-push_cases [] y x zero e = inr (refl, some_same y x e)
+push_cases [] y x zero e = inr (refl, same_Some y x e)
 push_cases [] y x (suc p) e = cc
 push_cases (z ∷ xs) y x zero e = inl e
 push_cases (z ∷ xs) y x (suc p) e = next (push_cases xs y x p e)

@@ -5,18 +5,16 @@ use Rattle.live_tests.specs.declared.neighbours.Neighbours.{Neighbours}
 use Rattle.live_tests.specs.Neighbours.{after, tests_of}
 use Rattle.std.specs.List.{All, Contains}
 use Rattle.std.proofs.Math.Seq.{drop-cons}
-use Rattle.std.proofs.lemmas.Grind.{common_steps}
-use Rattle.std.proofs.lemmas.Bool.{cases_eq, cases_lt, eqb-true}
-use Rattle.std.proofs.lemmas.List.{get_or-map, take_more, take_all, take-append-drop, take-append-le}
+use Rattle.std.proofs.lemmas.Grind.{common_steps, get_or-set_at}
+use Rattle.std.proofs.lemmas.Bool.{cases_eq, cases_lt, eqb-true, eq-eqb, ne_eqb}
+use Rattle.std.proofs.lemmas.List.{get_or-map, take_more, take_all, take-append-drop, take-append-le, get_or-set_other, length-set}
 use Rattle.std.proofs.lemmas.List.Elements.{All-nil, All-cons, All-head, All-tail}
 use Rattle.std.proofs.lemmas.List.Folds.{list_any-append}
-use Rattle.std.proofs.lemmas.Option.{slice_get-get_or, slice_get_within, get_or_from_slice_get}
+use Rattle.std.proofs.lemmas.Option.{slice_get-get_or, slice_get_within, get_or_from_slice_get, same_Some}
 use Rattle.plan_model.proofs.Lists.{contains_at}
 use Rattle.limits_text.proofs.SoundText.{push_cases}
 use Rattle.indexmap.proofs.IndexTableLemmas.Probe.{pigeonhole}
 use Rattle.limits_text.specs.Orders.{is_in, holds_back, one_if, held, copies, Counts, IsKept, GoesOn, IsOrdered, IsTaking, AreMarked}
-use Rattle.limits_text.proofs.Complete.{some_same}
-use Rattle.limits_text.proofs.GraphSteps.{set_at, set_other, set_length, eq_true, eq_false}
 
 -- ---- places in lists
 
@@ -46,7 +44,7 @@ in_at (y ∷ xs) x e = by (or_cases (nat_eq x y) (is_in xs x) e) (in_at xs x)
 
 pub at_in : (xs : List ℕ) (p x : ℕ) → slice_get xs p ≡ Some x → is_in xs x ≡ true
 at_in [] p x e = cc
-at_in (y ∷ xs) zero x e = or_here (nat_eq x y) (is_in xs x) (eq_true x y (sym (some_same y x e)))
+at_in (y ∷ xs) zero x e = or_here (nat_eq x y) (is_in xs x) (eq-eqb x y (sym (same_Some y x e)))
 at_in (y ∷ xs) (suc p) x e = or_there (nat_eq x y) (is_in xs x) (at_in xs p x e)
 
 pub in_append : (xs ys : List ℕ) (x : ℕ) → is_in xs x ≡ true → is_in (xs ++ ys) x ≡ true
@@ -148,7 +146,7 @@ once_push xs x fresh once p q j at there = by (push_cases xs x j p at) (push_cas
     by (inr e) (inr f) = e.0 ∙ sym f.0
 
 in_push : (xs : List ℕ) (x j : ℕ) → j ≡ x → is_in (xs ++ x ∷ []) j ≡ true
-in_push xs x j same = list_any-append (nat_eq j) xs (x ∷ []) ∙ or_there (is_in xs j) (nat_eq j x || false) (or_here (nat_eq j x) false (eq_true j x same))
+in_push xs x j same = list_any-append (nat_eq j) xs (x ∷ []) ∙ or_there (is_in xs j) (nat_eq j x || false) (or_here (nat_eq j x) false (eq-eqb j x same))
 
 -- one more test is taken
 pub kept_push : (counts : List ℕ) (upto : ℕ) (order : List ℕ) (new : List ℕ) (test : ℕ) → test < upto → slice_index new test ≡ 0 → is_in order test ≡ false → ((j : ℕ) → (j ≡ test → ⊥) → slice_index new j ≡ slice_index counts j)
@@ -187,7 +185,7 @@ pub record IsWritten (counts : List ℕ) (test left : ℕ) (new : List ℕ) : Ty
   pub others : (j : ℕ) → (j ≡ test → ⊥) → slice_index new j ≡ slice_index counts j
 
 pub written : (counts : List ℕ) (test left : ℕ) → test < length counts → IsWritten counts test left (slice_set counts test left)
-written counts test left within = record { here = set_at counts test test left 0 within refl; others = λ j apart. set_other counts test j left 0 apart }
+written counts test left within = record { here = get_or-set_at counts test test left 0 refl within; others = λ j apart. get_or-set_other counts test j left 0 apart }
 
 pub let_go_kept : (counts : List ℕ) (upto : ℕ) (order new : List ℕ) (test left : ℕ) → test < length counts → test < upto → 1 ≤ slice_index counts test → (left ≡ 0 → new ≡ order ++ test ∷ []) → ((left ≡ 0 → ⊥) → new ≡ order) → IsKept counts upto order → IsKept (slice_set counts test left) upto new
 let_go_kept counts upto order new test left within small some taken still k = by (cases_eq left 0)
@@ -268,22 +266,22 @@ held_gone gone i (e ∷ pairs) j fresh = by (cases_eq i e.0) (held_gone gone i p
     by (inl same) again =
         let was : is_in gone e.0 ≡ false = ap (is_in gone) (sym same) ∙ fresh in
         let now : is_in (gone ++ i ∷ []) e.0 ≡ true = in_push gone i e.0 (sym same) in
-        rw (was, now, eq_true i e.0 same) (here (nat_eq j e.1) (held gone pairs j) (held (gone ++ i ∷ []) pairs j) (copies (after i pairs) j) again)
+        rw (was, now, eq-eqb i e.0 same) (here (nat_eq j e.1) (held gone pairs j) (held (gone ++ i ∷ []) pairs j) (copies (after i pairs) j) again)
       where
         here : (b : Bool) (x y z : ℕ) → x ≡ y + z → one_if (b && true) + x ≡ (one_if (b && false) + y) + (one_if b + z)
         here true x y z e = omega arith
         here false x y z e = omega arith
     by (inr apart) again =
-        let same : is_in (gone ++ i ∷ []) e.0 ≡ is_in gone e.0 = list_any-append (nat_eq e.0) gone (i ∷ []) ∙ ap (λ b. is_in gone e.0 || (b || false)) (eq_false e.0 i (λ f. apart (sym f))) ∙ or_false_right (is_in gone e.0) in
-        rw (same, eq_false i e.0 apart) (omega (arith, again))
+        let same : is_in (gone ++ i ∷ []) e.0 ≡ is_in gone e.0 = list_any-append (nat_eq e.0) gone (i ∷ []) ∙ ap (λ b. is_in gone e.0 || (b || false)) (ne_eqb e.0 i (λ f. apart (sym f))) ∙ or_false_right (is_in gone e.0) in
+        rw (same, ne_eqb i e.0 apart) (omega (arith, again))
 
 -- what holds nothing back is gone
 pub all_gone : (gone : List ℕ) (pairs : List (ℕ × ℕ)) (i j p : ℕ) → held gone pairs j ≡ 0 → slice_get pairs p ≡ Some (i, j) → is_in gone i ≡ true
 all_gone gone [] i j p none at = cc
 all_gone gone (e ∷ pairs) i j zero none at =
-    let same : e ≡ (i, j) = some_same e (i, j) at in
+    let same : e ≡ (i, j) = same_Some e (i, j) at in
     let back : one_if (holds_back gone j e) ≡ 0 = omega (arith, none) in
-    yes' (is_in gone i) (nat_eq j j) (eq_true j j refl) (subst (λ (x : ℕ × ℕ). one_if (holds_back gone j x) ≡ 0) same back)
+    yes' (is_in gone i) (nat_eq j j) (eq-eqb j j refl) (subst (λ (x : ℕ × ℕ). one_if (holds_back gone j x) ≡ 0) same back)
   where
     yes' : (b c : Bool) → c ≡ true → one_if (c && not b) ≡ 0 → b ≡ true
     yes' true c e f = refl
@@ -427,7 +425,7 @@ released_some initial counts tests k are less small enough =
     let test = get_or tests k 0 in
     let sum = are test small in
     let most = enough test small in
-    let front : copies (drop k tests) test ≡ 1 + copies (drop (k + 1) tests) test = front_copies tests k test less ∙ ap (λ b. one_if b + copies (drop (k + 1) tests) test) (eq_true test test refl) in
+    let front : copies (drop k tests) test ≡ 1 + copies (drop (k + 1) tests) test = front_copies tests k test less ∙ ap (λ b. one_if b + copies (drop (k + 1) tests) test) (eq-eqb test test refl) in
     omega (arith, sum, most, front)
 
 pub released_more : (initial counts new tests : List ℕ) (k : ℕ) → AreReleased initial counts tests k → length counts ≡ length initial → k < length tests → get_or tests k 0 < length initial → ((j : ℕ) → j < length initial → copies tests j ≤ slice_index initial j) → new ≡ slice_set counts (get_or tests k 0) (slice_index counts (get_or tests k 0) - 1) → AreReleased initial new tests (k + 1)
@@ -444,12 +442,12 @@ released_more initial counts new tests k are long less small enough is j below =
         let some : 1 ≤ slice_index counts test = released_some initial counts tests k are less small enough in
         let here : slice_index new j ≡ slice_index counts test - 1 = ap (λ l. slice_index l j) is ∙ ap (slice_index (slice_set counts test (slice_index counts test - 1))) same ∙ w.here in
         let was : slice_index counts j ≡ slice_index counts test = ap (slice_index counts) same in
-        let front : copies (drop k tests) j ≡ 1 + copies (drop (k + 1) tests) j = front_copies tests k j less ∙ ap (λ b. one_if b + copies (drop (k + 1) tests) j) (eq_true j test same) in
+        let front : copies (drop k tests) j ≡ 1 + copies (drop (k + 1) tests) j = front_copies tests k j less ∙ ap (λ b. one_if b + copies (drop (k + 1) tests) j) (eq-eqb j test same) in
         let sum = are j below in
         omega (arith, here, some, was, front, sum)
     by (inr apart) =
         let here : slice_index new j ≡ slice_index counts j = ap (λ l. slice_index l j) is ∙ w.others j apart in
-        let front : copies (drop k tests) j ≡ 0 + copies (drop (k + 1) tests) j = front_copies tests k j less ∙ ap (λ b. one_if b + copies (drop (k + 1) tests) j) (eq_false j test apart) in
+        let front : copies (drop k tests) j ≡ 0 + copies (drop (k + 1) tests) j = front_copies tests k j less ∙ ap (λ b. one_if b + copies (drop (k + 1) tests) j) (ne_eqb j test apart) in
         let sum = are j below in
         omega (arith, here, front, sum)
 
@@ -480,7 +478,7 @@ listed lists pairs count test here tests long are small is same =
 -- one test more of an order is marked
 pub marked_more : (gone : List Bool) (order : List ℕ) (i count : ℕ) → i < length order → (length gone ≡ count) × AreMarked gone (take i order)
     → (length (slice_set gone (get_or order i 0) true) ≡ count) × AreMarked (slice_set gone (get_or order i 0) true) (take (i + 1) order)
-marked_more gone order i count within before = (set_length gone test true ∙ before.0, λ k less. by k (omega (arith, less, set_length gone test true)) (cases_eq k test))
+marked_more gone order i count within before = (length-set gone test true ∙ before.0, λ k less. by k (omega (arith, less, length-set gone test true)) (cases_eq k test))
   where
     test : ℕ
     test = get_or order i 0
@@ -490,8 +488,8 @@ marked_more gone order i count within before = (set_length gone test true ∙ be
 
     by : (k : ℕ) → k < length gone → (k ≡ test) ⊎ (k ≡ test → ⊥) → slice_index_or (slice_set gone test true) k false ≡ is_in (take (i + 1) order) k
     by k less (inl same) =
-        set_at gone test k true false (omega (arith, less, same)) same
-        ∙ sym (more k ∙ or_there (is_in (take i order) k) (nat_eq k test || false) (or_here (nat_eq k test) false (eq_true k test same)))
+        get_or-set_at gone test k true false same (omega (arith, less, same))
+        ∙ sym (more k ∙ or_there (is_in (take i order) k) (nat_eq k test || false) (or_here (nat_eq k test) false (eq-eqb k test same)))
     by k less (inr apart) =
-        set_other gone test k true false apart ∙ before.1 k less
-        ∙ sym (more k ∙ ap (λ b. is_in (take i order) k || (b || false)) (eq_false k test apart) ∙ or_false_right (is_in (take i order) k))
+        get_or-set_other gone test k true false apart ∙ before.1 k less
+        ∙ sym (more k ∙ ap (λ b. is_in (take i order) k || (b || false)) (ne_eqb k test apart) ∙ or_false_right (is_in (take i order) k))

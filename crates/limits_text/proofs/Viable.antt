@@ -1,5 +1,6 @@
 -- What is read word by word goes on to a whole text.
 use Rattle.std.proofs.Common.{◌≡◌, ℕ, ◌+◌, ◌≤◌, List, [], ◌∷◌, ◌++◌, length, Bool, true, false, decimal, Option, None, Some, refl, sym, ◌∙◌, ap, arith}
+use Rattle.std.proofs.lemmas.Option.{same_Some}
 use Rattle.outside.proofs.Runs.{run-append, run-one_more}
 use Rattle.soc_model.specs.declared.TestId.{TestId}
 use Rattle.soc_model.specs.declared.TheConstants.{NUMBER_WORD_MOST}
@@ -14,7 +15,7 @@ use Rattle.limits_text.specs.Grammar.{IsText, InGrammar}
 use Rattle.limits_text.specs.Steps.{Part, title, version, between, wants, module_for, test_for, steps_for, power_for, State, start, at, step_at, step, run, ended_at, ended, whole_if, whole_of, closed}
 use Rattle.limits_text.proofs.WordFacts.{word_at, one_word, zero_word, title_word, wires_word, one_is, zero_is, title_is, wires_is, one_in_range, number-decimal, key_no_number}
 use Rattle.limits_text.proofs.Fresh.{fresh_test}
-use Rattle.limits_text.proofs.Complete.{some_same, IsRead, Read, text_read, viable_read}
+use Rattle.limits_text.proofs.Complete.{IsRead, Read, text_read, viable_read}
 use Rattle.limits_text.proofs.Sound.{StateIs, Holds, read_valid, no_more_items, text_of}
 
 -- words with which a text is whole
@@ -119,7 +120,7 @@ whole_has (Some found) items e = by (has_amount Wires found) refl e
   where
     by : (b : Bool) → has_amount Wires found ≡ b → whole_if b found ≡ Some items → (Some found ≡ Some items) × (has_amount Wires items ≡ true)
     by false is e = cc
-    by true is e = (e, ap (has_amount Wires) (sym (some_same found items e)) ∙ is)
+    by true is e = (e, ap (has_amount Wires) (sym (same_Some found items e)) ∙ is)
 
 -- words that are read to the end are a text
 pub read_text : (ws : List Word) (s : State) (items : List Item) → run (Some start) ws ≡ Some s → closed s ≡ Some items → IsText s.form items ws
@@ -167,4 +168,4 @@ one_text ws form other a b is_a is_b = by_state (run (Some start) ws) (text_read
   where
     by_state : (o : Option State) → Read o form a → Read o other b → (form ≡ other) × (a ≡ b)
     by_state None r t = absurd r
-    by_state (Some s) r t = (sym r.form_is ∙ t.form_is, some_same a b (sym r.items_are ∙ t.items_are))
+    by_state (Some s) r t = (sym r.form_is ∙ t.form_is, same_Some a b (sym r.items_are ∙ t.items_are))

@@ -3,16 +3,15 @@ use Rattle.std.proofs.Common.{◌≡◌, ◌⊎◌, inl, inr, ℕ, zero, suc, �
 use Rattle.std.specs.Prelude.{slice_index, slice_index_or, slice_set, min}
 use Rattle.std.specs.List.{All}
 use Rattle.std.proofs.Math.Seq.{drop-cons}
-use Rattle.std.proofs.lemmas.Grind.{common_steps}
-use Rattle.std.proofs.lemmas.Bool.{cases_eq}
+use Rattle.std.proofs.lemmas.Grind.{common_steps, get_or-set_at}
+use Rattle.std.proofs.lemmas.Bool.{cases_eq, eq-eqb, ne_eqb}
 use Rattle.std.proofs.lemmas.List.Elements.{All-get_or, All-from_get_or}
-use Rattle.std.proofs.lemmas.Option.{slice_get_within, slice_get-get_or}
+use Rattle.std.proofs.lemmas.Option.{slice_get_within, slice_get-get_or, same_Some}
+use Rattle.std.proofs.lemmas.List.{length-set, get_or-set_other}
 use Rattle.soc_model.proofs.Places.{slice_get-from_position}
 use Rattle.plan_model.proofs.Finding.{none_passes}
 use Rattle.limits_text.specs.Orders.{is_in, least_before, Counts, ComesAgain}
-use Rattle.limits_text.proofs.Complete.{some_same}
 use Rattle.limits_text.proofs.SoundText.{push_cases}
-use Rattle.limits_text.proofs.GraphSteps.{set_at, set_other, set_length, eq_true, eq_false}
 use Rattle.limits_text.proofs.Taking.{each_push, once_push, few, in_at, false_from, false_true}
 
 -- ---- the least test before each
@@ -82,7 +81,7 @@ lowered_more gone least new pairs k is_gone l less all gone_is is = by is_gone g
           ap (λ x. min (slice_index x j) (rest j)) is ∙ ap (min (slice_index least j)) (sym same) ∙ l.least_is j small);
     }
     by false gone_is is = record {
-      long = ap length is ∙ set_length least second _ ∙ l.long;
+      long = ap length is ∙ length-set least second _ ∙ l.long;
       small = λ j small. small_at j small (cases_eq j second);
       least_is = λ j small. least_at j small (cases_eq j second);
     }
@@ -94,10 +93,10 @@ lowered_more gone least new pairs k is_gone l less all gone_is is = by is_gone g
         set = min (slice_index least second) first
 
         here : (j : ℕ) → j ≡ second → slice_index new j ≡ min (slice_index least j) first
-        here j same = ap (λ x. slice_index x j) is ∙ set_at least second j set 0 there same ∙ ap (λ n. min (slice_index least n) first) (sym same)
+        here j same = ap (λ x. slice_index x j) is ∙ get_or-set_at least second j set 0 same there ∙ ap (λ n. min (slice_index least n) first) (sym same)
 
         other : (j : ℕ) → (j ≡ second → ⊥) → slice_index new j ≡ slice_index least j
-        other j apart = ap (λ x. slice_index x j) is ∙ set_other least second j set 0 apart
+        other j apart = ap (λ x. slice_index x j) is ∙ get_or-set_other least second j set 0 apart
 
         small_at : (j : ℕ) → j < length gone → (j ≡ second) ⊎ (j ≡ second → ⊥) → slice_index new j ≤ length gone - 1
         small_at j small (inl same) = omega (arith, here j same, l.small j small)
@@ -108,10 +107,10 @@ lowered_more gone least new pairs k is_gone l less all gone_is is = by is_gone g
 
         least_at : (j : ℕ) → j < length gone → (j ≡ second) ⊎ (j ≡ second → ⊥) → min (slice_index new j) (rest j) ≡ least_before gone (length gone - 1) pairs j
         least_at j small (inl same) =
-            let f = front j ∙ ap (λ b. cond (nat_eq j second && not b) (min first (rest j)) (rest j)) (sym gone_is) ∙ ap (λ b. cond (b && true) (min first (rest j)) (rest j)) (eq_true j second same) in
+            let f = front j ∙ ap (λ b. cond (nat_eq j second && not b) (min first (rest j)) (rest j)) (sym gone_is) ∙ ap (λ b. cond (b && true) (min first (rest j)) (rest j)) (eq-eqb j second same) in
             min_assoc (slice_index least j) first (rest j) (slice_index new j) (here j same) ∙ ap (min (slice_index least j)) (sym f) ∙ l.least_is j small
         least_at j small (inr apart) =
-            let f = front j ∙ ap (λ b. cond (b && not (slice_index_or gone first false)) (min first (rest j)) (rest j)) (eq_false j second apart) in
+            let f = front j ∙ ap (λ b. cond (b && not (slice_index_or gone first false)) (min first (rest j)) (rest j)) (ne_eqb j second apart) in
             ap (λ n. min n (rest j)) (other j apart) ∙ ap (min (slice_index least j)) (sym f) ∙ l.least_is j small
 
 pub lowered_all : (gone : List Bool) (least : List ℕ) (pairs : List (ℕ × ℕ)) (k : ℕ) → 1 ≤ length gone → AreLowered gone least pairs k → length pairs ≤ k → All (λ j. j < length gone) least × Counts least (least_before gone (length gone - 1) pairs)
@@ -156,7 +155,7 @@ front_begins [] test other x e = e
 front_begins (w ∷ walk) test other x e = e
 
 at_last : (xs : List ℕ) (y x : ℕ) → slice_get (xs ++ y ∷ []) (length xs) ≡ Some x → y ≡ x
-at_last [] y x e = some_same y x e
+at_last [] y x e = same_Some y x e
 at_last (z ∷ xs) y x e = at_last xs y x e
 
 pub at_end : (xs : List ℕ) (y : ℕ) → slice_get (xs ++ y ∷ []) (length xs) ≡ Some y
@@ -175,7 +174,7 @@ from_front (z ∷ xs) y zero x less e = e
 from_front (z ∷ xs) y (suc p) x less e = from_front xs y p x (omega (arith, less)) e
 
 walked_fresh : (walk : List ℕ) (test : ℕ) → position (nat_eq test) walk ≡ None → is_in walk test ≡ false
-walked_fresh walk test none = false_from (is_in walk test) (λ e. (let a = in_at walk test e in false_true (nat_eq test test) (none_passes (nat_eq test) walk none a.0 test a.1) (eq_true test test refl)))
+walked_fresh walk test none = false_from (is_in walk test) (λ e. (let a = in_at walk test e in false_true (nat_eq test test) (none_passes (nat_eq test) walk none a.0 test a.1) (eq-eqb test test refl)))
 
 pub walk_more : (next : List ℕ) (start : ℕ) (walk : List ℕ) (test new : ℕ) → IsWalking next start walk test → position (nat_eq test) walk ≡ None → All (λ j. j < length next) next → new ≡ slice_index next test → IsWalking next start (walk ++ test ∷ []) new
 walk_more next start walk test new w none all is = record {

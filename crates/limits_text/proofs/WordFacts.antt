@@ -1,12 +1,14 @@
 -- A keyword is no number.
-use Rattle.std.proofs.Common.{◌≡◌, ℕ, ◌<◌, ◌≤◌, List, [], ◌∷◌, length, Bool, true, false, ◌&&◌, not, nat_eq, codes, decimal, Option, None, Some, refl, arith, cond}
+use Rattle.std.proofs.Common.{◌≡◌, ℕ, ◌<◌, ◌≤◌, List, [], ◌∷◌, length, true, ◌&&◌, not, nat_eq, codes, decimal, Option, None, Some, refl, sym, ◌∙◌, arith}
 use Rattle.std.specs.Prelude.{nat_le}
-use Rattle.std.specs.Char.{to_ascii_lowercase, is_ascii_digit}
+use Rattle.std.specs.Char.{is_ascii_digit}
 use Rattle.std.specs.Str.{all_ascii_digits}
-use Rattle.std.proofs.lemmas.Grind.{common_steps}
+use Rattle.std.proofs.lemmas.Bool.{and_parts}
+use Rattle.std.proofs.lemmas.Option.{none-some, cond_some}
 use Rattle.outside.specs.Words.{same_letters, Word}
 use Rattle.outside.specs.Decimal.{value_after}
 use Rattle.outside.proofs.DecimalLemmas.{number_of-decimal}
+use Rattle.outside.proofs.OtherWords.{low_other, digit_low}
 use Rattle.outside.proofs.WordLemmas.{same_letters-same}
 use Rattle.soc_model.specs.declared.TheConstants.{NUMBER_WORD_MOST}
 use Rattle.limits_text.specs.declared.items.Amount.{Amount}
@@ -15,35 +17,12 @@ use Rattle.limits_text.specs.declared.items.Key.{Key}
 use Rattle.limits_text.specs.declared.items.Key.TheVariants.{One, Before}
 use Rattle.limits_text.specs.Items.{number, is_title, key_of, is_in_range}
 
-pub both_true : (p q : Bool) → (p && q) ≡ true → (p ≡ true) × (q ≡ true)
-both_true true q e = (refl, e)
-both_true false q e = cc
-
--- the first letter of a spelling
-abbrev begins_lower : List ℕ → Bool
-begins_lower [] = false
-begins_lower (b ∷ bs) = nat_le 97 (to_ascii_lowercase b)
-
-low_head : (b x : ℕ) (bs xs : List ℕ) → b < 65 → nat_le 97 (to_ascii_lowercase x) ≡ true → same_letters (b ∷ bs) (x ∷ xs) ≡ false
-low_head b x bs xs low high = grind (arith, common_steps)
-
-low_other : (b : ℕ) (bs y : List ℕ) → b < 65 → begins_lower y ≡ true → same_letters (b ∷ bs) y ≡ false
-low_other b bs [] low high = cc
-low_other b bs (x ∷ xs) low high = low_head b x bs xs low high
-
-digit_low : (b : ℕ) → is_ascii_digit b ≡ true → b < 65
-digit_low b e = grind (arith, common_steps)
-
-cond_yes : {X : Type 0} (b : Bool) (x y : X) → cond b (Some x) None ≡ Some y → b ≡ true
-cond_yes true x y e = refl
-cond_yes false x y e = cc
-
 number_low : (c : ℕ) (cs : List ℕ) (n : ℕ) → number (c ∷ cs) ≡ Some n → c < 65
 unfolding number
 number_low c cs n e =
-    let whole = cond_yes (all_ascii_digits (c ∷ cs) && not (nat_eq (length (c ∷ cs)) 0) && nat_le (value_after 0 (c ∷ cs)) NUMBER_WORD_MOST) (value_after 0 (c ∷ cs)) n e in
-    let digits = (both_true (all_ascii_digits (c ∷ cs)) _ (both_true (all_ascii_digits (c ∷ cs) && not (nat_eq (length (c ∷ cs)) 0)) _ whole).0).0 in
-    digit_low c (both_true (is_ascii_digit c) (all_ascii_digits cs) digits).0
+    let whole = (cond_some (all_ascii_digits (c ∷ cs) && not (nat_eq (length (c ∷ cs)) 0) && nat_le (value_after 0 (c ∷ cs)) NUMBER_WORD_MOST) (value_after 0 (c ∷ cs)) n e).0 in
+    let digits = (and_parts (all_ascii_digits (c ∷ cs)) _ (and_parts (all_ascii_digits (c ∷ cs) && not (nat_eq (length (c ∷ cs)) 0)) _ whole).0).0 in
+    digit_low c (and_parts (is_ascii_digit c) (all_ascii_digits cs) digits).0
 
 no_number_at_end : (n : ℕ) → number [] ≡ Some n → ⊥
 unfolding number
@@ -58,16 +37,13 @@ number_no_key : (w : List ℕ) (n : ℕ) → number w ≡ Some n → key_of w �
 number_no_key [] n e = absurd (no_number_at_end n e)
 number_no_key (c ∷ cs) n e = low_no_key c cs (number_low c cs n e)
 
-some_none : {X : Type 0} (o : Option X) (x : X) → o ≡ Some x → o ≡ None → ⊥
-some_none o x e f = cc
-
 -- a keyword is no number
 pub key_no_number : (w : List ℕ) (k : Key) → key_of w ≡ Some k → number w ≡ None
 key_no_number w k e = by_cases (number w) refl
   where
     by_cases : (o : Option ℕ) → number w ≡ o → number w ≡ None
     by_cases None f = f
-    by_cases (Some n) f = absurd (some_none (key_of w) k e (number_no_key w n f))
+    by_cases (Some n) f = absurd (none-some k (sym (number_no_key w n f) ∙ e))
 
 -- ---- words that complete a text
 

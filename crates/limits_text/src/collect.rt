@@ -102,7 +102,7 @@ fn mark_item(tests: &mut IndexSet<TestId>, item: &Item) -> Result<(), Stop>
 }
 
 /// Adds an item.
-pub fn push(items: &mut Items, item: Item) -> Result<(), Stop>
+pub fn add_item(items: &mut Items, item: Item) -> Result<(), Stop>
     requires { InStep items.old }
     ensures in_step { OnOk result (InStep items.new) }
     ensures pushed { OnOk result (done_of items.new ≡ item_of item ∷ done_of items.old) }

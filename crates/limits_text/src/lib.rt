@@ -20,7 +20,7 @@ pub use laws::{
     printed_limits_are_answered, printed_limits_are_read, texts_are_answered,
     texts_have_one_answer,
 };
-pub use loops::noted_tests;
+pub use loops::{noted_tests, resolved_of};
 use outside::{NoMemory, Unread};
 pub use print::print_limits;
 pub use read::{read_limits, read_limits_with};

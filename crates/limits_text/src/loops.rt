@@ -9,13 +9,15 @@ ghost use Rattle.limits_text.specs.Places.{HasFirstLoop};
 ghost use Rattle.limits_text.specs.Views.{item_of};
 ghost use Rattle.limits_text.specs.Loops.{AreAt, IsLoopOf};
 ghost use Rattle.live_tests.specs.Names.{precedences as precedences_of};
+ghost use Rattle.live_tests.specs.Resolved.{IsResolved};
 
 use crate::LimFault;
 use crate::graph::first_loop;
 use crate::items::Item;
 use crate::places::{ChipTests, precedences, some_names_test};
-use live_tests::LiveTests;
+use live_tests::{LiveTests, Resolved};
 use outside::{NoMemory, push};
+use plan_model::Limits;
 use soc_model::{Soc, TestId};
 use std::alloc::Global;
 
@@ -63,6 +65,20 @@ pub fn noted_tests(
         Some(tests) => Ok(tests),
         None => LiveTests::new(alloc, soc),
     }
+}
+
+/// A chip and its limits, resolved. The live tests of the chip are made where they weren't noted. `NoMemory` where there is none.
+pub fn resolved_of(
+    alloc: Global,
+    soc: &Soc,
+    limits: &Limits,
+    noted: Option<LiveTests>,
+) -> Result<Resolved, NoMemory>
+    requires { IfSome noted (λ tests. tests ≡ live_ids (soc_value soc.now)) }
+    ensures { IfOk result (λ resolved. IsResolved (soc_value soc.now) limits.now resolved) }
+{
+    let tests = noted_tests(alloc, soc, noted)?;
+    Resolved::with_tests(alloc, soc, limits, tests)
 }
 
 /// The first loop of the precedences that items say for a chip. None comes exactly where they have none. `UnknownTest`

@@ -5,7 +5,7 @@ ghost use Rattle.limits_text.specs.Items.{number as number_in, is_title as says_
 ghost use Rattle.limits_text.specs.Steps.{at, between, begin as begins, after_title as goes_after_title, after_version as goes_after_version, after_amount as goes_after_amount, named as goes_after_name, after_module as goes_after_module, after_test as goes_after_test, may_follow as may_come_next, end_profile as goes_on, after_step as goes_after_step, after_power as goes_after_power, step_at, ended_at, whole_of};
 ghost use Rattle.limits_text.specs.Views.{item_of, done_of, part_of, InStep, Steps, Closes};
 
-use crate::collect::{has_amount, has_profile, push};
+use crate::collect::{add_item, has_amount, has_profile};
 use crate::items::{Amount, Item, Items, Key, Naming, Part};
 use crate::lexicon::{is_in_range, is_title, key_of, number_of};
 use outside::{Stop, Word};
@@ -18,7 +18,7 @@ fn pushed(items: &mut Items, part: &mut Part, item: Item) -> Result<(), Stop>
     requires { InStep items.old }
     ensures { Steps (at items.old.second (item_of item ∷ done_of items.old) between) result part.new items.new }
 {
-    push(items, item)?;
+    add_item(items, item)?;
     *part = Part::Between;
     Ok(())
 }
@@ -184,7 +184,7 @@ fn end_profile(
     if steps.is_empty() {
         return Err(Stop::Refused);
     }
-    push(items, Item::Steps { line, test, steps })?;
+    add_item(items, Item::Steps { line, test, steps })?;
     begin_item(items, part, word)
 }
 
@@ -242,7 +242,12 @@ fn step_power(
 }
 
 /// The next word.
-pub fn step(alloc: Global, items: &mut Items, part: &mut Part, word: Word<'_>) -> Result<(), Stop>
+pub fn step_word(
+    alloc: Global,
+    items: &mut Items,
+    part: &mut Part,
+    word: Word<'_>,
+) -> Result<(), Stop>
     requires { InStep items.old }
     ensures { Steps (step_at items.old.second (done_of items.old) (part_of part.old) (word.entry.bytes.now, word.entry.line)) result
         part.new items.new }
@@ -293,7 +298,7 @@ fn end_item(mut items: Items, part: Part) -> Result<Items, Stop>
             if steps.is_empty() {
                 return Err(Stop::Refused);
             }
-            push(&mut items, Item::Steps { line, test, steps })?;
+            add_item(&mut items, Item::Steps { line, test, steps })?;
             Ok(items)
         }
         _ => Err(Stop::Refused),
@@ -301,7 +306,7 @@ fn end_item(mut items: Items, part: Part) -> Result<Items, Stop>
 }
 
 /// The text ends here.
-pub fn close(items: Items, part: Part) -> Result<Items, Stop>
+pub fn end_text(items: Items, part: Part) -> Result<Items, Stop>
     requires { InStep items }
     ensures items { Closes (whole_of (ended_at (done_of items) (part_of part))) result }
     ensures form { IfOk result (λ whole. whole.second ≡ items.second) }

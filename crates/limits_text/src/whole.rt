@@ -5,7 +5,7 @@ ghost use Rattle.outside.specs.Grammars.{IsRead};
 
 use crate::collect::no_items;
 use crate::items::{Items, Part, ReadSoFar};
-use crate::reader::{close, step};
+use crate::reader::{end_text, step_word};
 use outside::{Reader, Stop, Unread, Word, read_text};
 use soc_model::NUMBER_WORD_MOST;
 use std::alloc::Global;
@@ -36,7 +36,7 @@ impl<'a> Reader<'a> for LimitsText {
     fn step(self, word: Word<'a>) -> Result<LimitsText, Stop> {
         let LimitsText { alloc, mut read } = self;
         let so_far = &mut *read;
-        match step(alloc, &mut so_far.items, &mut so_far.part, word) {
+        match step_word(alloc, &mut so_far.items, &mut so_far.part, word) {
             Ok(()) => Ok(LimitsText { alloc, read }),
             Err(stop) => Err(stop),
         }
@@ -44,7 +44,7 @@ impl<'a> Reader<'a> for LimitsText {
 
     fn end(self) -> Result<Items, Stop> {
         let ReadSoFar { items, part } = Box::into_inner(self.read);
-        close(items, part)
+        end_text(items, part)
     }
 }
 

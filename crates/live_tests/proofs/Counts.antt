@@ -1,23 +1,18 @@
 -- The tests before each test are counted pair by pair.
-use Rattle.std.proofs.Common.{◌≡◌, ◌⊎◌, inl, inr, ℕ, zero, suc, ◌+◌, ◌<◌, ◌≤◌, List, [], ◌∷◌, length, get_or, take, Bool, true, false, cond, nat_eq, refl, sym, ◌∙◌, ap, arith}
+use Rattle.std.proofs.Common.{◌≡◌, ◌⊎◌, inl, inr, ℕ, ◌+◌, ◌<◌, ◌≤◌, List, [], ◌∷◌, length, get_or, take, Bool, true, false, cond, nat_eq, refl, sym, ◌∙◌, ap, arith}
 use Rattle.std.specs.Prelude.{slice_index_or, slice_set}
 use Rattle.std.specs.List.{All}
-use Rattle.std.proofs.lemmas.Grind.{common_steps}
-use Rattle.std.proofs.lemmas.Bool.{cases_eq}
-use Rattle.std.proofs.lemmas.List.{take_more, length-append}
+use Rattle.std.proofs.lemmas.Grind.{common_steps, get_or-set_at}
+use Rattle.std.proofs.lemmas.Bool.{cases_eq, eq-eqb, ne_eqb}
+use Rattle.std.proofs.lemmas.List.{take_more, length-append, length-set, get_or_default, get_or-set_other}
 use Rattle.std.proofs.lemmas.List.Elements.{All-get_or}
 use Rattle.live_tests.specs.Neighbours.{before}
-use Rattle.live_tests.proofs.Sides.{set_at, set_other, set_length, eq_true, eq_false, sides-append}
+use Rattle.live_tests.proofs.Sides.{sides-append}
 
 -- so many tests are counted
 pub record AreCounts (count : ℕ) (pairs : List (ℕ × ℕ)) (counts : List ℕ) : Type 0 where
   pub long : length counts ≡ count
   pub are : (i : ℕ) → i < count → slice_index_or counts i 0 ≡ length (before i pairs)
-
-any_default : {X : Type 0} (xs : List X) (i : ℕ) (d e : X) → i < length xs → get_or xs i d ≡ get_or xs i e
-any_default [] i d e within = absurd (omega arith)
-any_default (x ∷ xs) zero d e within = refl
-any_default (x ∷ xs) (suc i) d e within = any_default xs i d e (omega arith)
 
 before_more : (i : ℕ) (pairs : List (ℕ × ℕ)) (k : ℕ) → k < length pairs → length (before i (take (k + 1) pairs)) ≡ length (before i (take k pairs)) + cond (nat_eq i (get_or pairs k (0, 0)).1) 1 0
 before_more i pairs k within =
@@ -33,7 +28,7 @@ before_more i pairs k within =
 pub counts_more : (count : ℕ) (counts : List ℕ) (pairs : List (ℕ × ℕ)) (k x : ℕ) → AreCounts count (take k pairs) counts → k < length pairs → All (λ (e : ℕ × ℕ). (e.0 < count) × (e.1 < count)) pairs → x ≡ get_or counts (get_or pairs k (0, 0)).1 x
     → AreCounts count (take (k + 1) pairs) (slice_set counts (get_or pairs k (0, 0)).1 (x + 1))
 counts_more count counts pairs k x counted within all is = record {
-  long = set_length counts second (x + 1) ∙ counted.long;
+  long = length-set counts second (x + 1) ∙ counted.long;
   are = λ j less. by j less (cases_eq j second);
 }
   where
@@ -45,14 +40,14 @@ counts_more count counts pairs k x counted within all is = record {
 
     by : (j : ℕ) → j < count → (j ≡ second) ⊎ (j ≡ second → ⊥) → slice_index_or (slice_set counts second (x + 1)) j 0 ≡ length (before j (take (k + 1) pairs))
     by j less (inl same) =
-        let more : length (before j (take (k + 1) pairs)) ≡ length (before j (take k pairs)) + 1 = before_more j pairs k within ∙ ap (λ b. length (before j (take k pairs)) + cond b 1 0) (eq_true j second same) in
+        let more : length (before j (take (k + 1) pairs)) ≡ length (before j (take k pairs)) + 1 = before_more j pairs k within ∙ ap (λ b. length (before j (take k pairs)) + cond b 1 0) (eq-eqb j second same) in
         let now : get_or counts j 0 ≡ length (before j (take k pairs)) = counted.are j less in
-        let here : x ≡ get_or counts j 0 = is ∙ any_default counts second x 0 there ∙ ap (λ i. get_or counts i 0) (sym same) in
-        set_at counts second j (x + 1) 0 there same ∙ ap (λ n. n + 1) (here ∙ now) ∙ sym more
+        let here : x ≡ get_or counts j 0 = is ∙ get_or_default counts second x 0 there ∙ ap (λ i. get_or counts i 0) (sym same) in
+        get_or-set_at counts second j (x + 1) 0 same there ∙ ap (λ n. n + 1) (here ∙ now) ∙ sym more
     by j less (inr apart) =
-        let more : length (before j (take (k + 1) pairs)) ≡ length (before j (take k pairs)) + 0 = before_more j pairs k within ∙ ap (λ b. length (before j (take k pairs)) + cond b 1 0) (eq_false j second apart) in
+        let more : length (before j (take (k + 1) pairs)) ≡ length (before j (take k pairs)) + 0 = before_more j pairs k within ∙ ap (λ b. length (before j (take k pairs)) + cond b 1 0) (ne_eqb j second apart) in
         let now : get_or counts j 0 ≡ length (before j (take k pairs)) = counted.are j less in
-        let same : get_or (slice_set counts second (x + 1)) j 0 ≡ get_or counts j 0 = set_other counts second j (x + 1) 0 apart in
+        let same : get_or (slice_set counts second (x + 1)) j 0 ≡ get_or counts j 0 = get_or-set_other counts second j (x + 1) 0 apart in
         omega arith
 
 -- a count is no more than there are pairs
@@ -68,6 +63,6 @@ pub count_small : (count : ℕ) (counts : List ℕ) (pairs : List (ℕ × ℕ)) 
 count_small count counts pairs k x counted within all is0 =
     let e = All-get_or (λ (e : ℕ × ℕ). (e.0 < count) × (e.1 < count)) pairs k (0, 0) within all in
     let now : get_or counts (get_or pairs k (0, 0)).1 0 ≡ length (before (get_or pairs k (0, 0)).1 (take k pairs)) = counted.are (get_or pairs k (0, 0)).1 e.1 in
-    let is : x ≡ get_or counts (get_or pairs k (0, 0)).1 0 = is0 ∙ any_default counts (get_or pairs k (0, 0)).1 x 0 (omega (arith, e.1, counted.long)) in
+    let is : x ≡ get_or counts (get_or pairs k (0, 0)).1 0 = is0 ∙ get_or_default counts (get_or pairs k (0, 0)).1 x 0 (omega (arith, e.1, counted.long)) in
     let most : length (take k pairs) ≤ k = grind (arith, common_steps) in
     omega (arith, before-le (get_or pairs k (0, 0)).1 (take k pairs), now, is, most)

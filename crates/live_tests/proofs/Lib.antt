@@ -1,4 +1,5 @@
 pub mod LiveIds
+pub mod HowMany
 pub mod Indexing
 pub mod Placing
 pub mod Sides

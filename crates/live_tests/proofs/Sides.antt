@@ -1,27 +1,11 @@
 -- The tests after each test, and those before it, are listed pair by pair.
 use Rattle.std.proofs.Common.{◌≡◌, ◌⊎◌, inl, inr, ℕ, zero, suc, ◌+◌, ◌<◌, List, [], ◌∷◌, ◌++◌, length, get_or, take, map, Bool, true, false, cond, nat_eq, Some, sym, ◌∙◌, ap, arith, append-nil, refl}
 use Rattle.std.specs.Prelude.{slice_get, slice_index_or, slice_set}
-use Rattle.std.proofs.lemmas.Grind.{common_steps}
-use Rattle.std.proofs.lemmas.Bool.{cases_Bool, cases_eq, eqb-true}
-use Rattle.std.proofs.lemmas.Bool.Decides.{nat_tests}
-use Rattle.std.proofs.lemmas.List.{take_more, map-set, get_or-map, length-map}
+use Rattle.std.proofs.lemmas.Grind.{get_or-set_at}
+use Rattle.std.proofs.lemmas.Bool.{cases_Bool, cases_eq, eqb-true, eq-eqb, ne_eqb}
+use Rattle.std.proofs.lemmas.List.{take_more, map-set, get_or-map, length-map, length-set, get_or-set_other}
 use Rattle.live_tests.specs.declared.neighbours.Neighbours.{Neighbours}
 use Rattle.live_tests.specs.Neighbours.{tests_of, other_sides}
-
-pub set_at : {X : Type 0} (xs : List X) (i j : ℕ) (v d : X) → i < length xs → j ≡ i → get_or (slice_set xs i v) j d ≡ v
-set_at xs i j v d within same = grind (arith, common_steps)
-
-pub set_other : {X : Type 0} (xs : List X) (i j : ℕ) (v d : X) → (j ≡ i → ⊥) → get_or (slice_set xs i v) j d ≡ get_or xs j d
-set_other xs i j v d apart = grind (arith, common_steps)
-
-pub set_length : {X : Type 0} (xs : List X) (i : ℕ) (v : X) → length (slice_set xs i v) ≡ length xs
-set_length xs i v = grind (arith, common_steps)
-
-pub eq_true : (a b : ℕ) → a ≡ b → nat_eq a b ≡ true
-eq_true a b e = grind (arith, nat_tests)
-
-pub eq_false : (a b : ℕ) → (a ≡ b → ⊥) → nat_eq a b ≡ false
-eq_false a b e = grind (arith, nat_tests)
 
 pub sides-append : (side other : ℕ × ℕ → ℕ) (i : ℕ) (a b : List (ℕ × ℕ)) → other_sides side other i (a ++ b) ≡ other_sides side other i a ++ other_sides side other i b
 sides-append side other i [] b = refl
@@ -49,7 +33,7 @@ pub sides_have : (side other : ℕ × ℕ → ℕ) (i : ℕ) (pairs : List (ℕ 
 sides_have side other i [] k e there is = absurd cc
 sides_have side other i (d ∷ pairs) zero e there is =
     let same : d ≡ e = cc in
-    let here : nat_eq i (side d) ≡ true = eq_true i (side d) (sym (ap side same ∙ is)) in
+    let here : nat_eq i (side d) ≡ true = eq-eqb i (side d) (sym (ap side same ∙ is)) in
     (0, rw here (ap (λ (p : ℕ × ℕ). Some (other p)) same))
 sides_have side other i (d ∷ pairs) (suc k) e there is = more (nat_eq i (side d)) (sides_have side other i pairs k e there is)
   where
@@ -62,7 +46,7 @@ pub sides_more : (side other : ℕ × ℕ → ℕ) (count : ℕ) (lists : List N
     → at ≡ side (get_or pairs k (0, 0)) → at < count → here ≡ get_or lists at here → tests_of new ≡ tests_of here ++ other (get_or pairs k (0, 0)) ∷ []
     → (length (slice_set lists at new) ≡ count) × ((i : ℕ) → i < count → slice_index_or (map tests_of (slice_set lists at new)) i [] ≡ other_sides side other i (take (k + 1) pairs))
 sides_more side other count lists pairs k at here new long are within key small is pushed =
-    (set_length lists at new ∙ long, λ i less. ap (λ l. get_or l i []) (map-set tests_of lists at new) ∙ by i less (cases_eq i at))
+    (length-set lists at new ∙ long, λ i less. ap (λ l. get_or l i []) (map-set tests_of lists at new) ∙ by i less (cases_eq i at))
   where
     there : at < length lists
     there = omega (arith, small, long)
@@ -74,8 +58,8 @@ sides_more side other count lists pairs k at here new long are within key small 
     by : (i : ℕ) → i < count → (i ≡ at) ⊎ (i ≡ at → ⊥) → get_or (slice_set (map tests_of lists) at (tests_of new)) i [] ≡ other_sides side other i (take (k + 1) pairs)
     by i less (inl same) =
         let old : tests_of here ≡ other_sides side other i (take k pairs) = ap tests_of is ∙ sym (get_or-map tests_of lists at here [] there) ∙ ap (λ n. get_or (map tests_of lists) n []) (sym same) ∙ are i less in
-        set_at (map tests_of lists) at i (tests_of new) [] (omega (arith, there, length-map lists tests_of)) same
-        ∙ pushed ∙ ap (λ l. l ++ other (get_or pairs k (0, 0)) ∷ []) old ∙ sym (more i ∙ ap (λ b. other_sides side other i (take k pairs) ++ cond b (other (get_or pairs k (0, 0)) ∷ []) []) (eq_true i at same))
+        get_or-set_at (map tests_of lists) at i (tests_of new) [] same (omega (arith, there, length-map lists tests_of))
+        ∙ pushed ∙ ap (λ l. l ++ other (get_or pairs k (0, 0)) ∷ []) old ∙ sym (more i ∙ ap (λ b. other_sides side other i (take k pairs) ++ cond b (other (get_or pairs k (0, 0)) ∷ []) []) (eq-eqb i at same))
     by i less (inr apart) =
-        set_other (map tests_of lists) at i (tests_of new) [] apart ∙ are i less
-        ∙ sym (more i ∙ ap (λ b. other_sides side other i (take k pairs) ++ cond b (other (get_or pairs k (0, 0)) ∷ []) []) (eq_false i at apart) ∙ append-nil (other_sides side other i (take k pairs)))
+        get_or-set_other (map tests_of lists) at i (tests_of new) [] apart ∙ are i less
+        ∙ sym (more i ∙ ap (λ b. other_sides side other i (take k pairs) ++ cond b (other (get_or pairs k (0, 0)) ∷ []) []) (ne_eqb i at apart) ∙ append-nil (other_sides side other i (take k pairs)))

@@ -1,16 +1,14 @@
 -- The placed tests of a plan of a sound chip: their names, and that their powers leave room for sums.
-use Rattle.std.proofs.Common.{◌≡◌, ℕ, zero, suc, ◌+◌, ◌≤◌, ◌^◌, Option, None, Some, List, [], ◌∷◌, length, refl, ap, ◌∙◌, sym, arith, inl, inr}
+use Rattle.std.proofs.Common.{◌≡◌, ℕ, zero, suc, ◌+◌, ◌≤◌, ◌^◌, Option, None, Some, List, [], ◌∷◌, length, refl, ap, ◌∙◌, sym, arith}
 use Rattle.std.specs.Prelude.{slice_get}
-use Rattle.std.specs.List.{flat_map, filter, sum_by}
+use Rattle.std.specs.List.{filter, sum_by}
 use Rattle.std.proofs.lemmas.List.Sums.{sum_by-cons}
 use Rattle.std.proofs.lemmas.List.{length-append}
 use Rattle.std.proofs.lemmas.Option.{slice_get_within, get_or_from_slice_get}
-use Rattle.std.proofs.lemmas.Bool.{cases_Bool}
 use Rattle.soc_model.specs.declared.Test.{Test}
 use Rattle.soc_model.specs.declared.TestId.{TestId}
 use Rattle.soc_model.specs.Chips.{ModuleValue, SocValue, LiveTest, is_live, live_of, live_from, live_tests, id_of}
 use Rattle.soc_model.specs.SoundChips.{IsSoundChip}
-use Rattle.soc_model.proofs.Limits.{tests-le}
 use Rattle.plan_model.specs.Plans.{ProfileValue, LimitsValue, PlanValue, PlannedTest, planned, planned_test, step_power, power_of_id}
 use Rattle.plan_model.specs.declared.TheConstants.{STEPS_MOST}
 use Rattle.plan_model.specs.Rules.{live_ids}
@@ -25,6 +23,7 @@ use Rattle.power_events.specs.Events.{profile_place, steps_from, steps_of}
 use Rattle.plan_checker.proofs.Finding.{some_same}
 use Rattle.power_events.proofs.Balance.{test_power}
 use Rattle.plan_checker.proofs.Filling.{placed_length}
+use Rattle.live_tests.proofs.HowMany.{live_tests-le}
 use Rattle.live_tests.proofs.LiveIds.{ids_differ}
 use Rattle.live_tests.proofs.Placing.{names_placed}
 use Rattle.plan_checker.proofs.Rooms.{at_map, length_values}
@@ -39,27 +38,6 @@ pub placed_named : (soc : SocValue) (plan : PlanValue) (placed : List PlacedTest
 placed_named soc plan placed names are same = are ∙ sym (names_placed soc plan) ∙ ap names_of (sym same)
 
 -- ---- how many
-
-filter_le : (tests : List Test) → length (filter is_live tests) ≤ length tests
-filter_le [] = omega arith
-filter_le (t ∷ ts) = elim (cases_Bool (is_live t)) [
-  | inl yes' ↦ rw yes' (omega (arith, filter_le ts))
-  | inr no' ↦ rw no' (omega (arith, filter_le ts))
-]
-
-live_le : (base : ℕ) (ms : List ModuleValue) → length (live_from base ms) ≤ length (flat_map (λ (m : ModuleValue). m.tests) ms)
-unfolding live_from
-live_le base [] = omega arith
-live_le base (m ∷ ms) =
-    let here : length (live_of base m) ≤ length m.tests = omega (arith, filter_le m.tests, length_values (λ (t : Test). the_test base m t) (filter is_live m.tests)) in
-    let rest : length (live_from (base + 1) ms) ≤ length (flat_map (λ (m : ModuleValue). m.tests) ms) = live_le (base + 1) ms in
-    rw (length-append (live_of base m) (live_from (base + 1) ms), length-append m.tests (flat_map (λ (m : ModuleValue). m.tests) ms)) (omega (arith, here, rest))
-  where
-    the_test : ℕ → ModuleValue → Test → LiveTest
-    the_test base m t = record { place = base; core = m; test = t }
-
-pub live_tests-le : (soc : SocValue) → IsSoundChip soc → length (live_tests soc) ≤ 4096
-live_tests-le soc sound = omega (arith, live_le 0 soc.modules, tests-le soc sound.size)
 
 pub live_tests_are : (base : ℕ) (ms : List ModuleValue) → length (live_from base ms) ≡ sum_by (λ (m : ModuleValue). length (filter is_live m.tests)) ms
 unfolding live_from

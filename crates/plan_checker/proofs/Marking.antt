@@ -13,7 +13,8 @@ use Rattle.plan_model.proofs.Lists.{contains_at, any_from, in_flat_map}
 use Rattle.plan_checker.specs.Marks.{AreMarks, IsUnlisted, AreMarked, AreMarkedTo, AreBusesBy}
 use Rattle.plan_checker.proofs.Finding.{contains_from, some_same, number_at}
 use Rattle.plan_checker.specs.Broken.{EachOf}
-use Rattle.plan_checker.proofs.Firsts.{EachTo, Behind, each_append, first_front, first_behind}
+use Rattle.plan_model.proofs.FirstBreaches.{EachTo}
+use Rattle.plan_checker.proofs.Firsts.{Behind, each_append, first_front, first_behind}
 use Rattle.plan_checker.proofs.Breaking.{flat_split, flat_more_at}
 use Rattle.live_tests.proofs.WrittenParents.{set_here, set_else}
 use Rattle.plan_checker.proofs.Rooms.{any_item}

@@ -7,7 +7,7 @@ use Rattle.plan_model.specs.Rules.{InOrder}
 use Rattle.live_tests.specs.declared.placed.PlacedTest.{PlacedTest}
 use Rattle.live_tests.specs.Placed.{placed_of, placed_tests}
 use Rattle.plan_checker.specs.Order.{AreInOrder, last_end}
-use Rattle.plan_checker.proofs.Firsts.{EachTo}
+use Rattle.plan_model.proofs.FirstBreaches.{EachTo}
 use Rattle.plan_checker.proofs.Rooms.{map_at, at_map}
 
 pub order_up : (tests : List PlannedTest) (e e' : List (TestId × TestId)) (p : TestId × TestId) → AreInOrder (map placed_of tests) e p → InOrder tests e' p

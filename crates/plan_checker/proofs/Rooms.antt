@@ -8,7 +8,8 @@ use Rattle.soc_model.specs.declared.TestId.{TestId}
 use Rattle.soc_model.specs.Chips.{same_test}
 use Rattle.plan_model.specs.Rules.{IsNew}
 use Rattle.plan_model.proofs.Lists.{contains_at}
-use Rattle.plan_checker.proofs.Firsts.{EachTo, pigeon}
+use Rattle.plan_model.proofs.FirstBreaches.{EachTo}
+use Rattle.plan_checker.proofs.Firsts.{pigeon}
 use Rattle.plan_checker.proofs.Finding.{contains_from}
 
 pub on_ok : {T E : Type 0} (r : Result T E) (P : Type 0) → IsOk r → OnOk r P → P

@@ -3,4 +3,3 @@ pub mod OtherBounds
 pub mod Widths
 pub mod InRange
 pub mod Raised
-pub mod Telling

@@ -2,5 +2,5 @@ pub mod Improved
 pub mod Requests
 pub mod Headlines
 pub mod Widths
-pub mod Told
+pub mod Reports
 pub mod Grounds

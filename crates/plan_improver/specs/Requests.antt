@@ -4,12 +4,12 @@ use Rattle.plan_model.specs.Plans.{PlanValue}
 use Rattle.plan_text.specs.PlanLines.{plan_text}
 use Rattle.commands.specs.Commands.{CommandValue, Improve}
 use Rattle.commands.specs.Procedures.{Procedure, NoCommand, done_with_any, with_all}
-use Rattle.plan_improver.specs.declared.progress.TheConstants.{TOLD_FROM}
+use Rattle.plan_improver.specs.declared.progress.TheConstants.{REPORTED_FROM}
 use Rattle.plan_improver.specs.Improved.{IsImproved}
 
 -- nothing is reported as the words are answered: they are no `improve`, or one of few tries
 abbrev pub IsQuiet : Option CommandValue → Type 0
-IsQuiet (Some (Improve soc limits plan tries seed)) = tries < TOLD_FROM
+IsQuiet (Some (Improve soc limits plan tries seed)) = tries < REPORTED_FROM
 IsQuiet other = Unit {0}
 
 -- The answer is the text of a plan that is improved after so many tries: for the chip and the limits, from the plan that is

@@ -12,17 +12,16 @@ ghost use Rattle.commands.specs.Commands.{Improve, command_of as asked_command};
 ghost use Rattle.commands.specs.Procedures.{asked};
 ghost use Rattle.commands.specs.Decides.{Follows, Decides};
 ghost use Rattle.commands.specs.Ends.{IsCommand};
-ghost use Rattle.plan_improver.specs.declared.progress.TheConstants.{TOLD_FROM};
+ghost use Rattle.plan_improver.specs.declared.progress.TheConstants.{REPORTED_FROM};
 ghost use Rattle.plan_improver.specs.Improved.{IsImproved};
 ghost use Rattle.plan_improver.specs.Requests.{procedure_of, IsQuiet};
-ghost use Rattle.plan_improver.specs.Told.{MayTell, MayTellOf};
+ghost use Rattle.plan_improver.specs.Reports.{MayReport, MayReportOf};
 
 use crate::improving::{Known, improved};
 use commands::{
     Accepted, Command, Status, Verdict, answered_with, bad_words, command_of, load_all,
 };
-use limits_text::noted_tests;
-use live_tests::Resolved;
+use limits_text::resolved_of;
 use outside::{NoMemory, Shelf, Sink};
 use plan_text::print_plan;
 use std::alloc::Global;
@@ -33,7 +32,7 @@ fn text_of<T: Sink>(
     all: Accepted,
     tries: u64,
     seed: u64,
-    told: &mut T,
+    progress: &mut T,
 ) -> Result<Vec<u8>, NoMemory>
     requires sound { IsSoundChip (soc_value all.soc) }
     requires limits { IsSoundLimits (soc_value all.soc) (limits_value all.limits) }
@@ -41,9 +40,9 @@ fn text_of<T: Sink>(
     requires given { IsFaultless (soc_value all.soc) (limits_value all.limits) (plan_value all.plan) }
     ensures text { IfOk result (λ text. (value : PlanValue)
         × IsImproved (soc_value all.soc) (limits_value all.limits) tries (plan_value all.plan) value × (text.items ≡ plan_text value)) }
-    ensures faults_never_fall { T.faults told.old ≤ T.faults told.new }
-    ensures quiet { tries < TOLD_FROM → told.new ≡ told.old }
-    ensures told { MayTell tries (T.written told.old) (T.written told.new) }
+    ensures faults_never_fall { T.faults progress.old ≤ T.faults progress.new }
+    ensures quiet { tries < REPORTED_FROM → progress.new ≡ progress.old }
+    ensures reported { MayReport tries (T.written progress.old) (T.written progress.new) }
 {
     let Accepted {
         soc,
@@ -51,14 +50,13 @@ fn text_of<T: Sink>(
         plan,
         live,
     } = all;
-    let tests = noted_tests(alloc, &soc, live)?;
-    let resolved = Resolved::with_tests(alloc, &soc, &limits, tests)?;
+    let resolved = resolved_of(alloc, &soc, &limits, live)?;
     let known = Known {
         soc: &soc,
         limits: &limits,
         resolved: &resolved,
     };
-    let better = improved(alloc, &known, plan, tries, seed, told)?;
+    let better = improved(alloc, &known, plan, tries, seed, progress)?;
     print_plan(alloc, &better)
 }
 
@@ -77,18 +75,21 @@ fn decide_improve<H: Shelf, T: Sink>(
     plan: &str,
     by: Drawing,
     shelf: &mut H,
-    told: &mut T,
+    progress: &mut T,
 ) -> Verdict
     ensures held_stays { H.held shelf.new ≡ H.held shelf.old }
     ensures faults_never_fall { H.faults shelf.old ≤ H.faults shelf.new }
-    ensures told_faults_never_fall { T.faults told.old ≤ T.faults told.new }
+    ensures progress_faults_never_fall { T.faults progress.old ≤ T.faults progress.new }
     ensures follows { Follows (procedure_of (Improve soc.now limits.now plan.now by.tries by.seed)) (H.held shelf.old) (H.faults shelf.old)
         (H.faults shelf.new) result }
-    ensures quiet { by.tries < TOLD_FROM → told.new ≡ told.old }
-    ensures told { MayTell by.tries (T.written told.old) (T.written told.new) }
+    ensures quiet { by.tries < REPORTED_FROM → progress.new ≡ progress.old }
+    ensures reported { MayReport by.tries (T.written progress.old) (T.written progress.new) }
 {
     match load_all(alloc, soc, limits, plan, shelf) {
-        Ok(all) => answered_with(Status::Done, text_of(alloc, all, by.tries, by.seed, told)),
+        Ok(all) => answered_with(
+            Status::Done,
+            text_of(alloc, all, by.tries, by.seed, progress),
+        ),
         Err(verdict) => verdict,
     }
 }
@@ -98,16 +99,16 @@ pub(crate) fn decide<H: Shelf, T: Sink>(
     alloc: Global,
     words: &[String],
     shelf: &mut H,
-    told: &mut T,
+    progress: &mut T,
 ) -> Verdict
     ensures held_stays { H.held shelf.new ≡ H.held shelf.old }
     ensures faults_never_fall { H.faults shelf.old ≤ H.faults shelf.new }
-    ensures told_faults_never_fall { T.faults told.old ≤ T.faults told.new }
+    ensures progress_faults_never_fall { T.faults progress.old ≤ T.faults progress.new }
     ensures decides { Decides (asked procedure_of (asked_command (map string_bytes words.now))) (H.held shelf.old) (H.faults shelf.old)
         (H.faults shelf.new) result }
     ensures untouched { (IsCommand (asked procedure_of (asked_command (map string_bytes words.now))) → ⊥) → shelf.new ≡ shelf.old }
-    ensures quiet { IsQuiet (asked_command (map string_bytes words.now)) → told.new ≡ told.old }
-    ensures told { MayTellOf (asked_command (map string_bytes words.now)) (T.written told.old) (T.written told.new) }
+    ensures quiet { IsQuiet (asked_command (map string_bytes words.now)) → progress.new ≡ progress.old }
+    ensures reported { MayReportOf (asked_command (map string_bytes words.now)) (T.written progress.old) (T.written progress.new) }
 {
     match command_of(words) {
         Some(
@@ -120,7 +121,7 @@ pub(crate) fn decide<H: Shelf, T: Sink>(
             },
         ) => {
             let by = Drawing { tries, seed };
-            decide_improve(alloc, soc, limits, plan, by, shelf, told)
+            decide_improve(alloc, soc, limits, plan, by, shelf, progress)
         }
         _ => bad_words(alloc),
     }

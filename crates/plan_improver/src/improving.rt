@@ -12,16 +12,17 @@ ghost use Rattle.plan_model.specs.Right.{IsRight};
 ghost use Rattle.plan_model.specs.Views.{limits_value, plan_value, bound_value};
 ghost use Rattle.live_tests.specs.Resolved.{IsResolved};
 ghost use Rattle.plan_text.specs.Grammar.{AreSmallStarts};
-ghost use Rattle.plan_improver.specs.declared.progress.TheConstants.{TOLD_FROM};
+ghost use Rattle.plan_improver.specs.declared.progress.TheConstants.{REPORTED_FROM};
 ghost use Rattle.plan_improver.specs.Grounds.{AreGrounds};
 ghost use Rattle.plan_improver.specs.Improved.{IsGreaterBound, IsRaised, IsImproved};
-ghost use Rattle.plan_improver.specs.Told.{MayTell};
+ghost use Rattle.plan_improver.specs.Reports.{MayReport};
 
 use crate::candidate::{better_plan, no_bound};
 use crate::laws::faultless_plans_are_in_range;
-use crate::progress::{line_room, run_told};
+use crate::progress::run_reported;
 use arch_search::{Problem, Search};
 use bound_certificate::best_bound_with;
+use commands::line_room;
 use live_tests::Resolved;
 use outside::{NoMemory, Sink};
 use plan_model::{Bound, Limits, Plan, good_plans_run_right};
@@ -153,7 +154,7 @@ fn searched_on<T: Sink>(
     given: &Plan,
     tries: u64,
     seed: u64,
-    told: &mut T,
+    progress: &mut T,
 ) -> Result<Option<Plan>, NoMemory>
     requires sound { IsSoundChip (soc_value known.now.soc.now) }
     requires limits { IsSoundLimits (soc_value known.now.soc.now) (limits_value known.now.limits.now) }
@@ -163,15 +164,15 @@ fn searched_on<T: Sink>(
         (plan_value p))) }
     ensures small_starts { IfOk result (λ plan. IfSome plan (λ p. AreSmallStarts (plan_value p).starts)) }
     ensures fewer { IfOk result (λ plan. IfSome plan (λ p. p.cycles < given.now.cycles)) }
-    ensures faults_never_fall { T.faults told.old ≤ T.faults told.new }
-    ensures quiet { tries < TOLD_FROM → told.new ≡ told.old }
-    ensures told { MayTell tries (T.written told.old) (T.written told.new) }
+    ensures faults_never_fall { T.faults progress.old ≤ T.faults progress.new }
+    ensures quiet { tries < REPORTED_FROM → progress.new ≡ progress.old }
+    ensures reported { MayReport tries (T.written progress.old) (T.written progress.new) }
 {
     let mut line = line_room(alloc)?;
     let names = &known.resolved.tests;
     let mut search = Search::new(alloc, names, &grounds.problem, &grounds.job, given, seed)?;
-    run_told(&mut search, tries, &mut line, told);
-    search.finish();
+    run_reported(&mut search, tries, &mut line, progress);
+    search.schedule_best();
     let plan = better_plan(
         alloc,
         known.soc,
@@ -192,7 +193,7 @@ fn searched<T: Sink>(
     given: &Plan,
     tries: u64,
     seed: u64,
-    told: &mut T,
+    progress: &mut T,
 ) -> Result<Option<Plan>, NoMemory>
     requires sound { IsSoundChip (soc_value known.now.soc.now) }
     requires limits { IsSoundLimits (soc_value known.now.soc.now) (limits_value known.now.limits.now) }
@@ -202,16 +203,16 @@ fn searched<T: Sink>(
         (plan_value p))) }
     ensures small_starts { IfOk result (λ plan. IfSome plan (λ p. AreSmallStarts (plan_value p).starts)) }
     ensures fewer { IfOk result (λ plan. IfSome plan (λ p. p.cycles < given.now.cycles)) }
-    ensures faults_never_fall { T.faults told.old ≤ T.faults told.new }
-    ensures quiet { tries < TOLD_FROM → told.new ≡ told.old }
-    ensures told { MayTell tries (T.written told.old) (T.written told.new) }
+    ensures faults_never_fall { T.faults progress.old ≤ T.faults progress.new }
+    ensures quiet { tries < REPORTED_FROM → progress.new ≡ progress.old }
+    ensures reported { MayReport tries (T.written progress.old) (T.written progress.new) }
     ensures untried { tries ≡ 0 → IfOk result (λ plan. plan ≡ None) }
 {
     if tries == 0 {
         return Ok(None);
     }
     let grounds = grounds_of(alloc, known, given)?;
-    let plan = searched_on(alloc, known, &grounds, given, tries, seed, told);
+    let plan = searched_on(alloc, known, &grounds, given, tries, seed, progress);
     // dropped by a call, as the search is
     drop(grounds);
     plan
@@ -220,15 +221,15 @@ fn searched<T: Sink>(
 /// A plan of no more cycles than the given one has, for the same chip and limits, after so many tries of a search that draws
 /// from a seed; the given plan where none is better. It is good, so that it runs right for every content, and its bound is
 /// the greater of the given one and of the best one at its cycles. Every number of it is in the range of a plan's text, where
-/// the given plan's starts are. From 100,000 tries on `told` gets a line at each tenth of them, with the best cycles so far; a `told`
-/// that fails changes nothing else. `NoMemory` where there is none.
+/// the given plan's starts are. From 100,000 tries on `progress` gets a line at each tenth of them, with the best cycles so far; where that
+/// fails nothing else changes. `NoMemory` where there is none.
 pub fn improved<T: Sink>(
     alloc: Global,
     known: &Known<'_>,
     mut given: Plan,
     tries: u64,
     seed: u64,
-    told: &mut T,
+    progress: &mut T,
 ) -> Result<Plan, NoMemory>
     requires sound { IsSoundChip (soc_value known.now.soc.now) }
     requires limits { IsSoundLimits (soc_value known.now.soc.now) (limits_value known.now.limits.now) }
@@ -238,13 +239,13 @@ pub fn improved<T: Sink>(
         (plan_value given) (plan_value plan)) }
     ensures right { IfOk result (λ plan. (content : Content) →
         IsRight (soc_value known.now.soc.now) (limits_value known.now.limits.now) (plan_value plan) content) }
-    ensures faults_never_fall { T.faults told.old ≤ T.faults told.new }
-    ensures quiet { tries < TOLD_FROM → told.new ≡ told.old }
-    ensures told { MayTell tries (T.written told.old) (T.written told.new) }
+    ensures faults_never_fall { T.faults progress.old ≤ T.faults progress.new }
+    ensures quiet { tries < REPORTED_FROM → progress.new ≡ progress.old }
+    ensures reported { MayReport tries (T.written progress.old) (T.written progress.new) }
 {
     good_plans_run_right();
     faultless_plans_are_in_range();
-    let found = searched(alloc, known, &given, tries, seed, told)?;
+    let found = searched(alloc, known, &given, tries, seed, progress)?;
     let bound = mem::replace(&mut given.bound, no_bound());
     match found {
         Some(plan) => {

@@ -6,7 +6,7 @@ ghost use Rattle.commands.specs.Ends.{IsCommand, MayAnswer, Ends, OneLine, EndsB
 ghost use Rattle.commands.specs.Commands.{command_of};
 ghost use Rattle.plan_improver.specs.Requests.{procedure_of, IsQuiet};
 ghost use Rattle.plan_improver.specs.Headlines.{Headline};
-ghost use Rattle.plan_improver.specs.Told.{MayTellOf};
+ghost use Rattle.plan_improver.specs.Reports.{MayReportOf};
 
 use crate::deciding::decide;
 use commands::{Status, files_say_one_thing, write_verdict};
@@ -19,18 +19,18 @@ use std::alloc::Global;
 ///
 /// The words are `improve`, the names of three files, a number of tries, at most 10,000,000, and a seed below 10^12. The files are
 /// taken in this order, each only where the ones before it are taken; the plan has to be accepted. All memory is taken before
-/// the first byte is written. From 100,000 tries on, `told` gets a line at each tenth of them with the best cycles so far, and
+/// the first byte is written. From 100,000 tries on, `progress` gets a line at each tenth of them with the best cycles so far, and
 /// for fewer nothing; what becomes of that changes nothing else.
 pub fn improve<H: Shelf, K: Sink, T: Sink>(
     alloc: Global,
     words: &[String],
     shelf: &mut H,
     out: &mut K,
-    told: &mut T,
+    progress: &mut T,
 ) -> Status
     ensures held_stays { H.held shelf.new ≡ H.held shelf.old }
     ensures faults_never_fall { (H.faults shelf.old ≤ H.faults shelf.new) × (K.faults out.old ≤ K.faults out.new)
-        × (T.faults told.old ≤ T.faults told.new) }
+        × (T.faults progress.old ≤ T.faults progress.new) }
 
     // What is written is an answer to the words and files, each status where its cause is.
     ensures ends { Ends (MayAnswer (asked procedure_of (command_of (map string_bytes words.now))) (H.held shelf.old) (H.faults shelf.old)
@@ -39,8 +39,8 @@ pub fn improve<H: Shelf, K: Sink, T: Sink>(
     ensures by_words { EndsByWords (asked procedure_of (command_of (map string_bytes words.now)))
         (Rose (K.faults out.old) (K.faults out.new)) result }
     ensures untouched { (IsCommand (asked procedure_of (command_of (map string_bytes words.now))) → ⊥) → shelf.new ≡ shelf.old }
-    ensures quiet { IsQuiet (command_of (map string_bytes words.now)) → told.new ≡ told.old }
-    ensures told { MayTellOf (command_of (map string_bytes words.now)) (T.written told.old) (T.written told.new) }
+    ensures quiet { IsQuiet (command_of (map string_bytes words.now)) → progress.new ≡ progress.old }
+    ensures reported { MayReportOf (command_of (map string_bytes words.now)) (T.written progress.old) (T.written progress.new) }
 
     // Where the files give an answer and nothing fails, one comes, unless memory runs out. The plan is any improved one.
     ensures complete { Complete false (asked procedure_of (command_of (map string_bytes words.now))) (H.held shelf.old)
@@ -59,6 +59,6 @@ pub fn improve<H: Shelf, K: Sink, T: Sink>(
     certificates_are_bounds();
     files_say_one_thing();
     printed_plans_are_read();
-    let verdict = decide(alloc, words, shelf, told);
+    let verdict = decide(alloc, words, shelf, progress);
     write_verdict(verdict, out)
 }

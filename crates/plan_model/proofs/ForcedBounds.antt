@@ -1,8 +1,8 @@
 -- Modules that must share one bus: the value of a Forced certificate bounds every good plan.
-use Rattle.std.proofs.Common.{◌≡◌, ℕ, zero, suc, ◌+◌, ◌≤◌, ◌<◌, Bool, true, false, leb, Some, List, length, get_or, take, refl, ap, ◌∙◌, sym, arith, inl, inr, ◌⊎◌}
+use Rattle.std.proofs.Common.{◌≡◌, ℕ, ◌+◌, ◌≤◌, ◌<◌, Bool, true, false, Some, List, length, get_or, take, refl, ap, ◌∙◌, sym, arith, inl, inr, ◌⊎◌}
 use Rattle.std.specs.Prelude.{slice_get, slice_index, nat_eq, ◌&&◌, if◌then◌else◌}
 use Rattle.std.specs.List.{sum, sum_by, list_any}
-use Rattle.std.proofs.lemmas.Bool.{cases_lt, cases_Bool, cases_order, eqb-true, lt-ltb, leb-true, leb-false, and_parts, cases_eq}
+use Rattle.std.proofs.lemmas.Bool.{cases_lt, cases_Bool, cases_order, eqb-true, and_parts, cases_eq}
 use Rattle.std.proofs.lemmas.List.Sums.{sum_by-take-le, sum_by_more, get_or-le-sum_by}
 use Rattle.std.proofs.lemmas.List.{get_or_past, take-take}
 use Rattle.soc_model.specs.Chips.{SocValue, LiveTest}

@@ -2,6 +2,7 @@ pub mod Lists
 pub mod Sums
 pub mod Greatest
 pub mod FirstAndLeast
+pub mod FirstBreaches
 pub mod OperationCounts
 pub mod ChainShifts
 pub mod OperationBlocks

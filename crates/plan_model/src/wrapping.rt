@@ -40,7 +40,7 @@ fn all_outs(chains: &[ChainPlan]) -> u128
 }
 
 /// Marks a scan chain in the window from `base`; false where it is marked already.
-fn mark(scan: u64, base: u64, seen: &mut [bool]) -> bool
+fn mark_scan(scan: u64, base: u64, seen: &mut [bool]) -> bool
     ensures marked { IsTrue result → (k : ℕ) → k < length seen.old →
         mark_at seen.new k ≡ mark_at seen.old k + (if nat_eq scan (base + k) then 1 else 0) }
     ensures twice { result ≡ false → (k : ℕ) × (k < length seen.old) × (scan ≡ base + k) × (mark_at seen.old k ≡ 1) }
@@ -66,7 +66,7 @@ fn mark_chain(scans: &[u64], base: u64, seen: &mut [bool]) -> bool
     ensures twice { result ≡ false → (k : ℕ) × (k < length seen.old) × (2 ≤ mark_at seen.old k + times (base + k) scans.now) }
 {
     for scan in scans {
-        if !mark(*scan, base, seen) {
+        if !mark_scan(*scan, base, seen) {
             return false;
         }
     }

@@ -18,14 +18,16 @@ use Rattle.commands.proofs.Completeness.{settled_all}
 use Rattle.commands.proofs.Trusted.{TrustLaws, both_done, done_answer, not_refused, read_as_well, stage_done}
 use Rattle.plan_simulator.specs.Runs.{captures_in, right_loads_in, wired_patterns, counts_line, simulated_text}
 use Rattle.commands.specs.Commands.{CommandValue, Simulate}
-use Rattle.plan_simulator.specs.Requests.{long_run, procedure_of}
+use Rattle.commands.specs.Texts.{run_refusal}
+use Rattle.plan_simulator.specs.Requests.{procedure_of}
 use Rattle.plan_simulator.specs.Headlines.{IsSimulated, Headline}
 use Rattle.plan_simulator.proofs.CaptureCounts.{captures_are_patterns}
 use Rattle.plan_simulator.proofs.RightLoads.{right_loads_are_patterns}
+use Rattle.tester_vectors.specs.VectorText.{too_many}
 
 -- the files fix the line
 pub settled_asked : FilesSayOneThing → (command : Option CommandValue) → IsSettled true (asked procedure_of command)
-settled_asked laws (Some (Simulate soc limits plan seed)) = settled_all laws true soc limits plan (λ chip bounds value. Unless (long_run value) (done_with (simulated_text chip value seed))) (λ chip bounds value. done_once true (simulated_text chip value seed))
+settled_asked laws (Some (Simulate soc limits plan seed)) = settled_all laws true soc limits plan (λ chip bounds value. Unless (run_refusal (too_many value)) (done_with (simulated_text chip value seed))) (λ chip bounds value. done_once true (simulated_text chip value seed))
 settled_asked laws other = tt
 
 -- both counts are one number
@@ -34,9 +36,9 @@ both_counts cycles captures loaded n is is' = ap (λ m. counts_line cycles m loa
 
 simulated : TrustLaws → (files : Files) (soc limits plan : List ℕ) (seed : ℕ) (text : List ℕ) (old new : Option (List ℕ)) → Answers (procedure_of (Simulate soc limits plan seed)) files Done text → Appended old text new → IsSimulated files soc limits plan old new
 simulated laws files soc limits plan seed text old new answer put =
-    let b = both_done files soc limits text (λ chip bounds. with_accepted chip bounds plan (λ value. Unless (long_run value) (done_with (simulated_text chip value seed)))) answer in
-    let c = stage_done Plan (SaysAccepted b.0 b.1) (RefusesPlan b.0 b.1) (λ value. Answers (Unless (long_run value) (done_with (simulated_text b.0 value seed))) files) (get files plan) text b.4 in
-    let done = not_refused files (long_run c.0) (done_with (simulated_text b.0 c.0 seed)) text c.2 in
+    let b = both_done files soc limits text (λ chip bounds. with_accepted chip bounds plan (λ value. Unless (run_refusal (too_many value)) (done_with (simulated_text chip value seed)))) answer in
+    let c = stage_done Plan (SaysAccepted b.0 b.1) (RefusesPlan b.0 b.1) (λ value. Answers (Unless (run_refusal (too_many value)) (done_with (simulated_text b.0 value seed))) files) (get files plan) text b.4 in
+    let done = not_refused files (run_refusal (too_many c.0)) (done_with (simulated_text b.0 c.0 seed)) text c.2 in
     let captured : captures_in (planned b.0 c.0) (c.0).cycles ≡ wired_patterns b.0 = captures_are_patterns b.0 b.1 c.0 c.1.says.1.0 in
     let line : simulated_text b.0 c.0 seed ≡ counts_line (c.0).cycles (wired_patterns b.0) (wired_patterns b.0) =
     both_counts (c.0).cycles (captures_in (planned b.0 c.0) (c.0).cycles) (right_loads_in (made_content b.0 seed) (planned b.0 c.0) (c.0).cycles) (wired_patterns b.0) captured (right_loads_are_patterns b.0 b.1 c.0 c.1.says.1.0 (made_content b.0 seed)) in

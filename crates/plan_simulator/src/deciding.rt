@@ -9,11 +9,13 @@ ghost use Rattle.commands.specs.Commands.{Simulate, command_of as asked_command}
 ghost use Rattle.commands.specs.Procedures.{asked};
 ghost use Rattle.commands.specs.Decides.{Follows, Decides, GivesAny};
 ghost use Rattle.commands.specs.Ends.{IsCommand};
+ghost use Rattle.commands.specs.Texts.{run_refusal};
 ghost use Rattle.plan_simulator.specs.Runs.{simulated_text};
-ghost use Rattle.plan_simulator.specs.Requests.{procedure_of, long_run};
+ghost use Rattle.plan_simulator.specs.Requests.{procedure_of};
+ghost use Rattle.tester_vectors.specs.VectorText.{too_many};
 
 use crate::lines::counts_line;
-use crate::running::run;
+use crate::running::run_plan;
 use commands::{
     Command, Status, Verdict, answered_with, bad_words, command_of, load_all, refused_with,
     run_line,
@@ -31,7 +33,7 @@ fn text_of(alloc: Global, soc: &Soc, plan: &Plan, seed: u64) -> Result<Vec<u8>, 
     requires narrow { wires_of (plan_value plan.now) ≤ 256 }
     ensures { IfOk result (λ text. text.items ≡ simulated_text (soc_value soc.now) (plan_value plan.now) seed) }
 {
-    let report = run(alloc, soc, plan, seed)?;
+    let report = run_plan(alloc, soc, plan, seed)?;
     counts_line(alloc, report)
 }
 
@@ -40,7 +42,7 @@ fn simulated(alloc: Global, soc: &Soc, plan: &Plan, seed: u64) -> Verdict
     requires sound { IsSoundChip (soc_value soc.now) }
     requires good { IsGoodAlone (soc_value soc.now) (plan_value plan.now) }
     requires narrow { wires_of (plan_value plan.now) ≤ 256 }
-    ensures { GivesAny (long_run (plan_value plan.now)) (λ text. text
+    ensures { GivesAny (run_refusal (too_many (plan_value plan.now))) (λ text. text
         ≡ simulated_text (soc_value soc.now) (plan_value plan.now) seed) result }
 {
     match too_many_cells(plan) {

@@ -3,7 +3,7 @@ ghost use Rattle.std.specs.Prelude.{◌≡◌, IfOk};
 ghost use Rattle.plan_simulator.specs.Runs.{counts_line as counts_text};
 
 use bit_machine::Report;
-use commands::{push, push_decimal};
+use commands::{push_decimal, push_text};
 use outside::NoMemory;
 use std::alloc::Global;
 
@@ -12,12 +12,12 @@ pub(crate) fn counts_line(alloc: Global, report: Report) -> Result<Vec<u8>, NoMe
     ensures { IfOk result (λ text. text.items ≡ counts_text report.cycle report.captures report.right_loads) }
 {
     let mut text = Vec::new(alloc);
-    push(&mut text, b"cycles ")?;
+    push_text(&mut text, b"cycles ")?;
     push_decimal(&mut text, u128::from(report.cycle))?;
-    push(&mut text, b" captures ")?;
+    push_text(&mut text, b" captures ")?;
     push_decimal(&mut text, u128::from(report.captures))?;
-    push(&mut text, b" loaded ")?;
+    push_text(&mut text, b" loaded ")?;
     push_decimal(&mut text, u128::from(report.right_loads))?;
-    push(&mut text, b"\n")?;
+    push_text(&mut text, b"\n")?;
     Ok(text)
 }

@@ -37,7 +37,7 @@ fn run_cycle(chip: &mut Chip<'_>, drive: &mut [bool], read: &mut [bool])
 }
 
 /// Steps a chip with the made contents of a seed through its whole plan, and reports what it did.
-pub(crate) fn run(alloc: Global, soc: &Soc, plan: &Plan, seed: u64) -> Result<Report, NoMemory>
+pub(crate) fn run_plan(alloc: Global, soc: &Soc, plan: &Plan, seed: u64) -> Result<Report, NoMemory>
     requires sound { IsSoundChip (soc_value soc.now) }
     requires good { IsGoodAlone (soc_value soc.now) (plan_value plan.now) }
     requires narrow { wires_of (plan_value plan.now) ≤ 256 }

@@ -1,13 +1,12 @@
 -- The printed text of a plan says the plan.
-use Rattle.std.proofs.Common.{◌≡◌, ◌<◌, ℕ, List, [], ◌∷◌, ◌++◌, length, map, true, not, Some, refl, ◌∙◌, ap, arith, append_assoc, append-nil}
-use Rattle.std.specs.List.{flat_map, list_all}
-use Rattle.outside.specs.Words.{ends_word}
+use Rattle.std.proofs.Common.{◌≡◌, ℕ, List, [], ◌∷◌, ◌++◌, map, Some, refl, ◌∙◌, ap, arith, append_assoc, append-nil}
+use Rattle.std.specs.List.{flat_map}
 use Rattle.plan_model.specs.Plans.{PlanValue}
 use Rattle.keyword_text.specs.declared.tokens.Token.TheVariants.{Key}
 use Rattle.keyword_text.specs.Tokens.{token_of}
 use Rattle.keyword_text.specs.Lines.{line_text, text_of}
 use Rattle.keyword_text.proofs.Listed.{text_append}
-use Rattle.keyword_text.proofs.Printed.{IsPrinted, printed_lines}
+use Rattle.keyword_text.proofs.Printed.{IsPrinted, are_printed, printed_lines}
 use Rattle.plan_text.specs.declared.tokens.Keyword.{Keyword}
 use Rattle.plan_text.specs.declared.tokens.Keyword.TheVariants as key
 use Rattle.plan_text.specs.Tokens.{spelling, plan_lexicon}
@@ -34,40 +33,8 @@ key_back key.Area = refl
 key_back key.Power = refl
 key_back key.Forced = refl
 
-key_in_word : (k : Keyword) → list_all (λ b. not (ends_word b)) (spelling k) ≡ true
-key_in_word key.Plan = refl
-key_in_word key.Cycles = refl
-key_in_word key.Bus = refl
-key_in_word key.Wrapper = refl
-key_in_word key.Scan = refl
-key_in_word key.Terminals = refl
-key_in_word key.Chain = refl
-key_in_word key.Start = refl
-key_in_word key.Bound = refl
-key_in_word key.Module = refl
-key_in_word key.Pair = refl
-key_in_word key.Area = refl
-key_in_word key.Power = refl
-key_in_word key.Forced = refl
-
-key_nonempty : (k : Keyword) → 0 < length (spelling k)
-key_nonempty key.Plan = omega arith
-key_nonempty key.Cycles = omega arith
-key_nonempty key.Bus = omega arith
-key_nonempty key.Wrapper = omega arith
-key_nonempty key.Scan = omega arith
-key_nonempty key.Terminals = omega arith
-key_nonempty key.Chain = omega arith
-key_nonempty key.Start = omega arith
-key_nonempty key.Bound = omega arith
-key_nonempty key.Module = omega arith
-key_nonempty key.Pair = omega arith
-key_nonempty key.Area = omega arith
-key_nonempty key.Power = omega arith
-key_nonempty key.Forced = omega arith
-
 keys_printed : IsPrinted plan_lexicon spelling
-keys_printed = record { read_back = key_back; in_word = key_in_word; some = key_nonempty; fits = omega arith }
+keys_printed = are_printed plan_lexicon spelling key_back refl (omega arith)
 
 pub printed_is_read : PrintedPlansAreRead
 unfolding plan_tokens plan_text

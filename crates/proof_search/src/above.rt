@@ -2,7 +2,7 @@
 
 use crate::cases::{Case, RANKS_MOST};
 use crate::resources::WEIGHT_MOST;
-use crate::tables::{filled, item_or, put};
+use crate::tables::{filled, item_or, put_item};
 use crate::weights::Weighing;
 use outside::NoMemory;
 use std::alloc::Global;
@@ -31,7 +31,7 @@ impl Above {
             } else {
                 0
             };
-            put(&mut self.low, rank, low);
+            put_item(&mut self.low, rank, low);
         }
     }
 
@@ -46,9 +46,9 @@ impl Above {
 
     /// Writes the weights as those of a branch, in which they are worth as much.
     pub fn hint(&self, case: &Case, hint: &mut Weighing) {
-        hint.copy(&self.weights);
+        hint.copy_weights(&self.weights);
         for rank in 0..case.known {
-            put(&mut hint.ranks, rank, self.rank_weight(case, rank));
+            put_item(&mut hint.ranks, rank, self.rank_weight(case, rank));
         }
         let most = hint.greatest();
         if most > WEIGHT_MOST {

@@ -5,12 +5,12 @@ use crate::facts::Facts;
 use crate::lists::{LISTS_MOST, ListForm};
 use crate::picks::{NO_PICK, Pick, Prices, test_share};
 use crate::resources::{RESOURCES_MOST, Resources, clear_parts, number_of, part_of};
-use crate::tables::{NONE, filled, item_or, put};
+use crate::tables::{NONE, filled, item_or, put_item};
 use crate::values::LeafChip;
 use outside::NoMemory;
 use std::alloc::Global;
 
-/// A game has at most so many cuts.
+/// The most cuts of a game.
 pub(crate) const CUTS_MOST: usize = 300;
 
 /// The answers so far, and the last one.
@@ -33,7 +33,7 @@ pub(crate) struct Answers {
 /// Adds to the part at a place.
 fn add_part(parts: &mut [i64], place: usize, more: u64) {
     let sum = item_or(parts, place, 0).saturating_add(part_of(more));
-    put(parts, place, sum);
+    put_item(parts, place, sum);
 }
 
 /// What a self test uses of a list.
@@ -87,7 +87,7 @@ impl Answers {
     pub fn take_own(&mut self, chip: &LeafChip, resources: &Resources) {
         for at in 0..resources.listed {
             let used = own_use(chip, resources.list(at));
-            put(&mut self.own, at, part_of(used));
+            put_item(&mut self.own, at, part_of(used));
         }
     }
 
@@ -97,8 +97,8 @@ impl Answers {
         let end = item_or(&facts.first, module.saturating_add(1), 0);
         for at in from..end {
             let test = item_or(&facts.order, at, NONE);
-            put(&mut self.width, test, width);
-            put(&mut self.rank, test, rank);
+            put_item(&mut self.width, test, width);
+            put_item(&mut self.rank, test, rank);
         }
     }
 
@@ -106,7 +106,7 @@ impl Answers {
     fn answer(&mut self, prices: Prices<'_>, answer: usize, module: usize) {
         let pick = prices.least(module);
         let place = answer.saturating_mul(self.modules).saturating_add(module);
-        put(&mut self.picks, place, pick);
+        put_item(&mut self.picks, place, pick);
         let range = prices.spans.range(pick.range);
         let share = prices.chip.slots.share_of(pick.step);
         let wires = pick.width.saturating_sub(range.low) as u64;
@@ -169,7 +169,7 @@ impl Answers {
             let used = self.list_use(chip, list).saturating_add(own);
             let part = used.checked_div(chip.lists.room(list)).unwrap_or(0);
             let place = resources.lists_from.saturating_add(at);
-            put(&mut self.used, place, part_of(part));
+            put_item(&mut self.used, place, part_of(part));
         }
     }
 
@@ -177,7 +177,7 @@ impl Answers {
     fn share_rest(&mut self, resources: &Resources) {
         let wires = number_of(item_or(&self.used, resources.rest, 0));
         let part = wires.checked_div(resources.spare).unwrap_or(0);
-        put(&mut self.used, resources.rest, part_of(part));
+        put_item(&mut self.used, resources.rest, part_of(part));
     }
 
     /// All modules take their first slots that cost least, as an answer.
@@ -190,7 +190,7 @@ impl Answers {
         self.take_lists(prices.chip, prices.resources);
     }
 
-    /// What the parts of so many resources are worth against the last answer.
+    /// What the parts of `count` resources are worth against the last answer.
     pub fn worth(&self, parts: &[i64], count: usize) -> i64 {
         let mut sum: i128 = 0;
         for place in 0..count {

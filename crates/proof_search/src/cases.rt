@@ -1,12 +1,12 @@
 //! A case of a proof: intervals of widths for the first ranks of a ranking, and the ranks that each wired module may be on.
 
-use crate::marks::{mark, marked, unmark};
-use crate::tables::{filled, item_or, put};
-use crate::weights::wipe;
+use crate::marks::{mark_place, marked, unmark_place};
+use crate::tables::{filled, item_or, put_item};
+use crate::weights::wipe_numbers;
 use outside::NoMemory;
 use std::alloc::Global;
 
-/// A case has at most so many known ranks.
+/// The most known ranks of a case.
 pub(crate) const RANKS_MOST: usize = 256;
 /// The words of a row of marks of ranks.
 const WORDS: usize = 4;
@@ -57,9 +57,9 @@ impl Case {
     }
 
     /// Becomes the case in which no rank is known.
-    pub fn clear(&mut self) {
+    pub fn clear_ranks(&mut self) {
         self.known = 0;
-        wipe(&mut self.may);
+        wipe_numbers(&mut self.may);
         allow_rest(&mut self.rest);
     }
 
@@ -85,12 +85,12 @@ impl Case {
 
     /// Says that a module may be on a rank.
     fn allow(&mut self, module: usize, rank: usize) {
-        mark(&mut self.may, module.saturating_mul(WORDS), rank);
+        mark_place(&mut self.may, module.saturating_mul(WORDS), rank);
     }
 
     /// Says that a module may not be on a rank.
     fn forbid(&mut self, module: usize, rank: usize) {
-        unmark(&mut self.may, module.saturating_mul(WORDS), rank);
+        unmark_place(&mut self.may, module.saturating_mul(WORDS), rank);
     }
 
     /// The least widths together.
@@ -123,7 +123,7 @@ impl Case {
         for rank in 0..self.known {
             let most = self.low_of(rank).saturating_add(spare);
             let high = self.high_of(rank).min(most).min(before);
-            put(&mut self.high, rank, high);
+            put_item(&mut self.high, rank, high);
             before = high;
         }
     }
@@ -152,8 +152,8 @@ impl Case {
     /// Makes one more rank known.
     fn add_rank(&mut self) {
         let rank = self.known;
-        put(&mut self.low, rank, 0);
-        put(&mut self.high, rank, self.wires);
+        put_item(&mut self.low, rank, 0);
+        put_item(&mut self.high, rank, self.wires);
         self.known = rank.saturating_add(1);
         self.allow_rank(rank);
         self.tighten();
@@ -163,7 +163,7 @@ impl Case {
     fn narrow(&mut self, rank: usize, width: usize) {
         for at in rank..self.known {
             let high = self.high_of(at).min(width);
-            put(&mut self.high, at, high);
+            put_item(&mut self.high, at, high);
         }
     }
 
@@ -171,11 +171,11 @@ impl Case {
     fn widen(&mut self, rank: usize, width: usize) {
         for at in 0..rank.saturating_add(1) {
             let low = self.low_of(at).max(width);
-            put(&mut self.low, at, low);
+            put_item(&mut self.low, at, low);
         }
     }
 
-    /// Becomes the first or the second case of a division by the width of a rank's bus: at most so many wires, or more.
+    /// Becomes the first or the second case of a division by the width of a rank's bus: at most `width` wires, or more.
     pub fn wide(&mut self, rank: usize, width: usize, second: bool) {
         if rank >= self.known {
             self.add_rank();
@@ -216,9 +216,9 @@ impl Case {
         let may = self.may_be(module, rank);
         let from = module.saturating_mul(WORDS);
         for word in 0..WORDS {
-            put(&mut self.may, from.saturating_add(word), 0);
+            put_item(&mut self.may, from.saturating_add(word), 0);
         }
-        put(&mut self.rest, module, false);
+        put_item(&mut self.rest, module, false);
         if may {
             self.allow(module, rank);
         }

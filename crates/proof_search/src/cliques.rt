@@ -4,13 +4,13 @@
 use crate::facts::Facts;
 use crate::graph::Graph;
 use crate::levels::{Classes, Levels};
-use crate::marks::{first_mark, mark, marked, sum_of, unmark};
-use crate::tables::{NONE, filled, item_or, put};
-use crate::weights::wipe;
+use crate::marks::{first_mark, mark_place, marked, sum_of, unmark_place};
+use crate::tables::{NONE, filled, item_or, put_item};
+use crate::weights::wipe_numbers;
 use outside::NoMemory;
 use std::alloc::Global;
 
-/// A clique is grown first from so many of the heaviest vertices.
+/// From how many of the heaviest vertices a clique is grown first.
 const GROWN: usize = 16;
 
 /// A search for cliques.
@@ -63,11 +63,11 @@ impl Cliques {
     fn note(&mut self, level: usize, count: i64) {
         self.best = count;
         self.was_found = true;
-        wipe(&mut self.found);
+        wipe_numbers(&mut self.found);
         for below in 0..level {
             let vertex = item_or(&self.levels.tried, below, NONE);
             let test = item_or(&self.graph.test, vertex, NONE);
-            mark(&mut self.found, 0, test);
+            mark_place(&mut self.found, 0, test);
         }
     }
 
@@ -81,7 +81,7 @@ impl Cliques {
         for word in 0..words {
             let near = item_or(&self.graph.near, row.saturating_add(word), 0);
             let marks = item_or(&self.levels.allowed, from.saturating_add(word), 0) & near;
-            put(&mut self.levels.allowed, to.saturating_add(word), marks);
+            put_item(&mut self.levels.allowed, to.saturating_add(word), marks);
             if marks != 0 {
                 any = true;
             }
@@ -98,7 +98,7 @@ impl Cliques {
         for word in 0..words {
             let near = item_or(&self.graph.near, row.saturating_add(word), 0);
             let marks = item_or(&self.levels.common, from.saturating_add(word), 0) & near;
-            put(&mut self.levels.common, to.saturating_add(word), marks);
+            put_item(&mut self.levels.common, to.saturating_add(word), marks);
         }
     }
 
@@ -107,8 +107,8 @@ impl Cliques {
         let next = level.saturating_add(1);
         let weight = item_or(&self.graph.weight, vertex, 0);
         let sum = item_or(&self.levels.sum, level, 0).saturating_add(weight);
-        put(&mut self.levels.tried, level, vertex);
-        put(&mut self.levels.sum, next, sum);
+        put_item(&mut self.levels.tried, level, vertex);
+        put_item(&mut self.levels.sum, next, sum);
         let any = self.allow(level, vertex);
         if self.graph.any_beside {
             self.share(level, vertex);
@@ -127,11 +127,11 @@ impl Cliques {
             .make_all(&self.graph, &mut self.levels, level, beside);
     }
 
-    /// Tries a vertex of a level that has so many left behind it.
+    /// Tries a vertex of a level that has `left` vertices behind it.
     fn attempt(&mut self, level: usize, vertex: usize, left: usize) {
         let row = level.saturating_mul(self.graph.words);
-        put(&mut self.levels.left, level, left);
-        unmark(&mut self.levels.allowed, row, vertex);
+        put_item(&mut self.levels.left, level, left);
+        unmark_place(&mut self.levels.allowed, row, vertex);
         if self.descend(level, vertex) {
             let next = level.saturating_add(1);
             self.levels.open(next);
@@ -162,10 +162,10 @@ impl Cliques {
     /// Marks all vertices as such that exclude the empty clique.
     fn share_all(&mut self) {
         for word in 0..self.graph.words {
-            put(&mut self.levels.common, word, 0);
+            put_item(&mut self.levels.common, word, 0);
         }
         for vertex in 0..self.graph.vertices {
-            mark(&mut self.levels.common, 0, vertex);
+            mark_place(&mut self.levels.common, 0, vertex);
         }
     }
 
@@ -174,12 +174,12 @@ impl Cliques {
         self.best = more_than;
         self.was_found = false;
         self.levels.depth = 1;
-        put(&mut self.levels.sum, 0, 0);
-        put(&mut self.levels.first, 0, 0);
+        put_item(&mut self.levels.sum, 0, 0);
+        put_item(&mut self.levels.first, 0, 0);
         self.share_all();
         for word in 0..self.graph.words {
             let marks = item_or(&self.graph.open, word, 0);
-            put(&mut self.levels.allowed, word, marks);
+            put_item(&mut self.levels.allowed, word, marks);
         }
     }
 
@@ -215,7 +215,7 @@ impl Cliques {
         }
     }
 
-    /// Looks for the clique that counts most, in at most so many steps. Whether one was found that counts more than a bound:
+    /// Looks for the clique that counts most, in at most `steps` steps. Whether one was found that counts more than a bound:
     /// `found` has its tests then, and `best` what it counts.
     pub fn search(&mut self, more_than: i64, steps: usize) -> bool {
         self.begin(more_than);

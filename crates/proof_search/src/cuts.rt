@@ -3,7 +3,7 @@
 use crate::board::Board;
 use crate::cases::{Case, RANKS_MOST};
 use crate::slots::REST;
-use crate::tables::{ONE, item_or, put};
+use crate::tables::{ONE, item_or, put_item};
 use crate::values::LeafChip;
 
 /// How a case is divided.
@@ -98,7 +98,7 @@ fn rank_cut(chip: &LeafChip, case: &Case, board: &Board) -> CaseCut {
 /// Makes the shares of all ranks 0.
 fn clear_shares(shares: &mut [u64], known: usize) {
     for rank in 0..known {
-        put(shares, rank, 0);
+        put_item(shares, rank, 0);
     }
 }
 
@@ -109,7 +109,7 @@ fn take_shares(board: &Board, known: usize, module: usize, shares: &mut [u64]) {
         let pick = board.play.pick_of(cut, module);
         let rank = board.spans.range(pick.range).rank;
         let share = item_or(shares, rank, 0).saturating_add(part_of(board, cut));
-        put(shares, rank, share);
+        put_item(shares, rank, share);
     }
 }
 

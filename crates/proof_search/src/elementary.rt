@@ -3,9 +3,9 @@
 
 use crate::facts::Facts;
 use crate::lists::{Chosen, ListForm, Lists};
-use crate::marks::{mark, marked};
+use crate::marks::{mark_place, marked};
 use crate::separating::Separating;
-use crate::tables::{NONE, filled, item_or, put};
+use crate::tables::{NONE, filled, item_or, put_item};
 use outside::{NoMemory, copied};
 use std::alloc::Global;
 
@@ -43,7 +43,7 @@ fn least_times(alloc: Global, facts: &Facts) -> Result<Vec<u64>, NoMemory> {
     let mut times = filled(alloc, 0u64, facts.tests)?;
     for test in 0..facts.tests {
         let time = least_time(facts, test);
-        put(&mut times, test, time);
+        put_item(&mut times, test, time);
     }
     Ok(times)
 }
@@ -103,7 +103,7 @@ fn longest_family(facts: &Facts, times: &[u64], with_parent: bool) -> Family {
 fn mark_family(facts: &Facts, family: Family, members: &mut [u64]) {
     for test in 0..facts.tests {
         if is_of(facts, family, test) {
-            mark(members, 0, test);
+            mark_place(members, 0, test);
         }
     }
 }
@@ -126,7 +126,7 @@ fn add_family(
 }
 
 /// Lengthens the chain of the later test of a precedence, where that of the earlier one makes it longer. Whether it does.
-fn lengthen(facts: &Facts, times: &[u64], chains: &mut Chains, place: usize) -> bool {
+fn lengthen_chain(facts: &Facts, times: &[u64], chains: &mut Chains, place: usize) -> bool {
     let before = item_or(&facts.before, place, NONE);
     let after = item_or(&facts.after, place, NONE);
     let time = item_or(times, after, 0);
@@ -134,8 +134,8 @@ fn lengthen(facts: &Facts, times: &[u64], chains: &mut Chains, place: usize) -> 
     if long <= item_or(&chains.long, after, u64::MAX) {
         return false;
     }
-    put(&mut chains.long, after, long);
-    put(&mut chains.last, after, before);
+    put_item(&mut chains.long, after, long);
+    put_item(&mut chains.last, after, before);
     true
 }
 
@@ -143,7 +143,7 @@ fn lengthen(facts: &Facts, times: &[u64], chains: &mut Chains, place: usize) -> 
 fn lengthen_all(facts: &Facts, times: &[u64], chains: &mut Chains) -> bool {
     let mut any = false;
     for place in 0..facts.before.len() {
-        if lengthen(facts, times, chains, place) {
+        if lengthen_chain(facts, times, chains, place) {
             any = true;
         }
     }
@@ -181,7 +181,7 @@ fn mark_chain(facts: &Facts, chains: &Chains, end: usize, members: &mut [u64]) {
         if test >= facts.tests || marked(members, 0, test) {
             break;
         }
-        mark(members, 0, test);
+        mark_place(members, 0, test);
         test = item_or(&chains.last, test, NONE);
     }
 }
@@ -207,7 +207,7 @@ fn weights_of(alloc: Global, times: &[u64]) -> Result<Vec<i64>, NoMemory> {
     let mut weights = filled(alloc, 0i64, times.len())?;
     for test in 0..times.len() {
         let weight = i64::try_from(times[test]).unwrap_or(i64::MAX >> 1);
-        put(&mut weights, test, weight);
+        put_item(&mut weights, test, weight);
     }
     Ok(weights)
 }

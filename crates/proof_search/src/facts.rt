@@ -11,7 +11,7 @@ ghost use Rattle.plan_model.specs.SoundLimits.{IsSoundLimits};
 ghost use Rattle.live_tests.specs.Resolved.{IsResolved};
 ghost use Rattle.proof_search.specs.Origins.{IsOrigin};
 
-use crate::tables::{NONE, item_or, put};
+use crate::tables::{NONE, item_or, put_item};
 use exclusions::ExclusionRows;
 use live_tests::{Resolved, profile_place};
 use outside::{NoMemory, push};
@@ -304,7 +304,7 @@ fn set_bits(rows: &mut [u64], start: usize, marks: &[bool]) {
         if marks[place] {
             let at = start.saturating_add(place >> 6);
             let word = item_or(rows, at, 0) | (1u64 << (place & 63));
-            put(rows, at, word);
+            put_item(rows, at, word);
         }
     }
 }
@@ -328,7 +328,7 @@ fn push_rows(alloc: Global, facts: &mut Facts, origin: Origin<'_>) -> Result<(),
 }
 
 impl Facts {
-    /// The tables of a sound chip and its limits, which are resolved, for a plan of so many cycles. `NoMemory` where there is none.
+    /// The tables of a sound chip and its limits, which are resolved, for a plan of `goal` cycles. `NoMemory` where there is none.
     pub fn new(
         alloc: Global,
         soc: &Soc,

@@ -5,7 +5,7 @@
 //! places. The prices of the resources there, made to sum to ONE, are the best weights; 1 over the sum of x is the value.
 //! Nothing rests on the answers: leaves are valued exactly.
 
-use crate::tables::{NONE, ONE, filled, item_or, put};
+use crate::tables::{NONE, ONE, filled, item_or, put_item};
 use outside::NoMemory;
 use std::alloc::Global;
 
@@ -85,25 +85,25 @@ struct EnteringColumn {
     drift: i64,
 }
 
-fn narrow(wide: i128) -> i64 {
+fn narrow_to_word(wide: i128) -> i64 {
     i64::try_from(wide).unwrap_or(if wide < 0 { -i64::MAX } else { i64::MAX })
 }
 
 /// The product of two fractions.
 fn times(a: i64, b: i64) -> i64 {
-    narrow(i128::from(a).wrapping_mul(i128::from(b)).wrapping_add(HALF) >> 36)
+    narrow_to_word(i128::from(a).wrapping_mul(i128::from(b)).wrapping_add(HALF) >> 36)
 }
 
 /// The quotient of two fractions.
 fn over(a: i64, b: i64) -> i64 {
-    narrow(
+    narrow_to_word(
         (i128::from(a) << 36)
             .checked_div(i128::from(b))
             .unwrap_or(0),
     )
 }
 
-/// So many items of a list from a place on; none where they aren't there.
+/// `count` items of a list from a place on; none where they aren't there.
 fn part(list: &[i64], start: usize, count: usize) -> &[i64] {
     if count > list.len() || start > list.len() - count {
         return &list[0..0];
@@ -125,10 +125,10 @@ fn dot(a: &[i64], b: &[i64]) -> i64 {
     for i in 0..count {
         sum = sum.wrapping_add(i128::from(a[i]).wrapping_mul(i128::from(b[i])));
     }
-    narrow(sum >> 36)
+    narrow_to_word(sum >> 36)
 }
 
-/// Takes so many times another row from a row.
+/// Takes `factor` times another row from a row.
 fn take_away(row: &mut [i64], factor: i64, other: &[i64]) {
     let count = row.len().min(other.len());
     for i in 0..count {
@@ -140,7 +140,7 @@ fn take_away(row: &mut [i64], factor: i64, other: &[i64]) {
 }
 
 /// Divides a row.
-fn divide(row: &mut [i64], by: i64) {
+fn divide_row(row: &mut [i64], by: i64) {
     for i in 0..row.len() {
         if row[i] != 0 {
             row[i] = over(row[i], by);
@@ -149,14 +149,14 @@ fn divide(row: &mut [i64], by: i64) {
 }
 
 /// Copies as much of a list as both have.
-fn copy(to: &mut [i64], from: &[i64]) {
+fn copy_list(to: &mut [i64], from: &[i64]) {
     let count = to.len().min(from.len());
     for i in 0..count {
         to[i] = from[i];
     }
 }
 
-fn clear(list: &mut [i64]) {
+fn clear_list(list: &mut [i64]) {
     for i in 0..list.len() {
         list[i] = 0;
     }
@@ -209,7 +209,7 @@ impl Scale {
 }
 
 impl BasicColumns {
-    /// Room for a basis of so many resources, beside so many cuts.
+    /// Room for a basis of at most `count_most` resources, beside `cuts_most` cuts.
     fn new(alloc: Global, count_most: usize, cuts_most: usize) -> Result<BasicColumns, NoMemory> {
         let inverse = filled(alloc, 0i64, count_most.saturating_mul(count_most))?;
         let level = filled(alloc, 0i64, count_most)?;
@@ -227,7 +227,7 @@ impl BasicColumns {
 }
 
 impl Game {
-    /// Room for a game of so many resources and cuts. `NoMemory` where there is none.
+    /// Room for a game of at most `count_most` resources and `cuts_most` cuts. `NoMemory` where there is none.
     pub fn new(alloc: Global, count_most: usize, cuts_most: usize) -> Result<Game, NoMemory> {
         let uses = filled(alloc, 0i64, count_most.saturating_mul(cuts_most))?;
         let basis = BasicColumns::new(alloc, count_most, cuts_most)?;
@@ -251,7 +251,7 @@ impl Game {
         })
     }
 
-    /// A game of so many resources, with no cuts.
+    /// A game of `resources` resources, with no cuts.
     pub fn begin(&mut self, resources: usize) {
         self.count = resources.min(self.count_most);
         self.cuts = 0;
@@ -263,22 +263,22 @@ impl Game {
     /// The basis of no cut.
     fn start_over(&mut self) {
         let room = self.count.saturating_mul(self.count);
-        clear(part_mut(&mut self.basis.inverse, 0, room));
-        clear(part_mut(&mut self.basis.price, 0, self.count));
+        clear_list(part_mut(&mut self.basis.inverse, 0, room));
+        clear_list(part_mut(&mut self.basis.price, 0, self.count));
         self.sum = 0;
         for column in 0..self.cuts_most.saturating_add(self.count) {
-            put(&mut self.basis.row_of, column, NONE);
+            put_item(&mut self.basis.row_of, column, NONE);
         }
         for i in 0..self.count {
             let column = self.cuts_most.saturating_add(i);
-            put(
+            put_item(
                 &mut self.basis.inverse,
                 i.saturating_mul(self.count).saturating_add(i),
                 UNIT,
             );
-            put(&mut self.basis.level, i, UNIT);
-            put(&mut self.basis.basic, i, column);
-            put(&mut self.basis.row_of, column, i);
+            put_item(&mut self.basis.level, i, UNIT);
+            put_item(&mut self.basis.basic, i, column);
+            put_item(&mut self.basis.row_of, column, i);
         }
     }
 
@@ -297,7 +297,7 @@ impl Game {
         let start = self.cuts.saturating_mul(self.count);
         for i in 0..self.count {
             let scaled = self.scale.scaled(item_or(cut, i, 0));
-            put(&mut self.uses, start.saturating_add(i), scaled);
+            put_item(&mut self.uses, start.saturating_add(i), scaled);
         }
         self.cuts = self.cuts.saturating_add(1);
     }
@@ -353,7 +353,7 @@ impl Game {
             for row in 0..self.count {
                 let at = row.saturating_mul(self.count).saturating_add(i);
                 let value = item_or(&self.basis.inverse, at, 0);
-                put(&mut self.column, row, value);
+                put_item(&mut self.column, row, value);
             }
             return;
         }
@@ -363,7 +363,7 @@ impl Game {
                 part(&self.basis.inverse, at, self.count),
                 self.use_row(column),
             );
-            put(&mut self.column, row, value);
+            put_item(&mut self.column, row, value);
         }
     }
 
@@ -406,8 +406,8 @@ impl Game {
         let pivot = item_or(&self.column, row, 0);
         let start = row.saturating_mul(self.count);
         let count = self.count;
-        divide(part_mut(&mut self.basis.inverse, start, count), pivot);
-        copy(&mut self.pivot_row, part(&self.basis.inverse, start, count));
+        divide_row(part_mut(&mut self.basis.inverse, start, count), pivot);
+        copy_list(&mut self.pivot_row, part(&self.basis.inverse, start, count));
         let level = over(item_or(&self.basis.level, row, 0).max(0), pivot);
         for other in 0..count {
             let by = item_or(&self.column, other, 0);
@@ -421,9 +421,9 @@ impl Game {
                 &self.pivot_row,
             );
             let left = item_or(&self.basis.level, other, 0).saturating_sub(times(by, level));
-            put(&mut self.basis.level, other, left);
+            put_item(&mut self.basis.level, other, left);
         }
-        put(&mut self.basis.level, row, level);
+        put_item(&mut self.basis.level, row, level);
         let back = 0i64.saturating_sub(gain);
         take_away(
             part_mut(&mut self.basis.price, 0, count),
@@ -436,9 +436,9 @@ impl Game {
 
     fn enter(&mut self, row: usize, column: usize) {
         let old = item_or(&self.basis.basic, row, NONE);
-        put(&mut self.basis.row_of, old, NONE);
-        put(&mut self.basis.basic, row, column);
-        put(&mut self.basis.row_of, column, row);
+        put_item(&mut self.basis.row_of, old, NONE);
+        put_item(&mut self.basis.basic, row, column);
+        put_item(&mut self.basis.row_of, column, row);
     }
 
     /// One pivot; whether more may follow.
@@ -470,7 +470,7 @@ impl Game {
         for row in 0..self.count {
             let column = item_or(&self.basis.basic, row, NONE);
             if column < self.cuts_most {
-                put(&mut self.kept, kept, column);
+                put_item(&mut self.kept, kept, column);
                 kept = kept.saturating_add(1);
             }
         }
@@ -526,7 +526,7 @@ impl Game {
         }
         for i in 0..self.count {
             let share = share_of(item_or(&self.basis.price, i, 0), sum);
-            put(q, i, share);
+            put_item(q, i, share);
         }
         fill_up(q, self.count);
     }
@@ -534,10 +534,10 @@ impl Game {
     /// The mix of cuts on the other side, which sums to ONE.
     pub fn shares(&self, mix: &mut [i64]) {
         for cut in 0..self.cuts {
-            put(mix, cut, 0);
+            put_item(mix, cut, 0);
         }
         if self.idle != NONE {
-            put(mix, self.idle, ONE);
+            put_item(mix, self.idle, ONE);
             return;
         }
         let mut sum: i64 = 0;
@@ -549,7 +549,7 @@ impl Game {
         for row in 0..self.count {
             let cut = item_or(&self.basis.basic, row, NONE);
             if cut < self.cuts_most {
-                put(mix, cut, share_of(item_or(&self.basis.level, row, 0), sum));
+                put_item(mix, cut, share_of(item_or(&self.basis.level, row, 0), sum));
             }
         }
         fill_up(mix, self.cuts);
@@ -564,10 +564,10 @@ fn is_less(a: (i64, i64), b: (i64, i64)) -> bool {
 /// A part of a sum, in parts of ONE.
 fn share_of(part: i64, sum: i64) -> i64 {
     let whole = i128::from(part.max(0)).wrapping_mul(i128::from(ONE));
-    narrow(whole.checked_div(i128::from(sum)).unwrap_or(0)).min(ONE)
+    narrow_to_word(whole.checked_div(i128::from(sum)).unwrap_or(0)).min(ONE)
 }
 
-/// Gives what lacks of ONE to the greatest of so many shares.
+/// Gives what lacks of ONE to the greatest of the first `count` shares.
 fn fill_up(shares: &mut [i64], count: usize) {
     let mut left = ONE;
     let mut best = 0;
@@ -581,5 +581,5 @@ fn fill_up(shares: &mut [i64], count: usize) {
         }
     }
     let whole = item_or(shares, best, 0).saturating_add(left);
-    put(shares, best, whole);
+    put_item(shares, best, whole);
 }

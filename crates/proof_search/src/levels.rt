@@ -3,12 +3,12 @@
 
 use crate::facts::Facts;
 use crate::graph::Graph;
-use crate::marks::{first_mark, unmark};
-use crate::tables::{filled, item_or, put};
+use crate::marks::{first_mark, unmark_place};
+use crate::tables::{filled, item_or, put_item};
 use outside::NoMemory;
 use std::alloc::Global;
 
-/// All levels together have at most so many vertices in classes.
+/// The most vertices in classes, of all levels together.
 const ENTRIES_MOST: usize = 1 << 18;
 
 /// The levels.
@@ -87,7 +87,7 @@ impl Levels {
         let below = level.saturating_sub(1);
         let first = item_or(&self.first, below, 0);
         let end = first.saturating_add(item_or(&self.left, below, 0));
-        put(&mut self.first, level, end);
+        put_item(&mut self.first, level, end);
         self.depth = level.saturating_add(1);
     }
 }
@@ -121,7 +121,7 @@ impl Classes {
         let from = level.saturating_mul(words);
         for word in 0..words {
             let marks = item_or(&levels.allowed, from.saturating_add(word), 0);
-            put(&mut self.left, word, marks);
+            put_item(&mut self.left, word, marks);
         }
     }
 
@@ -139,7 +139,7 @@ impl Classes {
         let mut any = false;
         for word in 0..words {
             let marks = item_or(&self.left, word, 0);
-            put(&mut self.free, word, marks);
+            put_item(&mut self.free, word, marks);
             if marks != 0 {
                 any = true;
             }
@@ -153,7 +153,7 @@ impl Classes {
         for word in vertex >> 6..graph.words {
             let near = item_or(&graph.near, from.saturating_add(word), 0);
             let free = item_or(&self.free, word, 0);
-            put(&mut self.free, word, free & !near);
+            put_item(&mut self.free, word, free & !near);
         }
     }
 
@@ -169,11 +169,11 @@ impl Classes {
         self.besides = self.besides.saturating_add(beside);
         self.others = self.others.saturating_sub(beside);
         let bound = self.most().saturating_add(self.others);
-        put(&mut levels.vertex, self.end, vertex);
-        put(&mut levels.bound, self.end, bound);
+        put_item(&mut levels.vertex, self.end, vertex);
+        put_item(&mut levels.bound, self.end, bound);
         self.end = self.end.saturating_add(1);
-        unmark(&mut self.left, 0, vertex);
-        unmark(&mut self.free, 0, vertex);
+        unmark_place(&mut self.left, 0, vertex);
+        unmark_place(&mut self.free, 0, vertex);
         self.narrow(graph, vertex);
     }
 
@@ -213,6 +213,6 @@ impl Classes {
         if self.full {
             count = 0;
         }
-        put(&mut levels.left, level, count);
+        put_item(&mut levels.left, level, count);
     }
 }

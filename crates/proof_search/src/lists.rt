@@ -1,12 +1,12 @@
 //! The lists of tests that a proof names, and those that a case is weighed with.
 
 use crate::facts::Facts;
-use crate::marks::{mark, marked};
-use crate::tables::{NONE, filled, item_or, put};
+use crate::marks::{mark_place, marked};
+use crate::tables::{NONE, filled, item_or, put_item};
 use outside::NoMemory;
 use std::alloc::Global;
 
-/// A proof has at most so many lists.
+/// The most lists of a proof.
 pub(crate) const LISTS_MOST: usize = 256;
 
 /// What the rule of a list says.
@@ -126,7 +126,7 @@ impl Lists {
         let from = list.saturating_mul(self.words);
         for word in 0..self.words {
             let marks = item_or(members, word, 0);
-            put(&mut self.members, from.saturating_add(word), marks);
+            put_item(&mut self.members, from.saturating_add(word), marks);
         }
     }
 
@@ -135,7 +135,7 @@ impl Lists {
         let from = list.saturating_mul(self.words);
         for test in 0..facts.tests {
             if item_or(&facts.tam, test, false) && excludes_all(facts, test, members) {
-                mark(&mut self.apart, from, test);
+                mark_place(&mut self.apart, from, test);
             }
         }
     }
@@ -150,8 +150,8 @@ impl Lists {
         if list >= LISTS_MOST {
             return NONE;
         }
-        put(&mut self.kind, list, kind);
-        put(&mut self.number, list, number);
+        put_item(&mut self.kind, list, kind);
+        put_item(&mut self.number, list, number);
         self.write_members(list, members);
         if kind == ListForm::TurnsOn {
             self.write_apart(facts, list, members);
@@ -178,7 +178,7 @@ impl Chosen {
     }
 
     /// Chooses none.
-    pub fn clear(&mut self) {
+    pub fn clear_choice(&mut self) {
         self.count = 0;
     }
 
@@ -202,7 +202,7 @@ impl Chosen {
         if list == NONE || self.count >= LISTS_MOST || self.contains(list) {
             return false;
         }
-        put(&mut self.places, self.count, list);
+        put_item(&mut self.places, self.count, list);
         self.count = self.count.saturating_add(1);
         true
     }

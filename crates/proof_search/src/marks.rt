@@ -1,6 +1,6 @@
 //! Rows of marks: 64 places in a word. Outside of a row nothing is marked.
 
-use crate::tables::{item_or, put};
+use crate::tables::{item_or, put_item};
 
 /// Whether a place is marked in the row that begins at a word.
 pub(crate) fn marked(rows: &[u64], from: usize, place: usize) -> bool {
@@ -9,20 +9,20 @@ pub(crate) fn marked(rows: &[u64], from: usize, place: usize) -> bool {
 }
 
 /// Marks a place in the row that begins at a word.
-pub(crate) fn mark(rows: &mut [u64], from: usize, place: usize) {
+pub(crate) fn mark_place(rows: &mut [u64], from: usize, place: usize) {
     let at = from.saturating_add(place >> 6);
     let word = item_or(rows, at, 0);
-    put(rows, at, word | (1u64 << (place & 63)));
+    put_item(rows, at, word | (1u64 << (place & 63)));
 }
 
 /// Unmarks a place in the row that begins at a word.
-pub(crate) fn unmark(rows: &mut [u64], from: usize, place: usize) {
+pub(crate) fn unmark_place(rows: &mut [u64], from: usize, place: usize) {
     let at = from.saturating_add(place >> 6);
     let word = item_or(rows, at, 0);
-    put(rows, at, word & !(1u64 << (place & 63)));
+    put_item(rows, at, word & !(1u64 << (place & 63)));
 }
 
-/// The first place that is marked in a word of a row, behind so many words.
+/// The first place that is marked in a word of a row, the one at the place `word`.
 pub(crate) fn first_mark(word: usize, marks: u64) -> usize {
     word.saturating_mul(64)
         .saturating_add(marks.trailing_zeros() as usize)
@@ -33,7 +33,7 @@ pub(crate) fn without_first(marks: u64) -> u64 {
     marks & marks.wrapping_sub(1)
 }
 
-/// What the marked places of a word count together, behind so many words.
+/// What the marked places of a word count together, the one at the place `word`.
 pub(crate) fn sum_of(counts: &[i64], word: usize, marks: u64) -> i64 {
     let mut left = marks;
     let mut sum: i64 = 0;

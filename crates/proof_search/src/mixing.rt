@@ -5,30 +5,30 @@ use crate::picks::{Pick, test_share};
 use crate::play::Play;
 use crate::resources::{number_of, part_of};
 use crate::slots::{REST, Spans};
-use crate::tables::{NONE, item_or, put};
+use crate::tables::{NONE, item_or, put_item};
 use crate::values::LeafChip;
 
 /// Adds to the part at a place.
 fn add_part(parts: &mut [i64], place: usize, more: i64) {
     let sum = item_or(parts, place, 0).saturating_add(more);
-    put(parts, place, sum);
+    put_item(parts, place, sum);
 }
 
 /// Begins a mix with what self tests take.
-fn begin(chip: &LeafChip, mix: &mut Mix) {
+fn begin_mix(chip: &LeafChip, mix: &mut Mix) {
     for test in 0..chip.facts.tests {
         let mut own = 0;
         if !item_or(&chip.facts.tam, test, true) {
             own = part_of(test_share(chip, test, 1));
         }
-        put(&mut mix.on_all, test, own);
+        put_item(&mut mix.on_all, test, own);
     }
 }
 
 /// Says that nothing is tested on the buses of the known ranks yet.
 fn clear_ranks(chip: &LeafChip, mix: &mut Mix) {
     for place in 0..mix.known.saturating_mul(chip.facts.tests) {
-        put(&mut mix.on_rank, place, 0);
+        put_item(&mut mix.on_rank, place, 0);
     }
 }
 
@@ -74,7 +74,7 @@ impl Play {
     pub fn mixed(&self, chip: &LeafChip, spans: &Spans, mix: &mut Mix) {
         mix.known = spans.known;
         mix.value = self.best;
-        begin(chip, mix);
+        begin_mix(chip, mix);
         clear_ranks(chip, mix);
         for answer in 0..self.cuts {
             self.add_answer(chip, spans, mix, answer);

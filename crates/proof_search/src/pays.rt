@@ -2,8 +2,8 @@
 
 use crate::facts::Facts;
 use crate::lists::{LISTS_MOST, ListForm, Lists};
-use crate::tables::{NONE, filled, item_or, put};
-use crate::weights::wipe;
+use crate::tables::{NONE, filled, item_or, put_item};
+use crate::weights::wipe_numbers;
 use outside::NoMemory;
 use std::alloc::Global;
 
@@ -42,7 +42,7 @@ fn clear_tests(tests: &mut [bool]) {
 /// Adds to the number at a place.
 fn add_to(numbers: &mut [u64], place: usize, more: u64) {
     let sum = item_or(numbers, place, 0).saturating_add(more);
-    put(numbers, place, sum);
+    put_item(numbers, place, sum);
 }
 
 impl Pays {
@@ -69,8 +69,8 @@ impl Pays {
     }
 
     /// Nothing is paid.
-    pub fn clear(&mut self) {
-        wipe(&mut self.member);
+    pub fn clear_pays(&mut self) {
+        wipe_numbers(&mut self.member);
         clear_tests(&mut self.on_rank);
         self.any_rank = false;
         self.power_count = 0;
@@ -89,7 +89,7 @@ impl Pays {
     fn clear_rank(&mut self, rank: usize) {
         let from = rank.saturating_mul(self.tests);
         for test in 0..self.tests {
-            put(&mut self.rank, from.saturating_add(test), 0);
+            put_item(&mut self.rank, from.saturating_add(test), 0);
         }
     }
 
@@ -98,7 +98,7 @@ impl Pays {
         if item_or(&self.on_rank, rank, true) {
             return;
         }
-        put(&mut self.on_rank, rank, true);
+        put_item(&mut self.on_rank, rank, true);
         self.any_rank = true;
         self.clear_rank(rank);
     }
@@ -117,8 +117,8 @@ impl Pays {
 
     /// Adds a list of power.
     fn add_power(&mut self, list: usize, pay: u64) {
-        put(&mut self.power, self.power_count, list);
-        put(&mut self.power_pay, self.power_count, pay);
+        put_item(&mut self.power, self.power_count, list);
+        put_item(&mut self.power_pay, self.power_count, pay);
         self.power_count = self.power_count.saturating_add(1);
     }
 
@@ -152,7 +152,7 @@ impl Pays {
         let all = self.power_count > 0 || self.any_rank;
         for module in 0..facts.modules {
             let paying = all || self.has_member(facts, module);
-            put(&mut self.paying, module, paying);
+            put_item(&mut self.paying, module, paying);
         }
     }
 

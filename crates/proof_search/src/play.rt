@@ -15,9 +15,9 @@ use crate::weights::{Weighing, copy_all};
 use outside::NoMemory;
 use std::alloc::Global;
 
-/// The play ends where the best parts are worth the bound of the game but for one part in so many.
+/// The play ends where the best parts are worth the bound of the game but for one part in `EXACT`.
 const EXACT: i64 = 50_000;
-/// Parts that are worth less than all by one part in so many are not tried as weights.
+/// Parts that are worth less than all by one part in `NEARLY` are not tried as weights.
 const NEARLY: i64 = 65_536;
 
 /// How a turn of the play ends.
@@ -85,7 +85,7 @@ impl Play {
 
     /// Takes what tests pay for the lists.
     fn take_pays(&mut self, chip: &LeafChip) {
-        self.pays.clear();
+        self.pays.clear_pays();
         for at in 0..self.resources.listed {
             let list = self.resources.list(at);
             let part = self.part(self.resources.lists_from.saturating_add(at));

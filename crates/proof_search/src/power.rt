@@ -14,7 +14,7 @@ pub(crate) fn counted(limit: u64, near: u64, power: u64) -> u64 {
     power
 }
 
-/// What a power draws in so many cycles.
+/// What a power draws in `cycles` cycles.
 fn energy(power: u64, cycles: u64) -> u128 {
     u128::from(power).wrapping_mul(u128::from(cycles))
 }
@@ -29,7 +29,7 @@ fn end_of(facts: &Facts, step: usize, end: usize) -> u64 {
     }
 }
 
-/// What the steps of a profile from `first` up to `end` draw in so many cycles, as it counts.
+/// What the steps of a profile from `first` up to `end` draw in `time` cycles, as it counts.
 fn energy_of_steps(facts: &Facts, near: u64, first: usize, end: usize, time: u64) -> u128 {
     let mut sum: u128 = 0;
     for step in first..end {
@@ -44,7 +44,7 @@ fn energy_of_steps(facts: &Facts, near: u64, first: usize, end: usize, time: u64
     sum
 }
 
-/// The use of the list `Power near` by a test that takes so many cycles.
+/// The use of the list `Power near` by a test that takes `time` cycles.
 pub(crate) fn power_use(facts: &Facts, near: u64, test: usize, time: u64) -> u64 {
     let first = item_or(&facts.steps_first, test, 0);
     let end = item_or(&facts.steps_first, test.saturating_add(1), 0);

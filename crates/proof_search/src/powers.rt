@@ -6,9 +6,9 @@ use crate::tables::{filled, item_or};
 use outside::{NoMemory, push};
 use std::alloc::Global;
 
-/// At most so many thresholds are lists.
+/// The most thresholds that are lists.
 const NEARS_MOST: usize = 14;
-/// A threshold is at least one part in so many of the limit.
+/// A threshold is at least one part in `PARTS` of the limit.
 const PARTS: u64 = 20;
 
 /// From what power on tests count, so that one of a power leaves no room for another.

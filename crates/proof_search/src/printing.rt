@@ -1,7 +1,7 @@
 //! Makes the proof that a tree of cases is.
 
 use crate::lists::{LISTS_MOST, ListForm};
-use crate::tables::{NONE, filled, item_or, put};
+use crate::tables::{NONE, filled, item_or, put_item};
 use crate::tree::{GrownTree, Names, Rule, whole_count};
 use crate::weights::Weighing;
 use bus_proofs::{Node, Proof, TestList, Weights};
@@ -18,7 +18,7 @@ struct NodeStack {
 
 impl NodeStack {
     fn push(&mut self, node: usize) {
-        put(&mut self.stack, self.height, node);
+        put_item(&mut self.stack, self.height, node);
         self.height = self.height.saturating_add(1);
     }
 
@@ -123,7 +123,7 @@ fn leaf_of(
     Ok(Node::Sum { weights })
 }
 
-/// So many twins, from a place of the pool on.
+/// `count` twins, from a place of the pool on.
 fn twins_of(
     alloc: Global,
     tree: &GrownTree,
@@ -176,7 +176,7 @@ impl Printing {
     }
 
     /// Marks the lists of a leaf.
-    fn mark(&mut self, tree: &GrownTree, node: usize) {
+    fn mark_leaf(&mut self, tree: &GrownTree, node: usize) {
         if tree.rule_among(node, self.nodes) != Rule::Leaf {
             return;
         }
@@ -185,7 +185,7 @@ impl Printing {
         for at in 0..self.weighing.count {
             if digits.scaled(item_or(&self.weighing.uses, at, 0)) > 0 {
                 let list = item_or(&self.weighing.lists, at, NONE);
-                put(&mut self.places, list, 0);
+                put_item(&mut self.places, list, 0);
             }
         }
     }
@@ -196,7 +196,7 @@ impl Printing {
         for _ in 0..self.nodes {
             let node = self.next(tree);
             if node != NONE {
-                self.mark(tree, node);
+                self.mark_leaf(tree, node);
             }
         }
     }
@@ -277,7 +277,7 @@ impl Printing {
     }
 }
 
-/// The proof of a claim by the first so many nodes of a tree; a node whose branches come later is a leaf. Lists that no leaf
+/// The proof of a claim by the first `nodes` nodes of a tree; a node whose branches come later is a leaf. Lists that no leaf
 /// names are left out. `NoMemory` where there is none.
 pub(crate) fn proof_of(
     alloc: Global,

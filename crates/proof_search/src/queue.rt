@@ -1,7 +1,7 @@
 //! The open cases of a search, the weakest first.
 
 use crate::cuts::CaseCut;
-use crate::tables::{NONE, filled, item_or, put};
+use crate::tables::{NONE, filled, item_or, put_item};
 use outside::NoMemory;
 use std::alloc::Global;
 
@@ -42,7 +42,7 @@ fn is_before(entries: &[EnteringColumn], a: usize, b: usize) -> bool {
 }
 
 impl Queue {
-    /// Room for so many open nodes. `NoMemory` where there is none.
+    /// Room for `nodes` open nodes. `NoMemory` where there is none.
     pub fn new(alloc: Global, nodes: usize) -> Result<Queue, NoMemory> {
         let heap = filled(alloc, 0usize, nodes)?;
         Ok(Queue { heap, count: 0 })
@@ -70,10 +70,10 @@ impl Queue {
             if at == 0 || !is_before(entries, node, other) {
                 break;
             }
-            put(&mut self.heap, at, other);
+            put_item(&mut self.heap, at, other);
             at = up;
         }
-        put(&mut self.heap, at, node);
+        put_item(&mut self.heap, at, node);
     }
 
     /// The place below another one that comes first; as many as there are where there is none.
@@ -97,9 +97,9 @@ impl Queue {
             if below >= self.count || !is_before(entries, other, node) {
                 break;
             }
-            put(&mut self.heap, at, other);
+            put_item(&mut self.heap, at, other);
             at = below;
         }
-        put(&mut self.heap, at, node);
+        put_item(&mut self.heap, at, node);
     }
 }

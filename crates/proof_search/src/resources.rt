@@ -3,16 +3,16 @@
 
 use crate::lists::{Chosen, LISTS_MOST, Lists};
 use crate::slots::{RANGES_MOST, REST, Spans};
-use crate::tables::{NONE, ONE, filled, item_or, put};
+use crate::tables::{NONE, ONE, filled, item_or, put_item};
 use crate::weights::Weighing;
 use outside::NoMemory;
 use std::alloc::Global;
 
-/// A game has at most so many resources.
+/// The most resources of a game.
 pub(crate) const RESOURCES_MOST: usize = RANGES_MOST + LISTS_MOST;
 /// The greatest weight of a leaf.
 pub(crate) const WEIGHT_MOST: u64 = 999_999_999;
-/// A part for a wire, or for a cycle of a list, is taken so many times.
+/// A part for a wire, or for a cycle of a list, is taken `FINE` times.
 const FINE: u128 = 1 << 40;
 
 /// The resources of a game. Those of the known ranks come first, then the spare wires, then the lists.
@@ -68,14 +68,14 @@ fn normal_part(part: i64, sum: i64) -> i64 {
 }
 
 /// Makes the first parts of a list such that are ONE together.
-fn normalize(parts: &mut [i64], count: usize) {
+fn normalize_parts(parts: &mut [i64], count: usize) {
     if sum_of_parts(parts, count) == 0 {
-        put(parts, 0, ONE);
+        put_item(parts, 0, ONE);
     }
     let sum = sum_of_parts(parts, count);
     for place in 0..count {
         let normal = normal_part(item_or(parts, place, 0), sum);
-        put(parts, place, normal);
+        put_item(parts, place, normal);
     }
 }
 
@@ -113,11 +113,11 @@ impl Resources {
     }
 
     /// Forgets all resources.
-    fn clear(&mut self) {
+    fn clear_resources(&mut self) {
         self.count = 0;
         self.rest = NONE;
         for rank in 0..self.rank_place.len() {
-            put(&mut self.rank_place, rank, NONE);
+            put_item(&mut self.rank_place, rank, NONE);
         }
     }
 
@@ -127,7 +127,7 @@ impl Resources {
             let rank = spans.range(at).rank;
             if rank != REST {
                 let place = self.add();
-                put(&mut self.rank_place, rank, place);
+                put_item(&mut self.rank_place, rank, place);
             }
         }
     }
@@ -146,13 +146,13 @@ impl Resources {
         self.listed = chosen.count;
         self.count = self.count.saturating_add(chosen.count);
         for at in 0..chosen.count {
-            put(&mut self.list_at, at, chosen.at(at));
+            put_item(&mut self.list_at, at, chosen.at(at));
         }
     }
 
     /// Becomes the resources of a case, with lists.
     pub fn take(&mut self, spans: &Spans, chosen: &Chosen) {
-        self.clear();
+        self.clear_resources();
         self.add_ranks(spans);
         self.add_rest(spans);
         self.add_lists(chosen);
@@ -206,7 +206,7 @@ impl Resources {
             let place = self.of_rank(rank);
             if place != NONE {
                 let weight = self.weight(lists, parts, place, greatest);
-                put(&mut weights.ranks, rank, weight);
+                put_item(&mut weights.ranks, rank, weight);
             }
         }
     }
@@ -220,9 +220,9 @@ impl Resources {
         }
     }
 
-    /// Writes parts as the weights of a leaf that has so many known ranks.
+    /// Writes parts as the weights of a leaf that has `known` known ranks.
     pub fn weigh(&self, lists: &Lists, parts: &[i64], known: usize, weights: &mut Weighing) {
-        weights.clear();
+        weights.clear_weights();
         let greatest = self.greatest(lists, parts);
         self.weigh_ranks(lists, parts, known, greatest, weights);
         if self.rest != NONE {
@@ -235,7 +235,7 @@ impl Resources {
     fn part_ranks(&self, known: usize, weights: &Weighing, parts: &mut [i64]) {
         for rank in 0..known {
             let weight = item_or(&weights.ranks, rank, 0);
-            put(parts, self.of_rank(rank), part_of(weight));
+            put_item(parts, self.of_rank(rank), part_of(weight));
         }
     }
 
@@ -245,18 +245,18 @@ impl Resources {
             let room = lists.room(item_or(&weights.lists, at, NONE));
             let weight = item_or(&weights.uses, at, 0).saturating_mul(room);
             let place = self.lists_from.saturating_add(at);
-            put(parts, place, part_of(weight));
+            put_item(parts, place, part_of(weight));
         }
     }
 
-    /// Writes the weights of a leaf that has so many known ranks as parts; all is the first one's where all weights are 0. The
+    /// Writes the weights of a leaf that has `known` known ranks as parts; all is the first one's where all weights are 0. The
     /// lists of the weights are the first ones of the resources.
     pub fn share(&self, lists: &Lists, known: usize, weights: &Weighing, parts: &mut [i64]) {
         clear_parts(parts);
         self.part_ranks(known, weights, parts);
         let wires = weights.wire.saturating_mul(self.spare);
-        put(parts, self.rest, part_of(wires));
+        put_item(parts, self.rest, part_of(wires));
         self.part_lists(lists, weights, parts);
-        normalize(parts, self.count);
+        normalize_parts(parts, self.count);
     }
 }

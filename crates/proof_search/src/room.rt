@@ -8,7 +8,7 @@ use crate::elementary::elementary;
 use crate::facts::Facts;
 use crate::lists::Chosen;
 use crate::mix::Mix;
-use crate::separating::{Separating, separate};
+use crate::separating::{Separating, separate_lists};
 use crate::tables::{filled, item_or};
 use crate::text::{DIGITS_MOST, nines};
 use crate::values::LeafChip;
@@ -16,7 +16,7 @@ use crate::weights::Weighing;
 use outside::NoMemory;
 use std::alloc::Global;
 
-/// A mix passes a list of power where it takes more than the value by one part in so many.
+/// A mix passes a list of power where it takes more than the value by one part in `PARTS`.
 const PARTS: i64 = 2_000;
 
 /// What a case is worth, in cycles, and how it can be divided.
@@ -72,7 +72,7 @@ impl Finder {
 
     /// Chooses the lists of some weights alone.
     fn choose_of(&mut self, weights: &Weighing) {
-        self.chosen.clear();
+        self.chosen.clear_choice();
         for at in 0..weights.count {
             let list = item_or(&weights.lists, at, 0);
             self.chosen.add(list);
@@ -96,7 +96,7 @@ impl Finder {
     fn find(&mut self, chip: &mut LeafChip, board: &Board) -> bool {
         board.play.mixed(chip, &board.spans, &mut self.mix);
         let powers = self.choose_powers(chip, board);
-        let lists = separate(
+        let lists = separate_lists(
             &mut self.separating,
             &chip.facts,
             &self.mix,
@@ -108,7 +108,7 @@ impl Finder {
 
     /// Chooses the elementary lists. `NoMemory` where there is none.
     fn choose_elementary(&mut self, alloc: Global, chip: &mut LeafChip) -> Result<(), NoMemory> {
-        self.chosen.clear();
+        self.chosen.clear_choice();
         if chip.powers.count > 0 {
             self.chosen.add(0);
         }
@@ -136,29 +136,29 @@ impl Drafts {
 
     /// Makes the weights those above.
     fn keep_hint(&mut self) {
-        self.weights.copy(&self.hint);
+        self.weights.copy_weights(&self.hint);
     }
 
     /// Makes the weights those that were tried.
     fn keep_trial(&mut self) {
-        self.weights.copy(&self.trial);
+        self.weights.copy_weights(&self.trial);
     }
 
     /// Tries a list alone.
     fn try_list(&mut self, list: usize) {
-        self.trial.clear();
+        self.trial.clear_weights();
         self.trial.add_list(list, 1);
     }
 
     /// Tries the wires alone.
     fn try_wires(&mut self) {
-        self.trial.clear();
+        self.trial.clear_weights();
         self.trial.wire = 1;
     }
 
-    /// Tries the weights with so many digits.
+    /// Tries the weights with `digits` digits.
     fn try_digits(&mut self, most: u64, digits: u32) {
-        self.trial.copy(&self.weights);
+        self.trial.copy_weights(&self.weights);
         self.trial.scale(most, nines(digits));
     }
 }
@@ -240,7 +240,7 @@ impl WeighingRoom {
 
     /// Makes all weights of the case 0.
     pub fn clear_weights(&mut self) {
-        self.drafts.weights.clear();
+        self.drafts.weights.clear_weights();
     }
 
     /// Whether weights hold at the goal: those above, or others that the game finds.
@@ -253,9 +253,9 @@ impl WeighingRoom {
         self.play(chip, rounds)
     }
 
-    /// What the case is worth, with lists of at most so many rounds.
+    /// What the case is worth, with lists of at most `rounds` rounds.
     pub fn weigh(&mut self, chip: &mut LeafChip, rounds: usize) -> Worth {
-        self.drafts.weights.clear();
+        self.drafts.weights.clear_weights();
         if !self.take_case(chip) || self.closes(chip, rounds) {
             return Worth {
                 value: chip.facts.goal,
@@ -307,7 +307,7 @@ impl WeighingRoom {
         Ok(self.try_alone(chip, worth))
     }
 
-    /// Whether the weights hold at a claim with so many digits.
+    /// Whether the weights hold at a claim with `digits` digits.
     fn hold_with(&mut self, chip: &LeafChip, most: u64, digits: u32, claim: u64) -> bool {
         if nines(digits) >= most {
             return true;

@@ -14,7 +14,7 @@ use crate::printing::proof_of;
 use crate::queue::{EnteringColumn, NO_ENTRY, Queue};
 use crate::room::{WeighingRoom, Worth};
 use crate::slots::Slots;
-use crate::tables::{NONE, filled, item_or, put};
+use crate::tables::{NONE, filled, item_or, put_item};
 use crate::text::TEXT_MOST;
 use crate::tree::{GrownTree, Names, Rule};
 use crate::uses::Powers;
@@ -98,7 +98,7 @@ fn room_for(nodes: u64) -> usize {
     (nodes.min(NODES_MOST) as usize).saturating_add(MORE_MOST)
 }
 
-/// The first so many items.
+/// The first `count` items.
 fn front(list: &[usize], count: usize) -> &[usize] {
     if count > list.len() {
         return list;
@@ -115,7 +115,7 @@ fn more_nodes(cut: CaseCut) -> usize {
 }
 
 impl Search {
-    /// A search for a proof of at most so many nodes for a claim up to the goal, the cycles of a plan, where the chip and its limits
+    /// A search for a proof of at most `nodes` nodes for a claim up to the goal, the cycles of a plan, where the chip and its limits
     /// are resolved. All memory that it takes but for the proof is taken here; `NoMemory` where there is none.
     pub fn new(
         alloc: Global,
@@ -184,7 +184,7 @@ impl Search {
             parent,
             second,
         };
-        put(&mut self.entries, node, entry);
+        put_item(&mut self.entries, node, entry);
         if open {
             self.queue.push(&self.entries, node);
         }
@@ -231,7 +231,7 @@ impl Search {
             if at == 0 {
                 break;
             }
-            put(&mut self.path, count, at);
+            put_item(&mut self.path, count, at);
             count = count.saturating_add(1);
             at = item_or(&self.entries, at, NO_ENTRY).parent;
         }
@@ -240,10 +240,10 @@ impl Search {
 
     /// Writes a rank and the twins at a place of the tree's pool.
     fn take_twins(&mut self, rank: usize, start: usize, count: usize) {
-        put(&mut self.ranks, 0, rank);
+        put_item(&mut self.ranks, 0, rank);
         for at in 0..count {
             let twin = self.tree.pool_at(start.saturating_add(at)) as usize;
-            put(&mut self.ranks, at.saturating_add(1), twin);
+            put_item(&mut self.ranks, at.saturating_add(1), twin);
         }
     }
 
@@ -272,7 +272,7 @@ impl Search {
 
     /// Makes the case of a node, tightened.
     fn make_case(&mut self, node: usize) {
-        self.room.case.clear();
+        self.room.case.clear_ranks();
         let count = self.take_path(node);
         for step in 0..count {
             let place = count.saturating_sub(step).saturating_sub(1);
@@ -308,7 +308,7 @@ impl Search {
             parent,
             second: false,
         };
-        put(&mut self.entries, node, entry);
+        put_item(&mut self.entries, node, entry);
         node
     }
 
@@ -328,12 +328,12 @@ impl Search {
 
     /// Writes a rank and its twins in the case at hand: how many twins there are.
     fn find_twins(&mut self, rank: usize) -> usize {
-        put(&mut self.ranks, 0, rank);
+        put_item(&mut self.ranks, 0, rank);
         let mut count: usize = 0;
         for other in 0..self.room.case.known {
             if self.room.case.is_twin(rank, other) {
                 count = count.saturating_add(1);
-                put(&mut self.ranks, count, other);
+                put_item(&mut self.ranks, count, other);
             }
         }
         count
@@ -355,7 +355,7 @@ impl Search {
     }
 
     /// Divides a node.
-    fn divide(&mut self, node: usize, cut: CaseCut) {
+    fn divide_node(&mut self, node: usize, cut: CaseCut) {
         self.make_case(node);
         self.room.above.take_low(&self.room.case);
         self.tree.load(node, &mut self.room.above.weights);
@@ -387,11 +387,11 @@ impl Search {
             return;
         }
         self.queue.drop_first(&self.entries);
-        self.divide(node, cut);
+        self.divide_node(node, cut);
         self.note_claim();
     }
 
-    /// Goes on until so many nodes are made, or nothing is left to do.
+    /// Goes on until `made` nodes are made, or nothing is left to do.
     pub fn go_on(&mut self, made: u64) {
         if self.done {
             return;

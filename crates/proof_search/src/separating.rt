@@ -4,10 +4,10 @@ use crate::cliques::Cliques;
 use crate::crowds::Crowds;
 use crate::facts::Facts;
 use crate::lists::{Chosen, ListForm, Lists};
-use crate::marks::{mark, sum_of};
+use crate::marks::{mark_place, sum_of};
 use crate::mix::Mix;
-use crate::tables::{filled, item_or, put};
-use crate::weights::wipe;
+use crate::tables::{filled, item_or, put_item};
+use crate::weights::wipe_numbers;
 use outside::NoMemory;
 use std::alloc::Global;
 
@@ -15,7 +15,7 @@ use std::alloc::Global;
 const TURNS_STEPS: usize = 20_000;
 /// How many steps that for a list of turns on the bus of one rank takes at most.
 const TURNS_ON_STEPS: usize = 4_000;
-/// A list counts as passed where the mix takes more of it than the value by one part in so many.
+/// A list counts as passed where the mix takes more of it than the value by one part in `PARTS`.
 const PARTS: i64 = 2_000;
 
 /// The room in which lists are looked for.
@@ -59,20 +59,20 @@ impl Separating {
 
     /// Marks a test as one that may be in a clique, with all that exclude it.
     fn open_test(&mut self, facts: &Facts, test: usize) {
-        mark(&mut self.open, 0, test);
-        mark(&mut self.near, 0, test);
+        mark_place(&mut self.open, 0, test);
+        mark_place(&mut self.near, 0, test);
         let from = test.saturating_mul(facts.words);
         for word in 0..facts.words {
             let marks = item_or(&self.near, word, 0);
             let others = item_or(&facts.rows, from.saturating_add(word), 0);
-            put(&mut self.near, word, marks | others);
+            put_item(&mut self.near, word, marks | others);
         }
     }
 
     /// Marks the tests that may be in a clique that weighs more than a bound. Whether there are any.
     fn open_tests(&mut self, facts: &Facts, weights: &[i64], more_than: i64) -> bool {
-        wipe(&mut self.open);
-        wipe(&mut self.near);
+        wipe_numbers(&mut self.open);
+        wipe_numbers(&mut self.near);
         let mut any = false;
         for test in 0..facts.tests {
             if around(facts, weights, test) > more_than {
@@ -177,7 +177,7 @@ impl Separating {
 
 /// Adds lists to those of a proof that a mix passes by more than one part in 2,000 of its value. Whether any is new to those that
 /// are chosen.
-pub(crate) fn separate(
+pub(crate) fn separate_lists(
     room: &mut Separating,
     facts: &Facts,
     mix: &Mix,

@@ -4,7 +4,7 @@
 
 use crate::cases::Case;
 use crate::facts::Facts;
-use crate::tables::{filled, item_or, put};
+use crate::tables::{filled, item_or, put_item};
 use outside::{NoMemory, push};
 use std::alloc::Global;
 
@@ -13,7 +13,7 @@ pub(crate) const REST: usize = 256;
 /// Ranges of a case, at most.
 pub(crate) const RANGES_MOST: usize = 257;
 
-/// So many cycles as a share of `cap`.
+/// `cycles` cycles as a share of `cap`.
 pub(crate) fn part(cycles: u64, cap: u64) -> u64 {
     let product = u128::from(cycles).wrapping_mul(1 << 30);
     let parts = product.checked_div(u128::from(cap)).unwrap_or(0);
@@ -201,7 +201,7 @@ pub(crate) struct Spans {
 }
 
 impl Spans {
-    /// Room for the cases of so many modules on so many wires. `NoMemory` where there is none.
+    /// Room for the cases of `modules` modules on `wires` wires. `NoMemory` where there is none.
     pub fn new(alloc: Global, modules: usize, wires: usize) -> Result<Spans, NoMemory> {
         let ranges = filled(alloc, NO_RANGE, RANGES_MOST)?;
         let first = filled(alloc, 0usize, modules.saturating_add(1))?;
@@ -219,7 +219,7 @@ impl Spans {
 
     fn add_range(&mut self, range: Range) {
         if range.first <= range.high {
-            put(&mut self.ranges, self.count, range);
+            put_item(&mut self.ranges, self.count, range);
             self.count = self.count.saturating_add(1);
         }
     }
@@ -272,7 +272,7 @@ impl Spans {
             from,
             end: last.saturating_add(1),
         };
-        put(&mut self.spans, end, span);
+        put_item(&mut self.spans, end, span);
         end.saturating_add(1)
     }
 
@@ -294,7 +294,7 @@ impl Spans {
                 return false;
             }
             end = next;
-            put(&mut self.first, module.saturating_add(1), end);
+            put_item(&mut self.first, module.saturating_add(1), end);
         }
         true
     }

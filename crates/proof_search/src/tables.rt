@@ -8,7 +8,7 @@ pub(crate) const NONE: usize = usize::MAX;
 /// A whole weight, share or use.
 pub(crate) const ONE: i64 = 1 << 30;
 
-/// So many copies of an item. `NoMemory` where there is none.
+/// `count` copies of an item. `NoMemory` where there is none.
 pub(crate) fn filled<T: Copy>(alloc: Global, item: T, count: usize) -> Result<Vec<T>, NoMemory> {
     vec![in alloc; item; count].map_err(|_| NoMemory)
 }
@@ -23,7 +23,7 @@ pub(crate) fn item_or<T: Copy>(list: &[T], place: usize, other: T) -> T {
 }
 
 /// Writes an item at a place, where there is one.
-pub(crate) fn put<T: Copy>(list: &mut [T], place: usize, item: T) {
+pub(crate) fn put_item<T: Copy>(list: &mut [T], place: usize, item: T) {
     if place < list.len() {
         list[place] = item;
     }

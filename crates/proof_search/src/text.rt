@@ -34,7 +34,7 @@ pub(crate) fn wide_length(rank: u64, width: u64) -> u64 {
     spaced(rank).saturating_add(spaced(width)).saturating_add(5)
 }
 
-/// The bytes of the line of Place, with so many twins, each of which has at most three digits.
+/// The bytes of the line of Place, with `twins` twins, each of which has at most three digits.
 pub(crate) fn place_length(module: u64, rank: u64, twins: u64) -> u64 {
     spaced(module)
         .saturating_add(spaced(rank))
@@ -42,7 +42,7 @@ pub(crate) fn place_length(module: u64, rank: u64, twins: u64) -> u64 {
         .saturating_add(6)
 }
 
-/// The greatest number of so many digits.
+/// The greatest number of `digits` digits.
 pub(crate) fn nines(digits: u32) -> u64 {
     let mut nines: u64 = 0;
     for _ in 0..digits.min(DIGITS_MOST) {

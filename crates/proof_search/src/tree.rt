@@ -2,7 +2,7 @@
 
 use crate::facts::Facts;
 use crate::lists::{LISTS_MOST, ListForm, Lists};
-use crate::tables::{NONE, filled, item_or, put};
+use crate::tables::{NONE, filled, item_or, put_item};
 use crate::text::{head_length, nines, place_length, spaced, wide_length};
 use crate::weights::{Weighing, scaled};
 use outside::NoMemory;
@@ -98,7 +98,7 @@ pub(crate) fn whole_count(ranks: &[u64]) -> usize {
 }
 
 impl Digits {
-    /// So many digits for the greatest weight; as it is, where it has no more.
+    /// `digits` digits for the greatest weight; as it is, where it has no more.
     fn of(weighing: &Weighing, digits: u32) -> Digits {
         let most = weighing.greatest().max(1);
         Digits {
@@ -179,7 +179,7 @@ fn list_length(names: Names<'_>, list: usize) -> u64 {
 }
 
 impl GrownTree {
-    /// Room for a tree of so many nodes, with so many weights and twins. `NoMemory` where there is none.
+    /// Room for a tree of `nodes_most` nodes, with `pool_most` weights and twins. `NoMemory` where there is none.
     pub fn new(alloc: Global, nodes_most: usize, pool_most: usize) -> Result<GrownTree, NoMemory> {
         let knots = filled(alloc, NO_KNOT, nodes_most)?;
         let pool = filled(alloc, 0u32, pool_most)?;
@@ -194,7 +194,7 @@ impl GrownTree {
         })
     }
 
-    /// Whether there is room for so many more nodes with weights of so many resources each.
+    /// Whether there is room for `nodes` more nodes with weights of `resources` resources each.
     pub fn has_room(&self, nodes: usize, resources: usize) -> bool {
         let each = resources.saturating_mul(2).saturating_add(4);
         let pooled = self.pooled.saturating_add(each.saturating_mul(nodes));
@@ -203,7 +203,7 @@ impl GrownTree {
 
     fn push(&mut self, number: u64) {
         let narrow = u32::try_from(number).unwrap_or(0);
-        put(&mut self.pool, self.pooled, narrow);
+        put_item(&mut self.pool, self.pooled, narrow);
         self.pooled = self.pooled.saturating_add(1);
     }
 
@@ -216,7 +216,7 @@ impl GrownTree {
         u64::from(item_or(&self.pool, place, 0))
     }
 
-    /// Adds a leaf with these weights, of which the text has so many digits. Answers its place, NONE where there is no room.
+    /// Adds a leaf with these weights, of which the text has `digits` digits. Answers its place, NONE where there is no room.
     pub fn add(&mut self, names: Names<'_>, weighing: &Weighing, digits: u32) -> usize {
         let resources = whole_count(&weighing.ranks).saturating_add(weighing.count);
         if !self.has_room(1, resources) {
@@ -229,7 +229,7 @@ impl GrownTree {
         knot.weights = self.pooled;
         knot.digits = in_text;
         knot.length = length;
-        put(&mut self.knots, node, knot);
+        put_item(&mut self.knots, node, knot);
         self.push_weights(weighing);
         self.mark_used(names, weighing);
         self.length = self.length.saturating_add(length);
@@ -237,11 +237,11 @@ impl GrownTree {
         node
     }
 
-    /// Gives the weights of a leaf so many digits in the text. The length of the text stays as it was counted.
+    /// Gives the weights of a leaf `digits` digits in the text. The length of the text stays as it was counted.
     pub fn set_digits(&mut self, node: usize, weighing: &Weighing, digits: u32) {
         let mut knot = self.knot_at(node);
         knot.digits = Digits::of(weighing, digits);
-        put(&mut self.knots, node, knot);
+        put_item(&mut self.knots, node, knot);
     }
 
     fn push_weights(&mut self, weighing: &Weighing) {
@@ -266,7 +266,7 @@ impl GrownTree {
         for at in 0..weighing.count {
             let list = item_or(&weighing.lists, at, NONE);
             if !item_or(&self.used, list, true) {
-                put(&mut self.used, list, true);
+                put_item(&mut self.used, list, true);
                 self.length = self.length.saturating_add(list_length(names, list));
             }
         }
@@ -274,14 +274,14 @@ impl GrownTree {
 
     /// Writes the weights of a node, as precise as they were.
     pub fn load(&self, node: usize, weighing: &mut Weighing) {
-        weighing.clear();
+        weighing.clear_weights();
         let at = self.knot_at(node).weights;
         let ranks = self.pool_at(at.saturating_add(1)) as usize;
         weighing.wire = self.pool_at(at);
         let first = at.saturating_add(3);
         for rank in 0..ranks {
             let weight = self.pool_at(first.saturating_add(rank));
-            put(&mut weighing.ranks, rank, weight);
+            put_item(&mut weighing.ranks, rank, weight);
         }
         self.load_uses(at, first.saturating_add(ranks), weighing);
     }
@@ -294,12 +294,12 @@ impl GrownTree {
         }
     }
 
-    fn divide(&mut self, node: usize, rule: Rule, length: u64, first: usize, second: usize) {
+    fn divide_knot(&mut self, node: usize, rule: Rule, length: u64, first: usize, second: usize) {
         let mut knot = self.knot_at(node);
         knot.rule = rule;
         knot.first = first;
         knot.second = second;
-        put(&mut self.knots, node, knot);
+        put_item(&mut self.knots, node, knot);
         let longer = self.length.saturating_add(length);
         self.length = longer.saturating_sub(knot.length);
     }
@@ -314,7 +314,7 @@ impl GrownTree {
         second: usize,
     ) {
         let length = wide_length(rank as u64, width as u64);
-        self.divide(node, Rule::Wide { rank, width }, length, first, second);
+        self.divide_knot(node, Rule::Wide { rank, width }, length, first, second);
     }
 
     /// Adds the twins of a rank, which is the first of some ranks, to the pool.
@@ -346,7 +346,7 @@ impl GrownTree {
             start,
             count,
         };
-        self.divide(node, rule, length, first, second);
+        self.divide_knot(node, rule, length, first, second);
     }
 
     /// How a node is divided.
@@ -365,7 +365,7 @@ impl GrownTree {
         self.knot_at(node).digits
     }
 
-    /// How a node is divided among the first so many.
+    /// How a node is divided among the first `nodes` nodes.
     pub fn rule_among(&self, node: usize, nodes: usize) -> Rule {
         let knot = self.knot_at(node);
         if knot.first >= nodes || knot.second >= nodes {

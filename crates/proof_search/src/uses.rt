@@ -24,7 +24,7 @@ pub(crate) struct Powers {
     shares: Vec<u32>,
 }
 
-/// The use of a list of power by a test of so many cycles.
+/// The use of a list of power by a test of `time` cycles.
 #[derive(Clone, Copy)]
 struct Used {
     time: u64,
@@ -32,7 +32,7 @@ struct Used {
     share: u32,
 }
 
-/// The use of a list by a test of so many cycles, which is the last one where that took as many.
+/// The use of a list by a test of `time` cycles, which is the last one where that took as many.
 fn use_of(facts: &Facts, near: u64, test: usize, time: u64, last: Used) -> Used {
     if time == last.time {
         return last;

@@ -98,7 +98,7 @@ impl Values {
     pub fn take(&mut self, chip: &LeafChip, spans: &Spans, weights: &Weighing) {
         self.den = weighed(weights.wire, spans.spare as u64);
         self.add_ranks(spans, weights);
-        self.pays.clear();
+        self.pays.clear_pays();
         self.add_lists(&chip.lists, weights);
         self.take_own(chip);
         self.pays.note_paying(&chip.facts);
@@ -131,7 +131,7 @@ impl Values {
         }
     }
 
-    /// What a test of so many cycles pays on a rank, on a width.
+    /// What a test of `cycles` cycles pays on a rank, on a width.
     fn cost_of(
         &self,
         chip: &LeafChip,

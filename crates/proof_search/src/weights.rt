@@ -2,7 +2,7 @@
 
 use crate::lists::LISTS_MOST;
 use crate::slots::RANGES_MOST;
-use crate::tables::{filled, item_or, put};
+use crate::tables::{filled, item_or, put_item};
 use outside::NoMemory;
 use std::alloc::Global;
 
@@ -30,13 +30,13 @@ pub(crate) fn scaled(weight: u64, most: u64, whole: u64) -> u64 {
 }
 
 /// Makes each of some numbers 0.
-pub(crate) fn wipe(list: &mut [u64]) {
+pub(crate) fn wipe_numbers(list: &mut [u64]) {
     for place in 0..list.len() {
         list[place] = 0;
     }
 }
 
-/// The greatest of the first so many numbers.
+/// The greatest of the first `count` numbers.
 fn greatest_of(list: &[u64], count: usize) -> u64 {
     let mut most: u64 = 0;
     for place in 0..count.min(list.len()) {
@@ -45,7 +45,7 @@ fn greatest_of(list: &[u64], count: usize) -> u64 {
     most
 }
 
-/// Scales the first so many weights.
+/// Scales the first `count` weights.
 fn scale_all(list: &mut [u64], count: usize, most: u64, whole: u64) {
     for place in 0..count.min(list.len()) {
         list[place] = scaled(list[place], most, whole);
@@ -75,23 +75,23 @@ impl Weighing {
     }
 
     /// Makes all weights 0.
-    pub fn clear(&mut self) {
+    pub fn clear_weights(&mut self) {
         self.wire = 0;
         self.count = 0;
-        wipe(&mut self.ranks);
+        wipe_numbers(&mut self.ranks);
     }
 
     /// Adds the weight of a list, where it isn't 0.
     pub fn add_list(&mut self, list: usize, weight: u64) {
         if weight > 0 {
-            put(&mut self.lists, self.count, list);
-            put(&mut self.uses, self.count, weight);
+            put_item(&mut self.lists, self.count, list);
+            put_item(&mut self.uses, self.count, weight);
             self.count = self.count.saturating_add(1);
         }
     }
 
     /// Makes the weights those of another one.
-    pub fn copy(&mut self, other: &Weighing) {
+    pub fn copy_weights(&mut self, other: &Weighing) {
         self.wire = other.wire;
         self.count = other.count;
         copy_all(&mut self.ranks, &other.ranks);

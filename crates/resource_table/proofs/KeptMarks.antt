@@ -3,6 +3,7 @@ use Rattle.std.proofs.Common.{◌≡◌, ℕ, zero, suc, ◌+◌, ◌-◌, ◌<�
 use Rattle.std.specs.Prelude.{slice_get, nat_eq, if◌then◌else◌, ◌⊎◌, vec_capacity, IfSome}
 use Rattle.std.specs.List.{sum_by, flat_map}
 use Rattle.std.specs.Global.{Vec}
+use Rattle.smallvec.specs.SmallVec.{SmallVec}
 use Rattle.std.proofs.lemmas.Bool.{cases_lt}
 use Rattle.std.proofs.lemmas.List.{take_at, length-map}
 use Rattle.std.proofs.lemmas.List.Sums.{sum_by-cons, sum_by-append}
@@ -15,9 +16,10 @@ use Rattle.resource_table.specs.Jobs.{TestValue, JobValue, IsSoundJob, test_at, 
 use Rattle.resource_table.specs.Schedules.{at_start, power_at, MayPlace, IsSoundTable}
 use Rattle.resource_table.specs.Resources.{load_of, draws_from, draws_of, marks_from, marks_of, step_end}
 use Rattle.resource_table.specs.Profiles.{counted, all_uses, ArePoints, AreMarked}
+use Rattle.resource_table.specs.Kept.{IsProfiled}
 use Rattle.resource_table.proofs.Steps.{step_end-le}
 use Rattle.resource_table.proofs.Fitting.{load_is_power}
-use Rattle.resource_table.proofs.Profiles.{self_counts}
+use Rattle.resource_table.proofs.Profiles.{self_counts, last_dropped}
 use Rattle.resource_table.proofs.Schedules.{sound_power}
 use Rattle.resource_table.proofs.KeptTables.{sound_push, trail_has_room, draws_have_room, flat_map_push}
 
@@ -188,3 +190,13 @@ module _ (job : JobValue) (placed : List Placement) (p : Placement) (draws : Lis
           IfSome o (λ _. ArePoints (take count draws) (flat_map (marks_of job) placed) points)
       go None are h = tt
       go (Some most) are h = h (flat_map (marks_of job) placed) (with_last old are)
+
+-- ---- the points without a mark
+
+-- once those at the end are taken out
+pub without_last : (job : JobValue) (trail : SmallVec Placement) (draws : Vec Draw) (old new : Vec Point) → IsProfiled job trail draws old →
+    (n : ℕ) × (new.items ≡ take n old.items) × (all_uses (drop n old.items) ≡ 0) → vec_capacity new ≡ vec_capacity old → IsProfiled job trail draws new
+without_last job trail draws old new are taken room = record {
+  are = if_some_more job.power (λ most points. subst (ArePoints draws.items (flat_map (marks_of job) trail.items)) (sym taken.1) (last_dropped draws.items (flat_map (marks_of job) trail.items) old.items taken.0 taken.2 points)) are.are;
+  room = (let all = are.room in omega (arith, all, room));
+}

@@ -7,8 +7,8 @@ use Rattle.std.proofs.lemmas.Bool.{cases_Bool, cases_lt, cases_eq, eqb-true, eqb
 use Rattle.std.proofs.lemmas.List.{take_more, same_lists, length-map, length-set, get_or-map, get_or-set_same, get_or-set_other}
 use Rattle.std.proofs.lemmas.List.Elements.{All-append, All-cons, All-take, All-drop, All-map, All-filter}
 use Rattle.std.proofs.lemmas.List.Kept.{IsNonDecreasingBy-filter}
-use Rattle.std.proofs.lemmas.List.Sorted.{IsNonDecreasingBy-insert}
-use Rattle.std.proofs.lemmas.List.Sums.{sum_by-cons, sum_by_push, sum_by-insert, sum_by-set, sum_by_more_le}
+use Rattle.std.proofs.lemmas.List.Sorted.{IsNonDecreasingBy-insert, IsNonDecreasingBy-take}
+use Rattle.std.proofs.lemmas.List.Sums.{sum_by-cons, sum_by_push, sum_by-insert, sum_by-set, sum_by_more_le, sum_by-take-drop, sum_by-drop_more}
 use Rattle.plan_model.proofs.Sums.{sum_by-le_at, sum_by-filter}
 use Rattle.resource_table.specs.declared.power.Draw.{Draw}
 use Rattle.resource_table.specs.declared.points.Point.{Point}
@@ -230,6 +230,25 @@ unused_dropped draws cycles points are = record {
   marks = (λ c. sum_by-filter is_used (uses_at c) points ∙ used_sum (uses_at c) points (uses_at-le c) ∙ are.marks c);
   count = sum_by-filter is_used (λ (p : Point). p.uses) points ∙ used_sum (λ (p : Point). p.uses) points (λ p. omega arith) ∙ are.count;
 }
+
+-- the points at the end, from a place on, have no mark
+pub last_dropped : (draws : List Draw) (cycles : List ℕ) (points : List Point) (n : ℕ) → all_uses (drop n points) ≡ 0 → ArePoints draws cycles points → ArePoints draws cycles (take n points)
+last_dropped draws cycles points n unused are = record {
+  ordered = IsNonDecreasingBy-take (λ (p : Point). p.cycle) n points are.ordered;
+  loads = All-take (λ (p : Point). p.load ≡ load_of draws p.cycle) n points are.loads;
+  marks = (λ c.
+      let old = are.marks c in
+      let none = sum_by-le_at (uses_at c) (λ (p : Point). p.uses) (drop n points) (λ i p at. uses_at-le c p) in
+      omega (arith, old, none, unused, sum_by-take-drop (uses_at c) points n));
+  count = (let old = are.count in omega (arith, old, unused, sum_by-take-drop (λ (p : Point). p.uses) points n));
+}
+
+-- one more before them
+pub unused_more : (points : List Point) (n : ℕ) → 0 < n → n ≤ length points → (get_or points (n - 1) no_point).uses ≡ 0 → all_uses (drop n points) ≡ 0 → all_uses (drop (n - 1) points) ≡ 0
+unused_more points n some le none unused =
+    let back : n - 1 + 1 ≡ n = omega (arith, some) in
+    let rest : all_uses (drop (n - 1 + 1) points) ≡ 0 = subst (λ (k : ℕ). all_uses (drop k points) ≡ 0) (sym back) unused in
+    omega (arith, none, rest, sum_by-drop_more (λ (p : Point). p.uses) points (n - 1) no_point (omega (arith, some, le)))
 
 pub few_used : (points : List Point) → length (filter is_used points) ≤ all_uses points
 few_used [] = omega arith

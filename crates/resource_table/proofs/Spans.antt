@@ -1,5 +1,5 @@
 -- Times in the order of their starts, and timelines of them, with one time more or less.
-use Rattle.std.proofs.Common.{◌≡◌, ℕ, zero, suc, ◌+◌, ◌-◌, ◌<◌, ◌≤◌, inl, inr, Option, None, Some, List, [], ◌∷◌, length, get_or, set, arith, refl, sym, ap, ◌∙◌, subst}
+use Rattle.std.proofs.Common.{◌≡◌, ℕ, zero, suc, ◌+◌, ◌-◌, ◌<◌, ◌≤◌, inl, inr, Option, None, Some, List, [], ◌∷◌, length, take, get_or, set, arith, refl, sym, ap, ◌∙◌, subst}
 use Rattle.std.specs.Prelude.{slice_get, vec_capacity}
 use Rattle.std.specs.List.{All, AllWithin, remove}
 use Rattle.std.specs.List.Sorted.{IsNonDecreasingBy, IsPartitionPoint}
@@ -32,6 +32,17 @@ set_there (y ∷ xs) zero zero x apart = absurd (apart refl)
 set_there (y ∷ xs) zero (suc j) x apart = refl
 set_there (y ∷ xs) (suc k) zero x apart = refl
 set_there (y ∷ xs) (suc k) (suc j) x apart = set_there xs k j x (λ e. apart (ap suc e))
+
+-- without the last item
+taken_last : {X : Type 0} (xs : List X) (n : ℕ) → length xs ≤ n + 1 → remove xs n ≡ take n xs
+taken_last [] zero le = refl
+taken_last [] (suc n) le = refl
+taken_last (x ∷ []) zero le = refl
+taken_last (x ∷ y ∷ xs) zero le = absurd (omega (arith, le))
+taken_last {X} (x ∷ xs) (suc n) le = ap (λ (v : List X). x ∷ v) (taken_last xs n (omega (arith, le)))
+
+pub last_taken : {X : Type 0} (xs : List X) → remove xs (length xs - 1) ≡ take (length xs - 1) xs
+last_taken xs = taken_last xs (length xs - 1) (omega arith)
 
 some_same : (k j : ℕ) → (let a : Option ℕ = Some k in a) ≡ Some j → k ≡ j
 some_same k j e = cc

@@ -1,6 +1,6 @@
 //! Where a profile of power leaves enough free for a step of a test, and for long enough. A point is crowded for a step where it
 //! leaves less free than the step draws; a crowd is a run of such points, one behind the other.
-ghost use Rattle.std.specs.Prelude.{◌≡◌, ℕ, ◌+◌, ◌^◌, ◌<◌, ◌≤◌, ◌⊎◌, nat_lt, length, slice_index_or, IfSome, IfNone};
+ghost use Rattle.std.specs.Prelude.{◌≡◌, ℕ, ◌+◌, ◌^◌, ◌<◌, ◌≤◌, ◌⊎◌, true, nat_lt, length, slice_index_or, IfSome, IfNone};
 ghost use Rattle.resource_table.specs.Profiles.{no_point, IsEndedProfile, IsFreeFor};
 
 use crate::points::{Point, load_before, places_before_near};
@@ -12,6 +12,43 @@ fn is_crowded(load: u64, free: u64) -> bool
     load > free
 }
 
+/// Whether more is drawn than is free from each of the four points from a place on.
+fn are_crowded(points: &[Point], place: usize, free: u64) -> bool
+    requires { place + 4 ≤ length points.now }
+    ensures { result ≡ true → (k : ℕ) → place ≤ k → k < place + 4 → free < (slice_index_or points.now k no_point).load }
+{
+    if points[place].load <= free {
+        return false;
+    }
+    if points[place + 1].load <= free {
+        return false;
+    }
+    if points[place + 2].load <= free {
+        return false;
+    }
+    if points[place + 3].load <= free {
+        return false;
+    }
+    true
+}
+
+/// A place, from one on, up to which more is drawn than is free from each point. They are looked at in fours, since crowds are long.
+fn crowd_from(points: &[Point], from: usize, free: u64) -> usize
+    requires { from ≤ length points.now }
+    ensures from { from ≤ result }
+    ensures bound { result ≤ length points.now }
+    ensures crowded { (k : ℕ) → from ≤ k → k < result → free < (slice_index_or points.now k no_point).load }
+{
+    let mut place = from;
+    while points.len() - place >= 4 {
+        if !are_crowded(points, place, free) {
+            return place;
+        }
+        place += 4;
+    }
+    place
+}
+
 /// The place, from one on, of the first point from which on no more is drawn than is free; the end where there is none.
 fn crowd_end(points: &[Point], from: usize, free: u64) -> usize
     requires { from ≤ length points.now }
@@ -20,7 +57,8 @@ fn crowd_end(points: &[Point], from: usize, free: u64) -> usize
     ensures crowded { (k : ℕ) → from ≤ k → k < result → free < (slice_index_or points.now k no_point).load }
     ensures end { result < length points.now → (slice_index_or points.now result no_point).load ≤ free }
 {
-    for place in from..points.len() {
+    let first = crowd_from(points, from, free);
+    for place in first..points.len() {
         if points[place].load <= free {
             return place;
         }

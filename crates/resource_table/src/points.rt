@@ -1,9 +1,9 @@
 //! Points of a profile of the power that is drawn, in the order of their cycles.
-ghost use Rattle.std.specs.Prelude.{◌≡◌, ◌+◌, ◌-◌, ◌^◌, ◌<◌, ◌≤◌, true, false, nat_eq, not, length, slice_index_or, slice_set, vec_capacity};
+ghost use Rattle.std.specs.Prelude.{◌≡◌, ℕ, ◌+◌, ◌-◌, ◌^◌, ◌<◌, ◌≤◌, true, false, nat_eq, not, length, take, drop, slice_index_or, slice_set, vec_capacity};
 ghost use Rattle.std.specs.List.{filter, insert};
 ghost use Rattle.std.specs.List.Sorted.{IsNonDecreasingBy, IsPartitionPoint};
 ghost use Rattle.resource_table.specs.declared.points.Point.{Point};
-ghost use Rattle.resource_table.specs.Profiles.{no_point, load_before as load_before_place, is_used as is_used_point};
+ghost use Rattle.resource_table.specs.Profiles.{no_point, all_uses, load_before as load_before_place, is_used as is_used_point};
 
 /// What is drawn from a cycle on.
 #[derive(Clone, Copy)]
@@ -56,7 +56,7 @@ fn places_between(points: &[Point], from: usize, to: usize, cycle: u64) -> usize
     low
 }
 
-/// How many points stand before a cycle, where these are so many at least. They are looked for in steps that double.
+/// How many points stand before a cycle, where these are so many at least. They are looked for in steps that grow eightfold.
 #[inline(never)]
 fn places_from(points: &[Point], from: usize, cycle: u64) -> usize
     requires bound { from ≤ length points.now }
@@ -73,12 +73,12 @@ fn places_from(points: &[Point], from: usize, cycle: u64) -> usize
             return places_between(points, low, high, cycle);
         }
         low = high + 1;
-        far = far.saturating_mul(2);
+        far = far.saturating_mul(8);
     }
     places_between(points, low, points.len(), cycle)
 }
 
-/// How many points stand before a cycle, where these are so many at most. They are looked for in steps that double.
+/// How many points stand before a cycle, where these are so many at most. They are looked for in steps that grow eightfold.
 #[inline(never)]
 fn places_up_to(points: &[Point], to: usize, cycle: u64) -> usize
     requires bound { to ≤ length points.now }
@@ -95,7 +95,7 @@ fn places_up_to(points: &[Point], to: usize, cycle: u64) -> usize
             return places_between(points, low, high, cycle);
         }
         high = low - 1;
-        far = far.saturating_mul(2);
+        far = far.saturating_mul(8);
     }
     places_between(points, 0, high, cycle)
 }
@@ -188,4 +188,28 @@ pub fn drop_unused(points: &mut Vec<Point>)
             ensures { result ≡ not (nat_eq p.now.uses 0) }
         { p.uses != 0 },
     );
+}
+
+/// How many points are left without those at the end at which no mark stands.
+fn count_used(points: &[Point]) -> usize
+    ensures bound { result ≤ length points.now }
+    ensures unused { all_uses (drop result points.now) ≡ 0 }
+{
+    let mut count = points.len();
+    while count > 0 {
+        if points[count - 1].uses != 0 {
+            return count;
+        }
+        count -= 1;
+    }
+    0
+}
+
+/// Takes the points at the end out at which no mark stands.
+pub fn drop_last_unused(points: &mut Vec<Point>)
+    ensures items { (n : ℕ) × (points.new.items ≡ take n points.old.items) × (all_uses (drop n points.old.items) ≡ 0) }
+    ensures capacity { vec_capacity points.new ≡ vec_capacity points.old }
+{
+    let count = count_used(points);
+    points.truncate(count);
 }

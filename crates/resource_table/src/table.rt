@@ -18,7 +18,7 @@ use crate::empty_times::empty_times;
 use crate::history::{
     History, Note, forget_notes, mark_changes, new_history, renew_note, undo_to_mark,
 };
-use crate::points::Point;
+use crate::points::{Point, drop_last_unused};
 use crate::power::{Draw, after_power, are_low, push_draws};
 use crate::profile::{add_drawn, take_drawn};
 use crate::timelines::{Span, Timelines, add_time, after_busy, clear_times, remove_time};
@@ -496,6 +496,15 @@ impl<J> TableOf<J> {
         ensures sound { IsSoundTable self.new }
     {
         self.noted_start(test);
+    }
+
+    /// Takes the points at the end of the power profile out that no placed test needs any longer, so that no look at it passes them.
+    /// What is placed stays as it was.
+    pub fn forget_points(&mut self)
+        ensures same { self.new ≡ self.old }
+        ensures sound { IsSoundTable self.new }
+    {
+        drop_last_unused(&mut self.points);
     }
 
     /// Appends a placement, and answers how many there were.

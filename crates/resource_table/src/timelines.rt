@@ -1,5 +1,5 @@
 //! Busy times, kept apart by what they take: a bus, a module, or the children of a module.
-ghost use Rattle.std.specs.Prelude.{◌≡◌, ℕ, ◌+◌, ◌-◌, ◌^◌, ◌<◌, ◌≤◌, List, Option, Some, true, [], length as length_of, nat_lt, nat_le, slice_get, vec_len, vec_capacity};
+ghost use Rattle.std.specs.Prelude.{◌≡◌, ℕ, ◌+◌, ◌-◌, ◌^◌, ◌<◌, ◌≤◌, List, Option, Some, true, [], length as length_of, take, nat_lt, nat_le, slice_get, vec_len, vec_capacity};
 ghost use Rattle.std.specs.List.{All, AllWithin};
 ghost use Rattle.std.specs.List.Sorted.{IsNonDecreasingBy, IsPartitionPoint};
 ghost use Rattle.resource_table.specs.declared.timelines.Span.{Span};
@@ -173,15 +173,12 @@ fn stands_last(spans: &[Span], span: Span) -> bool
     last.to == span.to
 }
 
-/// The place of a time that is there: often it is the last one.
+/// The place of a time that is there.
 fn place_of(spans: &[Span], span: Span) -> usize
     requires ordered { IsNonDecreasingBy (λ (s : Span). s.from) spans.now }
     requires there { (place : ℕ) × (slice_get spans.now place ≡ Some span) }
     ensures { slice_get spans.now result ≡ Some span }
 {
-    if stands_last(spans, span) {
-        return spans.len() - 1;
-    }
     let mut place = starts_before(spans, span.from);
     while spans[place].to != span.to {
         place += 1;
@@ -189,13 +186,25 @@ fn place_of(spans: &[Span], span: Span) -> usize
     place
 }
 
-/// Takes a time out that is there.
+/// Takes the last time out, where there is one.
+fn take_last(spans: &mut Vec<Span>)
+    ensures items { spans.new.items ≡ take (length_of spans.old.items - 1) spans.old.items }
+    ensures capacity { vec_capacity spans.new ≡ vec_capacity spans.old }
+{
+    spans.truncate(spans.len().saturating_sub(1));
+}
+
+/// Takes a time out that is there. Often it is the last one, and nothing has to move.
 fn take_span(spans: &mut Vec<Span>, span: Span)
     requires ordered { IsNonDecreasingBy (λ (s : Span). s.from) spans.old.items }
     requires there { (place : ℕ) × (slice_get spans.old.items place ≡ Some span) }
     ensures taken { IsTaken span spans.old.items spans.new.items }
     ensures capacity { vec_capacity spans.new ≡ vec_capacity spans.old }
 {
+    if stands_last(spans, span) {
+        take_last(spans);
+        return;
+    }
     let place = place_of(spans, span);
     spans.remove(place);
 }

@@ -39,8 +39,8 @@ pub enum RowLine<'a> {
     Puts {
         shape: &'a str,
     },
-    /// `tells ROOM MOST N ..`: the same for the second output, on which is reported how far a run has come.
-    Tells {
+    /// `reports ROOM MOST N ..`: the same for the second output, on which is reported how far a run has come.
+    Reports {
         shape: &'a str,
     },
     /// `KIND WORDS -> WANTED`: what has to be answered: a text, or `=` and the name of the file that holds it, maybe behind a
@@ -105,7 +105,7 @@ pub fn line_of(text: &str) -> RowLine<'_> {
         "keep" => keep_of(rest),
         "loads" => RowLine::Loads { failing: rest },
         "puts" => RowLine::Puts { shape: rest },
-        "tells" => RowLine::Tells { shape: rest },
+        "reports" => RowLine::Reports { shape: rest },
         "" => RowLine::Blank,
         kind if kind.starts_with('#') => RowLine::Blank,
         kind => row_of(kind, rest),

@@ -74,9 +74,9 @@ pub struct Rig {
     files: Vec<HeldFile>,
     pub shelf: MemShelf,
     puts: OutputShape,
-    tells: OutputShape,
+    reports: OutputShape,
     written: Vec<u8>,
-    told: Vec<u8>,
+    reported: Vec<u8>,
 }
 
 impl Rig {
@@ -87,9 +87,9 @@ impl Rig {
             files: Vec::new(alloc),
             shelf: MemShelf::new(alloc),
             puts: OutputShape::new(alloc),
-            tells: OutputShape::new(alloc),
+            reports: OutputShape::new(alloc),
             written: Vec::new(alloc),
-            told: Vec::new(alloc),
+            reported: Vec::new(alloc),
         }
     }
 
@@ -154,7 +154,7 @@ impl Rig {
 
     /// The same of the second output.
     pub fn set_second_output(&mut self, words: &str) -> Result<(), NoMemory> {
-        self.tells.set(words)
+        self.reports.set(words)
     }
 
     /// An output for one run.
@@ -164,13 +164,13 @@ impl Rig {
 
     /// A second output for one run.
     pub fn second_output(&self) -> Result<MemSink, NoMemory> {
-        self.tells.output(self.alloc)
+        self.reports.output(self.alloc)
     }
 
     /// Notes what a run wrote to its two outputs.
-    pub fn note_run(&mut self, written: &[u8], told: &[u8]) -> Result<(), NoMemory> {
+    pub fn note_run(&mut self, written: &[u8], reported: &[u8]) -> Result<(), NoMemory> {
         self.written = copied(self.alloc, written)?;
-        self.told = copied(self.alloc, told)?;
+        self.reported = copied(self.alloc, reported)?;
         Ok(())
     }
 
@@ -180,7 +180,7 @@ impl Rig {
     }
 
     /// What the last run wrote to its second output.
-    pub fn told(&self) -> &[u8] {
-        &self.told
+    pub fn reported(&self) -> &[u8] {
+        &self.reported
     }
 }

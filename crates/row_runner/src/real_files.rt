@@ -1,5 +1,5 @@
 //! Files of the system: loads of them, and runs of the top calls over them with a file as the output.
-use crate::runs::{call, ended, words_of};
+use crate::runs::{ended, run_top_call, words_of};
 use outside::{Loaded, MemSink, NoMemory, RealShelf, RealSink, Shelf, copied, push_number};
 use row_calls::{Rig, count_of, part};
 use std::fs;
@@ -8,7 +8,7 @@ use std::rt::Files;
 /// The greatest length of a file of the system that a file of the rig is to hold, in bytes.
 const DATA_MOST: u64 = 33_554_432;
 
-/// `data NAME FILE`: a file of the rig holds what a file of the system has. Tells whether that could be read.
+/// `data NAME FILE`: a file of the rig holds what a file of the system has. Reports whether that could be read.
 pub fn hold_data<R: Files + AllocGlobal>(
     rt: &R,
     rig: &mut Rig,
@@ -35,8 +35,8 @@ pub fn run_of_real_files<R: Files + AllocGlobal>(rt: &R, words: &str) -> Result<
     };
     let mut shelf = RealShelf::new(rt);
     let mut out = RealSink::new(file);
-    let mut told = MemSink::new(alloc, 0, 1)?;
-    let status = call(alloc, words.as_slice(), &mut shelf, &mut out, &mut told);
+    let mut progress = MemSink::new(alloc, 0, 1)?;
+    let status = run_top_call(alloc, words.as_slice(), &mut shelf, &mut out, &mut progress);
     let mut written = Vec::new(alloc);
     match shelf.load("written", u64::MAX, &mut written) {
         Loaded::Whole => ended(alloc, status, &written),

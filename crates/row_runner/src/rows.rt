@@ -24,7 +24,7 @@ fn answer_of<R: Files + AllocGlobal>(
 ) -> Result<Option<Vec<u8>>, NoMemory> {
     let answer = match kind {
         "run" => run_of_command(rig, words)?,
-        "told" => copied(rig.alloc(), rig.told())?,
+        "reported" => copied(rig.alloc(), rig.reported())?,
         "same" => are_same(rig, words)?,
         "fewer" => takes_fewer(rig, words)?,
         "real" => run_of_real_files(rt, words)?,
@@ -77,7 +77,7 @@ fn said_of_line<R: Files + AllocGlobal>(
         RowLine::Keep { name, begin, end } => keep_lines(rig, name, begin, end)?,
         RowLine::Loads { failing } => rig.renew_shelf(failing)?,
         RowLine::Puts { shape } => rig.set_output(shape)?,
-        RowLine::Tells { shape } => rig.set_second_output(shape)?,
+        RowLine::Reports { shape } => rig.set_second_output(shape)?,
         RowLine::Row {
             kind,
             words,

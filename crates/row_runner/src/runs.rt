@@ -32,19 +32,19 @@ pub fn ended(alloc: Global, status: Status, written: &[u8]) -> Result<Vec<u8>, N
 }
 
 /// Runs the command of these words by the top call that takes them.
-pub fn call<H: Shelf, K: Sink, T: Sink>(
+pub fn run_top_call<H: Shelf, K: Sink, T: Sink>(
     alloc: Global,
     words: &[String],
     shelf: &mut H,
     out: &mut K,
-    told: &mut T,
+    progress: &mut T,
 ) -> Status {
     match top_call(words) {
-        TopCall::Improve => improve(alloc, words, shelf, out, told),
+        TopCall::Improve => improve(alloc, words, shelf, out, progress),
         TopCall::Picture => draw(alloc, words, shelf, out),
         TopCall::Simulate => simulate(alloc, words, shelf, out),
         TopCall::Bound => check_bound(alloc, words, shelf, out),
-        TopCall::Prove => prove_bound(alloc, words, shelf, out, told),
+        TopCall::Prove => prove_bound(alloc, words, shelf, out, progress),
         TopCall::Soctest => soctest(alloc, words, shelf, out),
     }
 }
@@ -54,8 +54,14 @@ pub fn run_of_command(rig: &mut Rig, words: &str) -> Result<Vec<u8>, NoMemory> {
     let alloc = rig.alloc();
     let words = words_of(alloc, words)?;
     let mut out = rig.output()?;
-    let mut told = rig.second_output()?;
-    let status = call(alloc, words.as_slice(), &mut rig.shelf, &mut out, &mut told);
-    rig.note_run(out.bytes(), told.bytes())?;
+    let mut progress = rig.second_output()?;
+    let status = run_top_call(
+        alloc,
+        words.as_slice(),
+        &mut rig.shelf,
+        &mut out,
+        &mut progress,
+    );
+    rig.note_run(out.bytes(), progress.bytes())?;
     ended(alloc, status, out.bytes())
 }

@@ -1,5 +1,5 @@
 //! Lists that stand in room that was taken for them before.
-ghost use Rattle.std.specs.Prelude.{◌≡◌, ◌<◌, ◌≤◌, length, slice_index_or, slice_set, vec_capacity, IfOk};
+ghost use Rattle.std.specs.Prelude.{◌≡◌, ◌<◌, ◌≤◌, true, length, slice_index_or, slice_set, vec_capacity, IfOk};
 ghost use Rattle.std.specs.List.{insert, remove};
 
 use outside::NoMemory;
@@ -11,6 +11,13 @@ pub(crate) fn room_for<T>(alloc: Global, items: usize) -> Result<Vec<T>, NoMemor
     ensures { IfOk result (λ room. items ≤ vec_capacity room) }
 {
     Vec::with_capacity(alloc, items).map_err(|_| NoMemory)
+}
+
+/// Whether two lists are the same.
+pub(crate) fn are_same(one: &[usize], other: &[usize]) -> bool
+    ensures { result ≡ true → one.now ≡ other.now }
+{
+    one == other
 }
 
 /// Copies a list into one that has room for it.

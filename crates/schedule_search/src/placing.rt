@@ -87,21 +87,3 @@ pub(crate) fn fewer_cycles<J>(
     frame.undo();
     if cycles < most { Some(cycles) } else { None }
 }
-
-/// The cycles that the list schedule of an order takes. It is made in the empty table, and taken back.
-pub(crate) fn order_cycles<J>(job: &Job, table: &mut TableOf<J>, order: &[usize]) -> u64
-    requires job { table.old.job ≡ job_value job.now }
-    requires sound { IsSoundTable table.old }
-    requires empty { table.old.placed ≡ [] }
-    requires topological { IsTopological (job_value job.now) order.now }
-    ensures takes { Takes (job_value job.now) order.now result }
-    ensures table { table.new ≡ table.old }
-{
-    if order.is_empty() {
-        return 0;
-    }
-    match fewer_cycles(job, table, order, 0, 0, u64::MAX) {
-        Some(cycles) => cycles,
-        None => u64::MAX,
-    }
-}

@@ -6,18 +6,17 @@ ghost use Rattle.resource_table.specs.Schedules.{IsSoundTable};
 ghost use Rattle.schedule_search.specs.Orders.{IsFirstOrder};
 ghost use Rattle.schedule_search.specs.Found.{IsFound};
 ghost use Rattle.schedule_search.specs.Kept.{HasRoom, IsKept};
-ghost use Rattle.schedule_search.specs.Prefixes.{HasPrefixRoom};
 ghost use Rattle.schedule_search.specs.Progress.{AreTries, stand_of, IsBest};
 ghost use Rattle.schedule_search.specs.Estimates.{IsEstimate};
 ghost use Rattle.schedule_search.specs.SearchValues.{SearchValue};
 ghost use Rattle.schedule_search.specs.Searches.{Keeps};
 ghost use Rattle.schedule_search.specs.Begun.{IsBegun, IsImproved, IsSearched};
+ghost use Rattle.schedule_search.specs.Noted.{AreStarts};
 
 use crate::ahead::{Ahead, Estimate};
 use crate::exchanges::improve_order;
-use crate::lists::{copy_to, room_for};
+use crate::lists::{are_same, copy_to, room_for};
 use crate::order::first_by;
-use crate::placing::order_cycles;
 use crate::prefix::Prefix;
 use crate::starts::list_starts;
 use crate::tries::{Tries, tries_of};
@@ -83,19 +82,28 @@ pub struct Found<'s> {
     pub complete: bool,
 }
 
-/// Begins with the first order, and a whole budget.
-fn begin<J>(job: &Job, table: &mut TableOf<J>, first: &[usize], progress: &mut Progress)
+/// Begins with the first order, whose starts are listed, and a whole budget.
+fn begin_orders<J>(
+    job: &Job,
+    table: &mut TableOf<J>,
+    first: &[usize],
+    progress: &mut Progress,
+    starts: &mut Vec<u64>,
+)
     requires job { table.old.job ≡ job_value job.now }
     requires empty { table.old.placed ≡ [] }
     requires sound { IsSoundTable table.old }
     requires first { IsFirstOrder (job_value job.now) first.now }
     requires room { length (job_value job.now).tests ≤ vec_capacity progress.old.best }
+    requires starts_room { length (job_value job.now).tests ≤ vec_capacity starts.old }
     ensures begun { IsBegun (job_value job.now) first.now (stand_of progress.new) }
+    ensures starts { AreStarts (job_value job.now) first.now starts.new.items }
     ensures table { table.new ≡ table.old }
     ensures room { vec_capacity progress.new.best ≡ vec_capacity progress.old.best }
+    ensures starts_room { vec_capacity starts.new ≡ vec_capacity starts.old }
 {
     copy_to(&mut progress.best, first);
-    progress.cycles = order_cycles(job, table, first);
+    progress.cycles = list_starts(job, table, first, starts);
     progress.entered = 0;
     progress.refused = false;
 }
@@ -114,15 +122,14 @@ fn improve_best<J>(job: &Job, table: &mut TableOf<J>, progress: &mut Progress)
     }
 }
 
-/// Searches, from an empty table on.
+/// Searches, from an empty table on. The starts of the first order are listed.
 fn search_orders<J, E: Estimate<J>>(
     job: &Job,
     tries: &Tries,
     ahead: &E,
     table: &mut TableOf<J>,
     first: &[usize],
-    prefix: &mut Prefix,
-    progress: &mut Progress,
+    room: &mut WalkRoom,
 )
     requires job { table.old.job ≡ job_value job.now }
     requires empty { table.old.placed ≡ [] }
@@ -130,21 +137,28 @@ fn search_orders<J, E: Estimate<J>>(
     requires tries { AreTries (job_value job.now) tries.now }
     requires estimates { E.estimates ahead.now }
     requires first { IsFirstOrder (job_value job.now) first.now }
-    requires prefix_room { HasPrefixRoom (length (job_value job.now).tests) prefix.old }
-    requires best_room { length (job_value job.now).tests ≤ vec_capacity progress.old.best }
-    ensures found { IsSearched (job_value job.now) tries.now.budget (stand_of progress.new) }
+    requires room { HasRoom (length (job_value job.now).tests) room.old }
+    ensures found { IsSearched (job_value job.now) tries.now.budget (stand_of room.new.progress) }
+    ensures starts { AreStarts (job_value job.now) first.now room.new.starts.items }
     ensures table { table.new ≡ table.old }
-    ensures prefix_room { HasPrefixRoom (length (job_value job.now).tests) prefix.new }
-    ensures best_room { vec_capacity progress.new.best ≡ vec_capacity progress.old.best }
+    ensures room { HasRoom (length (job_value job.now).tests) room.new }
 {
-    begin(job, table, first, progress);
-    prefix.begin(job, tries);
+    begin_orders(job, table, first, &mut room.progress, &mut room.starts);
+    room.prefix.begin(job, tries);
     let from = Reached { end: 0, seen: None };
-    explore_orders(job, tries, ahead, table, prefix, progress, from);
-    improve_best(job, table, progress);
+    explore_orders(
+        job,
+        tries,
+        ahead,
+        table,
+        &mut room.prefix,
+        &mut room.progress,
+        from,
+    );
+    improve_best(job, table, &mut room.progress);
 }
 
-/// Searches, from an empty table on, and lists the starts of the best order.
+/// Searches, from an empty table on, and lists the starts of the best order. Those of the first order are listed already.
 fn search_all<J, E: Estimate<J>>(
     job: &Job,
     tries: &Tries,
@@ -165,16 +179,11 @@ fn search_all<J, E: Estimate<J>>(
     ensures table { table.new ≡ table.old }
     ensures room { HasRoom (length (job_value job.now).tests) room.new }
 {
-    search_orders(
-        job,
-        tries,
-        ahead,
-        table,
-        first,
-        &mut room.prefix,
-        &mut room.progress,
-    );
-    list_starts(table, &room.progress.best, &mut room.starts);
+    search_orders(job, tries, ahead, table, first, room);
+    if are_same(&room.progress.best, first) {
+        return;
+    }
+    list_starts(job, table, &room.progress.best, &mut room.starts);
 }
 
 /// Room for the best order of so many tests.

@@ -206,6 +206,8 @@ struct Asked {
     most: u64,
     /// What was seen as the last test was placed.
     seen: Option<Seen>,
+    /// How many prefixes were entered.
+    entered: u64,
 }
 
 /// Whether a test that isn't placed ends, by its estimate, as late as so many cycles, or later. Where it is still in time, or in time
@@ -295,8 +297,21 @@ fn note_few<J>(table: &mut TableOf<J>, rest: &[usize])
     }
 }
 
-/// Whether one of the tests that are left is late, as [`is_late`] answers it. Where none is, and they have just become few, their
-/// least starts are noted.
+/// Where the walk goes on, the power profile is tidied if the number of prefixes that were entered is a multiple of so many.
+const OFTEN: u64 = 4096;
+
+/// Now and then takes the points at the end of the power profile out that no placed test needs any longer. They are of orders that were
+/// left, and each look at the profile would pass them.
+fn tidy_points<J>(table: &mut TableOf<J>, entered: u64)
+    ensures same { table.new ≡ table.old }
+{
+    if entered % OFTEN == 0 {
+        table.forget_points();
+    }
+}
+
+/// Whether one of the tests that are left is late, as [`is_late`] answers it. Where none is, the power profile is tidied now and then, and
+/// where they have just become few, their least starts are noted.
 fn is_over<J, E: Estimate<J>>(
     job: &Job,
     ahead: &E,
@@ -318,6 +333,7 @@ fn is_over<J, E: Estimate<J>>(
     if is_late(job, ahead, table, rest, by, late) {
         return true;
     }
+    tidy_points(table, by.entered);
     note_few(table, rest);
     false
 }
@@ -459,6 +475,7 @@ pub(crate) fn explore_orders<J, E: Estimate<J>>(
         cycles,
         most: tries.most,
         seen: from.seen,
+        entered: progress.entered,
     };
     if is_over(job, ahead, table, &prefix.rest, by, &mut progress.late) {
         return;

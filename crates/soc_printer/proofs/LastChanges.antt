@@ -3,6 +3,7 @@ use Rattle.std.proofs.Common.{◌≡◌, ℕ, zero, suc, ◌<◌, List, [], ◌�
 use Rattle.std.specs.List.{list_any, prefix_len}
 use Rattle.std.proofs.lemmas.Bool.Decides.{nat_tests}
 use Rattle.std.proofs.lemmas.List.{length-append, length-map}
+use Rattle.std.proofs.lemmas.Bool.{or_parts, eq-eqb}
 use Rattle.soc_model.specs.declared.Test.{Test}
 use Rattle.soc_model.specs.Chips.{ModuleValue, SocValue}
 use Rattle.soc_model.specs.SoundChips.{AllDiffer}
@@ -14,25 +15,18 @@ use Rattle.soc_reader.specs.Meaning.{change_at, change_found, at_module, at_test
 abbrev pub IsAbsent : ℕ → List ℕ → Type 0
 IsAbsent n ns = list_any (nat_eq n) ns ≡ false
 
-either_false : (p q : Bool) → (p || q) ≡ false → (p ≡ false) × (q ≡ false)
-either_false true q e = cc
-either_false false q e = (refl, e)
-
-pub eq-refl : (n : ℕ) → nat_eq n n ≡ true
-eq-refl n = grind (arith, nat_tests)
-
 pub absent-front : (n : ℕ) (ns : List ℕ) (m : ℕ) → IsAbsent n (ns ++ m ∷ []) → IsAbsent n ns
 absent-front n [] m absent = refl
 absent-front n (k ∷ ns) m absent =
-    let parts = either_false (nat_eq n k) (list_any (nat_eq n) (ns ++ m ∷ [])) absent in
+    let parts = or_parts (nat_eq n k) (list_any (nat_eq n) (ns ++ m ∷ [])) absent in
     rw parts.0 (absent-front n ns m parts.1)
 
 pub absent-last : (n : ℕ) (ns : List ℕ) (m : ℕ) → IsAbsent n (ns ++ m ∷ []) → nat_eq n m ≡ false
-absent-last n [] m absent = (either_false (nat_eq n m) false absent).0
-absent-last n (k ∷ ns) m absent = absent-last n ns m (either_false (nat_eq n k) (list_any (nat_eq n) (ns ++ m ∷ [])) absent).1
+absent-last n [] m absent = (or_parts (nat_eq n m) false absent).0
+absent-last n (k ∷ ns) m absent = absent-last n ns m (or_parts (nat_eq n k) (list_any (nat_eq n) (ns ++ m ∷ [])) absent).1
 
 pub there-last : (ns : List ℕ) (m : ℕ) → list_any (nat_eq m) (ns ++ m ∷ []) ≡ true
-there-last [] m = rw (eq-refl m) refl
+there-last [] m = rw (eq-eqb m m refl) refl
 there-last (k ∷ ns) m = rw (there-last ns m) (or_true (nat_eq m k))
   where
     or_true : (b : Bool) → (b || true) ≡ true
@@ -83,7 +77,7 @@ absent-from_differ ns more n differ = by (list_any (nat_eq n) ns) refl
 prefix-last : {A : Type 0} (p : A → Bool) (xs : List A) (x : A) → list_any p xs ≡ false → p x ≡ true → prefix_len (λ y. not (p y)) (xs ++ x ∷ []) ≡ length xs
 prefix-last p [] x none is = rw is refl
 prefix-last p (y ∷ xs) x none is =
-    let parts = either_false (p y) (list_any p xs) none in
+    let parts = or_parts (p y) (list_any p xs) none in
     let rest = prefix-last p xs x parts.1 is in
     rw parts.0 (omega (arith, rest))
 
@@ -101,7 +95,7 @@ change-last f (y ∷ xs) x = ap (λ l. y ∷ l) (change-last f xs x)
 -- the first test of a number is the last test
 pub test-changed : (t : ℕ) (f : Test → Test) (ts : List Test) (x : Test) → IsAbsent t (test_numbers ts) → x.number ≡ t → at_test t f (ts ++ x ∷ []) ≡ ts ++ f x ∷ []
 test-changed t f ts x absent same =
-    let is : nat_eq t x.number ≡ true = ap (nat_eq t) same ∙ eq-refl t in
+    let is : nat_eq t x.number ≡ true = ap (nat_eq t) same ∙ eq-eqb t t refl in
     ap (λ o. change_found o f (ts ++ x ∷ [])) (position-last (λ (x : Test). nat_eq t x.number) ts x (sym (any-numbers t ts) ∙ absent) is) ∙ change-last f ts x
 
 -- a new test goes last
@@ -127,7 +121,7 @@ with_last whole done m last = record whole { keys = numbers_of done ++ m ∷ [];
 
 pub last-changed : (whole : SocValue) (done : List ModuleValue) (m : ℕ) (f : ModuleValue → ModuleValue) (last : ModuleValue) → IsAbsent m (numbers_of done) → at_module m f (with_last whole done m last) ≡ with_last whole done m (f last)
 last-changed whole done m f last absent =
-    let found : position (nat_eq m) (numbers_of done ++ m ∷ []) ≡ Some (length done) = position-last (nat_eq m) (numbers_of done) m absent (eq-refl m) ∙ ap Some (length-map done (λ (m : ModuleValue). m.number)) in
+    let found : position (nat_eq m) (numbers_of done ++ m ∷ []) ≡ Some (length done) = position-last (nat_eq m) (numbers_of done) m absent (eq-eqb m m refl) ∙ ap Some (length-map done (λ (m : ModuleValue). m.number)) in
     ap (λ ms. record whole { keys = numbers_of done ++ m ∷ []; modules = ms }) (ap (λ o. change_found o f (done ++ last ∷ [])) found ∙ change-last f done last)
 
 pub last-there : (whole : SocValue) (done : List ModuleValue) (m : ℕ) (last : ModuleValue) → with_module m (with_last whole done m last) ≡ with_last whole done m last

@@ -8,8 +8,7 @@ use Rattle.soc_model.specs.Chips.{ModuleValue}
 use Rattle.soc_model.specs.SoundChips.{IsName}
 use Rattle.soc_model.proofs.Sums.{IsSmallTest}
 use Rattle.soc_printer.specs.SocText.{flag_word, name_words, setup_words, terminal_words, module_words, module_line, tests_line, test_line, module_text, name_line, total_line, options_line}
-use Rattle.soc_printer.proofs.TextWords.{IsOneWord, AllWords, AllWords-append, words_on, line-words, module_line-words, plain-word, flag-word, decimal-word, decimal-words}
-use Rattle.soc_printer.proofs.PrintedWords.{name-word}
+use Rattle.soc_printer.proofs.TextWords.{IsOneWord, AllWords, AllWords-append, words_on, line-words, module_line-words, name-word, plain-word, flag-word, decimal-word, decimal-words}
 use Rattle.soc_printer.proofs.ModuleReads.{IsPrintable, tests_words, test_words, all_test_words}
 
 module_word : IsOneWord (codes "Module")

@@ -3,7 +3,8 @@ use Rattle.std.proofs.Common.{◌≡◌, ℕ, ◌<◌, ◌≤◌, ◌^◌, List,
 use Rattle.std.specs.List.{All, list_any}
 use Rattle.std.proofs.lemmas.Grind.{common_steps}
 use Rattle.std.proofs.lemmas.List.Elements.{All-head, All-tail}
-use Rattle.outside.specs.Words.{same_letters, ends_word, AllInWord}
+use Rattle.std.proofs.lemmas.Bool.{or_parts}
+use Rattle.outside.specs.Words.{same_letters}
 use Rattle.outside.proofs.DecimalLemmas.{number_of-decimal}
 use Rattle.soc_model.specs.declared.TheConstants.{NUMBER_WORD_MOST}
 use Rattle.soc_model.specs.SoundChips.{IsName, is_name_byte, is_keyword, keywords as spellings}
@@ -13,7 +14,7 @@ use Rattle.soc_reader.specs.Keywords.{keywords, named, key_of, number, flag_of, 
 use Rattle.soc_reader.specs.Table.{AreNumbers}
 use Rattle.soc_reader.specs.Grammar.{IsFree, row}
 use Rattle.soc_printer.specs.SocText.{flag_word}
-use Rattle.soc_printer.proofs.TextWords.{IsOneWord, words_on}
+use Rattle.soc_printer.proofs.TextWords.{words_on}
 
 -- ---- keywords
 
@@ -136,31 +137,17 @@ flag-read false = refl
 name_byte-printable : (b : ℕ) → IsTrue (is_name_byte b) → is_printable_byte b ≡ true
 name_byte-printable b is = grind (arith, common_steps)
 
-name_byte-unbroken : (b : ℕ) → IsTrue (is_name_byte b) → ends_word b ≡ false
-name_byte-unbroken b is = grind (arith, common_steps)
-
 pub name-printable : (w : List ℕ) → IsName w → is_printable w ≡ true
 unfolding is_printable
 name-printable [] is = refl
 name-printable (b ∷ w) is =
     rw (name_byte-printable b (All-head (λ b. IsTrue (is_name_byte b)) b w is)) (name-printable w (All-tail (λ b. IsTrue (is_name_byte b)) b w is))
 
-name-unbroken : (w : List ℕ) → IsName w → AllInWord w
-name-unbroken [] is = tt
-name-unbroken (b ∷ w) is = (name_byte-unbroken b (All-head (λ b. IsTrue (is_name_byte b)) b w is), name-unbroken w (All-tail (λ b. IsTrue (is_name_byte b)) b w is))
-
-pub name-word : (b : ℕ) (w : List ℕ) → IsName (b ∷ w) → IsOneWord (b ∷ w)
-name-word b w is = record { some = omega arith; unbroken = name-unbroken (b ∷ w) is }
-
-either_false : (p q : Bool) → (p || q) ≡ false → (p ≡ false) × (q ≡ false)
-either_false true q e = cc
-either_false false q e = (refl, e)
-
 -- a word that is none of these spellings is none of these keywords
 no_key : (w : List ℕ) (ks : List (List ℕ × Key)) → list_any (same_letters w) (map {A = List ℕ × Key} (λ k. k.0) ks) ≡ false → named ks w ≡ None
 no_key w [] none = refl
 no_key w (k ∷ ks) none =
-    let parts = either_false (same_letters w k.0) (list_any (same_letters w) (map {A = List ℕ × Key} (λ k. k.0) ks)) none in
+    let parts = or_parts (same_letters w k.0) (list_any (same_letters w) (map {A = List ℕ × Key} (λ k. k.0) ks)) none in
     rw parts.0 (no_key w ks parts.1)
 
 record TwoLess (p : List ℕ → Bool) (front back : List (List ℕ)) (x y : List ℕ) : Type 0 where
@@ -170,15 +157,15 @@ record TwoLess (p : List ℕ → Bool) (front back : List (List ℕ)) (x y : Lis
 
 two_less : (p : List ℕ → Bool) (front back : List (List ℕ)) (x y : List ℕ) → list_any p (front ++ x ∷ (back ++ y ∷ [])) ≡ false → TwoLess p front back x y
 two_less p [] [] x y none =
-    let parts = either_false (p x) (p y || false) none in
-    record { others = refl; first = parts.0; second = (either_false (p y) false parts.1).0 }
+    let parts = or_parts (p x) (p y || false) none in
+    record { others = refl; first = parts.0; second = (or_parts (p y) false parts.1).0 }
 two_less p [] (b ∷ back) x y none =
-    let parts = either_false (p x) (p b || list_any p (back ++ y ∷ [])) none in
-    let rest = either_false (p b) (list_any p (back ++ y ∷ [])) parts.1 in
+    let parts = or_parts (p x) (p b || list_any p (back ++ y ∷ [])) none in
+    let rest = or_parts (p b) (list_any p (back ++ y ∷ [])) parts.1 in
     let less = two_less p [] back x y (rw parts.0 rest.1) in
     record { others = rw rest.0 less.others; first = parts.0; second = less.second }
 two_less p (a ∷ front) back x y none =
-    let parts = either_false (p a) (list_any p (front ++ x ∷ (back ++ y ∷ []))) none in
+    let parts = or_parts (p a) (list_any p (front ++ x ∷ (back ++ y ∷ []))) none in
     let less = two_less p front back x y parts.1 in
     record { others = rw parts.0 less.others; first = less.first; second = less.second }
 

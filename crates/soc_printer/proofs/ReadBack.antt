@@ -3,6 +3,7 @@ use Rattle.std.proofs.Common.{◌≡◌, ℕ, ◌+◌, ◌<◌, ◌≤◌, ◌^�
 use Rattle.std.specs.List.{All, flat_map}
 use Rattle.std.proofs.lemmas.List.{map-append}
 use Rattle.std.proofs.lemmas.List.Elements.{All-head, All-tail, All-weaker}
+use Rattle.std.proofs.lemmas.Bool.{eq-eqb}
 use Rattle.outside.specs.Words.{words_of, Word}
 use Rattle.soc_model.specs.declared.Test.{Test}
 use Rattle.soc_model.specs.Chips.{ModuleValue, SocValue, numbers}
@@ -22,7 +23,7 @@ use Rattle.soc_reader.specs.Meaning.{empty_chip, says, wrong_total, module_count
 use Rattle.soc_reader.specs.ChipForm.{SaysChip}
 use Rattle.soc_printer.specs.SocText.{flag_word, name_line, total_line, options_line, module_text, soc_text}
 use Rattle.soc_printer.proofs.PrintedWords.{soc_name-key, total_modules-key, options-key, power_flag-key, xy_flag-key, name-printable}
-use Rattle.soc_printer.proofs.LastChanges.{IsAbsent, numbers_of, numbers-push, upto, with_last, absent-from_differ, at_end, eq-refl}
+use Rattle.soc_printer.proofs.LastChanges.{IsAbsent, numbers_of, numbers-push, upto, with_last, absent-from_differ, at_end}
 use Rattle.soc_printer.proofs.Steps.{ReadSoFar, push, number-follows, flag-follows}
 use Rattle.soc_printer.proofs.ModuleReads.{IsPrintable, line-reads, tests_line-reads, tests-read, tests_words, all_test_words, no_wrong}
 use Rattle.soc_printer.proofs.LineWords.{behind, modules_words, modules-words, head_words, head-words, name_line-words}
@@ -80,7 +81,7 @@ chip-push whole all left left' chip chip' s line k v kw ws split known stands of
     e
 
 all_counted : (whole : SocValue) → module_count whole (length whole.modules) ≡ true
-all_counted whole = rw (eq-refl (length whole.modules)) refl
+all_counted whole = rw (eq-eqb (length whole.modules) (length whole.modules) refl) refl
 
 -- the number of modules and the flags, behind the name where there is one
 head-reads : (whole : SocValue) (all left : List Word) (line : ℕ) (start : SocValue) → length whole.modules < 10 ^ 12 → start ≡ record empty_chip { name = whole.name }
@@ -148,7 +149,7 @@ tests_counted : (whole : SocValue) → IsSoundChip whole → (done more : List M
 tests_counted whole sound done more m split =
     let at : slice_get whole.modules (length done) ≡ Some m = ap (λ ms. slice_get ms (length done)) split ∙ at_end done more m in
     let place : module_place whole m.number ≡ Some (length done) = place-from_module (IsKeyed-from_sound sound) (length done) m at in
-    rw place (rw at (eq-refl (length m.tests)))
+    rw place (rw at (eq-eqb (length m.tests) (length m.tests) refl))
 
 modules-read : (whole : SocValue) (all : List Word) (done more : List ModuleValue) (line : ℕ) → IsSoundChip whole → whole.modules ≡ done ++ more → All IsPrintable more
     → ReadSoFar whole all (modules_words line more) (upto whole done) (numbers_of done) → ReadSoFar whole all [] (upto whole whole.modules) (numbers_of whole.modules)

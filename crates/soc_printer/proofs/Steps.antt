@@ -1,7 +1,8 @@
 -- A printed text is read item by item.
-use Rattle.std.proofs.Common.{◌≡◌, ℕ, ◌+◌, ◌<◌, ◌≤◌, ◌^◌, List, [], ◌∷◌, ◌++◌, Bool, true, false, ◌&&◌, nat_eq, codes, decimal, None, Some, option_map, refl, sym, ◌∙◌, ap, append_assoc, arith}
+use Rattle.std.proofs.Common.{◌≡◌, ℕ, ◌+◌, ◌<◌, ◌≤◌, ◌^◌, List, [], ◌∷◌, ◌++◌, Bool, true, false, nat_eq, codes, decimal, None, Some, option_map, refl, sym, ◌∙◌, ap, append_assoc, arith}
 use Rattle.std.specs.List.{list_any}
 use Rattle.std.proofs.lemmas.Bool.Decides.{nat_tests}
+use Rattle.std.proofs.Math.Bool.{and-false}
 use Rattle.soc_model.specs.declared.Test.{Test}
 use Rattle.soc_model.specs.Chips.{ModuleValue, SocValue}
 use Rattle.soc_reader.specs.declared.keys.Key.{Key}
@@ -19,10 +20,6 @@ use Rattle.soc_reader.specs.Drafts.{test_numbers}
 use Rattle.soc_printer.proofs.PrintedWords.{module-key, test-key, number-decimal, flag-read}
 use Rattle.soc_printer.proofs.LastChanges.{IsAbsent, numbers_of, upto, with_last, absent-front, absent-last, last-changed, last-there, test-changed, test-added}
 use Rattle.soc_printer.specs.SocText.{flag_word}
-
-and_false : (b : Bool) → (b && false) ≡ false
-and_false true = refl
-and_false false = refl
 
 -- ---- what was read so far
 
@@ -114,7 +111,7 @@ entry-step whole all left left' chip chip' seen m tested s next next' line k v k
       keys = λ j le.
           let other : nat_eq (row j) (row k) ≡ false = later_row (row j) (row k) next' upon le in
           let before : next ≤ row j = omega arith in
-          rw other (rw (and_false (same_subject s s)) (r.keys j before));
+          rw other (rw (and-false (same_subject s s)) (r.keys j before));
       module_seen = r.module_seen;
     }
 
@@ -218,7 +215,7 @@ test-begun whole all left done last seen m next t line absent new small r =
       opened = refl;
       no_options = refl;
       other = λ n gone. record { modules = refl; tests = λ u. rw (r.module_seen n gone) refl };
-      other_tests = λ u gone. rw (absent-last u (test_numbers last.tests) t gone) (and_false (nat_eq m m));
+      other_tests = λ u gone. rw (absent-last u (test_numbers last.tests) t gone) (and-false (nat_eq m m));
       untested = λ u gone k. r.untested u (absent-front u (test_numbers last.tests) t gone) k;
       keys = λ k le. r.untested t new k;
       module_seen = r.module_seen;

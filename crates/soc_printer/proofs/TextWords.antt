@@ -1,11 +1,14 @@
 -- The words of a printed text, with their lines.
-use Rattle.std.proofs.Common.{◌≡◌, ℕ, ◌+◌, ◌<◌, ◌^◌, List, [], ◌∷◌, ◌++◌, length, map, Bool, true, false, not, ◌&&◌, decimal, refl, ◌∙◌, ap, append_assoc, arith}
+use Rattle.std.proofs.Common.{◌≡◌, ℕ, ◌+◌, ◌<◌, ◌^◌, List, [], ◌∷◌, ◌++◌, length, map, Bool, true, false, IsTrue, decimal, refl, ◌∙◌, ap, append_assoc, arith}
 use Rattle.std.specs.List.{All, list_all}
 use Rattle.std.proofs.lemmas.List.Elements.{All-head, All-tail}
 use Rattle.std.proofs.lemmas.Fmt.{decimal_nonempty}
+use Rattle.std.proofs.lemmas.Grind.{common_steps}
+use Rattle.std.proofs.lemmas.List.Sums.{AllPass-from_list_all}
 use Rattle.outside.specs.Words.{words_left, ends_word, IsEnd, AllInWord, Word}
 use Rattle.outside.proofs.WordLemmas.{first_word}
 use Rattle.outside.proofs.DecimalLemmas.{decimal_in_word}
+use Rattle.soc_model.specs.SoundChips.{IsName, is_name_byte}
 use Rattle.soc_printer.specs.SocText.{spaced, line_of, flag_word, lengths_text}
 
 -- a word, as it may stand in a text
@@ -65,23 +68,19 @@ module_line-words line first more ns rest is are lengths =
 
 -- ---- words that are printed
 
-not_true : (b : Bool) → not b ≡ true → b ≡ false
-not_true true e = cc
-not_true false e = refl
+name_byte-unbroken : (b : ℕ) → IsTrue (is_name_byte b) → ends_word b ≡ false
+name_byte-unbroken b is = grind (arith, common_steps)
 
-both_true : (p q : Bool) → (p && q) ≡ true → (p ≡ true) × (q ≡ true)
-both_true true q e = (refl, e)
-both_true false q e = cc
+name-unbroken : (w : List ℕ) → IsName w → AllInWord w
+name-unbroken [] is = tt
+name-unbroken (b ∷ w) is = (name_byte-unbroken b (All-head (λ b. IsTrue (is_name_byte b)) b w is), name-unbroken w (All-tail (λ b. IsTrue (is_name_byte b)) b w is))
+
+pub name-word : (b : ℕ) (w : List ℕ) → IsName (b ∷ w) → IsOneWord (b ∷ w)
+name-word b w is = record { some = omega arith; unbroken = name-unbroken (b ∷ w) is }
 
 -- a word whose bytes are looked at
-unbroken : (w : List ℕ) → list_all (λ b. not (ends_word b)) w ≡ true → AllInWord w
-unbroken [] e = tt
-unbroken (b ∷ w) e =
-    let parts = both_true (not (ends_word b)) (list_all (λ b. not (ends_word b)) w) e in
-    (not_true (ends_word b) parts.0, unbroken w parts.1)
-
-pub plain-word : (b : ℕ) (w : List ℕ) → list_all (λ b. not (ends_word b)) (b ∷ w) ≡ true → IsOneWord (b ∷ w)
-plain-word b w e = record { some = omega arith; unbroken = unbroken (b ∷ w) e }
+pub plain-word : (b : ℕ) (w : List ℕ) → list_all is_name_byte (b ∷ w) ≡ true → IsOneWord (b ∷ w)
+plain-word b w e = name-word b w (AllPass-from_list_all is_name_byte (b ∷ w) e)
 
 pub flag-word : (f : Bool) → IsOneWord (flag_word f)
 flag-word true = plain-word 49 [] refl

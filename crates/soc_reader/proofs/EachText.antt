@@ -11,7 +11,7 @@ use Rattle.soc_model.specs.Chips.{SocValue}
 use Rattle.soc_model.specs.Sizes.{passed, rank_of, IsWithinSize, IsFirstPassed}
 use Rattle.soc_reader.specs.Table.{Item}
 use Rattle.soc_reader.specs.Grammar.{InGrammar}
-use Rattle.soc_reader.specs.Steps.{State, start, step, closed}
+use Rattle.soc_reader.specs.Steps.{of_list, State, start, step, closed}
 use Rattle.soc_reader.specs.Meaning.{chip_of, first_wrong}
 use Rattle.soc_reader.specs.ChipForm.{SaysModules}
 use Rattle.soc_reader.specs.Refusals.{HasAnswer}
@@ -20,7 +20,7 @@ use Rattle.soc_reader.proofs.Viable.{read_viable, read_text, stuck, no_text}
 -- ---- the grammar
 
 -- the states of the reader, beside the grammar
-fits : (most : ℕ) → Fits InGrammar most State (List Item) step closed start
+fits : (most : ℕ) → Fits InGrammar most State (List Item) (step of_list) (closed of_list) start
 fits most = record {
   viable = λ s ws few read. read_viable ws s read;
   stuck = stuck;
@@ -108,7 +108,7 @@ said bytes soc says = by (size_or_limit soc)
     by (inr passes) = inr (inr (passes.0, record { soc = soc; modules = says; passed = passes.1 }))
 
 pub each_text : (bytes : List ℕ) → HasAnswer bytes
-each_text bytes = by (whole_or_refused InGrammar (length (words_of bytes)) State _ (run_decides InGrammar (length (words_of bytes)) State (List Item) step closed start (fits (length (words_of bytes)))) (last_line bytes) start (words_of bytes) refl (omega arith))
+each_text bytes = by (whole_or_refused InGrammar (length (words_of bytes)) State _ (run_decides InGrammar (length (words_of bytes)) State (List Item) (step of_list) (closed of_list) start (fits (length (words_of bytes)))) (last_line bytes) start (words_of bytes) refl (omega arith))
   where
     totals : (g : InGrammar (words_of bytes)) (o : Option ℕ) → first_wrong (chip_of g.0) g.0 ≡ o → HasAnswer bytes
     totals g None none = said bytes (chip_of g.0) (record { items = g.0; text = g.1; chip = refl; totals = none })

@@ -4,14 +4,15 @@ pub mod Complete
 pub mod Sound
 pub mod Viable
 pub mod Lists
+pub mod Knowing
+pub mod Adding
+pub mod Silent
 pub mod Progress
 pub mod DifferentNumbers
 pub mod Places
-pub mod Telling
 pub mod TotalFacts
 pub mod RowBits
 pub mod Sizes
-pub mod Lengths
 pub mod ChipsSaid
 pub mod OneAnswer
 pub mod EachText

@@ -55,6 +55,12 @@ indexed-set (k ∷ ns) (e ∷ es) (suc place) n m same new =
     let rest : map keys_of_set ns ≡ numbers_in (map value_of es) = cc in
     ap (λ l. l ∷ map keys_of_set (slice_set ns place n)) first ∙ ap (λ l. test_numbers e.1.tests.items ∷ l) (indexed-set ns es place n m rest new)
 
+-- after a write that leaves the numbers of the tests
+pub numbers-kept : (es : List (ℕ × Module)) (place : ℕ) (old new : Module) → slice_get (map {A = ℕ × Module} (λ e. e.1) es) place ≡ Some old → test_numbers new.tests.items ≡ test_numbers old.tests.items → numbers_in (map value_of (set_value_at es place new)) ≡ numbers_in (map value_of es)
+numbers-kept [] place old new at same = refl
+numbers-kept (e ∷ es) zero old new at same = ap (λ l. l ∷ numbers_in (map value_of es)) (same ∙ ap (λ (m : Module). test_numbers m.tests.items) (sym (same_Some e.1 old at)))
+numbers-kept (e ∷ es) (suc place) old new at same = ap (λ l. test_numbers e.1.tests.items ∷ l) (numbers-kept es place old new at same)
+
 -- at one place
 pub indexed-at : (ns : List TestNumbers) (es : List (ℕ × Module)) (place : ℕ) (n : TestNumbers) (m : Module) → map keys_of_set ns ≡ numbers_in (map value_of es) → place < length ns → n ≡ get_or ns place n → slice_get (map {A = ℕ × Module} (λ e. e.1) es) place ≡ Some m → n.set.keys ≡ test_numbers m.tests.items
 indexed-at [] es place n m same within at there = absurd (omega arith)

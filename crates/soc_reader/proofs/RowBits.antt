@@ -5,7 +5,8 @@ use Rattle.std.specs.Int.Bits.{bit_and, bit_or}
 use Rattle.std.proofs.lemmas.Grind.{common_steps}
 use Rattle.std.proofs.lemmas.Bool.{cases_Bool, eqb-true, ne_eqb}
 use Rattle.std.proofs.lemmas.Option.{same_Some, slice_get-map}
-use Rattle.std.proofs.lemmas.Nat.{or_comm, and_or_self, and_or_apart, pow_apart, pow_pos}
+use Rattle.std.proofs.lemmas.Nat.{and_comm, or_comm, and_or_self, and_or_apart, pow_apart, pow_pos}
+use lib.Bits.{and_zero_r}
 use Rattle.std.specs.Option.{option_map_or}
 use Rattle.std.specs.Cmp.{IsEquivalence, decided}
 use Rattle.indexmap.specs.IndexMap.{IndexMap, values, with_value_at, IsUnique}
@@ -173,3 +174,19 @@ noted_again old put new subject bit rows first next known s = next s ∙ by (is_
     by false e = first s ∙ ap (λ b. cond b (Some bit) (bits_of old s)) e
     by true e =
         ap (option_map (λ x. bit_or x rows)) (first s ∙ ap (λ b. cond b (Some bit) (bits_of old s)) e) ∙ ap Some (or_comm bit rows) ∙ ap (λ o. Some (option_map_or (λ rows. bit_or rows bit) o bit)) known
+
+zero_row : (n : ℕ) → bit_and 0 (2 ^ n) ≡ 0
+zero_row n = and_comm 0 (2 ^ n) ∙ and_zero_r (2 ^ n)
+
+-- no row more of a subject, or none of it yet
+pub rows-opened : {S : Type 0} (old new : IndexMap Subject ℕ S) (subject : Subject) → ((s : Subject) → bits_of new s ≡ (if is_same subject s then Some (option_map_or (λ rows. bit_or rows 0) (bits_of old subject) 0) else bits_of old s)) →
+    (s : Subject) (k : Key) → is_marked s k new ≡ is_marked s k old
+rows-opened old new subject next s k = ap (λ o. has_row o k) (next s) ∙ by (is_same subject s) refl
+  where
+    any : (o : Option ℕ) → has_row (Some (option_map_or (λ rows. bit_or rows 0) o 0)) k ≡ has_row o k
+    any None = ap (λ n. not (nat_eq n 0)) (zero_row (row k))
+    any (Some rows) = ap (λ n. not (nat_eq n 0)) (and_or_apart (2 ^ row k) rows 0 (zero_row (row k)))
+
+    by : (b : Bool) → is_same subject s ≡ b → has_row (if b then Some (option_map_or (λ rows. bit_or rows 0) (bits_of old subject) 0) else bits_of old s) k ≡ has_row (bits_of old s) k
+    by false e = refl
+    by true e = any (bits_of old subject) ∙ ap (λ v. has_row (bits_of old v) k) (subject_is subject s e)

@@ -10,7 +10,7 @@ abbrev pub first_of : SocValue → List Item → Option ℕ
 first_of c [] = None
 first_of c (x ∷ xs) = or_else (wrong_total c x) (first_of c xs)
 
-or_else-none : (o : Option ℕ) → or_else o None ≡ o
+pub or_else-none : (o : Option ℕ) → or_else o None ≡ o
 or_else-none None = refl
 or_else-none (Some n) = refl
 

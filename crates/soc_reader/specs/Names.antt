@@ -1,9 +1,8 @@
 -- The names of modules that a text gives, found by the modules' numbers.
-use Rattle.std.specs.Prelude.{◌≡◌, ℕ, List, Bool, false, not, nat_eq, option_map, Option, None, Some}
+use Rattle.std.specs.Prelude.{ℕ, List, Bool, false, not, nat_eq, option_map, Option, None, Some}
 use Rattle.std.specs.Cmp.Lexicographic.{pointwise}
 use Rattle.indexmap.specs.IndexMap.{IndexMap, get}
 use denote.Bor.{Bor}
-use Rattle.soc_reader.specs.Table.{Item, entry, name, place_data, coordinate}
 
 -- the name that a module was given
 abbrev pub name_in : {S : Type 0} → IndexMap ℕ (Bor (List ℕ)) S → ℕ → Option (List ℕ)
@@ -13,10 +12,3 @@ name_in names m = option_map (λ (v : Bor (List ℕ)). v.now) (get nat_eq names 
 abbrev pub is_other_name : Option (List ℕ) → List ℕ → Bool
 is_other_name None w = false
 is_other_name (Some v) w = not (pointwise nat_eq w v)
-
--- the item gives no module another name than it was given
-abbrev pub KeepsNames : {S : Type 0} → IndexMap ℕ (Bor (List ℕ)) S → Item → Type 0
-KeepsNames names (entry s k v) = Unit {0}
-KeepsNames names (name m w) = is_other_name (name_in names m) w ≡ false
-KeepsNames names place_data = Unit {0}
-KeepsNames names coordinate = Unit {0}

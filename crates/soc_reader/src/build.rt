@@ -1,13 +1,14 @@
-//! Makes the chip that items say.
-ghost use Rattle.std.specs.Prelude.{◌≡◌, OnOk, IfOk, IsOk, map, reverse, nat_eq, position, true};
+//! The chip that items say, as they are read.
+ghost use Rattle.std.specs.Prelude.{◌≡◌, OnOk, IsOk, nat_eq, position, true};
 ghost use Rattle.std.specs.List.{list_any};
 ghost use Rattle.soc_model.specs.Chips.{soc_value, module_value};
 ghost use Rattle.soc_model.specs.Lookups.{has_module_number, module_place as place_of_module};
-ghost use Rattle.soc_reader.specs.Views.{value_of, item_of};
+ghost use Rattle.soc_reader.specs.Views.{value_of};
 ghost use Rattle.soc_reader.specs.Drafts.{IsNumbered, IsIndexed};
-ghost use Rattle.soc_reader.specs.Meaning.{test_says, module_says, chip_says, says as item_says, tells, at_module as modules_at, with_module as modules_with, chip_of, with_test as tests_with, new_test as test_new, new_module as module_new, at_test as tests_at};
+ghost use Rattle.soc_reader.specs.Table.{entry, lengths, name as named_item};
+ghost use Rattle.soc_reader.specs.Meaning.{test_says, module_says, chip_says, says as item_says, tells, empty_chip, at_module as modules_at, with_module as modules_with, with_test as tests_with, new_test as test_new, new_module as module_new, at_test as tests_at};
 
-use crate::items::{ReadItem, ReadValue};
+use crate::kept::ReadValue;
 use crate::keys::{Key, Subject};
 use indexmap::IndexSet;
 use outside::{NoMemory, copied, push};
@@ -58,6 +59,7 @@ fn new_module(alloc: Global, number: u64) -> Module
 }
 
 /// What a keyword and a value say of a test.
+#[inline(always)]
 fn give_test(test: &mut Test, key: Key, value: &ReadValue<'_>)
     ensures { test.new ≡ test_says key (value_of value.now) test.old }
 {
@@ -82,6 +84,7 @@ fn test_place(numbers: &TestNumbers, number: u64) -> Option<usize>
 }
 
 /// What they say of the test of a number.
+#[inline(always)]
 fn give_test_at(
     tests: &mut Vec<Test>,
     numbers: &TestNumbers,
@@ -113,7 +116,6 @@ fn add_test(tests: &mut Vec<Test>, numbers: &mut TestNumbers, number: u64) -> Re
 
 /// What a keyword and a value say of a module.
 fn give_module(
-    alloc: Global,
     found: &mut Module,
     numbers: &mut TestNumbers,
     key: Key,
@@ -129,15 +131,23 @@ fn give_module(
         (Key::Outputs, ReadValue::Count { number, .. }) => found.outputs = *number,
         (Key::Bidirs, ReadValue::Count { number, .. }) => found.bidirs = *number,
         (Key::Setup, ReadValue::Count { number, .. }) => found.setup = *number,
-        (Key::ScanChains, ReadValue::Lengths(lengths)) => {
-            found.chains = copied(alloc, lengths.as_slice())?;
-        }
         (Key::Test, ReadValue::Count { number, .. }) => {
             return add_test(&mut found.tests, numbers, *number);
         }
         _ => {}
     }
     Ok(())
+}
+
+/// What a keyword and a list say of a module.
+fn give_chains(found: &mut Module, key: Key, list: Vec<u64>)
+    ensures given { module_value found.new ≡ module_says key (lengths list.items) (module_value found.old) }
+    ensures tests { found.new.tests ≡ found.old.tests }
+{
+    match key {
+        Key::ScanChains => found.chains = list,
+        _ => {}
+    }
 }
 
 /// The place of the module of a number. The last module is looked at first: most of a text speaks of that one.
@@ -162,7 +172,7 @@ fn has_module(soc: &Soc, number: u64) -> bool
 }
 
 /// Adds a module where it is new. One that is there already takes no memory.
-fn add_module(alloc: Global, draft: &mut Draft, number: u64) -> Result<(), NoMemory>
+fn add_module(draft: &mut Draft, number: u64) -> Result<(), NoMemory>
     requires { IsIndexed draft.old }
     ensures added { OnOk result (soc_value draft.new.soc ≡ modules_with number (soc_value draft.old.soc)) }
     ensures indexed { OnOk result (IsIndexed draft.new) }
@@ -171,6 +181,7 @@ fn add_module(alloc: Global, draft: &mut Draft, number: u64) -> Result<(), NoMem
     if has_module(&draft.soc, number) {
         return Ok(());
     }
+    let alloc = *draft.numbers.allocator();
     match draft.soc.put(new_module(alloc, number)) {
         Ok(()) => {}
         Err(_) => return Err(NoMemory),
@@ -182,67 +193,34 @@ fn add_module(alloc: Global, draft: &mut Draft, number: u64) -> Result<(), NoMem
 }
 
 /// What a keyword and a value say of the chip.
-fn give_chip(
-    alloc: Global,
-    draft: &mut Draft,
-    key: Key,
-    value: &ReadValue<'_>,
-) -> Result<(), NoMemory>
+pub fn give_chip(draft: &mut Draft, key: Key, value: &ReadValue<'_>) -> Result<(), NoMemory>
     requires { IsIndexed draft.old }
     ensures given { OnOk result (soc_value draft.new.soc ≡ chip_says key (value_of value.now) (soc_value draft.old.soc)) }
     ensures indexed { OnOk result (IsIndexed draft.new) }
 {
     match (key, value) {
-        (Key::SocName, ReadValue::Word(name)) => draft.soc.name = copied(alloc, name)?,
+        (Key::SocName, ReadValue::Word(name)) => {
+            let alloc = *draft.numbers.allocator();
+            draft.soc.name = copied(alloc, name)?;
+        }
         (Key::PowerFlag, ReadValue::Flag(b)) => draft.soc.power_flag = *b,
         (Key::XyFlag, ReadValue::Flag(b)) => draft.soc.xy_flag = *b,
-        (Key::Module, ReadValue::Count { number, .. }) => return add_module(alloc, draft, *number),
+        (Key::Module, ReadValue::Count { number, .. }) => return add_module(draft, *number),
         _ => {}
     }
     Ok(())
 }
 
-/// What an item says of its module.
-fn tell(
-    alloc: Global,
-    found: &mut Module,
-    numbers: &mut TestNumbers,
-    item: &ReadItem<'_>,
-) -> Result<(), NoMemory>
-    requires { IsNumbered numbers.old found.old.tests.items }
-    ensures told { OnOk result (module_value found.new ≡ tells (item_of item.now) (module_value found.old)) }
-    ensures numbered { OnOk result (IsNumbered numbers.new found.new.tests.items) }
-{
-    match item {
-        ReadItem::Entry {
-            subject,
-            key,
-            value,
-        } => match subject {
-            Subject::Chip => Ok(()),
-            Subject::OfModule(_) => give_module(alloc, found, numbers, *key, value),
-            Subject::OfTest(_, test) => {
-                give_test_at(&mut found.tests, numbers, *test, *key, value);
-                Ok(())
-            }
-        },
-        ReadItem::Name { name, .. } => {
-            found.name = copied(alloc, name)?;
-            Ok(())
-        }
-        ReadItem::PlaceData | ReadItem::Coordinate => Ok(()),
-    }
-}
-
-/// What an item says of the module of a number.
-fn tell_at(
-    alloc: Global,
+/// What a keyword and a value say of the module of a number.
+pub fn tell_module(
     draft: &mut Draft,
     number: u64,
-    item: &ReadItem<'_>,
+    key: Key,
+    value: &ReadValue<'_>,
 ) -> Result<(), NoMemory>
     requires { IsIndexed draft.old }
-    ensures told { OnOk result (soc_value draft.new.soc ≡ modules_at number (tells (item_of item.now)) (soc_value draft.old.soc)) }
+    ensures said { OnOk result (soc_value draft.new.soc
+        ≡ modules_at number (tells (entry (Subject.OfModule number) key (value_of value.now))) (soc_value draft.old.soc)) }
     ensures indexed { OnOk result (IsIndexed draft.new) }
 {
     let Some(place) = module_place(&draft.soc, number) else {
@@ -250,43 +228,85 @@ fn tell_at(
     };
     let numbers = &mut draft.numbers[place];
     match draft.soc.modules.get_index_mut(place) {
-        Some(found) => tell(alloc, found, numbers, item),
+        Some(found) => give_module(found, numbers, key, value),
         None => unreachable!(),
     }
 }
 
-/// What an item says of the chip.
-fn say(alloc: Global, draft: &mut Draft, item: &ReadItem<'_>) -> Result<(), NoMemory>
+/// What a keyword and a list say of the module of a number.
+fn put_chains(draft: &mut Draft, number: u64, key: Key, list: Vec<u64>)
     requires { IsIndexed draft.old }
-    ensures said { OnOk result (soc_value draft.new.soc ≡ item_says (item_of item.now) (soc_value draft.old.soc)) }
-    ensures indexed { OnOk result (IsIndexed draft.new) }
+    ensures said { soc_value draft.new.soc
+        ≡ modules_at number (tells (entry (Subject.OfModule number) key (lengths list.items))) (soc_value draft.old.soc) }
+    ensures indexed { IsIndexed draft.new }
 {
-    match item {
-        ReadItem::Entry {
-            subject,
-            key,
-            value,
-        } => match subject {
-            Subject::Chip => give_chip(alloc, draft, *key, value),
-            Subject::OfModule(number) | Subject::OfTest(number, _) => {
-                tell_at(alloc, draft, *number, item)
-            }
-        },
-        ReadItem::Name { module, .. } => tell_at(alloc, draft, *module, item),
-        ReadItem::PlaceData | ReadItem::Coordinate => Ok(()),
+    let Some(place) = module_place(&draft.soc, number) else {
+        return;
+    };
+    match draft.soc.modules.get_index_mut(place) {
+        Some(found) => give_chains(found, key, list),
+        None => unreachable!(),
     }
 }
 
-/// The chip that items say, in their order.
-pub fn build(alloc: Global, list: &[ReadItem<'_>]) -> Result<Soc, NoMemory>
-    ensures { IfOk result (λ soc. soc_value soc ≡ chip_of (reverse (map item_of list.now))) }
+/// What a keyword and a list say.
+pub fn tell_chains(draft: &mut Draft, subject: Subject, key: Key, list: Vec<u64>)
+    requires { IsIndexed draft.old }
+    ensures said { soc_value draft.new.soc ≡ item_says (entry subject key (lengths list.items)) (soc_value draft.old.soc) }
+    ensures indexed { IsIndexed draft.new }
 {
-    let mut draft = Draft {
+    match subject {
+        Subject::OfModule(number) => put_chains(draft, number, key, list),
+        Subject::Chip => {}
+        Subject::OfTest(_, _) => {}
+    }
+}
+
+/// What they say of a test of a module.
+#[inline(always)]
+pub fn tell_test(draft: &mut Draft, number: u64, test: u64, key: Key, value: &ReadValue<'_>)
+    requires { IsIndexed draft.old }
+    ensures said { soc_value draft.new.soc
+        ≡ modules_at number (tells (entry (Subject.OfTest number test) key (value_of value.now))) (soc_value draft.old.soc) }
+    ensures indexed { IsIndexed draft.new }
+{
+    let Some(place) = module_place(&draft.soc, number) else {
+        return;
+    };
+    let numbers = &draft.numbers[place];
+    match draft.soc.modules.get_index_mut(place) {
+        Some(found) => give_test_at(&mut found.tests, numbers, test, key, value),
+        None => unreachable!(),
+    }
+}
+
+/// Gives the module of a number a name.
+pub fn put_name(draft: &mut Draft, number: u64, name: &[u8]) -> Result<(), NoMemory>
+    requires { IsIndexed draft.old }
+    ensures named { OnOk result (soc_value draft.new.soc
+        ≡ modules_at number (tells (named_item number name.now)) (soc_value draft.old.soc)) }
+    ensures indexed { OnOk result (IsIndexed draft.new) }
+{
+    let Some(place) = module_place(&draft.soc, number) else {
+        return Ok(());
+    };
+    let alloc = *draft.numbers.allocator();
+    match draft.soc.modules.get_index_mut(place) {
+        Some(found) => {
+            found.name = copied(alloc, name)?;
+            Ok(())
+        }
+        None => unreachable!(),
+    }
+}
+
+/// No chip yet.
+pub fn no_chip(alloc: Global) -> Draft
+    ensures none { soc_value result.soc ≡ empty_chip }
+    ensures indexed { IsIndexed result }
+{
+    Draft {
         soc: Soc::new(alloc),
         numbers: Vec::new(alloc),
-    };
-    for item in list {
-        say(alloc, &mut draft, item)?;
     }
-    Ok(draft.soc)
 }

@@ -77,13 +77,13 @@ fn keyword_of_seven(word: &[u8]) -> Option<Key>
     None
 }
 
-/// The keyword that a word of more letters is.
+/// The keyword that a word of more letters is, the most frequent one first.
 #[tactic(auto)]
 fn long_keyword(word: &[u8]) -> Option<Key>
     ensures { result ≡ named (sized (nat_le 8)) word.now }
 {
-    if same_word(word, b"TotalModules") {
-        return Some(Key::TotalModules);
+    if same_word(word, b"Patterns") {
+        return Some(Key::Patterns);
     }
     if same_word(word, b"ScanChains") || same_word(word, b"TotalScanChains") {
         return Some(Key::ScanChains);
@@ -91,8 +91,8 @@ fn long_keyword(word: &[u8]) -> Option<Key>
     if same_word(word, b"TotalTests") {
         return Some(Key::TotalTests);
     }
-    if same_word(word, b"Patterns") {
-        return Some(Key::Patterns);
+    if same_word(word, b"TotalModules") {
+        return Some(Key::TotalModules);
     }
     None
 }

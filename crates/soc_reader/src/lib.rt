@@ -10,7 +10,7 @@ ghost use Rattle.soc_reader.specs.Refusals.{IsRefusedLine, IsTooLarge, Refuses, 
 
 mod build;
 mod collect;
-mod items;
+mod kept;
 mod keys;
 mod lexicon;
 mod marks;

@@ -72,6 +72,7 @@ fn add_row(marks: &mut Marks, subject: Subject, bit: u32)
 }
 
 /// Notes a row of a subject, where it is the last of which rows were given, and says whether it is.
+#[inline(always)]
 fn add_to_last(marks: &mut Marks, subject: Subject, bit: u32) -> bool
     ensures last { result ≡ true → is_some (bits_of marks.old subject) ≡ true }
     ensures row { result ≡ true → (s : Subject) → bits_of marks.new s ≡ with_row subject bit s (bits_of marks.old s) }
@@ -109,7 +110,8 @@ fn add_by_hash(marks: &mut Marks, subject: Subject, bit: u32) -> Result<(), Stop
 }
 
 /// Notes that this was given.
-pub fn mark(marks: &mut Marks, given: Given) -> Result<(), Stop>
+#[inline(always)]
+pub fn mark_given(marks: &mut Marks, given: Given) -> Result<(), Stop>
     ensures ok { OnOk result ((s : Subject) (k : Key) → is_marked s k marks.new
         ≡ ((same_subject s given.subject && nat_eq (row k) (row given.key)) || is_marked s k marks.old)) }
     ensures memory { OnErr result (result ≡ Err Stop.NoMemory) }
@@ -119,4 +121,12 @@ pub fn mark(marks: &mut Marks, given: Given) -> Result<(), Stop>
         return Ok(());
     }
     add_by_hash(marks, given.subject, bit)
+}
+
+/// Makes the rows of a subject the last ones, if there are none yet: what is said of it next is found there. None is noted.
+pub fn open_rows(marks: &mut Marks, subject: Subject) -> Result<(), Stop>
+    ensures ok { OnOk result ((s : Subject) (k : Key) → is_marked s k marks.new ≡ is_marked s k marks.old) }
+    ensures memory { OnErr result (result ≡ Err Stop.NoMemory) }
+{
+    add_by_hash(marks, subject, 0)
 }

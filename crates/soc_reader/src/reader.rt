@@ -1,14 +1,17 @@
 //! Reads a text word by word.
 ghost use Rattle.std.specs.Prelude.{◌≡◌, ◌∷◌, [], true, false, option_map, IfOk, OnErr};
-ghost use Rattle.soc_reader.specs.Grammar.{after as after_done, open_after, may_name as may_be_named};
+ghost use Rattle.soc_reader.specs.Known.{add, of_known, may_name as may_be_named};
+ghost use Rattle.soc_reader.specs.Drafts.{IsIndexed};
 ghost use Rattle.soc_reader.specs.Steps.{begin_if, after_value, at, between, begun, begin_entry as begins_entry, begin_data as begins_data, begin_free as begins_free, begin as begins, list_from as lists_from, after_length as lists_after, step_value as steps_value, step_counted as steps_counted, step_name as steps_name, step_at, closed_at};
-ghost use Rattle.soc_reader.specs.Views.{value_of, item_of, done_of, part_of, InStep, is_list, Steps, Closes, AddsLength};
+ghost use Rattle.soc_reader.specs.Views.{value_of, known_of, part_of, is_list, Steps, Closes, AddsLength};
 ghost use Rattle.soc_reader.specs.Table.{word_value as value_that_is, owner as owner_of, shape_of as shape_that_follows, entry, name as named_item, lengths};
 ghost use Rattle.soc_reader.specs.Keywords.{number as number_in, is_lengths_word as says_lengths, is_coordinate as is_number_like};
-ghost use Rattle.soc_reader.specs.Names.{KeepsNames};
 
-use crate::collect::{may_give, may_name, push};
-use crate::items::{Items, ReadItem, ReadPart, ReadValue};
+use crate::collect::{
+    add_bare, add_list, add_name, add_place, add_value, has_xy, may_give, may_name, opened,
+    place_after,
+};
+use crate::kept::{Kept, ReadPart, ReadValue};
 use crate::keys::{After, Key, Shape, Subject};
 use crate::lexicon::{
     flag_of, is_coordinate, is_free_word, is_lengths_word, is_letter_word, is_printable, key_of,
@@ -19,42 +22,39 @@ use soc_model::CHAINS_MOST;
 use std::alloc::Global;
 use std::mem::replace;
 
-/// One more item.
-fn pushed<'a>(
-    items: &mut Items<'a>,
+/// One more keyword with its value.
+fn added<'a>(
+    kept: &mut Kept<'a>,
     part: &mut ReadPart<'a>,
-    item: ReadItem<'a>,
+    subject: Subject,
+    key: Key,
+    value: ReadValue<'a>,
 ) -> Result<(), Stop>
-    requires in_step { InStep items.old }
-    requires names { KeepsNames items.old.names (item_of item) }
-    ensures { Steps (at (item_of item.entry ∷ done_of items.old) between) result part.new items.new }
+    requires { IsIndexed kept.old.draft }
+    ensures { Steps (at (add (entry subject key (value_of value.entry)) (known_of kept.old)) between) result part.new kept.new }
 {
-    push(items, item)?;
+    add_value(kept, subject, key, value)?;
     *part = ReadPart::Between;
     Ok(())
 }
 
 /// After a keyword.
 fn begin_value<'a>(
-    items: &mut Items<'a>,
+    kept: &mut Kept<'a>,
     part: &mut ReadPart<'a>,
     subject: Subject,
     key: Key,
     shape: Shape,
 ) -> Result<(), Stop>
-    requires { InStep items.old }
-    ensures { Steps (begun (done_of items.old) subject key shape) result part.new items.new }
+    requires { IsIndexed kept.old.draft }
+    ensures { Steps (begun of_known (known_of kept.old) subject key shape) result part.new kept.new }
 {
     match shape {
-        Shape::NoWord => pushed(
-            items,
-            part,
-            ReadItem::Entry {
-                subject,
-                key,
-                value: ReadValue::Nothing,
-            },
-        ),
+        Shape::NoWord => {
+            add_bare(kept, subject, key)?;
+            *part = ReadPart::Between;
+            Ok(())
+        }
         _ => {
             *part = ReadPart::Wants {
                 subject,
@@ -121,49 +121,44 @@ fn shape_of(key: Key) -> Shape
 }
 
 /// A keyword, where it may stand and may be given.
-fn begin_entry<'a>(items: &mut Items<'a>, part: &mut ReadPart<'a>, key: Key) -> Result<(), Stop>
-    requires { InStep items.old }
-    ensures { Steps (begins_entry (done_of items.old) key (owner_of key (open_after (done_of items.old)))) result part.new items.new }
+fn begin_entry<'a>(kept: &mut Kept<'a>, part: &mut ReadPart<'a>, key: Key) -> Result<(), Stop>
+    requires { IsIndexed kept.old.draft }
+    ensures { Steps (begins_entry of_known (known_of kept.old) key (owner_of key (known_of kept.old).opened)) result part.new kept.new }
 {
-    let Some(subject) = owner(key, items.opened) else {
+    let Some(subject) = owner(key, opened(kept)) else {
         return Err(Stop::Refused);
     };
-    if !may_give(items, subject, key) {
+    if !may_give(kept, subject, key) {
         return Err(Stop::Refused);
     }
-    begin_value(items, part, subject, key, shape_of(key))
+    begin_value(kept, part, subject, key, shape_of(key))
 }
 
 /// A module's name, where it may have that.
 fn name_module<'a>(
-    items: &mut Items<'a>,
+    kept: &mut Kept<'a>,
     part: &mut ReadPart<'a>,
     number: u64,
     name: &'a [u8],
 ) -> Result<(), Stop>
-    requires { InStep items.old }
-    ensures { Steps (begin_if (may_be_named number name.now (done_of items.old))
-        (at (named_item number name.now ∷ done_of items.old) between)) result part.new items.new }
+    requires { IsIndexed kept.old.draft }
+    ensures { Steps (begin_if (may_be_named number name.now (known_of kept.old))
+        (at (add (named_item number name.now) (known_of kept.old)) between)) result part.new kept.new }
 {
-    if !may_name(items, number, name) {
+    if !may_name(kept, number, name) {
         return Err(Stop::Refused);
     }
-    pushed(
-        items,
-        part,
-        ReadItem::Name {
-            module: number,
-            name,
-        },
-    )
+    add_name(kept, number, name)?;
+    *part = ReadPart::Between;
+    Ok(())
 }
 
 /// The first word of place data, where it may stand.
-fn begin_data<'a>(items: &mut Items<'a>, part: &mut ReadPart<'a>, is_data: bool) -> Result<(), Stop>
-    requires { InStep items.old }
-    ensures { Steps (begins_data (done_of items.old) is_data (open_after (done_of items.old))) result part.new items.new }
+fn begin_data<'a>(kept: &mut Kept<'a>, part: &mut ReadPart<'a>, is_data: bool) -> Result<(), Stop>
+    requires { IsIndexed kept.old.draft }
+    ensures { Steps (begins_data (known_of kept.old) is_data (known_of kept.old).opened) result part.new kept.new }
 {
-    if items.opened == Subject::Chip || !is_data {
+    if opened(kept) == Subject::Chip || !is_data {
         return Err(Stop::Refused);
     }
     *part = ReadPart::WantsCoordinate;
@@ -171,17 +166,13 @@ fn begin_data<'a>(items: &mut Items<'a>, part: &mut ReadPart<'a>, is_data: bool)
 }
 
 /// A word that is no keyword, where it may be a name or begin place data.
-fn begin_free<'a>(
-    items: &mut Items<'a>,
-    part: &mut ReadPart<'a>,
-    word: &'a [u8],
-) -> Result<(), Stop>
-    requires { InStep items.old }
-    ensures { Steps (begins_free (done_of items.old) word.now (after_done (done_of items.old)) (open_after (done_of items.old))) result
-        part.new items.new }
+fn begin_free<'a>(kept: &mut Kept<'a>, part: &mut ReadPart<'a>, word: &'a [u8]) -> Result<(), Stop>
+    requires { IsIndexed kept.old.draft }
+    ensures { Steps (begins_free of_known (known_of kept.old) word.now (known_of kept.old).place (known_of kept.old).opened) result
+        part.new kept.new }
 {
-    let is_data = items.xy && is_letter_word(word);
-    match (items.after, items.opened) {
+    let is_data = has_xy(kept) && is_letter_word(word);
+    match (place_after(kept), opened(kept)) {
         (After::AfterNumber, Subject::OfModule(number)) => {
             if is_data {
                 *part = ReadPart::NameOrData {
@@ -190,76 +181,64 @@ fn begin_free<'a>(
                 };
                 return Ok(());
             }
-            name_module(items, part, number, word)
+            name_module(kept, part, number, word)
         }
-        _ => begin_data(items, part, is_data),
+        _ => begin_data(kept, part, is_data),
     }
 }
 
 /// The first word of an item.
-fn begin<'a>(items: &mut Items<'a>, part: &mut ReadPart<'a>, word: &'a [u8]) -> Result<(), Stop>
-    requires { InStep items.old }
-    ensures { Steps (begins (done_of items.old) word.now) result part.new items.new }
+fn begin_item<'a>(kept: &mut Kept<'a>, part: &mut ReadPart<'a>, word: &'a [u8]) -> Result<(), Stop>
+    requires { IsIndexed kept.old.draft }
+    ensures { Steps (begins of_known (known_of kept.old) word.now) result part.new kept.new }
 {
-    if let Some(key) = key_of(items.after == After::AfterOptions, word) {
-        return begin_entry(items, part, key);
+    if let Some(key) = key_of(place_after(kept) == After::AfterOptions, word) {
+        return begin_entry(kept, part, key);
     }
-    if items.after == After::AfterData && is_coordinate(word) {
-        return pushed(items, part, ReadItem::Coordinate);
+    if place_after(kept) == After::AfterData && is_coordinate(word) {
+        add_place(kept);
+        *part = ReadPart::Between;
+        return Ok(());
     }
     if !is_free_word(word) {
         return Err(Stop::Refused);
     }
-    begin_free(items, part, word)
+    begin_free(kept, part, word)
 }
 
 /// After a keyword and its value.
-fn give<'a>(
-    items: &mut Items<'a>,
+fn give_value<'a>(
+    kept: &mut Kept<'a>,
     part: &mut ReadPart<'a>,
     subject: Subject,
     key: Key,
     value: Option<ReadValue<'a>>,
 ) -> Result<(), Stop>
-    requires { InStep items.old }
-    ensures { Steps (after_value (done_of items.old) subject key (option_map value_of value.entry)) result part.new items.new }
+    requires { IsIndexed kept.old.draft }
+    ensures { Steps (after_value of_known (known_of kept.old) subject key (option_map value_of value.entry)) result part.new kept.new }
 {
     match value {
-        Some(value) => pushed(
-            items,
-            part,
-            ReadItem::Entry {
-                subject,
-                key,
-                value,
-            },
-        ),
+        Some(value) => added(kept, part, subject, key, value),
         None => Err(Stop::Refused),
     }
 }
 
 /// With so many lengths to come.
 fn go_on_listing<'a>(
-    items: &mut Items<'a>,
+    kept: &mut Kept<'a>,
     part: &mut ReadPart<'a>,
     subject: Subject,
     key: Key,
     read: Vec<u64>,
     left: u64,
 ) -> Result<(), Stop>
-    requires { InStep items.old }
-    ensures { Steps (lists_from (done_of items.old) subject key read.items left) result part.new items.new }
+    requires { IsIndexed kept.old.draft }
+    ensures { Steps (lists_from of_known (known_of kept.old) subject key read.items left) result part.new kept.new }
 {
     if left == 0 {
-        return pushed(
-            items,
-            part,
-            ReadItem::Entry {
-                subject,
-                key,
-                value: ReadValue::Lengths(read),
-            },
-        );
+        add_list(kept, subject, key, read)?;
+        *part = ReadPart::Between;
+        return Ok(());
     }
     *part = ReadPart::Listing {
         subject,
@@ -293,15 +272,16 @@ fn word_value<'a>(shape: Shape, word: Word<'a>) -> Option<ReadValue<'a>>
 
 /// The word behind a keyword.
 fn step_value<'a>(
-    items: &mut Items<'a>,
+    kept: &mut Kept<'a>,
     part: &mut ReadPart<'a>,
     subject: Subject,
     key: Key,
     shape: Shape,
     word: Word<'a>,
 ) -> Result<(), Stop>
-    requires { InStep items.old }
-    ensures { Steps (steps_value (done_of items.old) subject key shape (word.entry.bytes.now, word.entry.line)) result part.new items.new }
+    requires { IsIndexed kept.old.draft }
+    ensures { Steps (steps_value of_known (known_of kept.old) subject key shape (word.entry.bytes.now, word.entry.line)) result
+        part.new kept.new }
 {
     if shape == Shape::ManyNumbers {
         return match number_of(word.bytes) {
@@ -316,12 +296,12 @@ fn step_value<'a>(
             None => Err(Stop::Refused),
         };
     }
-    give(items, part, subject, key, word_value(shape, word))
+    give_value(kept, part, subject, key, word_value(shape, word))
 }
 
 /// One more length, and then so many are left.
 fn step_length<'a>(
-    items: &mut Items<'a>,
+    kept: &mut Kept<'a>,
     part: &mut ReadPart<'a>,
     subject: Subject,
     key: Key,
@@ -329,14 +309,14 @@ fn step_length<'a>(
     left: u64,
     word: &'a [u8],
 ) -> Result<(), Stop>
-    requires { InStep items.old }
-    ensures { Steps (lists_after (done_of items.old) subject key read.items left (number_in word.now)) result part.new items.new }
+    requires { IsIndexed kept.old.draft }
+    ensures { Steps (lists_after of_known (known_of kept.old) subject key read.items left (number_in word.now)) result part.new kept.new }
 {
     let Some(length) = number_of(word) else {
         return Err(Stop::Refused);
     };
     read.push(length)?;
-    go_on_listing(items, part, subject, key, read, left)
+    go_on_listing(kept, part, subject, key, read, left)
 }
 
 /// A list without lengths, with room for so many, or for as many as a module of a chip may have.
@@ -353,60 +333,50 @@ fn no_lengths(alloc: Global, count: u64) -> Result<Vec<u64>, Stop>
 /// Directly after the number of scan chains.
 fn step_counted<'a>(
     alloc: Global,
-    items: &mut Items<'a>,
+    kept: &mut Kept<'a>,
     part: &mut ReadPart<'a>,
     subject: Subject,
     key: Key,
     count: u64,
     word: &'a [u8],
 ) -> Result<(), Stop>
-    requires { InStep items.old }
-    ensures { Steps (steps_counted (done_of items.old) subject key count word.now (says_lengths word.now)) result part.new items.new }
+    requires { IsIndexed kept.old.draft }
+    ensures { Steps (steps_counted of_known (known_of kept.old) subject key count word.now (says_lengths word.now)) result
+        part.new kept.new }
 {
     if is_lengths_word(word) {
         let read = no_lengths(alloc, count)?;
-        return go_on_listing(items, part, subject, key, read, count);
+        return go_on_listing(kept, part, subject, key, read, count);
     }
     if count == 0 {
-        push(
-            items,
-            ReadItem::Entry {
-                subject,
-                key,
-                value: ReadValue::Lengths(Vec::new(alloc)),
-            },
-        )?;
-        return begin(items, part, word);
+        add_list(kept, subject, key, Vec::new(alloc))?;
+        return begin_item(kept, part, word);
     }
     let read = no_lengths(alloc, count)?;
-    step_length(items, part, subject, key, read, count - 1, word)
+    step_length(kept, part, subject, key, read, count - 1, word)
 }
 
 /// After a word that may be a name or begin place data.
 fn step_name<'a>(
-    items: &mut Items<'a>,
+    kept: &mut Kept<'a>,
     part: &mut ReadPart<'a>,
     number: u64,
     name: &'a [u8],
     word: &'a [u8],
 ) -> Result<(), Stop>
-    requires { InStep items.old }
-    ensures { Steps (steps_name (done_of items.old) number name.now word.now (is_number_like word.now)) result part.new items.new }
+    requires { IsIndexed kept.old.draft }
+    ensures { Steps (steps_name of_known (known_of kept.old) number name.now word.now (is_number_like word.now)) result part.new kept.new }
 {
     if is_coordinate(word) {
-        return pushed(items, part, ReadItem::PlaceData);
+        add_place(kept);
+        *part = ReadPart::Between;
+        return Ok(());
     }
-    if !may_name(items, number, name) {
+    if !may_name(kept, number, name) {
         return Err(Stop::Refused);
     }
-    push(
-        items,
-        ReadItem::Name {
-            module: number,
-            name,
-        },
-    )?;
-    begin(items, part, word)
+    add_name(kept, number, name)?;
+    begin_item(kept, part, word)
 }
 
 /// One more length in the midst of a list, which is put in where the list stands. False where the part is no list of
@@ -434,13 +404,14 @@ fn add_length(part: &mut ReadPart<'_>, word: &[u8]) -> Result<bool, Stop>
 
 /// A word behind some lengths. In the midst of a list nothing is moved.
 fn step_listing<'a>(
-    items: &mut Items<'a>,
+    kept: &mut Kept<'a>,
     part: &mut ReadPart<'a>,
     word: Word<'a>,
 ) -> Result<(), Stop>
-    requires in_step { InStep items.old }
+    requires indexed { IsIndexed kept.old.draft }
     requires list { is_list part.old ≡ true }
-    ensures { Steps (step_at (done_of items.old) (part_of part.old) (word.entry.bytes.now, word.entry.line)) result part.new items.new }
+    ensures { Steps (step_at of_known (known_of kept.old) (part_of part.old) (word.entry.bytes.now, word.entry.line)) result
+        part.new kept.new }
 {
     if add_length(part, word.bytes)? {
         return Ok(());
@@ -455,31 +426,32 @@ fn step_listing<'a>(
             if left == 0 {
                 return Err(Stop::Refused);
             }
-            step_length(items, part, subject, key, read, left - 1, word.bytes)
+            step_length(kept, part, subject, key, read, left - 1, word.bytes)
         }
         _ => unreachable!(),
     }
 }
 
 /// The next word, wherever it stands.
-pub fn step<'a>(
+pub fn step_word<'a>(
     alloc: Global,
-    items: &mut Items<'a>,
+    kept: &mut Kept<'a>,
     part: &mut ReadPart<'a>,
     word: Word<'a>,
 ) -> Result<(), Stop>
-    requires { InStep items.old }
-    ensures { Steps (step_at (done_of items.old) (part_of part.old) (word.entry.bytes.now, word.entry.line)) result part.new items.new }
+    requires { IsIndexed kept.old.draft }
+    ensures { Steps (step_at of_known (known_of kept.old) (part_of part.old) (word.entry.bytes.now, word.entry.line)) result
+        part.new kept.new }
 {
     match part {
-        ReadPart::Between => begin(items, part, word.bytes),
+        ReadPart::Between => begin_item(kept, part, word.bytes),
         ReadPart::Wants {
             subject,
             key,
             shape,
         } => {
             let (subject, key, shape) = (*subject, *key, *shape);
-            step_value(items, part, subject, key, shape, word)
+            step_value(kept, part, subject, key, shape, word)
         }
         ReadPart::Counted {
             subject,
@@ -487,26 +459,28 @@ pub fn step<'a>(
             count,
         } => {
             let (subject, key, count) = (*subject, *key, *count);
-            step_counted(alloc, items, part, subject, key, count, word.bytes)
+            step_counted(alloc, kept, part, subject, key, count, word.bytes)
         }
-        ReadPart::Listing { .. } => step_listing(items, part, word),
+        ReadPart::Listing { .. } => step_listing(kept, part, word),
         ReadPart::WantsCoordinate => {
             if !is_coordinate(word.bytes) {
                 return Err(Stop::Refused);
             }
-            pushed(items, part, ReadItem::PlaceData)
+            add_place(kept);
+            *part = ReadPart::Between;
+            Ok(())
         }
         ReadPart::NameOrData { module, name } => {
             let (module, name) = (*module, *name);
-            step_name(items, part, module, name, word.bytes)
+            step_name(kept, part, module, name, word.bytes)
         }
     }
 }
 
 /// The text ends here.
-pub fn close<'a>(alloc: Global, items: &mut Items<'a>, part: ReadPart<'a>) -> Result<(), Stop>
-    requires { InStep items.old }
-    ensures { Closes (closed_at (done_of items.old) (part_of part.entry)) result items.new }
+pub fn close_text<'a>(alloc: Global, kept: &mut Kept<'a>, part: ReadPart<'a>) -> Result<(), Stop>
+    requires { IsIndexed kept.old.draft }
+    ensures { Closes (closed_at of_known (known_of kept.old) (part_of part.entry)) result kept.new }
 {
     match part {
         ReadPart::Between => Ok(()),
@@ -518,20 +492,13 @@ pub fn close<'a>(alloc: Global, items: &mut Items<'a>, part: ReadPart<'a>) -> Re
             if count > 0 {
                 return Err(Stop::Refused);
             }
-            push(
-                items,
-                ReadItem::Entry {
-                    subject,
-                    key,
-                    value: ReadValue::Lengths(Vec::new(alloc)),
-                },
-            )
+            add_list(kept, subject, key, Vec::new(alloc))
         }
         ReadPart::NameOrData { module, name } => {
-            if !may_name(items, module, name) {
+            if !may_name(kept, module, name) {
                 return Err(Stop::Refused);
             }
-            push(items, ReadItem::Name { module, name })
+            add_name(kept, module, name)
         }
         ReadPart::Wants { .. } | ReadPart::Listing { .. } | ReadPart::WantsCoordinate => {
             Err(Stop::Refused)

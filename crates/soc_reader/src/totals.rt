@@ -1,12 +1,11 @@
 //! Compares totals with what a text says.
-ghost use Rattle.std.specs.Prelude.{◌≡◌, map, reverse};
+ghost use Rattle.std.specs.Prelude.{◌≡◌};
 ghost use Rattle.soc_model.specs.Chips.{soc_value};
 ghost use Rattle.soc_model.specs.Lookups.{has_module_number};
-ghost use Rattle.soc_reader.specs.Views.{item_of};
+ghost use Rattle.soc_reader.specs.Views.{total_item, totals_of};
 ghost use Rattle.soc_reader.specs.Meaning.{module_count, test_count, wrong_total as wrong_total_of, first_wrong as first_wrong_of};
 
-use crate::items::{ReadItem, ReadValue};
-use crate::keys::{Key, Subject};
+use crate::kept::Total;
 use soc_model::{Soc, place_of};
 
 /// Whether module 0 is among the modules.
@@ -42,30 +41,25 @@ fn counts_tests(soc: &Soc, number: u64, total: u64) -> bool
 }
 
 /// The line of a total that does not agree with the chip.
-fn wrong_total(soc: &Soc, item: &ReadItem<'_>) -> Option<u64>
-    ensures { result ≡ wrong_total_of (soc_value soc.now) (item_of item.now) }
+fn wrong_total(soc: &Soc, total: &Total) -> Option<u64>
+    ensures { result ≡ wrong_total_of (soc_value soc.now) (total_item total.now) }
 {
-    match item {
-        ReadItem::Entry {
-            subject: Subject::Chip,
-            key: Key::TotalModules,
-            value: ReadValue::Count { number, line },
-        } => (!counts_modules(soc, *number)).then_some(*line),
-        ReadItem::Entry {
-            subject: Subject::OfModule(place),
-            key: Key::TotalTests,
-            value: ReadValue::Count { number, line },
-        } => (!counts_tests(soc, *place, *number)).then_some(*line),
-        _ => None,
+    match total {
+        Total::Modules { number, line } => (!counts_modules(soc, *number)).then_some(*line),
+        Total::Tests {
+            module,
+            number,
+            line,
+        } => (!counts_tests(soc, *module, *number)).then_some(*line),
     }
 }
 
 /// The line of the first total, in the text, that does not agree with the chip.
-pub fn first_wrong(soc: &Soc, list: &[ReadItem<'_>]) -> Option<u64>
-    ensures { result ≡ first_wrong_of (soc_value soc.now) (reverse (map item_of list.now)) }
+pub fn first_wrong(soc: &Soc, totals: &[Total]) -> Option<u64>
+    ensures { result ≡ first_wrong_of (soc_value soc.now) (totals_of totals.now) }
 {
-    for item in list {
-        if let Some(line) = wrong_total(soc, item) {
+    for total in totals {
+        if let Some(line) = wrong_total(soc, total) {
             return Some(line);
         }
     }

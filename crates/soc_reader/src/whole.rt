@@ -1,14 +1,12 @@
 //! Reads whole texts.
-ghost use Rattle.std.specs.Prelude.{ℕ, List};
-ghost use Rattle.outside.specs.Words.{words_of};
+ghost use Rattle.std.specs.Prelude.{◌≡◌};
 ghost use Rattle.soc_reader.specs.Grammar.{InGrammar};
-ghost use Rattle.soc_reader.specs.Reads.{AreItems, ChipRead};
+ghost use Rattle.soc_reader.specs.Reads.{SayChip, ChipRead};
 ghost use Rattle.outside.specs.Grammars.{IsRead};
 
-use crate::build::build;
-use crate::collect::no_items;
-use crate::items::{Items, ReadPart, ReadSoFar};
-use crate::reader::{close, step};
+use crate::collect::nothing_kept;
+use crate::kept::{Kept, ReadPart, ReadSoFar, Total};
+use crate::reader::{close_text, step_word};
 use crate::totals::first_wrong;
 use outside::{Reader, Stop, Unread, Word, read_text};
 use soc_model::Soc;
@@ -21,12 +19,19 @@ struct ChipText<'a> {
     read: Box<ReadSoFar<'a>>,
 }
 
+/// The chip that a text says, with its totals.
+#[derive(Drop)]
+struct ReadChip {
+    soc: Soc,
+    totals: Vec<Total>,
+}
+
 impl<'a> Reader<'a> for ChipText<'a> {
-    type Value = Items<'a>;
+    type Value = ReadChip;
 
     ghost use Rattle.std.specs.Prelude.{◌^◌};
     ghost use Rattle.soc_reader.specs.Grammar.{InGrammar};
-    ghost use Rattle.soc_reader.specs.Reads.{HasRead, AreItems};
+    ghost use Rattle.soc_reader.specs.Reads.{HasRead, SayChip};
 
     ghost whole = { InGrammar };
 
@@ -34,37 +39,49 @@ impl<'a> Reader<'a> for ChipText<'a> {
 
     ghost has_read = { HasRead };
 
-    ghost says = { AreItems };
+    ghost says = { SayChip };
 
     fn step(self, word: Word<'a>) -> Result<ChipText<'a>, Stop> {
         let ChipText { alloc, mut read } = self;
         let so_far = &mut *read;
-        match step(alloc, &mut so_far.items, &mut so_far.part, word) {
+        match step_word(alloc, &mut so_far.kept, &mut so_far.part, word) {
             Ok(()) => Ok(ChipText { alloc, read }),
             Err(stop) => Err(stop),
         }
     }
 
-    fn end(self) -> Result<Items<'a>, Stop> {
+    fn end(self) -> Result<ReadChip, Stop> {
         let ChipText { alloc, read } = self;
-        let ReadSoFar { mut items, part } = Box::into_inner(read);
-        match close(alloc, &mut items, part) {
-            Ok(()) => Ok(items),
+        let ReadSoFar { mut kept, part } = Box::into_inner(read);
+        match close_text(alloc, &mut kept, part) {
+            Ok(()) => Ok(chip_kept(kept)),
             Err(stop) => Err(stop),
         }
     }
 }
 
-/// The items of a text.
-fn read_items<'a>(alloc: Global, bytes: &'a [u8]) -> Result<Items<'a>, Unread>
-    ensures { IsRead InGrammar AreItems bytes.now result }
+/// The chip that is kept, with its totals.
+fn chip_kept(kept: Kept<'_>) -> ReadChip
+    ensures soc { result.soc ≡ kept.entry.draft.soc }
+    ensures totals { result.totals ≡ kept.entry.totals }
 {
-    let items = match no_items(alloc, bytes.len()) {
-        Ok(items) => items,
+    let Kept { draft, totals, .. } = kept;
+    ReadChip {
+        soc: draft.soc,
+        totals,
+    }
+}
+
+/// The chip of a text, whatever its totals are.
+fn read_all(alloc: Global, bytes: &[u8]) -> Result<ReadChip, Unread>
+    ensures { IsRead InGrammar SayChip bytes.now result }
+{
+    let kept = match nothing_kept(alloc, bytes.len()) {
+        Ok(kept) => kept,
         Err(_) => return Err(Unread::NoMemory),
     };
     let nothing = ReadSoFar {
-        items,
+        kept,
         part: ReadPart::Between,
     };
     let read = match Box::new(alloc, nothing) {
@@ -75,27 +92,16 @@ fn read_items<'a>(alloc: Global, bytes: &'a [u8]) -> Result<Items<'a>, Unread>
     read_text(start, bytes)
 }
 
-/// The chip that items say, where the totals among them agree with it.
-fn chip_of_items(alloc: Global, items: &Items<'_>) -> Result<Soc, Unread>
-    ensures { (bytes : List ℕ) → AreItems (words_of bytes) items.now → ChipRead bytes result }
-{
-    let list = items.list.as_slice();
-    let soc = match build(alloc, list) {
-        Ok(soc) => soc,
-        Err(_) => return Err(Unread::NoMemory),
-    };
-    match first_wrong(&soc, list) {
-        Some(line) => Err(Unread::Refused { line }),
-        None => Ok(soc),
-    }
-}
-
 /// The chip that a text says, of whatever size.
 pub fn read_chip(alloc: Global, bytes: &[u8]) -> Result<Soc, Unread>
     ensures { ChipRead bytes.now result }
 {
-    match read_items(alloc, bytes) {
-        Ok(items) => chip_of_items(alloc, &items),
-        Err(unread) => Err(unread),
+    let ReadChip { soc, totals } = match read_all(alloc, bytes) {
+        Ok(read) => read,
+        Err(unread) => return Err(unread),
+    };
+    match first_wrong(&soc, &totals) {
+        Some(line) => Err(Unread::Refused { line }),
+        None => Ok(soc),
     }
 }

@@ -9,41 +9,39 @@ use Rattle.plan_model.specs.Plans.{PlanValue}
 use Rattle.plan_model.specs.Views.{plan_value}
 use Rattle.tester_vectors.specs.declared.Outcome.TheVariants.{RunTooLong}
 use Rattle.tester_vectors.specs.declared.TheConstants.{RUN_MOST}
-use Rattle.tester_vectors.specs.VectorText.{wire_cycles}
+use Rattle.tester_vectors.specs.VectorText.{wire_cycles, too_many}
 use Rattle.commands.specs.declared.Status.{Status}
 use Rattle.commands.specs.declared.Status.TheVariants.{Done, Refused}
 use Rattle.commands.specs.declared.Verdict.{Verdict}
 use Rattle.commands.specs.Decides.{GivesText}
 use Rattle.commands.specs.Ends.{IsWritten, Writes, WritesUnless, MayAnswer, Ends, OneLine, EndsByWords, SaysBadWords}
 use Rattle.commands.specs.Procedures.{Procedure}
-use Rattle.commands.specs.Texts.{is_line}
+use Rattle.commands.specs.Texts.{is_line, run_line, run_refusal}
 use Rattle.commands.proofs.FileStages.{line_refuses}
 use Rattle.commands.proofs.Written.{ends as decided_ends, one_line as decided_line, by_words as decided_words, says_bad_words as decided_bad}
 use Rattle.commands.proofs.UnlessRefused.{refusal_written, unless_ends, unless_one_line, unless_never_bad, command_words}
 use Rattle.soctest.specs.Endings.{Closes, WritesEnding}
-use Rattle.soctest.specs.Procedures.{long_run}
-use Rattle.commands.specs.Texts.{run_line}
 use Rattle.soctest.specs.declared.ending.Ending.{Ending}
 use Rattle.soctest.specs.declared.ending.Ending.TheVariants as ending
 
 -- ---- what is written of a run
 
-refused_long : (value : PlanValue) → RUN_MOST < wire_cycles value → long_run value ≡ Some (run_line (wire_cycles value))
+refused_long : (value : PlanValue) → RUN_MOST < wire_cycles value → run_refusal (too_many value) ≡ Some (run_line (wire_cycles value))
 refused_long value long = rw (lt-ltb RUN_MOST (wire_cycles value) long) refl
 
-taken_short : (value : PlanValue) → (RUN_MOST < wire_cycles value → ⊥) → long_run value ≡ None
+taken_short : (value : PlanValue) → (RUN_MOST < wire_cycles value → ⊥) → run_refusal (too_many value) ≡ None
 taken_short value short = go (cases_lt RUN_MOST (wire_cycles value)) where
-  go : (RUN_MOST < wire_cycles value) ⊎ (wire_cycles value ≤ RUN_MOST) → long_run value ≡ None
+  go : (RUN_MOST < wire_cycles value) ⊎ (wire_cycles value ≤ RUN_MOST) → run_refusal (too_many value) ≡ None
   go (inl long) = absurd (short long)
   go (inr past) = rw (le-ltb RUN_MOST (wire_cycles value) past) refl
 
-pub run_written : (value : PlanValue) (text : List ℕ) (kb ka : ℕ) (old new : Option (List ℕ)) (end : Status) → (RUN_MOST < wire_cycles value → ⊥) → IsWritten Done text kb ka old end new → WritesUnless (long_run value) text kb ka old end new
+pub run_written : (value : PlanValue) (text : List ℕ) (kb ka : ℕ) (old new : Option (List ℕ)) (end : Status) → (RUN_MOST < wire_cycles value → ⊥) → IsWritten Done text kb ka old end new → WritesUnless (run_refusal (too_many value)) text kb ka old end new
 run_written value text kb ka old new end short put = subst (λ r. WritesUnless r text kb ka old end new) (sym (taken_short value short)) (inr put)
 
 pub long_written : (value : PlanValue) (text : List ℕ) (cells : ℕ) (made : Result (Vec ℕ) MemoryFault) (verdict : Verdict) (kb ka : ℕ) (old new : Option (List ℕ)) (end : Status) → RUN_MOST < wire_cycles value → cells ≡ wire_cycles value →
-    IfOk made (λ text. text.items ≡ run_line cells) → IfOk made (λ text. IsTrue (is_line text.items)) → GivesText Refused made verdict → Writes verdict kb ka old end new → WritesUnless (long_run value) text kb ka old end new
+    IfOk made (λ text. text.items ≡ run_line cells) → IfOk made (λ text. IsTrue (is_line text.items)) → GivesText Refused made verdict → Writes verdict kb ka old end new → WritesUnless (run_refusal (too_many value)) text kb ka old end new
 long_written value text cells made verdict kb ka old new end long same is one given put =
-    let refusal : long_run value ≡ Some (run_line cells) = refused_long value long ∙ ap (λ n. Some (run_line n)) (sym same) in
+    let refusal : run_refusal (too_many value) ≡ Some (run_line cells) = refused_long value long ∙ ap (λ n. Some (run_line n)) (sym same) in
     subst (λ r. WritesUnless r text kb ka old end new) (sym refusal) (refusal_written (run_line cells) text verdict kb ka old new end (line_refuses (run_line cells) made verdict is one given) put)
 
 pub same_cells : (m n : ℕ) → RunTooLong m ≡ RunTooLong n → m ≡ n
@@ -53,20 +51,20 @@ same_cells m n e = cc
 
 pub ends : (steps : Procedure) (held : Option Files) (sb sa kb ka : ℕ) (old new : Option (List ℕ)) (end : Status) (e : Ending) → Closes steps held sb sa e → WritesEnding e kb ka old end new → Ends (MayAnswer steps held sb sa) kb ka old end new
 ends steps held sb sa kb ka old new end (ending.Decided verdict) d w = decided_ends steps held sb sa kb ka old new end verdict d w
-ends steps held sb sa kb ka old new end (ending.Run all seed) d w = unless_ends steps held sb sa kb ka old new end (long_run (plan_value all.plan)) _ d.1 w
+ends steps held sb sa kb ka old new end (ending.Run all seed) d w = unless_ends steps held sb sa kb ka old new end (run_refusal (too_many (plan_value all.plan))) _ d.1 w
 
 -- ---- one line
 
 pub one_line : (steps : Procedure) (held : Option Files) (sb sa kb ka : ℕ) (old new : Option (List ℕ)) (end : Status) (e : Ending) → Closes steps held sb sa e → WritesEnding e kb ka old end new → OneLine old end new
 one_line steps held sb sa kb ka old new end (ending.Decided verdict) d w = decided_line steps held sb sa kb ka old new end verdict d w
-one_line steps held sb sa kb ka old new end (ending.Run all seed) d w = unless_one_line kb ka old new end (long_run (plan_value all.plan)) _ w
+one_line steps held sb sa kb ka old new end (ending.Run all seed) d w = unless_one_line kb ka old new end (run_refusal (too_many (plan_value all.plan))) _ w
 
 -- ---- words
 
 pub by_words : (steps : Procedure) (held : Option Files) (sb sa kb ka : ℕ) (old new : Option (List ℕ)) (end : Status) (e : Ending) → Closes steps held sb sa e → WritesEnding e kb ka old end new → EndsByWords steps (Rose kb ka) end
 by_words steps held sb sa kb ka old new end (ending.Decided verdict) d w = decided_words steps held sb sa kb ka old new end verdict d w
-by_words steps held sb sa kb ka old new end (ending.Run all seed) d w = command_words steps (Rose kb ka) end d.0 (unless_never_bad kb ka old new end (long_run (plan_value all.plan)) _ w)
+by_words steps held sb sa kb ka old new end (ending.Run all seed) d w = command_words steps (Rose kb ka) end d.0 (unless_never_bad kb ka old new end (run_refusal (too_many (plan_value all.plan))) _ w)
 
 pub says_bad_words : (steps : Procedure) (held : Option Files) (sb sa kb ka : ℕ) (old new : Option (List ℕ)) (end : Status) (e : Ending) → Closes steps held sb sa e → WritesEnding e kb ka old end new → SaysBadWords old end new
 says_bad_words steps held sb sa kb ka old new end (ending.Decided verdict) d w = decided_bad steps held sb sa kb ka old new end verdict d w
-says_bad_words steps held sb sa kb ka old new end (ending.Run all seed) d w = λ bad. absurd (unless_never_bad kb ka old new end (long_run (plan_value all.plan)) _ w bad)
+says_bad_words steps held sb sa kb ka old new end (ending.Run all seed) d w = λ bad. absurd (unless_never_bad kb ka old new end (run_refusal (too_many (plan_value all.plan))) _ w bad)

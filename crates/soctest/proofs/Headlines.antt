@@ -8,7 +8,7 @@ use Rattle.plan_model.specs.Rules.{IsGood}
 use Rattle.plan_text.specs.PlanLines.{plan_text}
 use Rattle.chart.specs.ChartText.{chart_text}
 use Rattle.bit_machine.specs.Chips.{made_content}
-use Rattle.tester_vectors.specs.VectorText.{vector_text}
+use Rattle.tester_vectors.specs.VectorText.{vector_text, too_many}
 use Rattle.sample_maker.specs.Samples.{made_chip}
 use Rattle.fail_locate.specs.Laws.{SpotsAreReads}
 use Rattle.fail_locate.specs.LogAnswers.{SaysLog}
@@ -16,7 +16,7 @@ use Rattle.commands.specs.declared.FileKind.TheVariants.{Log, Program}
 use Rattle.commands.specs.declared.Status.{Status}
 use Rattle.commands.specs.declared.Status.TheVariants.{Done, BadWords}
 use Rattle.commands.specs.Procedures.{Unless, asked, with_both, done_with}
-use Rattle.commands.specs.Texts.{bad_words_line}
+use Rattle.commands.specs.Texts.{bad_words_line, run_refusal}
 use Rattle.commands.specs.Answers.{Answers}
 use Rattle.commands.specs.Ends.{MayAnswer, Ends}
 use Rattle.commands.specs.Trusted.{IsChipIn, AreLimitsIn, IsMade, IsTrustworthy}
@@ -27,7 +27,7 @@ use Rattle.soctest.specs.Texts.{accepted_line}
 use Rattle.soctest.specs.LogReadings.{RefusesFails, with_log}
 use Rattle.soctest.specs.LocateText.{locate_text}
 use Rattle.soctest.specs.ShiftPrograms.{SaysRight, RefusesProgram, accepted_program}
-use Rattle.soctest.specs.Procedures.{with_program, done_with_plan, done_with_sample, long_run, sample_refusal, procedure_of}
+use Rattle.soctest.specs.Procedures.{with_program, done_with_plan, done_with_sample, sample_refusal, procedure_of}
 use Rattle.soctest.specs.Endings.{Closes, WritesEnding}
 use Rattle.soctest.specs.declared.ending.Ending.{Ending}
 use Rattle.soctest.specs.Headlines.{TellsFails, TellsProgram, Trusts, Headline, SampleHeadline}
@@ -76,8 +76,8 @@ trusted laws reads files (Check soc limits plan) range text old new answer put =
 trusted laws reads files (Chart soc limits plan) range text old new answer put =
     accepted laws files soc limits plan (λ chip value t. t ≡ chart_text chip value) (λ chip bounds value. done_with (chart_text chip value)) (λ chip bounds value text a. a.1) text old new answer put
 trusted laws reads files (Vectors soc limits plan seed) range text old new answer put =
-    accepted laws files soc limits plan (λ chip value t. t ≡ vector_text chip value (made_content chip seed)) (λ chip bounds value. Unless (long_run value) (done_with (vector_text chip value (made_content chip seed))))
-    (λ chip bounds value text a. (not_refused files (long_run value) (done_with (vector_text chip value (made_content chip seed))) text a).1) text old new answer put
+    accepted laws files soc limits plan (λ chip value t. t ≡ vector_text chip value (made_content chip seed)) (λ chip bounds value. Unless (run_refusal (too_many value)) (done_with (vector_text chip value (made_content chip seed))))
+    (λ chip bounds value text a. (not_refused files (run_refusal (too_many value)) (done_with (vector_text chip value (made_content chip seed))) text a).1) text old new answer put
 trusted laws reads files (Sample n seed) range text old new answer put = sampled laws files n seed text old new (not_refused files (sample_refusal n) (done_with_sample n seed) text answer) put
 trusted laws reads files (Shift soc limits plan program) range text old new answer put =
     accepted laws files soc limits plan (TellsProgram files program) (λ chip bounds value. with_program chip value program (λ shifts. done_with (accepted_program chip value shifts)))

@@ -1,9 +1,6 @@
 -- Texts that are appended one behind the other.
-use Rattle.std.proofs.Common.{◌≡◌, ℕ, List, ◌++◌, ap, ◌∙◌, append_assoc}
-
--- what was appended before stands before
-behind : (t' t s x y : List ℕ) → t' ≡ t ++ y → t ≡ s ++ x → t' ≡ s ++ (x ++ y)
-behind t' t s x y last first = last ∙ ap (λ l. l ++ y) first ∙ append_assoc s x y
+use Rattle.std.proofs.Common.{◌≡◌, ℕ, List, ◌++◌, ap, ◌∙◌}
+use Rattle.commands.proofs.LineFacts.{behind}
 
 -- what a text is that was put
 pub put : (t' t x y : List ℕ) → t' ≡ t ++ x → x ≡ y → t' ≡ t ++ y

@@ -17,15 +17,16 @@ use Rattle.shift_program.specs.declared.ProgramFault.{ProgramFault}
 use Rattle.shift_program.specs.Programs.{ProgramValue, WrappedTest, wrapped_test, operations}
 use Rattle.shift_program.specs.RightPrograms.{AreRight}
 use Rattle.shift_program.specs.Faults.{needed_for, IsFault}
-use Rattle.shift_program.specs.Answers.{Says, RefusedAt, IsReadProgram}
+use Rattle.shift_program.specs.Answers.{Says, RefusedAt, IsReadProgram, RefusesText}
 use Rattle.shift_program.specs.Laws.{RightAreFaultless, OneFault, TextsHaveOneAnswer}
 use Rattle.commands.specs.declared.Status.TheVariants.{Done, Refused}
 use Rattle.commands.specs.declared.Verdict.{Verdict}
 use Rattle.commands.specs.declared.Verdict.TheVariants.{Answered, CannotRead, NoMemory as OutOfMemory}
 use Rattle.commands.specs.Texts.{is_line}
-use Rattle.soctest.specs.ShiftPrograms.{named_test, test_cycles, wrapper_for, planned_for, IsRightFor, RightIn, SaysRight, RefusedIn, RefusesProgram, program_line, program_fault_line, accepted_with, accepted_program, Judges}
+use Rattle.soctest.specs.ShiftPrograms.{named_test, test_cycles, wrapper_for, planned_for, IsRightFor, IsRightProgram, RightIn, SaysRight, RefusedIn, RefusesProgram, program_line, program_fault_line, accepted_with, accepted_program, Judges}
 use Rattle.commands.specs.Decides.{GivesText, AnswersBytes}
 use Rattle.commands.specs.Settled.{SaysOne, RefusesOne}
+use Rattle.commands.proofs.Judged.{JudgedLaws, judged_one, judged_refused_one}
 
 -- the laws that this rests on
 pub record ProgramLaws : Type 0 where
@@ -35,11 +36,12 @@ pub record ProgramLaws : Type 0 where
 
 -- ---- one answer
 
+-- a program that was read is refused
+abbrev RefusedProgram : SocValue → PlanValue → ProgramValue → List ℕ → Type 0
+RefusedProgram chip plan program text = RefusedIn plan program (named_test chip program.test) text
+
 same_program : TextsHaveOneAnswer → (bytes : List ℕ) (v w : ProgramValue) → IsReadProgram bytes v → IsReadProgram bytes w → v ≡ w
 same_program law bytes v w a b = let same : Says v ≡ Says w = law bytes (Says v) (Says w) a b in cc
-
-pub program_one : ProgramLaws → (chip : SocValue) (plan : PlanValue) → SaysOne (SaysRight chip plan)
-program_one laws chip plan bytes v w a b = same_program laws.texts bytes v w a.0 b.0
 
 -- a refusal of a program that was read is one line
 refused_in_one : OneFault → (plan : PlanValue) (program : ProgramValue) (found : Option (ModuleValue × Test)) (t t' : List ℕ) → RefusedIn plan program found t → RefusedIn plan program found t' → t ≡ t'
@@ -51,24 +53,20 @@ not_both : RightAreFaultless → (plan : PlanValue) (bytes : List ℕ) (program 
 not_both law plan bytes program None t read a right = right
 not_both law plan bytes program (Some x) t read a right = law x.0 x.1 (wrapper_for plan x.0 x.1) program.entries read.said.allowed right.right a.0 a.1.has
 
-pub program_refused_one : ProgramLaws → (chip : SocValue) (plan : PlanValue) → RefusesOne (SaysRight chip plan) (RefusesProgram chip plan)
-program_refused_one laws chip plan = record { one = lines; none = no_program } where
-  lines : (bytes t t' : List ℕ) → RefusesProgram chip plan bytes t → RefusesProgram chip plan bytes t' → t ≡ t'
-  lines bytes t t' (inl a) (inl b) =
-      let same : RefusedAt a.0 ≡ RefusedAt b.0 = laws.texts bytes (RefusedAt a.0) (RefusedAt b.0) a.1 b.1 in
-      let lines : a.0 ≡ b.0 = cc in
-      a.2 ∙ ap program_line lines ∙ sym b.2
-  lines bytes t t' (inl a) (inr b) = let same : RefusedAt a.0 ≡ Says b.0 = laws.texts bytes (RefusedAt a.0) (Says b.0) a.1 b.1 in absurd cc
-  lines bytes t t' (inr a) (inl b) = let same : Says a.0 ≡ RefusedAt b.0 = laws.texts bytes (Says a.0) (RefusedAt b.0) a.1 b.1 in absurd cc
-  lines bytes t t' (inr a) (inr b) =
-      let same : a.0 ≡ b.0 = same_program laws.texts bytes a.0 b.0 a.1 b.1 in
-      refused_in_one laws.one_fault plan b.0 (named_test chip b.0.test) t t' (subst (λ p. RefusedIn plan p (named_test chip p.test) t) same a.2) b.2
+judged_programs : ProgramLaws → (chip : SocValue) (plan : PlanValue) → JudgedLaws IsReadProgram RefusesText (IsRightProgram chip plan) (RefusedProgram chip plan)
+judged_programs laws chip plan = record {
+  one = same_program laws.texts;
+  not_refused = λ bytes line v says refused. (let same : RefusedAt line ≡ Says v = laws.texts bytes (RefusedAt line) (Says v) refused says in cc);
+  refused_once = λ bytes m n a b. (let same : RefusedAt m ≡ RefusedAt n = laws.texts bytes (RefusedAt m) (RefusedAt n) a b in cc);
+  one_line = λ v t t' a b. refused_in_one laws.one_fault plan v (named_test chip v.test) t t' a b;
+  not_both = λ bytes v t says right refused. not_both laws.faultless plan bytes v (named_test chip v.test) t says refused right;
+}
 
-  no_program : (bytes t : List ℕ) (v : ProgramValue) → RefusesProgram chip plan bytes t → SaysRight chip plan bytes v → ⊥
-  no_program bytes t v (inl a) says = let same : RefusedAt a.0 ≡ Says v = laws.texts bytes (RefusedAt a.0) (Says v) a.1 says.0 in cc
-  no_program bytes t v (inr a) says =
-      let same : a.0 ≡ v = same_program laws.texts bytes a.0 v a.1 says.0 in
-      not_both laws.faultless plan bytes v (named_test chip v.test) t says.0 (subst (λ p. RefusedIn plan p (named_test chip p.test) t) same a.2) says.1
+pub program_one : ProgramLaws → (chip : SocValue) (plan : PlanValue) → SaysOne (SaysRight chip plan)
+program_one laws chip plan = judged_one IsReadProgram RefusesText (IsRightProgram chip plan) (RefusedProgram chip plan) (judged_programs laws chip plan)
+
+pub program_refused_one : ProgramLaws → (chip : SocValue) (plan : PlanValue) → RefusesOne (SaysRight chip plan) (RefusesProgram chip plan)
+program_refused_one laws chip plan = judged_refused_one IsReadProgram RefusesText (IsRightProgram chip plan) (RefusedProgram chip plan) program_line (judged_programs laws chip plan)
 
 -- ---- from a program that was read
 

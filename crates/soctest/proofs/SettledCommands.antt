@@ -5,7 +5,7 @@ use Rattle.plan_model.specs.Plans.{PlanValue}
 use Rattle.soc_printer.specs.SocText.{soc_text}
 use Rattle.chart.specs.ChartText.{chart_text}
 use Rattle.bit_machine.specs.Chips.{made_content}
-use Rattle.tester_vectors.specs.VectorText.{vector_text}
+use Rattle.tester_vectors.specs.VectorText.{vector_text, too_many}
 use Rattle.planner.specs.Plans.{IsPlanned}
 use Rattle.plan_text.specs.PlanLines.{plan_text}
 use Rattle.sample_maker.specs.Samples.{made_chip}
@@ -16,12 +16,13 @@ use Rattle.commands.specs.Settled.{IsSettled, FilesSayOneThing}
 use Rattle.commands.proofs.Settled.{done_once, left_open}
 use Rattle.commands.proofs.Completeness.{settled_chip, settled_both, settled_all}
 use Rattle.commands.specs.Commands.{CommandValue, Print, Widths, Plan, Check, Chart, Vectors, Sample, Locate, Tree, Split, Shift, Improve, Picture, Simulate, Bound, Prove}
+use Rattle.commands.specs.Texts.{run_refusal}
 use Rattle.soctest.specs.Texts.{accepted_line}
 use Rattle.soctest.specs.WidthsText.{widths_text}
 use Rattle.soctest.specs.Samples.{sample_limits, sample_text}
 use Rattle.soctest.specs.SplitText.{split_text, split_refusal}
 use Rattle.soctest.specs.ShiftPrograms.{accepted_program}
-use Rattle.soctest.specs.Procedures.{long_run, procedure_of, fixes_text, with_bound, with_program, done_with_plan, done_with_split}
+use Rattle.soctest.specs.Procedures.{procedure_of, fixes_text, with_bound, with_program, done_with_plan, done_with_split}
 use Rattle.soctest.proofs.ProgramAnswers.{ProgramLaws, program_one, program_refused_one}
 use Rattle.soctest.proofs.LogFiles.{after_plan, settled_log}
 use Rattle.soctest.proofs.TreeFiles.{bound_settled}
@@ -42,7 +43,7 @@ settled laws (Widths soc wires) = settled_chip laws.files true (λ chip. done_wi
 settled laws (Plan soc limits) = settled_both laws.files false soc limits done_with_plan (λ chip bounds. left_open (λ text. (value : PlanValue) × IsPlanned chip bounds value × (text ≡ plan_text value)))
 settled laws (Check soc limits plan) = settled_all laws.files true soc limits plan (λ chip bounds value. done_with (accepted_line value)) (λ chip bounds value. done_once true (accepted_line value))
 settled laws (Chart soc limits plan) = settled_all laws.files true soc limits plan (λ chip bounds value. done_with (chart_text chip value)) (λ chip bounds value. done_once true (chart_text chip value))
-settled laws (Vectors soc limits plan seed) = settled_all laws.files true soc limits plan (λ chip bounds value. Unless (long_run value) (done_with (vector_text chip value (made_content chip seed)))) (λ chip bounds value. done_once true (vector_text chip value (made_content chip seed)))
+settled laws (Vectors soc limits plan seed) = settled_all laws.files true soc limits plan (λ chip bounds value. Unless (run_refusal (too_many value)) (done_with (vector_text chip value (made_content chip seed)))) (λ chip bounds value. done_once true (vector_text chip value (made_content chip seed)))
 settled laws (Shift soc limits plan program) =
     settled_all laws.files true soc limits plan (λ chip bounds value. with_program chip value program (λ shifts. done_with (accepted_program chip value shifts)))
     (λ chip bounds value. settled_program laws.programs chip value program (λ shifts. done_with (accepted_program chip value shifts)) (λ shifts. done_once true (accepted_program chip value shifts)))

@@ -1,5 +1,5 @@
 -- A file with a width tree: the files give one answer of it, and the bound that is printed is one.
-use Rattle.std.proofs.Common.{◌≡◌, ◌∙◌, ℕ, inl, inr, List, Option, true, sym, subst, ap}
+use Rattle.std.proofs.Common.{◌≡◌, ◌∙◌, ℕ, List, Option, true, sym, subst, ap}
 use Rattle.std.specs.FinMap.{get}
 use Rattle.outside.specs.Held.{Files, Appended}
 use Rattle.outside.specs.Words.{words_of}
@@ -9,7 +9,7 @@ use Rattle.plan_model.specs.Plans.{LimitsValue}
 use Rattle.soc_reader.specs.ChipForm.{SaysChip}
 use Rattle.width_tree.specs.declared.TreeFault.{TreeFault}
 use Rattle.width_tree.specs.Trees.{TreeValue}
-use Rattle.width_tree.specs.Answers.{Says}
+use Rattle.width_tree.specs.Answers.{Says, RefusesText}
 use Rattle.width_tree.specs.Bounds.{IsAcceptedTree, IsTreeFault}
 use Rattle.width_tree.specs.TreeText.{tree_grammar}
 use Rattle.width_tree.specs.Steps.{tree_machine}
@@ -29,27 +29,29 @@ use Rattle.commands.specs.Answers.{Answers}
 use Rattle.soctest.specs.TreeBounds.{IsShownBound}
 use Rattle.commands.proofs.Trusted.{stage_done, read_as_well, both_done}
 use Rattle.commands.specs.Settled.{SaysOne, RefusesOne, IsSettled}
+use Rattle.commands.proofs.Judged.{JudgedLaws, judged_one, judged_refused_one}
 use Rattle.commands.proofs.Settled.{done_once}
 
 -- ---- one answer
 
+-- a tree is refused for a fault
+abbrev RefusedTree : SocValue → LimitsValue → TreeValue → List ℕ → Type 0
+RefusedTree chip bounds value text = (fault : TreeFault) × IsTreeFault chip bounds value fault × (text ≡ tree_fault_line fault)
+
+judged_trees : (chip : SocValue) (bounds : LimitsValue) → JudgedLaws Says RefusesText (IsAcceptedTree chip bounds) (RefusedTree chip bounds)
+judged_trees chip bounds = record {
+  one = λ bytes v w a b. one_value tree_grammar tree_machine reads_trees (words_of bytes) v w a b;
+  not_refused = λ bytes line v says refused. not_refused tree_grammar (words_of bytes) (last_line bytes) line (v, says) refused;
+  refused_once = λ bytes m n a b. refused_once tree_grammar (words_of bytes) (last_line bytes) m n a b;
+  one_line = λ v t t' a b. a.2 ∙ ap tree_fault_line (one_fault chip bounds v a.0 b.0 a.1 b.1) ∙ sym b.2;
+  not_both = λ bytes v t says right refused. no_fault chip bounds v refused.0 right refused.1;
+}
+
 tree_one : (chip : SocValue) (bounds : LimitsValue) → SaysOne (SaysBound chip bounds)
-tree_one chip bounds bytes v w a b = one_value tree_grammar tree_machine reads_trees (words_of bytes) v w a.0 b.0
+tree_one chip bounds = judged_one Says RefusesText (IsAcceptedTree chip bounds) (RefusedTree chip bounds) (judged_trees chip bounds)
 
 tree_refused_one : (chip : SocValue) (bounds : LimitsValue) → RefusesOne (SaysBound chip bounds) (RefusesTree chip bounds)
-tree_refused_one chip bounds = record { one = lines; none = no_tree } where
-  same_fault : (bytes : List ℕ) (v w : TreeValue) (f g : TreeFault) → Says bytes v → Says bytes w → IsTreeFault chip bounds v f → IsTreeFault chip bounds w g → f ≡ g
-  same_fault bytes v w f g a b is_f is_g = one_fault chip bounds w f g (subst (λ x. IsTreeFault chip bounds x f) (one_value tree_grammar tree_machine reads_trees (words_of bytes) v w a b) is_f) is_g
-
-  lines : (bytes t t' : List ℕ) → RefusesTree chip bounds bytes t → RefusesTree chip bounds bytes t' → t ≡ t'
-  lines bytes t t' (inl a) (inl b) = a.2 ∙ ap tree_line (refused_once tree_grammar (words_of bytes) (last_line bytes) a.0 b.0 a.1 b.1) ∙ sym b.2
-  lines bytes t t' (inl a) (inr b) = absurd (not_refused tree_grammar (words_of bytes) (last_line bytes) a.0 (b.0, b.1) a.1)
-  lines bytes t t' (inr a) (inl b) = absurd (not_refused tree_grammar (words_of bytes) (last_line bytes) b.0 (a.0, a.1) b.1)
-  lines bytes t t' (inr a) (inr b) = a.2.2 ∙ ap tree_fault_line (same_fault bytes a.0 b.0 a.2.0 b.2.0 a.1 b.1 a.2.1 b.2.1) ∙ sym b.2.2
-
-  no_tree : (bytes t : List ℕ) (v : TreeValue) → RefusesTree chip bounds bytes t → SaysBound chip bounds bytes v → ⊥
-  no_tree bytes t v (inl a) says = not_refused tree_grammar (words_of bytes) (last_line bytes) a.0 (v, says.0) a.1
-  no_tree bytes t v (inr a) says = no_fault chip bounds a.0 a.2.0 (subst (IsAcceptedTree chip bounds) (one_value tree_grammar tree_machine reads_trees (words_of bytes) v a.0 says.0 a.1) says.1) a.2.1
+tree_refused_one chip bounds = judged_refused_one Says RefusesText (IsAcceptedTree chip bounds) (RefusedTree chip bounds) tree_line (judged_trees chip bounds)
 
 pub bound_settled : (tree : List ℕ) (chip : SocValue) (bounds : LimitsValue) → IsSettled true (with_bound tree chip bounds)
 bound_settled tree chip bounds = (tree_one chip bounds, tree_refused_one chip bounds, λ value. done_once true (bound_line value))

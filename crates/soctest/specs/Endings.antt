@@ -7,13 +7,13 @@ use Rattle.plan_model.specs.Faults.{IsFaultless}
 use Rattle.plan_model.specs.SoundLimits.{IsSoundLimits}
 use Rattle.plan_model.specs.Views.{limits_value, plan_value}
 use Rattle.bit_machine.specs.Chips.{made_content}
-use Rattle.tester_vectors.specs.VectorText.{vector_text}
+use Rattle.tester_vectors.specs.VectorText.{vector_text, too_many}
 use Rattle.commands.specs.declared.Status.{Status}
 use Rattle.commands.specs.declared.loading.Accepted.{Accepted}
 use Rattle.commands.specs.Decides.{Decides}
 use Rattle.commands.specs.Ends.{IsCommand, MayUnless, Writes, WritesUnless}
 use Rattle.commands.specs.Procedures.{Procedure}
-use Rattle.soctest.specs.Procedures.{long_run}
+use Rattle.commands.specs.Texts.{run_refusal}
 use Rattle.soctest.specs.declared.ending.Ending.{Ending}
 use Rattle.soctest.specs.declared.ending.Ending.TheVariants as ending
 
@@ -21,7 +21,7 @@ use Rattle.soctest.specs.declared.ending.Ending.TheVariants as ending
 abbrev pub Closes : Procedure → Option Files → ℕ → ℕ → Ending → Type 0
 Closes steps held before after (ending.Decided verdict) = Decides steps held before after verdict
 Closes steps held before after (ending.Run all seed) =
-    IsCommand steps × MayUnless steps held (long_run (plan_value all.plan))
+    IsCommand steps × MayUnless steps held (run_refusal (too_many (plan_value all.plan)))
     (vector_text (soc_value all.soc) (plan_value all.plan) (made_content (soc_value all.soc) seed))
 
 -- a chip, limits and a plan that is accepted
@@ -39,5 +39,5 @@ IsRunnable (ending.Run all seed) = IsTaken all
 abbrev pub WritesEnding : Ending → ℕ → ℕ → Option (List ℕ) → Status → Option (List ℕ) → Type 0
 WritesEnding (ending.Decided verdict) before after old end new = Writes verdict before after old end new
 WritesEnding (ending.Run all seed) before after old end new =
-    WritesUnless (long_run (plan_value all.plan)) (vector_text (soc_value all.soc) (plan_value all.plan)
+    WritesUnless (run_refusal (too_many (plan_value all.plan))) (vector_text (soc_value all.soc) (plan_value all.plan)
     (made_content (soc_value all.soc) seed)) before after old end new

@@ -1,5 +1,5 @@
 -- What each command does: it takes its files one after another, and then answers.
-use Rattle.std.specs.Prelude.{◌≡◌, ℕ, List, Option, None, Some, Bool, true, false, ◌||◌, nat_eq, nat_lt, option_map, if◌then◌else◌}
+use Rattle.std.specs.Prelude.{◌≡◌, ℕ, List, Option, None, Some, Bool, true, false, ◌||◌, nat_eq, nat_lt, if◌then◌else◌}
 use Rattle.soc_model.specs.Chips.{SocValue}
 use Rattle.plan_model.specs.Plans.{LimitsValue, PlanValue}
 use Rattle.soc_printer.specs.SocText.{soc_text}
@@ -10,7 +10,7 @@ use Rattle.plan_text.specs.PlanLines.{plan_text}
 use Rattle.width_tree.specs.Trees.{TreeValue}
 use Rattle.bit_machine.specs.Chips.{made_content}
 use Rattle.tester_vectors.specs.VectorText.{too_many, vector_text}
-use Rattle.commands.specs.Texts.{run_line}
+use Rattle.commands.specs.Texts.{run_refusal}
 use Rattle.commands.specs.Commands.{CommandValue, Print, Widths, Plan, Check, Chart, Vectors, Sample, Locate, Tree, Split, Shift, Improve, Picture, Simulate, Bound, Prove}
 use Rattle.sample_maker.specs.Samples.{made_chip}
 use Rattle.sample_maker.specs.declared.TheConstants.{SAMPLE_MODULES_MOST}
@@ -30,10 +30,6 @@ use Rattle.soctest.specs.LogReadings.{with_log}
 -- the answer is the text of any plan that the planner may make for a chip under limits
 abbrev pub done_with_plan : SocValue → LimitsValue → Procedure
 done_with_plan chip bounds = done_with_any (λ text. (value : PlanValue) × IsPlanned chip bounds value × (text ≡ plan_text value))
-
--- the line that refuses the vectors of a plan whose run is too long
-abbrev pub long_run : PlanValue → Option (List ℕ)
-long_run value = option_map run_line (too_many value)
 
 -- the answer is the summary of a made chip and of any plan that the planner may make for it
 abbrev pub done_with_sample : (n seed : ℕ) → Procedure
@@ -71,8 +67,8 @@ procedure_of (Widths soc wires) = with_chip soc (λ chip. done_with (widths_text
 procedure_of (Plan soc limits) = with_both soc limits done_with_plan
 procedure_of (Check soc limits plan) = with_all soc limits plan (λ chip bounds value. done_with (accepted_line value))
 procedure_of (Chart soc limits plan) = with_all soc limits plan (λ chip bounds value. done_with (chart_text chip value))
-procedure_of (Vectors soc limits plan seed) =
-    with_all soc limits plan (λ chip bounds value. Unless (long_run value) (done_with (vector_text chip value (made_content chip seed))))
+procedure_of (Vectors soc limits plan seed) = with_all soc limits plan
+    (λ chip bounds value. Unless (run_refusal (too_many value)) (done_with (vector_text chip value (made_content chip seed))))
 procedure_of (Sample n seed) = Unless (sample_refusal n) (done_with_sample n seed)
 procedure_of (Tree soc limits tree) = with_both soc limits (with_bound tree)
 procedure_of (Split soc limits most) =

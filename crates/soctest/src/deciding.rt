@@ -31,8 +31,8 @@ use commands::{
     Accepted, Both, Command, Status, Verdict, answered_with, bad_words, command_of, load_all,
     load_both, load_chip,
 };
-use limits_text::noted_tests;
-use live_tests::{LiveTests, Resolved};
+use limits_text::{noted_tests, resolved_of};
+use live_tests::LiveTests;
 use outside::{NoMemory, Shelf};
 use plan_model::{Limits, Plan, good_without_limits};
 use plan_text::print_plan;
@@ -82,8 +82,7 @@ pub(crate) fn planned(
     requires live { IfSome live (λ tests. tests ≡ live_ids (soc_value soc.now)) }
     ensures { IfOk result (λ plan. IsPlanned (soc_value soc.now) (limits_value limits.now) (plan_value plan)) }
 {
-    let tests = noted_tests(alloc, soc, live)?;
-    let resolved = Resolved::with_tests(alloc, soc, limits, tests)?;
+    let resolved = resolved_of(alloc, soc, limits, live)?;
     let ahead = Ahead::new(
         |table: &Table<'_>, test: usize| -> u64
             requires { CanAsk table.now test }

@@ -5,10 +5,10 @@ ghost use Rattle.soc_model.specs.SoundChips.{IsSoundChip};
 ghost use Rattle.plan_model.specs.Rules.{IsGoodAlone};
 ghost use Rattle.plan_model.specs.Views.{plan_value};
 ghost use Rattle.bit_machine.specs.Chips.{wires_of, made_content};
-ghost use Rattle.tester_vectors.specs.VectorText.{vector_text};
+ghost use Rattle.tester_vectors.specs.VectorText.{vector_text, too_many};
 ghost use Rattle.commands.specs.Ends.{WritesUnless};
+ghost use Rattle.commands.specs.Texts.{run_refusal};
 ghost use Rattle.soctest.specs.Endings.{IsRunnable, WritesEnding};
-ghost use Rattle.soctest.specs.Procedures.{long_run};
 
 use commands::{Accepted, Status, Verdict, refused_with, run_line, write_verdict};
 use outside::Sink;
@@ -33,7 +33,7 @@ fn write_run<K: Sink>(alloc: Global, soc: &Soc, plan: &Plan, seed: u64, out: &mu
     requires good { IsGoodAlone (soc_value soc.now) (plan_value plan.now) }
     requires narrow { wires_of (plan_value plan.now) ≤ 256 }
     ensures faults_never_fall { K.faults out.old ≤ K.faults out.new }
-    ensures written { WritesUnless (long_run (plan_value plan.now))
+    ensures written { WritesUnless (run_refusal (too_many (plan_value plan.now)))
         (vector_text (soc_value soc.now) (plan_value plan.now) (made_content (soc_value soc.now) seed)) (K.faults out.old)
         (K.faults out.new) (K.written out.old) result (K.written out.new) }
 {

@@ -6,7 +6,7 @@ ghost use Rattle.plan_model.specs.Rules.{IsGoodAlone};
 ghost use Rattle.plan_model.specs.Views.{plan_value};
 ghost use Rattle.soctest.specs.LocateText.{cell_text, fail_line, locate_text as whole_text, spot_text};
 
-use commands::{push, push_decimal, push_test};
+use commands::{push_decimal, push_test, push_text};
 use fail_locate::{Cell, Locator, Spot};
 use outside::NoMemory;
 use plan_model::Plan;
@@ -19,13 +19,13 @@ fn push_cell(text: &mut Vec<u8>, cell: Cell) -> Result<(), NoMemory>
 {
     match cell {
         Cell::Flop { chain, place } => {
-            push(text, b"flop ")?;
+            push_text(text, b"flop ")?;
             push_decimal(text, chain as u128)?;
-            push(text, b".")?;
+            push_text(text, b".")?;
             push_decimal(text, u128::from(place))
         }
         Cell::Out { number } => {
-            push(text, b"out ")?;
+            push_text(text, b"out ")?;
             push_decimal(text, u128::from(number))
         }
     }
@@ -36,12 +36,12 @@ fn push_spot(text: &mut Vec<u8>, found: Option<Spot>) -> Result<(), NoMemory>
     ensures { OnOk result (text.new.items ≡ text.old.items ++ spot_text found) }
 {
     let Some(spot) = found else {
-        return push(text, b"none");
+        return push_text(text, b"none");
     };
     push_test(text, &spot.test)?;
-    push(text, b" pattern ")?;
+    push_text(text, b" pattern ")?;
     push_decimal(text, u128::from(spot.pattern))?;
-    push(text, b" ")?;
+    push_text(text, b" ")?;
     push_cell(text, spot.cell)
 }
 
@@ -55,11 +55,11 @@ fn push_fail(
     ensures { OnOk result (text.new.items ≡ text.old.items ++ fail_line locator.now.soc locator.now.plan (cycle, wire)) }
 {
     push_decimal(text, u128::from(cycle))?;
-    push(text, b" ")?;
+    push_text(text, b" ")?;
     push_decimal(text, u128::from(wire))?;
-    push(text, b" ")?;
+    push_text(text, b" ")?;
     push_spot(text, locator.spot(cycle, wire))?;
-    push(text, b"\n")
+    push_text(text, b"\n")
 }
 
 /// The text of `locate`: for each fail of a log, its cycle and its wire, the test, the pattern and the cell whose response bit

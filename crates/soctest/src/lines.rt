@@ -4,7 +4,7 @@ ghost use Rattle.plan_model.specs.Views.{plan_value};
 ghost use Rattle.commands.specs.Texts.{is_line};
 ghost use Rattle.soctest.specs.Texts.{accepted_line as accepted_text, log_line as log_line_text};
 
-use commands::{numbered, push, push_two};
+use commands::{numbered, push_text, push_two};
 use outside::NoMemory;
 use plan_model::Plan;
 use std::alloc::Global;
@@ -14,13 +14,13 @@ pub fn accepted_line(alloc: Global, plan: &Plan) -> Result<Vec<u8>, NoMemory>
     ensures text { IfOk result (λ text. text.items ≡ accepted_text (plan_value plan.now)) }
 {
     let mut text = Vec::new(alloc);
-    push(&mut text, b"accepted ")?;
+    push_text(&mut text, b"accepted ")?;
     push_two(
         &mut text,
         u128::from(plan.cycles),
         u128::from(plan.bound.cycles),
     )?;
-    push(&mut text, b"\n")?;
+    push_text(&mut text, b"\n")?;
     Ok(text)
 }
 

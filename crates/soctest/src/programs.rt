@@ -17,7 +17,8 @@ ghost use Rattle.commands.specs.Texts.{is_line, no_feed};
 ghost use Rattle.soctest.specs.ShiftPrograms.{named_test, planned_for, fault_word as word_of_fault, accepted_with, accepted_program as text_of_program, program_line as program_line_text, program_test_line as program_test_text, program_fault_line as program_fault_text, Judges, RefusesProgram, SaysRight};
 
 use commands::{
-    Status, Verdict, answered_with, numbered, push, push_decimal, push_test, push_two, refused_with,
+    Status, Verdict, answered_with, numbered, push_decimal, push_test, push_text, push_two,
+    refused_with,
 };
 use outside::NoMemory;
 use plan_model::{Limits, Plan, Wrapper, test_cycles, wrapper_of};
@@ -41,9 +42,9 @@ fn program_test_line(alloc: Global, test: &TestId) -> Result<Vec<u8>, NoMemory>
     ensures line { IfOk result (λ text. IsTrue (is_line text.items)) }
 {
     let mut text = Vec::new(alloc);
-    push(&mut text, b"refused program test ")?;
+    push_text(&mut text, b"refused program test ")?;
     push_test(&mut text, test)?;
-    push(&mut text, b"\n")?;
+    push_text(&mut text, b"\n")?;
     Ok(text)
 }
 
@@ -80,10 +81,10 @@ fn program_fault_line(alloc: Global, fault: ProgramFault) -> Result<Vec<u8>, NoM
     ensures line { IfOk result (λ text. IsTrue (is_line text.items)) }
 {
     let mut text = Vec::new(alloc);
-    push(&mut text, b"refused program entry ")?;
+    push_text(&mut text, b"refused program entry ")?;
     push_decimal(&mut text, fault_place(fault) as u128)?;
-    push(&mut text, fault_word(fault))?;
-    push(&mut text, b"\n")?;
+    push_text(&mut text, fault_word(fault))?;
+    push_text(&mut text, b"\n")?;
     Ok(text)
 }
 
@@ -92,9 +93,9 @@ fn accepted_program(alloc: Global, done: u128, cycles: u64) -> Result<Vec<u8>, N
     ensures { IfOk result (λ text. text.items ≡ accepted_with done cycles) }
 {
     let mut text = Vec::new(alloc);
-    push(&mut text, b"accepted ")?;
+    push_text(&mut text, b"accepted ")?;
     push_two(&mut text, done, u128::from(cycles))?;
-    push(&mut text, b"\n")?;
+    push_text(&mut text, b"\n")?;
     Ok(text)
 }
 
@@ -127,7 +128,13 @@ fn wrapper_for<'a>(plan: &'a Plan, module: &Module, test: &Test) -> &'a Wrapper
 }
 
 /// Whether a program is right for a test in the wrapper of a plan, as it is answered.
-fn judge(alloc: Global, plan: &Plan, module: &Module, test: &Test, program: &Program) -> Verdict
+fn judge_program(
+    alloc: Global,
+    plan: &Plan,
+    module: &Module,
+    test: &Test,
+    program: &Program,
+) -> Verdict
     requires wrapped { IsWrapped (module_value «module».now) test.now (map wrapper_value plan.now.wrappers.items) }
     requires small { module_size (module_value «module».now) ≤ 10 ^ 18 }
     requires work { test_work (module_value «module».now) test.now ≤ 10 ^ 18 }
@@ -159,7 +166,7 @@ fn judge_named(alloc: Global, soc: &Soc, limits: &Limits, plan: &Plan, program: 
     match tam_test(soc, program.test) {
         Some((place, at)) => {
             let module = module_at(soc, place);
-            judge(alloc, plan, module, &module.tests[at], program)
+            judge_program(alloc, plan, module, &module.tests[at], program)
         }
         None => refused_with(program_test_line(alloc, &program.test)),
     }

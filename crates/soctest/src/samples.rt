@@ -17,7 +17,7 @@ ghost use Rattle.commands.specs.Decides.{Follows};
 
 use crate::deciding::planned;
 use commands::{
-    Status, Verdict, answered_with, numbered, push, push_decimal, push_two, refused_with,
+    Status, Verdict, answered_with, numbered, push_decimal, push_text, push_two, refused_with,
 };
 use outside::NoMemory;
 use plan_checker::first_fault;
@@ -84,11 +84,11 @@ fn push_made(text: &mut Vec<u8>, n: u64, seed: u64, soc: &Soc) -> Result<(), NoM
     ensures { OnOk result (text.new.items ≡ text.old.items ++ codes "sample " ++ two_numbers n seed ++ codes "\nmodules "
         ++ decimal (length (soc_value soc.now).modules) ++ codes "\ntests " ++ decimal (length (live_tests (soc_value soc.now)))) }
 {
-    push(text, b"sample ")?;
+    push_text(text, b"sample ")?;
     push_two(text, u128::from(n), u128::from(seed))?;
-    push(text, b"\nmodules ")?;
+    push_text(text, b"\nmodules ")?;
     push_decimal(text, soc.modules.len() as u128)?;
-    push(text, b"\ntests ")?;
+    push_text(text, b"\ntests ")?;
     push_decimal(text, count_tests(soc))
 }
 
@@ -97,12 +97,12 @@ fn push_planned(text: &mut Vec<u8>, plan: &Plan) -> Result<(), NoMemory>
     ensures { OnOk result (text.new.items ≡ text.old.items ++ codes "\ncycles " ++ decimal plan.now.cycles ++ codes "\nbound "
         ++ decimal plan.now.bound.cycles ++ codes " " ++ kind_text (why_value plan.now.bound.why)) }
 {
-    push(text, b"\ncycles ")?;
+    push_text(text, b"\ncycles ")?;
     push_decimal(text, u128::from(plan.cycles))?;
-    push(text, b"\nbound ")?;
+    push_text(text, b"\nbound ")?;
     push_decimal(text, u128::from(plan.bound.cycles))?;
-    push(text, b" ")?;
-    push(text, kind(&plan.bound.why))
+    push_text(text, b" ")?;
+    push_text(text, kind(&plan.bound.why))
 }
 
 /// The summary of a made chip and its plan.
@@ -113,7 +113,7 @@ fn summary(alloc: Global, n: u64, seed: u64, soc: &Soc, plan: &Plan) -> Result<V
     let mut text = Vec::new(alloc);
     push_made(&mut text, n, seed, soc)?;
     push_planned(&mut text, plan)?;
-    push(&mut text, b"\naccepted\n")?;
+    push_text(&mut text, b"\naccepted\n")?;
     Ok(text)
 }
 

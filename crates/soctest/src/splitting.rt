@@ -15,8 +15,8 @@ ghost use Rattle.commands.specs.Texts.{is_line};
 
 use crate::samples::checked_plan;
 use commands::{
-    Status, Verdict, answered_with, limit_word, load_both, push, push_decimal, push_test, push_two,
-    refused_with,
+    Status, Verdict, answered_with, limit_word, load_both, push_decimal, push_test, push_text,
+    push_two, refused_with,
 };
 use limits_text::print_limits;
 use outside::{NoMemory, Shelf, extend};
@@ -32,11 +32,11 @@ fn push_part(text: &mut Vec<u8>, part: &PatternRun) -> Result<(), NoMemory>
     ensures { OnOk result (text.new.items ≡ text.old.items ++ part_line part.now) }
 {
     push_test(text, &part.whole)?;
-    push(text, b" ")?;
+    push_text(text, b" ")?;
     push_two(text, u128::from(part.first), u128::from(part.last))?;
-    push(text, b" as ")?;
+    push_text(text, b" as ")?;
     push_test(text, &part.part)?;
-    push(text, b"\n")
+    push_text(text, b"\n")
 }
 
 /// Appends the lines of parts.
@@ -92,10 +92,10 @@ fn split_line(alloc: Global, limit: &SocLimit) -> Result<Vec<u8>, NoMemory>
     ensures line { IfOk result (λ text. IsTrue (is_line text.items)) }
 {
     let mut text = Vec::new(alloc);
-    push(&mut text, b"refused split limit ")?;
-    push(&mut text, limit_word(limit.which))?;
+    push_text(&mut text, b"refused split limit ")?;
+    push_text(&mut text, limit_word(limit.which))?;
     push_decimal(&mut text, limit.value)?;
-    push(&mut text, b"\n")?;
+    push_text(&mut text, b"\n")?;
     Ok(text)
 }
 

@@ -1,11 +1,10 @@
 //! The lines that are written of width trees.
 ghost use Rattle.std.specs.Prelude.{◌≡◌, IfOk, IsTrue};
 ghost use Rattle.width_tree.specs.Trees.{tree_value};
-ghost use Rattle.width_tree.specs.declared.TreeFault.TheVariants.{Less};
 ghost use Rattle.commands.specs.Texts.{is_line};
 ghost use Rattle.soctest.specs.TreeTexts.{bound_line as bound_text, tree_line as tree_line_text, tree_fault_line as tree_fault_text};
 
-use commands::{numbered, push, push_decimal, push_two};
+use commands::{less_line, numbered};
 use outside::NoMemory;
 use std::alloc::Global;
 use width_tree::{Tree, TreeFault};
@@ -25,20 +24,6 @@ pub(crate) fn tree_line(alloc: Global, line: u64) -> Result<Vec<u8>, NoMemory>
     numbered(alloc, b"refused tree line ", u128::from(line))
 }
 
-/// `refused tree less`, the place of the node, the claim and what the node shows.
-fn less_line(alloc: Global, place: usize, claimed: u64, shown: u128) -> Result<Vec<u8>, NoMemory>
-    ensures text { IfOk result (λ text. text.items ≡ tree_fault_text (Less place claimed shown)) }
-    ensures line { IfOk result (λ text. IsTrue (is_line text.items)) }
-{
-    let mut text = Vec::new(alloc);
-    push(&mut text, b"refused tree less ")?;
-    push_decimal(&mut text, place as u128)?;
-    push(&mut text, b" ")?;
-    push_two(&mut text, u128::from(claimed), shown)?;
-    push(&mut text, b"\n")?;
-    Ok(text)
-}
-
 /// `refused tree` and the fault.
 pub(crate) fn tree_fault_line(alloc: Global, fault: TreeFault) -> Result<Vec<u8>, NoMemory>
     ensures text { IfOk result (λ text. text.items ≡ tree_fault_text fault) }
@@ -50,6 +35,6 @@ pub(crate) fn tree_fault_line(alloc: Global, fault: TreeFault) -> Result<Vec<u8>
             place,
             claimed,
             shown,
-        } => less_line(alloc, place, claimed, shown),
+        } => less_line(alloc, b"refused tree less ", place, claimed, shown),
     }
 }

@@ -5,7 +5,7 @@ ghost use Rattle.soc_model.specs.SoundChips.{IsSoundChip};
 ghost use Rattle.width_table.specs.Tables.{places_of};
 ghost use Rattle.soctest.specs.WidthsText.{width_line, module_widths, widths_text as whole_text};
 
-use commands::{push, push_decimal};
+use commands::{push_decimal, push_text};
 use outside::NoMemory;
 use soc_model::{Module, Soc, module_at};
 use std::alloc::Global;
@@ -15,13 +15,13 @@ use width_table::WidthTable;
 fn push_line(text: &mut Vec<u8>, number: u64, width: u64, cycles: u64) -> Result<(), NoMemory>
     ensures { OnOk result (text.new.items ≡ text.old.items ++ width_line number width cycles) }
 {
-    push(text, b"module ")?;
+    push_text(text, b"module ")?;
     push_decimal(text, u128::from(number))?;
-    push(text, b" width ")?;
+    push_text(text, b" width ")?;
     push_decimal(text, u128::from(width))?;
-    push(text, b" time ")?;
+    push_text(text, b" time ")?;
     push_decimal(text, u128::from(cycles))?;
-    push(text, b"\n")
+    push_text(text, b"\n")
 }
 
 /// Appends the lines of the module at a place, one for each width of the table. There is none where the module has no

@@ -13,7 +13,7 @@ use soctest::soctest;
 use std::process::ExitCode;
 
 /// Runs the command of these words.
-fn run(rt: &HostRuntime, words: &[String]) -> Status {
+fn run_command(rt: &HostRuntime, words: &[String]) -> Status {
     let alloc = rt.alloc();
     let mut shelf = RealShelf::new(rt);
     let mut out = RealSink::new(rt.stdout());
@@ -35,7 +35,7 @@ fn run(rt: &HostRuntime, words: &[String]) -> Status {
 
 fn main(rt: HostRuntime) -> ExitCode {
     let status = match words_after_name(&rt) {
-        Some(words) => run(&rt, words.as_slice()),
+        Some(words) => run_command(&rt, words.as_slice()),
         None => Status::NoMemory,
     };
     ExitCode::from(status.number())

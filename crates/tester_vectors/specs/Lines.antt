@@ -6,7 +6,7 @@ use Rattle.bit_machine.specs.Vectors.{VectorsValue, vectors_content, vectors_tes
 use Rattle.tester_vectors.specs.declared.text.Run.{Run}
 use Rattle.tester_vectors.specs.VectorText.{head_line, cycle_line}
 
--- the lines of so many cycles of a plan, from one on
+-- the lines of `count` cycles of a plan, from one on
 abbrev pub lines_of : VectorsValue → (from count : ℕ) → List ℕ
 lines_of v from count = flat_map (cycle_line (vectors_content v) (vectors_tests v) (wires_of v.plan)) (range_with_len from count)
 

@@ -1,4 +1,8 @@
 //! The text of a plan's test vectors: what a tester drives on each wire, cycle by cycle, and what it compares.
+//!
+//! A run that is driven with these bits loads each pattern and reads what they compare, whatever stands in the cells at first. The
+//! lines are those of `bit_machine`; this crate cuts the run into blocks of lines and writes them. It refuses a run of too many
+//! cycles times wires, and ends with what failed: memory before the first byte, or the output.
 #![tactic(auto)]
 
 ghost use Rattle.std.specs.Prelude.{◌≡◌, ℕ, ◌<◌, ◌≤◌};
@@ -32,7 +36,7 @@ pub const RUN_MOST: u128 = 20_000_000;
 pub enum Outcome {
     /// The whole text was written.
     Written,
-    /// The run has so many cycles times wires, more than [`RUN_MOST`]. Nothing was written.
+    /// The cycles of the run times its wires are `cells`, more than [`RUN_MOST`]. Nothing was written.
     RunTooLong { cells: u128 },
     /// Writing failed, and perhaps a front of the text was written.
     WriteFault,

@@ -28,7 +28,7 @@ fn wire_cycles(cycles: u64, wires: u64) -> u128
     u128::from(cycles) * u128::from(wires.max(1))
 }
 
-/// Whether a run of so many cycles times wires is too long.
+/// Whether a run is too long, by its cycles times its wires.
 fn is_too_long(cells: u128) -> bool
     ensures { result ≡ nat_lt RUN_MOST cells }
 {
@@ -66,7 +66,7 @@ fn lines_in_block(line: usize, cycles: u64) -> u64
     ((BLOCK / line) as u64).min(cycles).max(1)
 }
 
-/// So many bytes.
+/// `count` bytes.
 fn bytes(alloc: Global, count: usize) -> Result<Vec<u8>, NoMemory>
     ensures { IfOk result (λ text. length text.items ≡ count) }
 {

@@ -4,7 +4,8 @@ use Rattle.std.proofs.lemmas.List.Sums.{sum_by_more}
 use Rattle.plan_model.specs.declared.ChainPlan.{ChainPlan}
 use Rattle.plan_model.specs.Views.{chain_value}
 use Rattle.bit_machine.specs.Layouts.{layout_cells, chain_of}
-use Rattle.bit_machine.specs.Building.{IsNewPath, AreNewPaths}
+use Rattle.bit_machine.specs.Building.{ArePaths}
+use Rattle.bit_machine.specs.Paths.{IsPath}
 use Rattle.bit_machine.proofs.Layouts.{dealt-at, chain_listed, chain_within}
 use Rattle.bit_machine.proofs.Numbering.{no_paths, paths_more}
 use Rattle.bit_machine.proofs.building.paths_of.Goals as goal
@@ -28,7 +29,7 @@ loop-chain-preserved c =
       outs = omega (arith, outs, c.loop-chain.invariant.outs);
       paths =
           paths_more c.args.inputs c.args.layout.now.lengths.items (layout_cells c.args.layout.now) c.loop-chain.chain-index c.loop-chain.paths.items c.push.new.to.items c.in_ok-path.path c.loop-chain.invariant.paths c.in_ok-push.ensures.ok
-          (subst (λ v. IsNewPath c.args.inputs c.args.layout.now.lengths.items v c.in_ok-path.path) (sym same) (c.in_ok-path.ensures o c.loop-chain.invariant.outs));
+          (subst (λ v. IsPath c.args.inputs c.args.layout.now.lengths.items v c.in_ok-path.path) (sym same) (c.in_ok-path.ensures o c.loop-chain.invariant.outs));
     }
 
 pub loop-chain-init : goal.loop-chain-init
@@ -41,7 +42,7 @@ loop-chain-init c = record {
 pub returns : goal.returns
 returns c =
     let all : c.loop-chain.chain-index ≡ length c.args.layout.now.chains.items = omega (arith, ap length c.deref-chain-items.ensures.value, c.loop-chain-test.false, c.loop-chain.auto.chain-index-end) in
-    subst (λ n. AreNewPaths c.args.inputs c.args.layout.now.lengths.items (layout_cells c.args.layout.now) n c.loop-chain.paths.items) all c.loop-chain.invariant.paths
+    subst (λ n. ArePaths c.args.inputs c.args.layout.now.lengths.items (layout_cells c.args.layout.now) n c.loop-chain.paths.items) all c.loop-chain.invariant.paths
 
 pub path_of-requires-clause-listed : goal.path_of-requires-clause-listed
 path_of-requires-clause-listed c = (chain_listed c.args.layout.now.lengths.items c.args.layout.now.chains.items c.deref-chain-items.result.now c.loop-chain.chain-index c.chain-item.result c.requires.layout.chains c.deref-chain-items.ensures.value c.loop-chain-test.true c.chain-item.is).listed

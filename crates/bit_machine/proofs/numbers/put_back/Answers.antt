@@ -2,7 +2,7 @@ use Rattle.std.proofs.Common.{◌≡◌, ℕ, ◌+◌, ◌-◌, ◌<◌, ap, sub
 use Rattle.std.proofs.lemmas.List.{drop_more}
 use Rattle.bit_machine.specs.Numbers.{all_numbers, bit_at_place, IsWalk}
 use Rattle.bit_machine.specs.Vectors.{digit, ArePutDown}
-use Rattle.bit_machine.proofs.Columns.{none_down, up_more, same_down, walked_bit}
+use Rattle.bit_machine.proofs.Columns.{up_more, walked_bit}
 use Rattle.bit_machine.proofs.Walks.{has_next}
 use Rattle.bit_machine.proofs.numbers.put_back.Goals as goal
 

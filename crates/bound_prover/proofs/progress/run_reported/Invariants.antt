@@ -1,6 +1,7 @@
 use Rattle.std.proofs.Common.{◌≡◌, ◌≤◌}
 use Rattle.std.specs.Int.{div_ceil}
-use Rattle.bound_prover.specs.Reports.{ReportsDownTo}
+use Rattle.commands.specs.Progress.{ReportsDownTo}
+use Rattle.bound_prover.specs.Reports.{MayPass}
 use Rattle.bound_prover.proofs.progress.run_reported.Given as goal
 
 abbrev pub invariant-loop-left : goal.invariant-loop-left
@@ -9,7 +10,7 @@ invariant-loop-left g l = record {
   some : 1 ≤ l.part;
   within : l.left ≤ l.nodes;
   part_is : l.part ≡ div_ceil l.nodes 10;
-  reported : ReportsDownTo l.nodes l.part (g.T.Sink.written l.initial.progress) l.left (g.T.Sink.written l.progress);
+  reported : ReportsDownTo MayPass l.nodes l.part (g.T.Sink.written l.initial.progress) l.left (g.T.Sink.written l.progress);
 }
 
 abbrev pub decreases-loop-left : goal.decreases-loop-left

@@ -1,5 +1,6 @@
-use Rattle.bus_proofs.proofs.CountedSteps.{Counted}
+use Rattle.bound_rules.proofs.Energies.{Added}
+use Rattle.bus_proofs.specs.Lists.{counted}
 use Rattle.bus_proofs.proofs.leaf_costs.counted_steps.Given as goal
 
 abbrev pub invariant-loop-from : goal.invariant-loop-from
-invariant-loop-from l = Counted l.limit l.near l.steps l.cycles l.from-index l.begun l.power l.sum
+invariant-loop-from l = Added (counted l.limit l.near) l.limit l.steps l.cycles l.from-index l.begun l.power l.sum

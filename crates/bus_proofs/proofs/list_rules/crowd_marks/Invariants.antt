@@ -1,7 +1,7 @@
 use Rattle.std.proofs.Common.{take}
 use Rattle.bus_proofs.specs.Lists.{IsCrowdItem}
 use Rattle.bus_proofs.specs.ListRules.{AreCrowdMarks, chip_ruled}
-use Rattle.bus_proofs.proofs.Marked.{EachTo}
+use Rattle.plan_model.proofs.FirstBreaches.{EachTo}
 use Rattle.bus_proofs.proofs.list_rules.crowd_marks.Given as goal
 
 abbrev pub invariant-loop-id : goal.invariant-loop-id

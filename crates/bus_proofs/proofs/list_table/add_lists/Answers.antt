@@ -4,7 +4,7 @@ use Rattle.std.proofs.lemmas.List.{length-map}
 use Rattle.bus_proofs.specs.Bounds.{KeptBehind}
 use Rattle.bus_proofs.specs.Proofs.{list_value}
 use Rattle.bus_proofs.specs.ListRules.{ListAdded, chip_ruled, limits_ruled, roles_in}
-use Rattle.bus_proofs.proofs.Marked.{each_all, each_more, first_here}
+use Rattle.plan_model.proofs.FirstBreaches.{each_all, each_more, first_here}
 use Rattle.bus_proofs.proofs.ListRows.{made_at, row_more}
 use Rattle.bus_proofs.proofs.list_table.add_lists.Goals as goal
 

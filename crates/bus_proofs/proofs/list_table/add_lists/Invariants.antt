@@ -3,7 +3,7 @@ use Rattle.std.specs.List.{flat_map}
 use Rattle.bus_proofs.specs.Proofs.{list_value}
 use Rattle.bus_proofs.specs.Bounds.{KeptBehind}
 use Rattle.bus_proofs.specs.ListRules.{chip_ruled, limits_ruled, roles_in}
-use Rattle.bus_proofs.proofs.Marked.{EachTo}
+use Rattle.plan_model.proofs.FirstBreaches.{EachTo}
 use Rattle.bus_proofs.proofs.list_table.add_lists.Given as goal
 
 abbrev pub invariant-loop-place : goal.invariant-loop-place

@@ -7,5 +7,5 @@ use Rattle.commands.proofs.lines.chip_limit_line.Goals as goal
 
 pub returns-clause-line : goal.returns-clause-line
 returns-clause-line c =
-    let front : IsTrue (no_feed c.push-2.new.to.items) = grind (arith, common_steps, c.in_ok-push-2.ensures.plain, c.in_ok-push.ensures.plain) in
-    line_from _ _ c.in_ok-push-3.ensures.text (c.in_ok-push_decimal.ensures.plain front)
+    let front : IsTrue (no_feed c.push_text-2.new.to.items) = grind (arith, common_steps, c.in_ok-push_text-2.ensures.plain, c.in_ok-push_text.ensures.plain) in
+    line_from _ _ c.in_ok-push_text-3.ensures.text (c.in_ok-push_decimal.ensures.plain front)

@@ -3,7 +3,7 @@ use Rattle.std.proofs.lemmas.Option.{slice_get_read}
 use Rattle.soc_model.specs.Chips.{soc_value}
 use Rattle.plan_model.specs.Views.{wrapper_value}
 use Rattle.plan_model.specs.Rules.{HasProperCells}
-use Rattle.plan_checker.proofs.Firsts.{each_more, each_all, first_here}
+use Rattle.plan_model.proofs.FirstBreaches.{each_more, each_all, first_here}
 use Rattle.plan_checker.proofs.Rooms.{map_at, length_values}
 use Rattle.plan_checker.proofs.known.check_wrapped.Goals as goal
 

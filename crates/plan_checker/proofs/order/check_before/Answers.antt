@@ -4,7 +4,7 @@ use Rattle.soc_model.specs.declared.TestId.{TestId}
 use Rattle.plan_model.specs.Plans.{planned}
 use Rattle.plan_model.specs.Rules.{InOrder}
 use Rattle.plan_checker.specs.Order.{AreInOrder}
-use Rattle.plan_checker.proofs.Firsts.{each_more, each_all, first_here}
+use Rattle.plan_model.proofs.FirstBreaches.{each_more, each_all, first_here}
 use Rattle.plan_checker.proofs.Ordering.{order_down, order_each}
 use Rattle.plan_checker.proofs.order.check_before.Goals as goal
 

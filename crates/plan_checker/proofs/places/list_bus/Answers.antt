@@ -4,7 +4,7 @@ use Rattle.std.proofs.lemmas.List.{take_all}
 use Rattle.soc_model.specs.Chips.{soc_value}
 use Rattle.soc_model.specs.Chips.{numbers}
 use Rattle.plan_checker.specs.Marks.{IsUnlisted}
-use Rattle.plan_checker.proofs.Firsts.{each_more, each_all, first_here}
+use Rattle.plan_model.proofs.FirstBreaches.{each_more, each_all, first_here}
 use Rattle.plan_checker.proofs.Marking.{unmarked, marked_before, mark_more}
 use Rattle.plan_checker.proofs.places.list_bus.Goals as goal
 

@@ -2,7 +2,7 @@ use Rattle.std.proofs.Common.{take}
 use Rattle.soc_model.specs.Chips.{soc_value}
 use Rattle.soc_model.specs.Chips.{numbers}
 use Rattle.plan_checker.specs.Marks.{IsUnlisted, AreMarked}
-use Rattle.plan_checker.proofs.Firsts.{EachTo}
+use Rattle.plan_model.proofs.FirstBreaches.{EachTo}
 use Rattle.plan_checker.proofs.places.list_bus.Given as goal
 
 abbrev pub invariant-loop-number : goal.invariant-loop-number

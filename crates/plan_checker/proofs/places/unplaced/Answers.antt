@@ -5,7 +5,7 @@ use Rattle.soc_model.specs.Chips.{ModuleValue}
 use Rattle.soc_model.specs.Chips.{soc_value, module_value}
 use Rattle.plan_model.specs.Rules.{IsListed, has_tam}
 use Rattle.plan_checker.proofs.Finding.{some_same}
-use Rattle.plan_checker.proofs.Firsts.{each_all, first_here}
+use Rattle.plan_model.proofs.FirstBreaches.{each_all, first_here}
 use Rattle.plan_checker.proofs.Marking.{isnt_placed, all_placed}
 use Rattle.plan_checker.proofs.places.unplaced.Goals as goal
 

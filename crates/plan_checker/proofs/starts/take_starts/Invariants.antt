@@ -1,7 +1,7 @@
 use Rattle.std.proofs.Common.{take}
 use Rattle.indexmap.specs.IndexSet.{keys}
 use Rattle.plan_checker.specs.Starting.{AreStarts, IsOnce}
-use Rattle.plan_checker.proofs.Firsts.{EachTo}
+use Rattle.plan_model.proofs.FirstBreaches.{EachTo}
 use Rattle.plan_checker.proofs.starts.take_starts.Given as goal
 
 abbrev pub invariant-loop-id : goal.invariant-loop-id

@@ -6,7 +6,7 @@ use Rattle.plan_model.specs.Plans.{BusValue}
 use Rattle.plan_model.specs.Views.{bus_value}
 use Rattle.plan_model.specs.Rules.{FitsWires}
 use Rattle.plan_checker.specs.Wires.{FitsIn}
-use Rattle.plan_checker.proofs.Firsts.{each_more, each_all, first_here}
+use Rattle.plan_model.proofs.FirstBreaches.{each_more, each_all, first_here}
 use Rattle.plan_checker.proofs.Rooms.{map_at}
 use Rattle.plan_checker.proofs.widths.check_widths.Goals as goal
 use Rattle.plan_checker.proofs.widths.check_widths.Goals.{then-bus-eq0-via-then-bus-eq0, then-bus-eq0-via-else-bus-eq0+then-bus-left}

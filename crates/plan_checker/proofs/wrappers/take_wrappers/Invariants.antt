@@ -3,7 +3,7 @@ use Rattle.indexmap.specs.IndexSet.{keys, spare}
 use Rattle.soc_model.specs.Chips.{soc_value}
 use Rattle.plan_model.specs.Views.{plan_value, wrapper_value}
 use Rattle.plan_model.specs.Rules.{IsFitting, pair_of}
-use Rattle.plan_checker.proofs.Firsts.{EachTo}
+use Rattle.plan_model.proofs.FirstBreaches.{EachTo}
 use Rattle.plan_checker.proofs.wrappers.take_wrappers.Given as goal
 
 abbrev pub invariant-loop-wrapper : goal.invariant-loop-wrapper

@@ -4,9 +4,10 @@ use Rattle.plan_model.specs.Views.{limits_value, plan_value}
 use Rattle.commands.specs.Procedures.{Unless, done_with}
 use Rattle.commands.proofs.FileStages.{unless_any}
 use Rattle.commands.proofs.AllFiles.{not_all, after_all}
+use Rattle.commands.specs.Texts.{run_refusal}
 use Rattle.plan_simulator.specs.Runs.{simulated_text}
-use Rattle.plan_simulator.specs.Requests.{long_run}
 use Rattle.plan_simulator.proofs.deciding.decide_simulate.Goals as goal
+use Rattle.tester_vectors.specs.VectorText.{too_many}
 
 pub simulated-verdict-requires-clause-good : goal.simulated-verdict-requires-clause-good
 simulated-verdict-requires-clause-good g c = c.good_without_limits.ensures.alone (soc_value c.in-Ok.all.soc) (limits_value c.in-Ok.all.limits) (plan_value c.in-Ok.all.plan) c.in-Ok.ensures.accepted.0
@@ -16,8 +17,8 @@ simulated-verdict-requires-clause-narrow g c = c.good_without_limits.ensures.nar
 
 pub returns-in-Ok-clause-follows : goal.returns-in-Ok-clause-follows
 returns-in-Ok-clause-follows g c =
-    after_all _ _ _ (λ chip bounds value. Unless (long_run value) (done_with (simulated_text chip value c.args.seed))) _ _ (g.H.Shelf.faults c.load_all.new.shelf) _ c.in-Ok.all _ c.load_all.ensures.faults_never_fall c.in-Ok.ensures.loads
-    (unless_any (long_run (plan_value c.in-Ok.all.plan)) (λ (text : List ℕ). text ≡ simulated_text (soc_value c.in-Ok.all.soc) (plan_value c.in-Ok.all.plan) c.args.seed) _ (g.H.Shelf.faults c.load_all.new.shelf) (g.H.Shelf.faults c.load_all.new.shelf) c.simulated-verdict.result c.simulated-verdict.ensures)
+    after_all _ _ _ (λ chip bounds value. Unless (run_refusal (too_many value)) (done_with (simulated_text chip value c.args.seed))) _ _ (g.H.Shelf.faults c.load_all.new.shelf) _ c.in-Ok.all _ c.load_all.ensures.faults_never_fall c.in-Ok.ensures.loads
+    (unless_any (run_refusal (too_many (plan_value c.in-Ok.all.plan))) (λ (text : List ℕ). text ≡ simulated_text (soc_value c.in-Ok.all.soc) (plan_value c.in-Ok.all.plan) c.args.seed) _ (g.H.Shelf.faults c.load_all.new.shelf) (g.H.Shelf.faults c.load_all.new.shelf) c.simulated-verdict.result c.simulated-verdict.ensures)
 
 pub returns-in-Err-clause-follows : goal.returns-in-Err-clause-follows
-returns-in-Err-clause-follows g c = not_all _ _ _ (λ chip bounds value. Unless (long_run value) (done_with (simulated_text chip value c.args.seed))) _ _ _ _ c.in-Err.ensures.loads
+returns-in-Err-clause-follows g c = not_all _ _ _ (λ chip bounds value. Unless (run_refusal (too_many value)) (done_with (simulated_text chip value c.args.seed))) _ _ _ _ c.in-Err.ensures.loads

@@ -1,18 +1,18 @@
 use Rattle.std.proofs.Common.{refl}
 use Rattle.bit_machine.specs.Chips.{made_content}
-use Rattle.tester_vectors.specs.VectorText.{vector_text}
+use Rattle.tester_vectors.specs.VectorText.{vector_text, too_many}
 use Rattle.soc_model.specs.Chips.{soc_value}
 use Rattle.plan_model.specs.Views.{plan_value}
 use Rattle.commands.specs.Procedures.{Unless, done_with}
-use Rattle.soctest.specs.Procedures.{long_run}
 use Rattle.commands.proofs.AllFiles.{not_all}
 use Rattle.commands.proofs.UnlessRefused.{may_unless}
+use Rattle.commands.specs.Texts.{run_refusal}
 use Rattle.soctest.proofs.deciding.decide_vectors.Goals as goal
 
 pub returns-in-Ok-clause-closes : goal.returns-in-Ok-clause-closes
 returns-in-Ok-clause-closes g c = (
   tt,
-  may_unless c.args.soc.now c.args.limits.now c.args.plan.now (λ chip bounds value. Unless (long_run value) (done_with (vector_text chip value (made_content chip c.args.seed)))) _ c.in-Ok.all (long_run (plan_value c.in-Ok.all.plan))
+  may_unless c.args.soc.now c.args.limits.now c.args.plan.now (λ chip bounds value. Unless (run_refusal (too_many value)) (done_with (vector_text chip value (made_content chip c.args.seed)))) _ c.in-Ok.all (run_refusal (too_many (plan_value c.in-Ok.all.plan)))
       (vector_text (soc_value c.in-Ok.all.soc) (plan_value c.in-Ok.all.plan) (made_content (soc_value c.in-Ok.all.soc) c.args.seed)) c.in-Ok.ensures.loads refl,
 )
 
@@ -20,4 +20,4 @@ pub returns-in-Ok-clause-runnable : goal.returns-in-Ok-clause-runnable
 returns-in-Ok-clause-runnable g c = record { sound = c.in-Ok.ensures.sound; limits = c.in-Ok.ensures.limits; accepted = c.in-Ok.ensures.accepted }
 
 pub returns-in-Err-clause-closes : goal.returns-in-Err-clause-closes
-returns-in-Err-clause-closes g c = not_all _ _ _ (λ chip bounds value. Unless (long_run value) (done_with (vector_text chip value (made_content chip c.args.seed)))) _ _ _ _ c.in-Err.ensures.loads
+returns-in-Err-clause-closes g c = not_all _ _ _ (λ chip bounds value. Unless (run_refusal (too_many value)) (done_with (vector_text chip value (made_content chip c.args.seed)))) _ _ _ _ c.in-Err.ensures.loads

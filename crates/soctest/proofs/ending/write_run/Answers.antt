@@ -2,9 +2,9 @@ use Rattle.std.proofs.Common.{◌≡◌, inl, inr, refl, ap}
 use Rattle.soc_model.specs.Chips.{soc_value}
 use Rattle.plan_model.specs.Views.{plan_value}
 use Rattle.bit_machine.specs.Chips.{made_content}
-use Rattle.tester_vectors.specs.VectorText.{wire_cycles, vector_text}
-use Rattle.soctest.specs.Procedures.{long_run}
+use Rattle.tester_vectors.specs.VectorText.{wire_cycles, vector_text, too_many}
 use Rattle.commands.proofs.UnlessRefused.{nothing_written}
+use Rattle.commands.specs.Texts.{run_refusal}
 use Rattle.soctest.proofs.Endings.{run_written, long_written, same_cells}
 use Rattle.soctest.proofs.ending.write_run.Goals as goal
 
@@ -18,7 +18,7 @@ returns-in-WriteFault-clause-written g c =
     (inr (refl, c.in-WriteFault.ensures.fault refl, c.in-WriteFault.ensures.front refl))
 
 pub returns-in-NoMemory-clause-written : goal.returns-in-NoMemory-clause-written
-returns-in-NoMemory-clause-written g c = nothing_written (long_run (plan_value c.args.plan.now)) _ _ _ _ _ (ap g.K.Sink.written (c.in-NoMemory.ensures.no_memory_writes_nothing refl))
+returns-in-NoMemory-clause-written g c = nothing_written (run_refusal (too_many (plan_value c.args.plan.now))) _ _ _ _ _ (ap g.K.Sink.written (c.in-NoMemory.ensures.no_memory_writes_nothing refl))
 
 pub returns-in-RunTooLong-clause-written : goal.returns-in-RunTooLong-clause-written
 returns-in-RunTooLong-clause-written g c =

@@ -7,6 +7,6 @@ use Rattle.soctest.proofs.programs.program_fault_line.Goals as goal
 
 pub returns-clause-line : goal.returns-clause-line
 returns-clause-line c =
-    let front : IsTrue (no_feed c.push.new.to.items) = grind (arith, common_steps, c.in_ok-push.ensures.plain) in
-    let middle : IsTrue (no_feed c.push-2.new.to.items) = grind (arith, common_steps, c.in_ok-push-2.ensures.plain, c.in_ok-push_decimal.ensures.plain front, c.fault_word.ensures.plain) in
-    line_from _ _ c.in_ok-push-3.ensures.text middle
+    let front : IsTrue (no_feed c.push_text.new.to.items) = grind (arith, common_steps, c.in_ok-push_text.ensures.plain) in
+    let middle : IsTrue (no_feed c.push_text-2.new.to.items) = grind (arith, common_steps, c.in_ok-push_text-2.ensures.plain, c.in_ok-push_decimal.ensures.plain front, c.fault_word.ensures.plain) in
+    line_from _ _ c.in_ok-push_text-3.ensures.text middle

@@ -1,8 +1,8 @@
 use Rattle.std.proofs.Common.{◌+◌, ap, sym, subst, length, List, refl, arith, ◌∙◌}
 use Rattle.std.specs.Vec.{with_items}
 use Rattle.std.proofs.lemmas.List.{with_items_is}
-use Rattle.bit_machine.specs.Machines.{AreLanes, AreNow, lanes_state}
-use Rattle.bit_machine.specs.declared.lane.Lane.{Lane}
+use Rattle.bit_machine.specs.Machines.{AreStepped, AreNow, lanes_state}
+use Rattle.bit_machine.specs.declared.stepped.SteppedLane.{SteppedLane}
 use Rattle.bit_machine.proofs.Assigning.{next_some, next_machine}
 use Rattle.bit_machine.proofs.machine.Machine.advance.Goals as goal
 
@@ -13,8 +13,8 @@ pub returns-then-next-self-clause-machine : goal.returns-then-next-self-clause-m
 returns-then-next-self-clause-machine c = λ content tests is.
     let items = with_items_is c.args.self.now.lanes c.stand_all.new.lanes (omega (arith, c.stand_all.ensures.long, ap length c.deref_mut.ensures.value, c.args.self.now.lanes.ok.0)) in
     next_machine content tests c.args.self.now (with_items c.args.self.now.lanes c.stand_all.new.lanes) (c.args.self.now.cycle + 1) refl c.if-next-self.true
-    (subst (AreLanes content tests) (sym items) (c.stand_all.ensures.lanes content tests (subst (AreLanes content tests) (sym c.deref_mut.ensures.value) is.lanes)))
-    (subst (λ (ls : List Lane). AreNow ls (c.args.self.now.cycle + 1)) (sym items) c.stand_all.ensures.now) is
+    (subst (AreStepped content tests) (sym items) (c.stand_all.ensures.lanes content tests (subst (AreStepped content tests) (sym c.deref_mut.ensures.value) is.lanes)))
+    (subst (λ (ls : List SteppedLane). AreNow ls (c.args.self.now.cycle + 1)) (sym items) c.stand_all.ensures.now) is
 
 pub returns-else-next-self-clause-machine : goal.returns-else-next-self-clause-machine
 returns-else-next-self-clause-machine c = λ content tests is. c.stand.ensures.machine content tests is.lanes is.wires

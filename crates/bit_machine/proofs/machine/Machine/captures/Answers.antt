@@ -13,13 +13,13 @@ loop-wire-init c = record {
 
 pub loop-wire-preserved : goal.loop-wire-preserved
 loop-wire-preserved c = record {
-  few = c.count-counts.ensures.few;
-  fit = omega (arith, c.count-counts.ensures.one, c.loop-wire.invariant.fit);
+  few = c.count_capture-counts.ensures.few;
+  fit = omega (arith, c.count_capture-counts.ensures.one, c.loop-wire.invariant.fit);
   captures = λ content tests is.
-      c.count-counts.ensures.captures ∙ ap (λ n. n + one_capture c.capture_of.result) (c.loop-wire.invariant.captures content tests is)
+      c.count_capture-counts.ensures.captures ∙ ap (λ n. n + one_capture c.capture_of.result) (c.loop-wire.invariant.captures content tests is)
       ∙ sym (capture_more content tests c.args.self.now is c.loop-wire.wire c.capture_of.result (c.capture_of.ensures content tests is));
   rights = λ content tests is.
-      c.count-counts.ensures.right ∙ ap (λ n. n + one_right c.capture_of.result) (c.loop-wire.invariant.rights content tests is)
+      c.count_capture-counts.ensures.right ∙ ap (λ n. n + one_right c.capture_of.result) (c.loop-wire.invariant.rights content tests is)
       ∙ sym (right_more content tests c.args.self.now is c.loop-wire.wire c.capture_of.result (c.capture_of.ensures content tests is));
 }
 

@@ -1,92 +1,66 @@
-use Rattle.std.proofs.Common.{◌≡◌, ◌∙◌, ap, sym, refl, position, None, Some, arith}
-use Rattle.std.proofs.lemmas.List.{length-map}
-use Rattle.std.proofs.lemmas.Option.{get_or_from_slice_get}
-use Rattle.soc_model.specs.declared.Test.{Test}
+use Rattle.std.proofs.Common.{◌≡◌, ◌∙◌, Bool, ap, sym, refl, subst, arith}
 use Rattle.soc_model.specs.Chips.{soc_value, module_value}
-use Rattle.plan_model.specs.declared.Wrapper.{Wrapper}
-use Rattle.plan_model.specs.Plans.{wraps}
-use Rattle.plan_model.specs.Rules.{IsWrapped, Wrappers, Proper, bare_limits}
-use Rattle.plan_model.specs.Views.{plan_value, wrapper_value, bus_value}
-use Rattle.plan_model.proofs.FoundWrappers.{IsFound, found_at, proper_found, chains_found, always_found, wrapped_test}
+use Rattle.plan_model.specs.Cells.{IsProper}
+use Rattle.plan_model.specs.Plans.{PlanValue, WrapperValue, si_of, so_of}
+use Rattle.plan_model.specs.Rules.{Wrappers, bare_limits}
+use Rattle.plan_model.specs.Views.{wrapper_value}
 use Rattle.plan_model.proofs.SoundChips.{module_size-le}
-use Rattle.std.proofs.Common.{subst}
-use Rattle.bit_machine.specs.Chips.{made_content}
-use Rattle.bit_machine.specs.Lanes.{IsNewLane}
-use Rattle.bit_machine.specs.Placed.{IsInWrapper, IsWiredLane}
-use Rattle.bit_machine.proofs.PlacedLanes.{the_test, ok_map, IsNamed, named, never_lost, over_wires, wired_placed, bus_there}
+use Rattle.live_tests.specs.Wrapped.{IsModeWrapper}
+use Rattle.live_tests.proofs.Placing.{always_wrapped}
+use Rattle.bit_machine.proofs.PlacedLanes.{wrapper_within, found_wrapper, mode_cells, own_paths, over_wires, bus_there, wired_placed}
 use Rattle.bit_machine.proofs.placing.Setting.wired_test.Goals as goal
 
 pub unreachable-requires : goal.unreachable-requires
 unreachable-requires c =
-    let th = c.requires.there in
-    never_lost (soc_value c.args.self.now.soc.now) c.requires.sound (plan_value c.args.self.now.plan.now) th.0 th.1 c.args.placed.now c.find_test.result th.2 th.3 c.find_test.ensures c.in_default.is
+    let plan = c.args.self.now.chip.index.now in
+    let m = module_value c.args.core.now.«module».now in
+    let over = over_wires plan c.args.core.now.place m c.args.test.now c.args.placed.now c.args.bus c.requires.placed c.requires.over in
+    always_wrapped (soc_value c.args.self.now.chip.soc.now) plan (c.requires.good Wrappers).1 c.args.core.now.place c.args.at m c.args.test.now c.requires.module_there c.requires.test_there c.requires.live over.0 (c.in_default.ensures plan m c.requires.wrappers)
 
-pub wrapped_test-requires-clause-small : goal.wrapped_test-requires-clause-small
-wrapped_test-requires-clause-small c = module_size-le (soc_value c.args.self.now.soc.now) c.requires.sound c.in-Some.place (module_value c.module_at-module.result.now) c.module_at-module.ensures
+pub index-wrapper-requires : goal.index-wrapper-requires
+index-wrapper-requires c =
+    let plan = c.args.self.now.chip.index.now in
+    let m = module_value c.args.core.now.«module».now in
+    let is : IsModeWrapper plan m c.args.test.now.scan c.in-Some.long = c.in-Some.ensures plan m c.requires.wrappers in
+    omega (arith, wrapper_within plan m c.args.test.now.scan c.in-Some.long c.plan.result.now.wrappers.items (sym (ap (λ (p : PlanValue). p.wrappers) c.plan.ensures)) is, c.plan.result.now.wrappers.ok.0)
 
-pub wrapped_test-requires-clause-proper : goal.wrapped_test-requires-clause-proper
-wrapped_test-requires-clause-proper c =
-    let soc = soc_value c.args.self.now.soc.now in
-    let plan = plan_value c.args.self.now.plan.now in
-    let m = module_value c.module_at-module.result.now in
-    let th = c.requires.there in
-    let n : IsNamed soc plan th.1 c.in-Some.place c.in-Some.at m = named soc c.requires.sound plan th.0 th.1 c.args.placed.now c.find_test.result c.in-Some.place c.in-Some.at m th.2 th.3 c.find_test.ensures c.in-Some.is c.module_at-module.ensures in
-    let over = over_wires plan c.in-Some.place m n.t th.1 c.args.placed.now c.args.bus n.is th.3 c.requires.over in
-    let own : c.index.result.now ≡ n.t = c.index.ensures ∙ get_or_from_slice_get m.tests c.in-Some.at n.t c.index.result.now n.test_at in
-    let wrapped : IsWrapped m n.t plan.wrappers = wrapped_test soc plan (c.requires.good Wrappers).1 (c.requires.good Proper) c.in-Some.place c.in-Some.at m n.t n.module_at n.test_at n.live over.0 in
-    let place : position (λ (w : Wrapper). wraps m.number n.t.scan (wrapper_value w)) c.args.self.now.plan.now.wrappers.items ≡ Some c.in-Some-wrapper_of.found =
-    ap (λ (t : Test). position (λ (w : Wrapper). wraps m.number t.scan (wrapper_value w)) c.args.self.now.plan.now.wrappers.items) (sym own)
-    ∙ ap (position (λ (w : Wrapper). wraps m.number c.index.result.now.scan (wrapper_value w))) (sym c.deref.ensures.value) ∙ sym c.wrapper_of.ensures ∙ c.in-Some-wrapper_of.is in
-    let found : IsFound m n.t.scan c.args.self.now.plan.now.wrappers.items c.in-Some-wrapper_of.found c.index-wrapper.result.now = found_at m n.t.scan c.args.self.now.plan.now.wrappers.items c.in-Some-wrapper_of.found c.index-wrapper.result.now c.index-wrapper.result.now place c.index-wrapper.ensures in
-    proper_found m n.t c.args.self.now.plan.now.wrappers.items c.in-Some-wrapper_of.found c.index-wrapper.result.now wrapped found
+pub wrapped_paths-requires-clause-proper : goal.wrapped_paths-requires-clause-proper
+wrapped_paths-requires-clause-proper c =
+    let plan = c.args.self.now.chip.index.now in
+    let m = module_value c.args.core.now.«module».now in
+    let is : IsModeWrapper plan m c.args.test.now.scan c.in-Some.long = c.in-Some.ensures plan m c.requires.wrappers in
+    let same : is.wrapper ≡ wrapper_value c.index-wrapper.result.now = found_wrapper plan m c.args.test.now.scan c.in-Some.long c.plan.result.now.wrappers.items c.index-wrapper.result.now (sym (ap (λ (p : PlanValue). p.wrappers) c.plan.ensures)) is c.index-wrapper.ensures in
+    subst (λ (v : WrapperValue). IsProper m v.scan v.chains) same (subst (λ (scan : Bool). IsProper m scan is.wrapper.chains) (sym is.mode) is.proper)
 
-pub wrapped_test-requires-clause-test : goal.wrapped_test-requires-clause-test
-wrapped_test-requires-clause-test c = λ test there.
-    let soc = soc_value c.args.self.now.soc.now in
-    let plan = plan_value c.args.self.now.plan.now in
-    let m = module_value c.module_at-module.result.now in
-    let th = c.requires.there in
-    let n : IsNamed soc plan th.1 c.in-Some.place c.in-Some.at m = named soc c.requires.sound plan th.0 th.1 c.args.placed.now c.find_test.result c.in-Some.place c.in-Some.at m th.2 th.3 c.find_test.ensures c.in-Some.is c.module_at-module.ensures in
-    let over = over_wires plan c.in-Some.place m n.t th.1 c.args.placed.now c.args.bus n.is th.3 c.requires.over in
-    let own : c.index.result.now ≡ n.t = c.index.ensures ∙ get_or_from_slice_get m.tests c.in-Some.at n.t c.index.result.now n.test_at in
-    let wrapped : IsWrapped m n.t plan.wrappers = wrapped_test soc plan (c.requires.good Wrappers).1 (c.requires.good Proper) c.in-Some.place c.in-Some.at m n.t n.module_at n.test_at n.live over.0 in
-    let place : position (λ (w : Wrapper). wraps m.number n.t.scan (wrapper_value w)) c.args.self.now.plan.now.wrappers.items ≡ Some c.in-Some-wrapper_of.found =
-    ap (λ (t : Test). position (λ (w : Wrapper). wraps m.number t.scan (wrapper_value w)) c.args.self.now.plan.now.wrappers.items) (sym own)
-    ∙ ap (position (λ (w : Wrapper). wraps m.number c.index.result.now.scan (wrapper_value w))) (sym c.deref.ensures.value) ∙ sym c.wrapper_of.ensures ∙ c.in-Some-wrapper_of.is in
-    let found : IsFound m n.t.scan c.args.self.now.plan.now.wrappers.items c.in-Some-wrapper_of.found c.index-wrapper.result.now = found_at m n.t.scan c.args.self.now.plan.now.wrappers.items c.in-Some-wrapper_of.found c.index-wrapper.result.now c.index-wrapper.result.now place c.index-wrapper.ensures in
-    subst (λ (t : Test). IsInWrapper plan m t c.index-wrapper.result.now) (the_test m.tests c.in-Some.at n.t test n.test_at there)
-    (record { mode = found.scan_is; chains = chains_found plan m n.t c.args.self.now.plan.now.wrappers.items c.in-Some-wrapper_of.found c.index-wrapper.result.now refl over.0 found })
+pub wrapped_paths-requires-clause-small : goal.wrapped_paths-requires-clause-small
+wrapped_paths-requires-clause-small c = module_size-le (soc_value c.args.self.now.chip.soc.now) c.requires.sound c.args.core.now.place (module_value c.args.core.now.«module».now) c.requires.module_there
 
-pub wrapped_test-requires-clause-bus : goal.wrapped_test-requires-clause-bus
-wrapped_test-requires-clause-bus c =
-    let soc = soc_value c.args.self.now.soc.now in
-    let plan = plan_value c.args.self.now.plan.now in
-    let m = module_value c.module_at-module.result.now in
-    let th = c.requires.there in
-    let n : IsNamed soc plan th.1 c.in-Some.place c.in-Some.at m = named soc c.requires.sound plan th.0 th.1 c.args.placed.now c.find_test.result c.in-Some.place c.in-Some.at m th.2 th.3 c.find_test.ensures c.in-Some.is c.module_at-module.ensures in
-    let over = over_wires plan c.in-Some.place m n.t th.1 c.args.placed.now c.args.bus n.is th.3 c.requires.over in
-    omega (arith, over.1, bus_there soc (bare_limits plan) plan c.requires.good c.in-Some.place c.in-Some.at m n.t n.module_at n.test_at n.live over.0, length-map c.args.self.now.plan.now.buses.items bus_value)
-
-pub unreachable-requires-in-None : goal.unreachable-requires-in-None
-unreachable-requires-in-None c =
-    let soc = soc_value c.args.self.now.soc.now in
-    let plan = plan_value c.args.self.now.plan.now in
-    let m = module_value c.module_at-module.result.now in
-    let th = c.requires.there in
-    let n : IsNamed soc plan th.1 c.in-Some.place c.in-Some.at m = named soc c.requires.sound plan th.0 th.1 c.args.placed.now c.find_test.result c.in-Some.place c.in-Some.at m th.2 th.3 c.find_test.ensures c.in-Some.is c.module_at-module.ensures in
-    let over = over_wires plan c.in-Some.place m n.t th.1 c.args.placed.now c.args.bus n.is th.3 c.requires.over in
-    let own : c.index.result.now ≡ n.t = c.index.ensures ∙ get_or_from_slice_get m.tests c.in-Some.at n.t c.index.result.now n.test_at in
-    let wrapped : IsWrapped m n.t plan.wrappers = wrapped_test soc plan (c.requires.good Wrappers).1 (c.requires.good Proper) c.in-Some.place c.in-Some.at m n.t n.module_at n.test_at n.live over.0 in
-    let place : position (λ (w : Wrapper). wraps m.number n.t.scan (wrapper_value w)) c.args.self.now.plan.now.wrappers.items ≡ None =
-    ap (λ (t : Test). position (λ (w : Wrapper). wraps m.number t.scan (wrapper_value w)) c.args.self.now.plan.now.wrappers.items) (sym own)
-    ∙ ap (position (λ (w : Wrapper). wraps m.number c.index.result.now.scan (wrapper_value w))) (sym c.deref.ensures.value) ∙ sym c.wrapper_of.ensures ∙ c.in-None.is in
-    always_found m n.t c.args.self.now.plan.now.wrappers.items wrapped place
+pub bus_wires-first_wire-requires-clause-bus : goal.bus_wires-first_wire-requires-clause-bus
+bus_wires-first_wire-requires-clause-bus c =
+    let plan = c.args.self.now.chip.index.now in
+    let m = module_value c.args.core.now.«module».now in
+    let over = over_wires plan c.args.core.now.place m c.args.test.now c.args.placed.now c.args.bus c.requires.placed c.requires.over in
+    omega (arith, over.1, bus_there (soc_value c.args.self.now.chip.soc.now) (bare_limits plan) plan c.requires.good c.args.core.now.place c.args.at m c.args.test.now c.requires.module_there c.requires.test_there c.requires.live over.0)
 
 pub returns : goal.returns
-returns c = λ i u at same.
-    let soc = soc_value c.args.self.now.soc.now in
-    let plan = plan_value c.args.self.now.plan.now in
-    let m = module_value c.module_at-module.result.now in
-    let n : IsNamed soc plan u c.in-Some.place c.in-Some.at m = named soc c.requires.sound plan i u c.args.placed.now c.find_test.result c.in-Some.place c.in-Some.at m at same c.find_test.ensures c.in-Some.is c.module_at-module.ensures in
-    ok_map (IsWiredLane plan c.args.self.now.seed c.args.placed.now c.args.bus c.in-Some.at m n.t) (IsNewLane (made_content soc c.args.self.now.seed) u)
-    (λ lane is. wired_placed soc c.requires.sound (bare_limits plan) plan c.requires.good c.args.self.now.seed i c.in-Some.place c.in-Some.at m u c.args.placed.now c.args.bus lane at n same c.requires.over is) c.wrapped_test.result (c.wrapped_test.ensures n.t n.test_at)
+returns c =
+    let soc = soc_value c.args.self.now.chip.soc.now in
+    let plan = c.args.self.now.chip.index.now in
+    let m = module_value c.args.core.now.«module».now in
+    let over = over_wires plan c.args.core.now.place m c.args.test.now c.args.placed.now c.args.bus c.requires.placed c.requires.over in
+    let is : IsModeWrapper plan m c.args.test.now.scan c.in-Some.long = c.in-Some.ensures plan m c.requires.wrappers in
+    let same : is.wrapper ≡ wrapper_value c.index-wrapper.result.now = found_wrapper plan m c.args.test.now.scan c.in-Some.long c.plan.result.now.wrappers.items c.index-wrapper.result.now (sym (ap (λ (p : PlanValue). p.wrappers) c.plan.ensures)) is c.index-wrapper.ensures in
+    let cells = mode_cells plan m c.args.test.now c.in-Some.long over.0 is in
+    wired_placed soc c.requires.sound (bare_limits plan) plan c.requires.good c.args.self.now.seed c.args.core.now.place c.args.at m c.args.test.now c.args.placed.now c.args.bus _ c.requires.module_there c.requires.test_there c.requires.live c.requires.placed c.requires.over (record {
+      tam = refl;
+      base = c.base_of.ensures.base;
+      start_is = refl;
+      ends = refl;
+      setup = refl;
+      si = is.si ∙ ap si_of (sym cells);
+      so = is.so ∙ ap so_of (sym cells);
+      patterns = refl;
+      first_wire = c.bus_wires-first_wire.ensures.first;
+      width = c.bus_wires-first_wire.ensures.width;
+      paths = own_paths plan m c.args.test.now c.in-Some.long c.index-wrapper.result.now c.in_ok-paths.paths.items over.0 is same c.in_ok-paths.ensures;
+    })

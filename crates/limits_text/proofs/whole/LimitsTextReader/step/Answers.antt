@@ -4,7 +4,7 @@ use Rattle.limits_text.proofs.whole.LimitsTextReader.step.Goals as goal
 
 pub returns-in-Ok : goal.returns-in-Ok
 returns-in-Ok c = λ front few has.
-    goes_on front (c.args.word.bytes.now, c.args.word.line) c.args.self (record { alloc = c.args.self.alloc; read = with_value c.args.self.read (record { items = c.step.new.items; part = c.step.new.part }) }) c.deref_mut-so_far.result.now c.deref_mut-so_far.ensures.value has c.in-Ok.ensures
+    goes_on front (c.args.word.bytes.now, c.args.word.line) c.args.self (record { alloc = c.args.self.alloc; read = with_value c.args.self.read (record { items = c.step_word.new.items; part = c.step_word.new.part }) }) c.deref_mut-so_far.result.now c.deref_mut-so_far.ensures.value has c.in-Ok.ensures
 
 pub returns-in-Err : goal.returns-in-Err
-returns-in-Err c = λ front few has. stops front (c.args.word.bytes.now, c.args.word.line) c.args.self c.deref_mut-so_far.result.now c.step.new.part c.step.new.items c.in-Err.stop c.deref_mut-so_far.ensures.value few has c.in-Err.ensures
+returns-in-Err c = λ front few has. stops front (c.args.word.bytes.now, c.args.word.line) c.args.self c.deref_mut-so_far.result.now c.step_word.new.part c.step_word.new.items c.in-Err.stop c.deref_mut-so_far.ensures.value few has c.in-Err.ensures

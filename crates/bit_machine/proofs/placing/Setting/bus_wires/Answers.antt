@@ -1,0 +1,22 @@
+use Rattle.std.proofs.Common.{◌∙◌, ap, length, arith}
+use Rattle.std.specs.Prelude.{slice_index}
+use Rattle.std.proofs.lemmas.List.{length-map}
+use Rattle.plan_model.specs.Plans.{BusValue, PlanValue, widths}
+use Rattle.plan_model.specs.Views.{bus_value}
+use Rattle.bit_machine.proofs.PlacedLanes.{width_is}
+use Rattle.bit_machine.proofs.placing.Setting.bus_wires.Goals as goal
+
+pub bounds-self-bus : goal.bounds-self-bus
+bounds-self-bus c = omega (arith, c.requires.firsts.long, c.requires.bus, length-map c.args.self.now.chip.index.now.buses (λ (b : BusValue). b.width))
+
+pub index-requires : goal.index-requires
+index-requires c =
+    omega (arith, c.requires.bus, ap (λ (p : PlanValue). length p.buses) c.plan-plan.ensures, length-map c.plan-plan.result.now.buses.items bus_value, c.plan-plan.result.now.buses.ok.0)
+
+pub returns-clause-first : goal.returns-clause-first
+returns-clause-first c = c.requires.firsts.first c.args.bus (omega (arith, c.requires.bus, length-map c.args.self.now.chip.index.now.buses (λ (b : BusValue). b.width)))
+
+pub returns-clause-width : goal.returns-clause-width
+returns-clause-width c =
+    width_is c.plan-plan.result.now.buses.items c.args.bus c.index.result.now c.index.ensures (omega (arith, c.requires.bus, ap (λ (p : PlanValue). length p.buses) c.plan-plan.ensures, length-map c.plan-plan.result.now.buses.items bus_value))
+    ∙ ap (λ (p : PlanValue). slice_index (widths p) c.args.bus) c.plan-plan.ensures
