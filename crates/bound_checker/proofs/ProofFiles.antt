@@ -9,11 +9,11 @@ use Rattle.plan_model.specs.Plans.{LimitsValue}
 use Rattle.soc_reader.specs.ChipForm.{SaysChip}
 use Rattle.soc_reader.proofs.ChipsSaid.{sound_chip}
 use Rattle.bus_proofs.specs.declared.ProofFault.{ProofFault}
-use Rattle.bus_proofs.specs.Proofs.{ProofValue}
-use Rattle.bus_proofs.specs.Answers.{SaysProof, RefusesText}
+use Rattle.proof_model.specs.Proofs.{ProofValue}
+use Rattle.proof_text.specs.Answers.{SaysProof, RefusesText}
 use Rattle.bus_proofs.specs.Bounds.{IsAccepted, IsProofFault}
 use Rattle.bus_proofs.specs.Laws.{AcceptedProofsAreBounds, ProofsHaveOneFault, AcceptedProofsHaveNoFault}
-use Rattle.bus_proofs.specs.TextLaws.{SayOneProof, ProofsAreNotRefused, ProofsAreRefusedOnce}
+use Rattle.proof_text.specs.TextLaws.{SayOneProof, ProofsAreNotRefused, ProofsAreRefusedOnce}
 use Rattle.commands.specs.declared.FileKind.TheVariants.{Soc, Limits, Proof}
 use Rattle.commands.specs.declared.Status.{Status}
 use Rattle.commands.specs.declared.Status.TheVariants.{Done}

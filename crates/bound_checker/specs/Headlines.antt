@@ -5,8 +5,8 @@ use Rattle.outside.specs.Held.{Files, Appended}
 use Rattle.soc_model.specs.Chips.{SocValue}
 use Rattle.plan_model.specs.Plans.{LimitsValue}
 use Rattle.plan_model.specs.Rules.{IsBound}
-use Rattle.bus_proofs.specs.Proofs.{ProofValue}
-use Rattle.bus_proofs.specs.Answers.{SaysProof}
+use Rattle.proof_model.specs.Proofs.{ProofValue}
+use Rattle.proof_text.specs.Answers.{SaysProof}
 use Rattle.bus_proofs.specs.Bounds.{IsAccepted}
 use Rattle.commands.specs.declared.FileKind.TheVariants.{Proof}
 use Rattle.commands.specs.declared.Status.{Status}

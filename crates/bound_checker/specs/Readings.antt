@@ -3,8 +3,8 @@ use Rattle.std.specs.Prelude.{◌≡◌, ℕ, ◌⊎◌, List}
 use Rattle.soc_model.specs.Chips.{SocValue}
 use Rattle.plan_model.specs.Plans.{LimitsValue}
 use Rattle.bus_proofs.specs.declared.ProofFault.{ProofFault}
-use Rattle.bus_proofs.specs.Proofs.{ProofValue}
-use Rattle.bus_proofs.specs.Answers.{SaysProof, RefusesText}
+use Rattle.proof_model.specs.Proofs.{ProofValue}
+use Rattle.proof_text.specs.Answers.{SaysProof, RefusesText}
 use Rattle.bus_proofs.specs.Bounds.{IsAccepted, IsProofFault}
 use Rattle.bound_checker.specs.Texts.{proof_line, proof_fault_line}
 

@@ -2,7 +2,7 @@
 use Rattle.std.specs.Prelude.{ℕ, ◌++◌, List, codes, decimal}
 use Rattle.bus_proofs.specs.declared.ProofFault.{ProofFault}
 use Rattle.bus_proofs.specs.declared.ProofFault.TheVariants.{BadList, BadNode, Less}
-use Rattle.bus_proofs.specs.Proofs.{ProofValue}
+use Rattle.proof_model.specs.Proofs.{ProofValue}
 use Rattle.commands.specs.Texts.{two_numbers}
 
 -- a proof that is accepted: the cycles that no good plan goes below

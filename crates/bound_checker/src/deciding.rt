@@ -15,7 +15,7 @@ ghost use Rattle.bound_checker.specs.Requests.{procedure_of, with_proof};
 ghost use Rattle.bound_checker.specs.Texts.{bound_line as bound_text};
 
 use crate::lines::{bound_line, proof_fault_line, proof_line};
-use bus_proofs::{ProofRoom, ProofTextFault, check_proof, read_proof};
+use bus_proofs::{ProofRoom, check_proof};
 use commands::{
     Both, Command, FileKind, Status, Verdict, answered_with, bad_words, command_of, load_both,
     load_file, refused_with,
@@ -24,6 +24,7 @@ use limits_text::resolved_of;
 use live_tests::Resolved;
 use outside::Shelf;
 use plan_model::Limits;
+use proof_text::{ProofTextFault, read_proof};
 use soc_model::Soc;
 use std::alloc::Global;
 

@@ -1,12 +1,13 @@
 //! The lines that are written of proofs.
 ghost use Rattle.std.specs.Prelude.{◌≡◌, IfOk, IsTrue};
-ghost use Rattle.bus_proofs.specs.Proofs.{proof_value};
+ghost use Rattle.proof_model.specs.Proofs.{proof_value};
 ghost use Rattle.commands.specs.Texts.{is_line};
 ghost use Rattle.bound_checker.specs.Texts.{bound_line as bound_text, proof_line as proof_line_text, proof_fault_line as proof_fault_text};
 
-use bus_proofs::{Proof, ProofFault};
+use bus_proofs::ProofFault;
 use commands::{less_line, numbered};
 use outside::NoMemory;
+use proof_model::Proof;
 use std::alloc::Global;
 
 /// `bound` and the cycles that a proof claims.

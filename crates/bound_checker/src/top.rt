@@ -9,11 +9,11 @@ ghost use Rattle.bound_checker.specs.Headlines.{Headline};
 
 use crate::deciding::decide;
 use bus_proofs::{
-    accepted_proofs_are_bounds, accepted_proofs_have_no_fault, proof_texts_are_settled,
-    proofs_have_one_fault,
+    accepted_proofs_are_bounds, accepted_proofs_have_no_fault, proofs_have_one_fault,
 };
 use commands::{Status, files_say_one_thing, write_verdict};
 use outside::{Shelf, Sink};
+use proof_text::proof_texts_are_settled;
 use std::alloc::Global;
 
 /// Checks the proof that the words name, for the chip under the limits that they name, and writes the bound in cycles that it

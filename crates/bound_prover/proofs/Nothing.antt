@@ -5,9 +5,9 @@ use Rattle.std.proofs.lemmas.List.Elements.{All-nil}
 use Rattle.soc_model.specs.Chips.{SocValue}
 use Rattle.plan_model.specs.Plans.{LimitsValue}
 use Rattle.plan_model.specs.SoundLimits.{IsSoundLimits}
-use Rattle.bus_proofs.specs.Proofs.{WeightsValue, Leaf}
+use Rattle.proof_model.specs.Proofs.{WeightsValue, Leaf}
 use Rattle.bus_proofs.specs.Cases.{NodeCase, root_case, tightened, in_case, cases_of}
-use Rattle.bus_proofs.specs.Proofs.{OfSum}
+use Rattle.proof_model.specs.Proofs.{OfSum}
 use Rattle.bus_proofs.specs.Leaves.{IsKnownList, worth_of_cycle, LeafHolds}
 use Rattle.bus_proofs.specs.Bounds.{IsEnough, AreEnough, IsAccepted, all_cases}
 use Rattle.bound_prover.specs.Proved.{IsProved, no_claim}

@@ -4,13 +4,14 @@ use Rattle.std.specs.Global.{Vec}
 use Rattle.std.proofs.lemmas.List.Elements.{All-cons, All-nil}
 use Rattle.std.proofs.lemmas.Fmt.{decimal_digit}
 use Rattle.outside.specs.declared.NoMemory.{NoMemory}
-use Rattle.bus_proofs.specs.declared.Proof.{Proof}
-use Rattle.bus_proofs.specs.declared.Weights.{Weights}
-use Rattle.bus_proofs.specs.declared.Node.TheVariants.{Sum}
-use Rattle.bus_proofs.specs.Proofs.{OfSum, ProofValue, Leaf, proof_value}
-use Rattle.bus_proofs.specs.ProofLines.{proof_text, proof_tokens}
-use Rattle.bus_proofs.specs.Grammar.{NamesTests, IsWeight, IsUse, HasWeights, IsInRange}
-use Rattle.bus_proofs.specs.Answers.{IsReadAgain}
+use Rattle.proof_model.specs.declared.Proof.{Proof}
+use Rattle.proof_model.specs.declared.Weights.{Weights}
+use Rattle.proof_model.specs.declared.Node.TheVariants.{Sum}
+use Rattle.proof_model.specs.Proofs.{OfSum, ProofValue, Leaf, proof_value}
+use Rattle.proof_text.specs.ProofLines.{proof_text, proof_tokens}
+use Rattle.proof_model.specs.Sayable.{NamesTests, IsWeight, IsUse, HasWeights}
+use Rattle.proof_text.specs.Grammar.{IsInRange}
+use Rattle.proof_text.specs.Answers.{IsReadAgain}
 use Rattle.commands.specs.declared.TheConstants.{FILE_MOST}
 use Rattle.bound_prover.specs.Proved.{IsPrinted, IsReadable, no_claim}
 use Rattle.bound_prover.proofs.Nothing.{one_wire}

@@ -4,9 +4,9 @@ use Rattle.outside.specs.Held.{Files, Appended}
 use Rattle.soc_model.specs.Chips.{SocValue}
 use Rattle.plan_model.specs.Plans.{LimitsValue, PlanValue}
 use Rattle.plan_model.specs.Rules.{IsGood, IsBound}
-use Rattle.bus_proofs.specs.Proofs.{ProofValue}
-use Rattle.bus_proofs.specs.ProofLines.{proof_text}
-use Rattle.bus_proofs.specs.Answers.{SaysProof}
+use Rattle.proof_model.specs.Proofs.{ProofValue}
+use Rattle.proof_text.specs.ProofLines.{proof_text}
+use Rattle.proof_text.specs.Answers.{SaysProof}
 use Rattle.bus_proofs.specs.Bounds.{IsAccepted}
 use Rattle.commands.specs.declared.TheConstants.{FILE_MOST}
 use Rattle.commands.specs.declared.Status.{Status}

@@ -2,10 +2,11 @@
 use Rattle.std.specs.Prelude.{◌≡◌, ℕ, ◌≤◌, List, [], ◌∷◌, length}
 use Rattle.soc_model.specs.Chips.{SocValue}
 use Rattle.plan_model.specs.Plans.{LimitsValue}
-use Rattle.bus_proofs.specs.Proofs.{OfSum, ProofValue}
-use Rattle.bus_proofs.specs.ProofLines.{proof_text}
-use Rattle.bus_proofs.specs.Grammar.{MayBeSaid, IsInRange}
-use Rattle.bus_proofs.specs.Answers.{SaysProof}
+use Rattle.proof_model.specs.Proofs.{OfSum, ProofValue}
+use Rattle.proof_text.specs.ProofLines.{proof_text}
+use Rattle.proof_model.specs.Sayable.{MayBeSaid}
+use Rattle.proof_text.specs.Grammar.{IsInRange}
+use Rattle.proof_text.specs.Answers.{SaysProof}
 use Rattle.bus_proofs.specs.Bounds.{IsAccepted}
 use Rattle.commands.specs.declared.TheConstants.{FILE_MOST}
 

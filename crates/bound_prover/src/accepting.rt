@@ -5,18 +5,18 @@ ghost use Rattle.soc_model.specs.SoundChips.{IsSoundChip};
 ghost use Rattle.plan_model.specs.SoundLimits.{IsSoundLimits};
 ghost use Rattle.plan_model.specs.Views.{limits_value};
 ghost use Rattle.live_tests.specs.Resolved.{IsResolved};
-ghost use Rattle.bus_proofs.specs.Proofs.{proof_value};
-ghost use Rattle.bus_proofs.specs.Grammar.{MayBeSaid};
+ghost use Rattle.proof_model.specs.Proofs.{proof_value};
+ghost use Rattle.proof_model.specs.Sayable.{MayBeSaid};
 ghost use Rattle.bus_proofs.specs.Bounds.{IsAccepted};
 ghost use Rattle.bound_prover.specs.Proved.{IsPrinted, IsProofText, IsReadable, no_claim};
 
-use bus_proofs::{
-    Node, Proof, ProofRoom, ProofTextFault, Weights, check_proof, print_proof, read_proof,
-};
+use bus_proofs::{ProofRoom, check_proof};
 use commands::FILE_MOST;
 use live_tests::Resolved;
 use outside::{NoMemory, push};
 use plan_model::Limits;
+use proof_model::{Node, Proof, Weights};
+use proof_text::{ProofTextFault, print_proof, read_proof};
 use soc_model::Soc;
 use std::alloc::Global;
 

@@ -11,11 +11,11 @@ ghost use Rattle.bound_prover.specs.Reports.{MayReport};
 
 use crate::accepting::{accepted_text, nothing_text};
 use crate::progress::run_reported;
-use bus_proofs::Proof;
 use commands::line_room;
 use live_tests::Resolved;
 use outside::{NoMemory, Sink};
 use plan_model::Limits;
+use proof_model::Proof;
 use proof_search::Search;
 use soc_model::Soc;
 use std::alloc::Global;

@@ -16,7 +16,7 @@ use Rattle.plan_model.proofs.Sums.{at_most_one, item-le-sum_by, one_if}
 use Rattle.plan_model.proofs.CertificatesAreBounds.{same_test_is}
 use Rattle.live_tests.proofs.HowMany.{live_tests-le}
 use Rattle.bound_rules.proofs.Modules.{same_sum}
-use Rattle.bus_proofs.specs.Proofs.{ListValue, OfTurns, OfTurnsOn, OfCrowd, OfPower}
+use Rattle.proof_model.specs.Proofs.{ListValue, OfTurns, OfTurnsOn, OfCrowd, OfPower}
 use Rattle.bus_proofs.specs.Lists.{IsCrowd, KeepsList, room_of}
 
 -- ---- each of some things is met by another one, and none of these meets two

@@ -7,7 +7,7 @@ use Rattle.plan_model.specs.Plans.{LimitsValue}
 use Rattle.plan_model.specs.Rules.{IsFirstBreach}
 use Rattle.bus_proofs.specs.declared.ProofFault.{ProofFault}
 use Rattle.bus_proofs.specs.declared.ProofFault.TheVariants.{BadList, BadNode, Less}
-use Rattle.bus_proofs.specs.Proofs.{ListValue, WeightsValue, OfSum, CaseTree, ProofValue}
+use Rattle.proof_model.specs.Proofs.{ListValue, WeightsValue, OfSum, CaseTree, ProofValue}
 use Rattle.bus_proofs.specs.Cases.{NodeCase}
 use Rattle.plan_model.specs.Bounds.{quotient_up}
 use Rattle.plan_model.proofs.LowerTimes.{quotient_up-le}

@@ -12,7 +12,7 @@ use Rattle.bus_proofs.specs.declared.basis.Basis.{Basis}
 use Rattle.bus_proofs.specs.declared.case.CaseRoom.{CaseRoom}
 use Rattle.bus_proofs.specs.declared.leaf.LeafAnswer.{LeafAnswer}
 use Rattle.bus_proofs.specs.declared.leaf.LeafAnswer.TheVariants.{Broken, Holds, Shows}
-use Rattle.bus_proofs.specs.Proofs.{ListValue, WeightsValue}
+use Rattle.proof_model.specs.Proofs.{ListValue, WeightsValue}
 use Rattle.bus_proofs.specs.Cases.{Case, IsEmpty}
 use Rattle.bus_proofs.specs.CaseRooms.{IsCaseOf}
 use Rattle.bus_proofs.specs.Leaves.{IsSum}

@@ -15,7 +15,7 @@ use Rattle.bus_proofs.specs.Takings.{bit_at}
 use Rattle.bus_proofs.specs.Bits.{HasPlace, bit_place}
 use Rattle.bus_proofs.specs.declared.leaf_slots.WidthRange.{WidthRange}
 use Rattle.bus_proofs.specs.declared.basis.Basis.{Basis}
-use Rattle.bus_proofs.specs.Proofs.{WeightsValue}
+use Rattle.proof_model.specs.Proofs.{WeightsValue}
 use Rattle.bus_proofs.specs.Bases.{chip_of, limits_of, lists_of}
 use Rattle.bus_proofs.specs.Laws.{WiderSlotsCostNoLess}
 use Rattle.bus_proofs.specs.Cases.{Case, known_ranks, low_at, high_at}

@@ -16,8 +16,8 @@ use Rattle.bus_proofs.specs.declared.leaf_costs.BesideUse.{BesideUse}
 use Rattle.bus_proofs.specs.declared.leaf_costs.Weighed.{Weighed}
 use Rattle.bus_proofs.specs.declared.list_table.Role.{Role}
 use Rattle.bus_proofs.specs.declared.list_table.Role.TheVariants.{Out, In, Beside, Drawing}
-use Rattle.bus_proofs.specs.declared.TestList.{TestList}
-use Rattle.bus_proofs.specs.Proofs.{list_value, ListValue, OfTurns, OfTurnsOn, OfCrowd, OfPower, WeightsValue}
+use Rattle.proof_model.specs.declared.TestList.{TestList}
+use Rattle.proof_model.specs.Proofs.{list_value, ListValue, OfTurns, OfTurnsOn, OfCrowd, OfPower, WeightsValue}
 use Rattle.bus_proofs.specs.Lists.{KeepsList, IsNear, is_among, is_beside, excludes_all, power_use, room_of, use_of}
 use Rattle.bus_proofs.specs.Bounds.{AreKept}
 use Rattle.bus_proofs.specs.ListTables.{KeepFirst, role_of, role_at}

@@ -24,7 +24,7 @@ use Rattle.soc_model.specs.SoundChips.{IsSoundChip}
 use Rattle.packed_times.specs.Packed.{packed_time, packed_tam_time}
 use Rattle.packed_times.proofs.LeastTimes.{packed_time-le}
 use Rattle.bus_proofs.specs.declared.basis.Basis.{Basis}
-use Rattle.bus_proofs.specs.Proofs.{ListValue, OfTurns, OfTurnsOn, OfCrowd, OfPower, WeightsValue}
+use Rattle.proof_model.specs.Proofs.{ListValue, OfTurns, OfTurnsOn, OfCrowd, OfPower, WeightsValue}
 use Rattle.bus_proofs.specs.Lists.{use_of}
 use Rattle.bus_proofs.specs.Leaves.{cost, is_rank, module_use, self_use, slot, weighed}
 use Rattle.plan_model.specs.declared.Limits.{Limits}

@@ -9,7 +9,7 @@ use Rattle.soc_model.specs.SoundChips.{IsSoundChip}
 use Rattle.plan_model.specs.Bounds.{sum_below}
 use Rattle.plan_model.specs.Certificates.{has_tam_at}
 use Rattle.bus_proofs.specs.declared.basis.Basis.{Basis}
-use Rattle.bus_proofs.specs.Proofs.{ListValue, WeightsValue}
+use Rattle.proof_model.specs.Proofs.{ListValue, WeightsValue}
 use Rattle.bus_proofs.specs.Cases.{Case, spare}
 use Rattle.bus_proofs.specs.Lists.{room_of}
 use Rattle.bus_proofs.specs.declared.leaf.LeafAnswer.{LeafAnswer}

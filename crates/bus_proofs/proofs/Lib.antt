@@ -15,12 +15,6 @@ pub mod Rows
 pub mod OneTree
 pub mod Faults
 pub mod WiderSlots
-pub mod Fills
-pub mod SoundWords
-pub mod CompleteWords
-pub mod EndableWords
-pub mod PrintedProofs
-pub mod ProofTexts
 pub mod Trails
 pub mod Takings
 pub mod Bits

@@ -10,7 +10,7 @@ use Rattle.soc_model.specs.declared.TestId.{TestId}
 use Rattle.soc_model.specs.Chips.{SocValue, LiveTest, live_tests}
 use Rattle.plan_model.specs.Plans.{LimitsValue}
 use Rattle.plan_model.specs.Rules.{Each}
-use Rattle.bus_proofs.specs.Proofs.{ListValue, OfTurns, OfTurnsOn, OfCrowd, OfPower}
+use Rattle.proof_model.specs.Proofs.{ListValue, OfTurns, OfTurnsOn, OfCrowd, OfPower}
 use Rattle.bus_proofs.specs.Lists.{IsCrowd, IsCrowdItem, is_among, excludes_all, least_power_of}
 use Rattle.bus_proofs.specs.declared.list_rules.ListRules.{ListRules}
 use Rattle.bus_proofs.specs.declared.list_rules.TurnMarks.{TurnMarks}

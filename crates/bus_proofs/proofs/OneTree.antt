@@ -1,6 +1,6 @@
 -- A list of nodes tells its tree.
 use Rattle.std.proofs.Common.{◌≡◌, List, [], ◌++◌, sym, ap, ◌∙◌, append_assoc, append-nil}
-use Rattle.bus_proofs.specs.Proofs.{NodeValue, CaseTree, Leaf, Branches, nodes_of}
+use Rattle.proof_model.specs.Proofs.{NodeValue, CaseTree, Leaf, Branches, nodes_of}
 use Rattle.bus_proofs.specs.Laws.{NodesTellTheTree}
 
 -- the tree at the front of a list of nodes, and what is behind it

@@ -9,16 +9,16 @@ use Rattle.soc_model.specs.Sizes.{IsWithinSize}
 use Rattle.soc_model.specs.declared.Which.TheVariants.{Modules}
 use Rattle.plan_model.specs.Plans.{LimitsValue}
 use Rattle.plan_model.specs.Rules.{IsBound}
-use Rattle.bus_proofs.specs.declared.Node.{Node}
+use Rattle.proof_model.specs.declared.Node.{Node}
 use Rattle.bus_proofs.specs.declared.ProofFault.{ProofFault}
 use Rattle.bus_proofs.specs.declared.ProofFault.TheVariants.{BadList, BadNode, Less}
 use Rattle.bus_proofs.specs.declared.basis.Basis.{Basis}
 use Rattle.bus_proofs.specs.declared.case.CaseRoom.{CaseRoom}
 use Rattle.bus_proofs.specs.declared.leaf.LeafRoom.{LeafRoom}
 use Rattle.bus_proofs.specs.declared.walk.OpenSplit.{OpenSplit}
-use Rattle.bus_proofs.specs.Proofs.{ListValue, WeightsValue, OfSum, CaseTree, nodes_of, node_value, ProofValue}
+use Rattle.proof_model.specs.Proofs.{ListValue, WeightsValue, OfSum, CaseTree, nodes_of, node_value, ProofValue}
 use Rattle.bus_proofs.specs.Cases.{root_case}
-use Rattle.bus_proofs.specs.Grammar.{MayBeSaid}
+use Rattle.proof_model.specs.Sayable.{MayBeSaid}
 use Rattle.bus_proofs.specs.Bounds.{AreKept, IsAccepted, IsProofFault, all_cases}
 use Rattle.bus_proofs.specs.ListTables.{KeepFirst}
 use Rattle.bus_proofs.specs.CaseRooms.{HasCase, IsCaseOf, IsSame}

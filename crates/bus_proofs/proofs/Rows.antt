@@ -8,7 +8,7 @@ use Rattle.plan_model.specs.Plans.{LimitsValue}
 use Rattle.plan_model.specs.Bounds.{sum_below}
 use Rattle.packed_times.specs.Packed.{packed, packed_time, packed_tam_time}
 use Rattle.exclusions.specs.Exclusions.{leads, excludes}
-use Rattle.bus_proofs.specs.Proofs.{OfTurns, OfPower, WeightsValue, OfWide, OfPlace, CaseTree, Leaf, Branches}
+use Rattle.proof_model.specs.Proofs.{OfTurns, OfPower, WeightsValue, OfWide, OfPlace, CaseTree, Leaf, Branches}
 use Rattle.bus_proofs.specs.Cases.{interval, Case, root_case, NodeCase, cases_of}
 use Rattle.bus_proofs.specs.Lists.{least_together, names_exclude, counted}
 use Rattle.bus_proofs.specs.Leaves.{slots_of, cost_of_all, worth_of_cycle, leaf_shows}

@@ -8,7 +8,7 @@ use Rattle.std.proofs.lemmas.Option.{slice_get-map}
 use Rattle.plan_model.specs.Plans.{smallest}
 use Rattle.plan_model.specs.Bounds.{sum_below}
 use Rattle.plan_model.proofs.Lists.{in_append_left, in_append_right, in_flat_map}
-use Rattle.bus_proofs.specs.Proofs.{WeightsValue}
+use Rattle.proof_model.specs.Proofs.{WeightsValue}
 use Rattle.bus_proofs.specs.Cases.{Case, known_ranks, low_at, high_at, interval, least_wires}
 use Rattle.bus_proofs.specs.Leaves.{Slot, slot, from_to, rank_weight, slots_at, rest_high, rest_slots, all_slots}
 use Rattle.bus_proofs.proofs.Intervals.{AreLows, AreHighs, Falls, falls_far, term-le, lows-le, sum_below-first}

@@ -12,8 +12,8 @@ use Rattle.bus_proofs.specs.declared.basis.Basis.{Basis}
 use Rattle.bus_proofs.specs.declared.leaf_costs.Weighed.{Weighed}
 use Rattle.bus_proofs.specs.Bases.{lists_of}
 use Rattle.bus_proofs.specs.Lists.{room_of}
-use Rattle.bus_proofs.specs.Proofs.{ListValue, WeightsValue}
-use Rattle.bus_proofs.specs.Grammar.{AreWeights}
+use Rattle.proof_model.specs.Proofs.{ListValue, WeightsValue}
+use Rattle.proof_model.specs.Sayable.{AreWeights}
 use Rattle.bus_proofs.specs.LeafCosts.{AreTotals, AreUses, IsMade, IsWeighed, all_weights, by_places, weighed_by}
 
 -- the sum over the first so many places

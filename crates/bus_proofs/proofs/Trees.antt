@@ -12,7 +12,7 @@ use Rattle.plan_model.specs.Certificates.{has_tam_at}
 use Rattle.plan_model.proofs.CertificatesAreBounds.{place_or, some_place}
 use Rattle.plan_model.proofs.Lists.{any_at, at_contains, in_append_left, in_append_right}
 use Rattle.plan_model.proofs.PowerAndAreaBounds.{bus_width}
-use Rattle.bus_proofs.specs.Proofs.{ListValue, WeightsValue, SplitValue, OfWide, OfPlace, OfSplit, OfSum, CaseTree, Leaf, Branches}
+use Rattle.proof_model.specs.Proofs.{ListValue, WeightsValue, SplitValue, OfWide, OfPlace, OfSplit, OfSum, CaseTree, Leaf, Branches}
 use Rattle.bus_proofs.specs.Cases.{Case, known_ranks, tightened, with_rank, narrow, wide, placed_on, placed_off, case_by, first_case, second_case, NodeCase, in_case, cases_of, AreTwins, KeepsSplit}
 use Rattle.bus_proofs.specs.Leaves.{IsSum, LeafHolds}
 use Rattle.bus_proofs.specs.Bounds.{IsEnough, AreEnough}

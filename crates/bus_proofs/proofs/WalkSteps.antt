@@ -12,7 +12,7 @@ use Rattle.bus_proofs.specs.declared.basis.Basis.{Basis}
 use Rattle.bus_proofs.specs.declared.case.CaseRoom.{CaseRoom}
 use Rattle.bus_proofs.specs.declared.case.Mark.{Mark}
 use Rattle.bus_proofs.specs.declared.walk.OpenSplit.{OpenSplit}
-use Rattle.bus_proofs.specs.Proofs.{WeightsValue, SplitValue, OfWide, OfPlace, NodeValue, OfSplit, OfSum, CaseTree, Leaf, Branches, nodes_of}
+use Rattle.proof_model.specs.Proofs.{WeightsValue, SplitValue, OfWide, OfPlace, NodeValue, OfSplit, OfSum, CaseTree, Leaf, Branches, nodes_of}
 use Rattle.bus_proofs.specs.Cases.{Case, Interval, interval_of, known_ranks, narrow, placed_on, tightened, with_rank, case_by, first_case, second_case, NodeCase, in_case, cases_of, root_case, KeepsSplit}
 use Rattle.bus_proofs.specs.Bounds.{IsEnough, HasFault, KeepsNode, NodeHolds, all_cases}
 use Rattle.bus_proofs.specs.CaseRooms.{HasCase, IsCaseOf, IsFurther, IsMark}

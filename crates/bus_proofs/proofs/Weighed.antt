@@ -11,7 +11,7 @@ use Rattle.plan_model.specs.Bounds.{sum_below, is_of}
 use Rattle.plan_model.specs.Certificates.{on}
 use Rattle.plan_model.proofs.Sums.{sum_by-le_at, sum_by-times}
 use Rattle.plan_model.proofs.SumsOverCycles.{sum_below-add, sum_below-sum_by, sum_below-le_by, sum_below-zero, sum_below-mono, indicator-le, le-indicator}
-use Rattle.bus_proofs.specs.Proofs.{ListValue, OfTurns, OfTurnsOn, OfCrowd, OfPower, WeightsValue}
+use Rattle.proof_model.specs.Proofs.{ListValue, OfTurns, OfTurnsOn, OfCrowd, OfPower, WeightsValue}
 use Rattle.bus_proofs.specs.Cases.{Case, low_at, spare, least_wires}
 use Rattle.bus_proofs.specs.Lists.{is_among, is_beside, counted, power_use, use_of}
 use Rattle.bus_proofs.specs.Leaves.{rank_weight, weighed}

@@ -7,7 +7,7 @@ use Rattle.plan_model.specs.Views.{limits_value}
 use Rattle.plan_model.specs.SoundLimits.{IsSoundLimits}
 use Rattle.plan_model.specs.Certificates.{has_tam_at}
 use Rattle.bus_proofs.specs.declared.basis.Basis.{Basis}
-use Rattle.bus_proofs.specs.Proofs.{ListValue, ProofValue, proof_value}
+use Rattle.proof_model.specs.Proofs.{ListValue, ProofValue, proof_value}
 use Rattle.bus_proofs.specs.Takings.{bit_at}
 use Rattle.bus_proofs.specs.ListTables.{IsListTable}
 use Rattle.bus_proofs.specs.TestTables.{IsTestTable}

@@ -5,7 +5,7 @@ use Rattle.plan_model.specs.Plans.{LimitsValue}
 use Rattle.plan_model.specs.Rules.{Each, IsFirstBreach}
 use Rattle.bus_proofs.specs.declared.ProofFault.{ProofFault}
 use Rattle.bus_proofs.specs.declared.ProofFault.TheVariants.{BadList, BadNode, Less}
-use Rattle.bus_proofs.specs.Proofs.{ListValue, WeightsValue, NodeValue, OfSplit, OfSum, CaseTree, nodes_of, ProofValue}
+use Rattle.proof_model.specs.Proofs.{ListValue, WeightsValue, NodeValue, OfSplit, OfSum, CaseTree, nodes_of, ProofValue}
 use Rattle.bus_proofs.specs.Cases.{Case, root_case, NodeCase, cases_of, KeepsSplit}
 use Rattle.bus_proofs.specs.Lists.{KeepsList}
 use Rattle.bus_proofs.specs.Leaves.{IsSum, LeafHolds, leaf_shows}

@@ -6,7 +6,7 @@ use Rattle.soc_model.specs.Lookups.{module_place}
 use Rattle.soc_model.specs.SoundChips.{AllDiffer}
 use Rattle.plan_model.specs.Certificates.{has_tam_at, HasTamTest}
 pub use Rattle.bus_proofs.specs.declared.widths.Interval.{Interval}
-use Rattle.bus_proofs.specs.Proofs.{SplitValue, OfWide, OfPlace, NodeValue, OfSplit, OfSum, CaseTree, Leaf, Branches}
+use Rattle.proof_model.specs.Proofs.{SplitValue, OfWide, OfPlace, NodeValue, OfSplit, OfSum, CaseTree, Leaf, Branches}
 
 -- from the one to the other
 abbrev pub interval : (low high : ℕ) → Interval

@@ -8,7 +8,7 @@ use Rattle.plan_model.specs.SoundLimits.{IsSoundLimits}
 use Rattle.bus_proofs.specs.declared.ProofFault.{ProofFault}
 use Rattle.bus_proofs.specs.declared.ProofFault.TheVariants.{Less}
 use Rattle.packed_times.specs.Packed.{packed_tam_time}
-use Rattle.bus_proofs.specs.Proofs.{ListValue, WeightsValue, CaseTree, nodes_of, ProofValue}
+use Rattle.proof_model.specs.Proofs.{ListValue, WeightsValue, CaseTree, nodes_of, ProofValue}
 use Rattle.bus_proofs.specs.Cases.{Case, cases_of}
 use Rattle.bus_proofs.specs.Rankings.{IsRanking, IsInCase}
 use Rattle.bus_proofs.specs.Leaves.{slot, cost}

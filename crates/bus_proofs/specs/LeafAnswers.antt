@@ -6,7 +6,7 @@ use Rattle.bus_proofs.specs.declared.basis.Basis.{Basis}
 use Rattle.bus_proofs.specs.declared.leaf.LeafAnswer.{LeafAnswer}
 use Rattle.bus_proofs.specs.declared.leaf.LeafAnswer.TheVariants.{Broken, Holds, Shows}
 use Rattle.bus_proofs.specs.declared.leaf.LeafRoom.{LeafRoom}
-use Rattle.bus_proofs.specs.Proofs.{WeightsValue}
+use Rattle.proof_model.specs.Proofs.{WeightsValue}
 use Rattle.bus_proofs.specs.LeafCosts.{HasSpaceFor}
 use Rattle.bus_proofs.specs.Cases.{Case, Interval}
 use Rattle.bus_proofs.specs.Leaves.{IsSum, LeafHolds, leaf_shows}

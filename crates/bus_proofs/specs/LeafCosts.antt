@@ -11,8 +11,8 @@ use Rattle.bus_proofs.specs.declared.list_table.ListTable.{ListTable}
 use Rattle.bus_proofs.specs.declared.list_table.Role.{Role}
 use Rattle.bus_proofs.specs.declared.list_table.Role.TheVariants.{Out, In, Beside, Drawing}
 use Rattle.bus_proofs.specs.declared.basis.Basis.{Basis}
-use Rattle.bus_proofs.specs.Grammar.{AreWeights}
-use Rattle.bus_proofs.specs.Proofs.{ListValue, WeightsValue}
+use Rattle.proof_model.specs.Sayable.{AreWeights}
+use Rattle.proof_model.specs.Proofs.{ListValue, WeightsValue}
 use Rattle.bus_proofs.specs.Lists.{IsNear, power_use, room_of, use_of}
 use Rattle.bus_proofs.specs.ListTables.{role_at}
 use Rattle.bus_proofs.specs.Leaves.{is_rank, weighed}

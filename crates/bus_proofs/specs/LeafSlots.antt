@@ -7,7 +7,7 @@ use Rattle.bus_proofs.specs.declared.basis.Basis.{Basis}
 use Rattle.bus_proofs.specs.declared.leaf.LeafAnswer.{LeafAnswer}
 use Rattle.bus_proofs.specs.declared.leaf.LeafAnswer.TheVariants.{Broken, Holds, Shows}
 use Rattle.bus_proofs.specs.declared.leaf_slots.WidthRange.{WidthRange}
-use Rattle.bus_proofs.specs.Proofs.{ListValue, WeightsValue}
+use Rattle.proof_model.specs.Proofs.{ListValue, WeightsValue}
 use Rattle.bus_proofs.specs.Cases.{Case, known_ranks, low_at, high_at}
 use Rattle.bus_proofs.specs.Leaves.{Slot, slot, rank_weight, rest_high, slots_of, is_short, cost, least_cost, HasNoBus, CostTooMuch, leaf_shows, cycles_shown, IsKnownList}
 use Rattle.bus_proofs.specs.Bases.{chip_of, limits_of, lists_of, claim_of}

@@ -6,7 +6,7 @@ use Rattle.plan_model.specs.Plans.{LimitsValue, smallest}
 use Rattle.plan_model.specs.Bounds.{sum_below, sum_where, is_of, quotient_up}
 use Rattle.plan_model.specs.Certificates.{on, has_tam_at}
 use Rattle.packed_times.specs.Packed.{packed_time, packed_tam_time, self_test_time}
-use Rattle.bus_proofs.specs.Proofs.{ListValue, OfTurns, OfTurnsOn, OfCrowd, OfPower, WeightsValue}
+use Rattle.proof_model.specs.Proofs.{ListValue, OfTurns, OfTurnsOn, OfCrowd, OfPower, WeightsValue}
 use Rattle.bus_proofs.specs.Cases.{Case, known_ranks, low_at, high_at, spare, IsEmpty}
 use Rattle.bus_proofs.specs.Lists.{room_of, use_of}
 

@@ -12,7 +12,7 @@ use Rattle.bus_proofs.specs.declared.list_rules.TurnMarks.{TurnMarks}
 use Rattle.bus_proofs.specs.declared.list_rules.CrowdMarks.{CrowdMarks}
 use Rattle.bus_proofs.specs.declared.list_table.Role.{Role}
 use Rattle.bus_proofs.specs.declared.list_table.Role.TheVariants.{Out, In, Beside}
-use Rattle.bus_proofs.specs.Proofs.{ListValue}
+use Rattle.proof_model.specs.Proofs.{ListValue}
 use Rattle.bus_proofs.specs.Lists.{IsTurn, IsCrowdItem, KeepsList, excludes_all, is_among, least_power_of, least_together}
 use Rattle.bus_proofs.specs.ListTables.{role_of}
 

@@ -6,7 +6,7 @@ use Rattle.plan_model.specs.Rules.{IsFirstBreach}
 use Rattle.bus_proofs.specs.declared.list_table.ListTable.{ListTable}
 use Rattle.bus_proofs.specs.declared.list_table.Role.{Role}
 use Rattle.bus_proofs.specs.declared.list_table.Role.TheVariants.{Out, In, Beside, Drawing}
-use Rattle.bus_proofs.specs.Proofs.{ListValue, OfTurns, OfTurnsOn, OfCrowd, OfPower}
+use Rattle.proof_model.specs.Proofs.{ListValue, OfTurns, OfTurnsOn, OfCrowd, OfPower}
 use Rattle.bus_proofs.specs.Lists.{is_among, excludes_all}
 use Rattle.bus_proofs.specs.Bounds.{AreKept, KeptBehind}
 

@@ -9,7 +9,7 @@ use Rattle.plan_model.specs.Bounds.{sum_below}
 use Rattle.plan_model.specs.Certificates.{is_called}
 use Rattle.packed_times.specs.Packed.{rising}
 use Rattle.exclusions.specs.Exclusions.{least_power, excludes}
-use Rattle.bus_proofs.specs.Proofs.{ListValue, OfTurns, OfTurnsOn, OfCrowd, OfPower}
+use Rattle.proof_model.specs.Proofs.{ListValue, OfTurns, OfTurnsOn, OfCrowd, OfPower}
 
 -- the test is named in the list
 abbrev pub is_among : List TestId → LiveTest → Bool

@@ -6,9 +6,9 @@ use Rattle.bus_proofs.specs.declared.basis.Basis.{Basis}
 use Rattle.bus_proofs.specs.declared.case.CaseRoom.{CaseRoom}
 use Rattle.bus_proofs.specs.declared.leaf.LeafRoom.{LeafRoom}
 use Rattle.bus_proofs.specs.declared.walk.OpenSplit.{OpenSplit}
-use Rattle.bus_proofs.specs.Proofs.{ProofValue}
+use Rattle.proof_model.specs.Proofs.{ProofValue}
 use Rattle.bus_proofs.specs.Cases.{root_case}
-use Rattle.bus_proofs.specs.Grammar.{MayBeSaid}
+use Rattle.proof_model.specs.Sayable.{MayBeSaid}
 use Rattle.bus_proofs.specs.Bases.{IsBasis, proof_of}
 use Rattle.bus_proofs.specs.CaseRooms.{IsCaseOf}
 use Rattle.bus_proofs.specs.Walks.{IsRoomFor, FitsLeaves}

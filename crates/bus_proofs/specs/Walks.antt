@@ -12,7 +12,7 @@ use Rattle.bus_proofs.specs.declared.case.CaseRoom.{CaseRoom}
 use Rattle.bus_proofs.specs.declared.case.Mark.{Mark}
 use Rattle.bus_proofs.specs.declared.leaf.LeafRoom.{LeafRoom}
 use Rattle.bus_proofs.specs.declared.walk.OpenSplit.{OpenSplit}
-use Rattle.bus_proofs.specs.Proofs.{WeightsValue, SplitValue, OfWide, OfPlace, NodeValue, OfSplit, OfSum, CaseTree, nodes_of}
+use Rattle.proof_model.specs.Proofs.{WeightsValue, SplitValue, OfWide, OfPlace, NodeValue, OfSplit, OfSum, CaseTree, nodes_of}
 use Rattle.bus_proofs.specs.Cases.{Case, known_ranks, with_rank, wide, placed_off, case_by, first_case, second_case, NodeCase, cases_of, IsWide, IsPlace, KeepsSplit}
 use Rattle.bus_proofs.specs.Bounds.{AreEnough, HasFault, IsEnough, KeepsNode}
 use Rattle.bus_proofs.specs.CaseRooms.{HasCase, IsCaseOf, IsFurther, IsMark}

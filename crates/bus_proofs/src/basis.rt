@@ -6,11 +6,11 @@ ghost use Rattle.plan_model.specs.Views.{limits_value};
 ghost use Rattle.plan_model.specs.SoundLimits.{IsSoundLimits};
 ghost use Rattle.plan_model.specs.Certificates.{has_tam_at};
 ghost use Rattle.live_tests.specs.Resolved.{IsResolved};
-ghost use Rattle.bus_proofs.specs.Proofs.{proof_value};
+ghost use Rattle.proof_model.specs.Proofs.{proof_value};
 ghost use Rattle.bus_proofs.specs.Takings.{bit_at};
 ghost use Rattle.bus_proofs.specs.Bases.{IsBasis, chip_of, limits_of, proof_of};
 
-use crate::Proof;
+use proof_model::Proof;
 use crate::list_table::{ListTable, list_table};
 use crate::test_table::{TestTable, test_table};
 use live_tests::Resolved;

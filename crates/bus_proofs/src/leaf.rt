@@ -1,13 +1,13 @@
 //! Whether a leaf keeps its rule and holds, and what it shows.
 ghost use Rattle.std.specs.Prelude.{◌≡◌, ◌^◌, ◌≤◌, ℕ, IfOk, true, false, length, map};
 ghost use Rattle.std.specs.List.{All};
-ghost use Rattle.bus_proofs.specs.Proofs.{list_value, weights_value};
+ghost use Rattle.proof_model.specs.Proofs.{list_value, weights_value};
 ghost use Rattle.bus_proofs.specs.Leaves.{IsKnownList};
 ghost use Rattle.bus_proofs.specs.LeafCosts.{IsWeighed};
 ghost use Rattle.bus_proofs.specs.LeafSlots.{IsNamed, IsWeighedAnswer};
 ghost use Rattle.bus_proofs.specs.Cases.{Case};
 ghost use Rattle.bus_proofs.specs.CaseRooms.{HasCase, IsCaseOf};
-ghost use Rattle.bus_proofs.specs.Grammar.{AreWeights};
+ghost use Rattle.proof_model.specs.Sayable.{AreWeights};
 ghost use Rattle.bus_proofs.specs.Bases.{IsBasis, AllKept};
 ghost use Rattle.bus_proofs.specs.LeafAnswers.{HasLeafSpace, IsCaseFor, IsLeafAnswer};
 
@@ -16,7 +16,7 @@ use crate::case::CaseRoom;
 use crate::leaf_costs::{Weighed, self_cost, weigh_leaf};
 use crate::leaf_sums::{conclusion, sum_of_least, worth_of_cycle};
 use crate::widths::{is_empty, known_ranks};
-use crate::{TestList, Weights};
+use proof_model::{TestList, Weights};
 use outside::NoMemory;
 use std::alloc::Global;
 

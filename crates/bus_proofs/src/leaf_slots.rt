@@ -1,9 +1,9 @@
 //! The least cost of a module over the buses that it may be on in a case.
 ghost use Rattle.std.specs.Prelude.{◌≡◌, ◌+◌, ◌-◌, ◌*◌, ◌^◌, ◌<◌, ◌≤◌, true, length, nat_lt, IfSome};
 ghost use Rattle.packed_times.specs.Packed.{packed_tam_time, self_test_time};
-ghost use Rattle.bus_proofs.specs.declared.TheConstants.{WEIGHT_MOST};
-ghost use Rattle.bus_proofs.specs.Proofs.{WeightsValue, weights_value};
-ghost use Rattle.bus_proofs.specs.Grammar.{AreWeights};
+ghost use Rattle.proof_model.specs.declared.TheConstants.{WEIGHT_MOST};
+ghost use Rattle.proof_model.specs.Proofs.{WeightsValue, weights_value};
+ghost use Rattle.proof_model.specs.Sayable.{AreWeights};
 ghost use Rattle.bus_proofs.specs.Cases.{Case, known_ranks};
 ghost use Rattle.bus_proofs.specs.Bits.{HasPlace};
 ghost use Rattle.bus_proofs.specs.CaseRooms.{HasCase, IsCaseOf};
@@ -13,7 +13,7 @@ ghost use Rattle.bus_proofs.specs.LeafCosts.{IsWeighed, LEAF_COST_MOST};
 ghost use Rattle.bus_proofs.specs.LeafAnswers.{IsCaseFor};
 ghost use Rattle.bus_proofs.specs.LeafSlots.{IsCostOf, IsLeastOf, IsOfModule, IsOfRange, IsOfRank, IsOfRanks, IsOfRest, costs_at, lesser, range_slot, rank_range, rest_range};
 
-use crate::Weights;
+use proof_model::Weights;
 use crate::basis::Basis;
 use crate::case::CaseRoom;
 use crate::laws::wider_slots_cost_no_less;

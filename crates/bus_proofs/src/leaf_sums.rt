@@ -2,8 +2,8 @@
 ghost use Rattle.std.specs.Prelude.{◌≡◌, ◌*◌, ◌^◌, ◌<◌, ◌≤◌, length, sum, IfSome};
 ghost use Rattle.std.specs.List.{All};
 ghost use Rattle.plan_model.specs.Certificates.{has_tam_at};
-ghost use Rattle.bus_proofs.specs.Proofs.{weights_value};
-ghost use Rattle.bus_proofs.specs.Grammar.{AreWeights, IsWeight};
+ghost use Rattle.proof_model.specs.Proofs.{weights_value};
+ghost use Rattle.proof_model.specs.Sayable.{AreWeights, IsWeight};
 ghost use Rattle.bus_proofs.specs.Cases.{Case};
 ghost use Rattle.bus_proofs.specs.CaseRooms.{HasCase, IsCaseOf};
 ghost use Rattle.bus_proofs.specs.Leaves.{worth_of_cycle};
@@ -12,7 +12,7 @@ ghost use Rattle.bus_proofs.specs.LeafCosts.{IsWeighed, LEAF_COST_MOST};
 ghost use Rattle.bus_proofs.specs.LeafAnswers.{IsCaseFor};
 ghost use Rattle.bus_proofs.specs.LeafSlots.{IsConclusion, IsModuleCost, IsSumOfLeast};
 
-use crate::Weights;
+use proof_model::Weights;
 use crate::basis::Basis;
 use crate::case::CaseRoom;
 use crate::leaf::LeafAnswer;

@@ -8,11 +8,11 @@ ghost use Rattle.plan_model.specs.SoundLimits.{IsSoundLimits};
 ghost use Rattle.live_tests.specs.Resolved.{IsResolved};
 ghost use Rattle.soc_model.specs.declared.TestId.{TestId};
 ghost use Rattle.bus_proofs.specs.declared.list_table.Role.TheVariants.{Drawing};
-ghost use Rattle.bus_proofs.specs.Proofs.{OfCrowd, OfPower, OfTurns, OfTurnsOn, list_value};
+ghost use Rattle.proof_model.specs.Proofs.{OfCrowd, OfPower, OfTurns, OfTurnsOn, list_value};
 ghost use Rattle.bus_proofs.specs.ListRules.{AreTurnMarks, IsListRules, ListAdded, chip_ruled, limits_ruled, member_role, roles_in, turn_role as the_turn_role};
 ghost use Rattle.bus_proofs.specs.ListTables.{IsListTable, KeepFirst};
 
-use crate::TestList;
+use proof_model::TestList;
 use crate::list_rules::{ListRules, TurnMarks, are_heavy, crowd_marks, turn_marks};
 use crate::lists::is_near;
 use live_tests::Resolved;

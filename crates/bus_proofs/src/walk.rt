@@ -3,9 +3,9 @@
 ghost use Rattle.std.specs.Prelude.{◌≡◌, ◌+◌, ◌<◌, ◌≤◌, true, false, Some, List, IfOk, length, slice_get, slice_set};
 ghost use Rattle.bus_proofs.specs.declared.case.CaseRoom.{CaseRoom};
 ghost use Rattle.bus_proofs.specs.declared.basis.Basis.{Basis};
-ghost use Rattle.bus_proofs.specs.Proofs.{WeightsValue, SplitValue, OfWide, OfPlace, OfSplit, OfSum, CaseTree, node_value, nodes_of, proof_value, weights_value};
+ghost use Rattle.proof_model.specs.Proofs.{WeightsValue, SplitValue, OfWide, OfPlace, OfSplit, OfSum, CaseTree, node_value, nodes_of, proof_value, weights_value};
 ghost use Rattle.bus_proofs.specs.Cases.{Case, IsPlace, IsWide, NodeCase, in_case, root_case};
-ghost use Rattle.bus_proofs.specs.Grammar.{MayBeSaid};
+ghost use Rattle.proof_model.specs.Sayable.{MayBeSaid};
 ghost use Rattle.bus_proofs.specs.Bounds.{all_cases};
 ghost use Rattle.bus_proofs.specs.CaseRooms.{IsCaseOf, IsFurther, IsMark};
 ghost use Rattle.bus_proofs.specs.Bases.{IsBasis, AllKept, chip_of, limits_of, claim_of, proof_of};
@@ -16,7 +16,8 @@ use crate::basis::Basis;
 use crate::case::{CaseRoom, Mark};
 use crate::leaf::{LeafAnswer, LeafRoom, check_leaf};
 use crate::nodes::{is_wide, placed};
-use crate::{Node, Proof, ProofFault, Weights};
+use crate::ProofFault;
+use proof_model::{Node, Proof, Weights};
 use soc_model::place_of;
 
 /// A split of which a branch is under way.

@@ -4,8 +4,8 @@ use crate::lists::{LISTS_MOST, ListForm};
 use crate::tables::{NONE, filled, item_or, put_item};
 use crate::tree::{GrownTree, Names, Rule, whole_count};
 use crate::weights::Weighing;
-use bus_proofs::{Node, Proof, TestList, Weights};
 use outside::{NoMemory, push};
+use proof_model::{Node, Proof, TestList, Weights};
 use soc_model::TestId;
 use std::alloc::Global;
 

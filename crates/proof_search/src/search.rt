@@ -19,10 +19,10 @@ use crate::text::TEXT_MOST;
 use crate::tree::{GrownTree, Names, Rule};
 use crate::uses::Powers;
 use crate::values::LeafChip;
-use bus_proofs::Proof;
 use live_tests::Resolved;
 use outside::NoMemory;
 use plan_model::Limits;
+use proof_model::Proof;
 use soc_model::Soc;
 use std::alloc::Global;
 

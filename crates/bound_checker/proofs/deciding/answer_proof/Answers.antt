@@ -1,10 +1,10 @@
 use Rattle.std.proofs.Common.{Err, inl, inr, refl, subst}
 use Rattle.soc_model.specs.Chips.{soc_value}
 use Rattle.plan_model.specs.Views.{limits_value}
-use Rattle.bus_proofs.specs.Answers.{ProofRead}
+use Rattle.proof_text.specs.Answers.{ProofRead}
 use Rattle.bus_proofs.specs.Bounds.{IsProofFault}
 use Rattle.bus_proofs.specs.ProofRooms.{RoomValue}
-use Rattle.bus_proofs.specs.Proofs.{proof_value}
+use Rattle.proof_model.specs.Proofs.{proof_value}
 use Rattle.commands.proofs.OwnFiles.{bytes_refused}
 use Rattle.bound_checker.specs.Readings.{SaysBound, RefusesProof}
 use Rattle.bound_checker.specs.Texts.{bound_line, proof_line, proof_fault_line}

@@ -1,9 +1,9 @@
 use Rattle.std.proofs.Common.{◌++◌, ◌∷◌, [], List, ap, refl, ◌∙◌}
-use Rattle.bus_proofs.specs.declared.Node.{Node}
-use Rattle.bus_proofs.specs.declared.Proof.{Proof}
-use Rattle.bus_proofs.specs.declared.Weights.{Weights}
-use Rattle.bus_proofs.specs.declared.Node.TheVariants.{Sum}
-use Rattle.bus_proofs.specs.Proofs.{proof_value}
+use Rattle.proof_model.specs.declared.Node.{Node}
+use Rattle.proof_model.specs.declared.Proof.{Proof}
+use Rattle.proof_model.specs.declared.Weights.{Weights}
+use Rattle.proof_model.specs.declared.Node.TheVariants.{Sum}
+use Rattle.proof_model.specs.Proofs.{proof_value}
 use Rattle.bound_prover.proofs.Printing.{nothing_value, nothing_printed}
 use Rattle.bound_prover.proofs.accepting.nothing_text.Goals as goal
 

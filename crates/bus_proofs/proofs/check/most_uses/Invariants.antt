@@ -1,6 +1,6 @@
 use Rattle.std.proofs.Common.{◌≡◌, ◌<◌, ◌≤◌, ℕ, Some, length, map}
 use Rattle.std.specs.Prelude.{slice_get}
-use Rattle.bus_proofs.specs.Proofs.{WeightsValue, OfSum, node_value}
+use Rattle.proof_model.specs.Proofs.{WeightsValue, OfSum, node_value}
 use Rattle.bus_proofs.proofs.check.most_uses.Given as goal
 
 abbrev pub invariant-loop-place : goal.invariant-loop-place

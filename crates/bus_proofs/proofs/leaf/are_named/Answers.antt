@@ -1,5 +1,5 @@
 use Rattle.std.proofs.Common.{◌≡◌, ℕ, true, false, map, arith}
-use Rattle.bus_proofs.specs.Proofs.{list_value}
+use Rattle.proof_model.specs.Proofs.{list_value}
 use Rattle.bus_proofs.proofs.LeafAnswers.{all_named, named_next}
 use Rattle.bus_proofs.proofs.leaf.are_named.Goals as goal
 

@@ -1,5 +1,5 @@
 use Rattle.std.proofs.Common.{rules, ◌≡◌, ◌≤◌, true, false, length, sym, subst, arith}
-use Rattle.bus_proofs.specs.Proofs.{weights_value}
+use Rattle.proof_model.specs.Proofs.{weights_value}
 use Rattle.bus_proofs.specs.Cases.{IsEmpty}
 use Rattle.bus_proofs.specs.Bases.{lists_of}
 use Rattle.bus_proofs.proofs.LeafAnswers.{found, keeps_rule}

@@ -1,4 +1,4 @@
-use Rattle.bus_proofs.specs.Proofs.{weights_value}
+use Rattle.proof_model.specs.Proofs.{weights_value}
 use Rattle.bus_proofs.proofs.LeafAnswers.{some_bus}
 use Rattle.bus_proofs.proofs.LeafTotals.{concluded}
 use Rattle.bus_proofs.proofs.leaf.weighed_leaf.Goals as goal

@@ -1,7 +1,7 @@
 use Rattle.std.proofs.Common.{◌≡◌, ◌+◌, drop}
 use Rattle.std.specs.List.{sum_by}
 use Rattle.soc_model.specs.Chips.{live_tests}
-use Rattle.bus_proofs.specs.Proofs.{WeightsValue}
+use Rattle.proof_model.specs.Proofs.{WeightsValue}
 use Rattle.bus_proofs.specs.Bases.{chip_of}
 use Rattle.bus_proofs.specs.LeafCosts.{IsWeighed, kind_cost}
 use Rattle.bus_proofs.proofs.leaf_costs.costs_between.Given as goal

@@ -1,7 +1,7 @@
 use Rattle.std.proofs.Common.{◌≡◌, length, ap, subst, ◌∙◌, arith}
 use Rattle.std.proofs.lemmas.List.{with_items_is}
 use Rattle.std.specs.Vec.{vec_len}
-use Rattle.bus_proofs.specs.Proofs.{weights_value}
+use Rattle.proof_model.specs.Proofs.{weights_value}
 use Rattle.bus_proofs.specs.Bases.{lists_of}
 use Rattle.bus_proofs.specs.LeafCosts.{AreTotals}
 use Rattle.bus_proofs.proofs.Totals.{totals_zero, small_uses, few_for, weighed_room}

@@ -1,7 +1,7 @@
 use Rattle.std.proofs.Common.{length, refl, ap, arith}
 use Rattle.std.proofs.lemmas.List.{with_items_is}
-use Rattle.bus_proofs.specs.declared.TestList.TheVariants.{Turns, TurnsOn, Crowd, Power}
-use Rattle.bus_proofs.specs.Proofs.{OfTurns, OfCrowd}
+use Rattle.proof_model.specs.declared.TestList.TheVariants.{Turns, TurnsOn, Crowd, Power}
+use Rattle.proof_model.specs.Proofs.{OfTurns, OfCrowd}
 use Rattle.bus_proofs.specs.ListTables.{role_at}
 use Rattle.bus_proofs.specs.LeafCosts.{in_weight}
 use Rattle.bus_proofs.proofs.LeafSums.{made_power, made_turns_on, made_in, turns_plain, crowd_plain, listed_at, rooms_are, lent_long, lent_sums}

@@ -1,7 +1,7 @@
 use Rattle.std.proofs.Common.{◌≡◌, ◌+◌, ◌≤◌, ◌<◌, ◌++◌, ◌∷◌, [], ◌^◌, ◌*◌, length, sym, ap, subst, ◌∙◌, arith}
 use Rattle.std.specs.Prelude.{slice_index}
 use Rattle.std.proofs.lemmas.List.{length-map}
-use Rattle.bus_proofs.specs.Proofs.{list_value}
+use Rattle.proof_model.specs.Proofs.{list_value}
 use Rattle.bus_proofs.specs.Bases.{lists_of}
 use Rattle.bus_proofs.specs.LeafCosts.{IsMade, all_weights, by_places}
 use Rattle.bus_proofs.proofs.Totals.{fewer_weights, few_places, places_more}

@@ -1,5 +1,5 @@
 use Rattle.std.specs.Prelude.{◌+◌, ◌-◌, ◌≤◌, min, IfSome}
-use Rattle.bus_proofs.specs.Proofs.{WeightsValue}
+use Rattle.proof_model.specs.Proofs.{WeightsValue}
 use Rattle.bus_proofs.specs.Bases.{chip_of, claim_of}
 use Rattle.bus_proofs.specs.LeafCosts.{IsWeighed, LEAF_COST_MOST}
 use Rattle.bus_proofs.specs.LeafSlots.{IsLeastOf, IsOfRange, costs_at}

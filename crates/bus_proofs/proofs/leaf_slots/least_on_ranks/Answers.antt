@@ -1,6 +1,6 @@
 use Rattle.std.proofs.Common.{◌≡◌, ◌≤◌, ◌+◌, length, sym, ap, subst, arith}
 use Rattle.std.specs.Prelude.{IfSome}
-use Rattle.bus_proofs.specs.Proofs.{weights_value}
+use Rattle.proof_model.specs.Proofs.{weights_value}
 use Rattle.bus_proofs.specs.Cases.{known_ranks}
 use Rattle.bus_proofs.specs.Bases.{chip_of, claim_of}
 use Rattle.bus_proofs.specs.LeafCosts.{LEAF_COST_MOST}

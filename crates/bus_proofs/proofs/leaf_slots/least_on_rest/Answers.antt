@@ -1,5 +1,5 @@
 use Rattle.std.proofs.Common.{◌∙◌, ap, arith}
-use Rattle.bus_proofs.specs.Proofs.{weights_value}
+use Rattle.proof_model.specs.Proofs.{weights_value}
 use Rattle.bus_proofs.specs.Bases.{chip_of, limits_of, claim_of}
 use Rattle.bus_proofs.specs.LeafSlots.{costs_at, rest_range}
 use Rattle.bus_proofs.proofs.LeafSlots.{may_rest_is, rest_skipped, rest_tried}

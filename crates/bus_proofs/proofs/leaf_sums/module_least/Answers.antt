@@ -1,5 +1,5 @@
 use Rattle.std.proofs.Common.{◌∙◌, sym}
-use Rattle.bus_proofs.specs.Proofs.{weights_value}
+use Rattle.proof_model.specs.Proofs.{weights_value}
 use Rattle.bus_proofs.proofs.LeafTotals.{unwired, wired}
 use Rattle.bus_proofs.proofs.leaf_sums.module_least.Goals as goal
 

@@ -1,5 +1,5 @@
 use Rattle.std.proofs.Common.{◌+◌, ◌*◌, ◌≤◌, arith}
-use Rattle.bus_proofs.specs.Proofs.{weights_value}
+use Rattle.proof_model.specs.Proofs.{weights_value}
 use Rattle.bus_proofs.specs.Bases.{chip_of}
 use Rattle.bus_proofs.specs.LeafCosts.{LEAF_COST_MOST}
 use Rattle.bus_proofs.proofs.LeafTotals.{few_all, few_modules, few_more, sum_more, sum_none}

@@ -1,5 +1,5 @@
 use Rattle.std.specs.Prelude.{◌≤◌, ◌*◌, Some}
-use Rattle.bus_proofs.specs.Proofs.{weights_value}
+use Rattle.proof_model.specs.Proofs.{weights_value}
 use Rattle.bus_proofs.specs.Cases.{Case}
 use Rattle.bus_proofs.specs.CaseRooms.{IsCaseOf}
 use Rattle.bus_proofs.specs.LeafCosts.{LEAF_COST_MOST}

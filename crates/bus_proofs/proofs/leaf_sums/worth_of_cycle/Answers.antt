@@ -1,5 +1,5 @@
 use Rattle.std.proofs.Common.{◌≡◌, ◌*◌, ◌∙◌, ap, rules}
-use Rattle.bus_proofs.specs.Proofs.{weights_value}
+use Rattle.proof_model.specs.Proofs.{weights_value}
 use Rattle.bus_proofs.specs.Cases.{spare}
 use Rattle.bus_proofs.specs.Bases.{limits_of, lists_of}
 use Rattle.bus_proofs.proofs.LeafTotals.{worth_is}

@@ -1,6 +1,6 @@
 use Rattle.std.proofs.Common.{◌∙◌, ap, subst, sym}
 use Rattle.std.specs.Result.{IfOk}
-use Rattle.bus_proofs.specs.Proofs.{OfCrowd, OfTurns, OfTurnsOn, list_value}
+use Rattle.proof_model.specs.Proofs.{OfCrowd, OfTurns, OfTurnsOn, list_value}
 use Rattle.bus_proofs.specs.ListRules.{ListAdded}
 use Rattle.bus_proofs.proofs.ListRows.{for_rank}
 use Rattle.bus_proofs.proofs.list_table.add_list.Goals as goal

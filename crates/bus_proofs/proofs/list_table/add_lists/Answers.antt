@@ -2,7 +2,7 @@ use Rattle.std.proofs.Common.{◌≡◌, Some, false, true, map, inl, inr, subst
 use Rattle.std.specs.Prelude.{slice_get}
 use Rattle.std.proofs.lemmas.List.{length-map}
 use Rattle.bus_proofs.specs.Bounds.{KeptBehind}
-use Rattle.bus_proofs.specs.Proofs.{list_value}
+use Rattle.proof_model.specs.Proofs.{list_value}
 use Rattle.bus_proofs.specs.ListRules.{ListAdded, chip_ruled, limits_ruled, roles_in}
 use Rattle.plan_model.proofs.FirstBreaches.{each_all, each_more, first_here}
 use Rattle.bus_proofs.proofs.ListRows.{made_at, row_more}

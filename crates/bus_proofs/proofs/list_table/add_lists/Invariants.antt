@@ -1,6 +1,6 @@
 use Rattle.std.proofs.Common.{◌≡◌, ◌++◌, map, take}
 use Rattle.std.specs.List.{flat_map}
-use Rattle.bus_proofs.specs.Proofs.{list_value}
+use Rattle.proof_model.specs.Proofs.{list_value}
 use Rattle.bus_proofs.specs.Bounds.{KeptBehind}
 use Rattle.bus_proofs.specs.ListRules.{chip_ruled, limits_ruled, roles_in}
 use Rattle.plan_model.proofs.FirstBreaches.{EachTo}

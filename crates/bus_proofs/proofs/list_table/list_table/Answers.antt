@@ -2,7 +2,7 @@ use Rattle.std.proofs.Common.{◌≡◌, ◌∙◌, ◌++◌, length, map, take,
 use Rattle.std.specs.List.{flat_map}
 use Rattle.soc_model.specs.Chips.{soc_value}
 use Rattle.plan_model.specs.Views.{limits_value}
-use Rattle.bus_proofs.specs.Proofs.{list_value}
+use Rattle.proof_model.specs.Proofs.{list_value}
 use Rattle.bus_proofs.specs.ListRules.{roles_in}
 use Rattle.bus_proofs.proofs.ListRows.{table_of_rules}
 use Rattle.bus_proofs.proofs.list_table.list_table.Goals as goal

@@ -1,7 +1,7 @@
 use Rattle.std.proofs.Common.{◌≡◌, ◌<◌, ◌∙◌, ◌++◌, length, map, ap, arith, rules}
 use Rattle.std.proofs.lemmas.List.{length-map, take_all}
 use Rattle.soc_model.specs.Chips.{LiveTest, live_tests}
-use Rattle.bus_proofs.specs.Proofs.{OfTurnsOn}
+use Rattle.proof_model.specs.Proofs.{OfTurnsOn}
 use Rattle.bus_proofs.specs.ListTables.{role_of}
 use Rattle.bus_proofs.specs.ListRules.{chip_ruled, limits_ruled}
 use Rattle.bus_proofs.specs.Takings.{bit_at}

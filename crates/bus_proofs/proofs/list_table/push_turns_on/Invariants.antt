@@ -1,7 +1,7 @@
 use Rattle.std.proofs.Common.{◌≡◌, ◌++◌, ℕ, List, map, take}
 use Rattle.soc_model.specs.declared.TestId.{TestId}
 use Rattle.soc_model.specs.Chips.{live_tests}
-use Rattle.bus_proofs.specs.Proofs.{OfTurnsOn}
+use Rattle.proof_model.specs.Proofs.{OfTurnsOn}
 use Rattle.bus_proofs.specs.ListTables.{role_of}
 use Rattle.bus_proofs.specs.ListRules.{AreTurnMarks, chip_ruled, limits_ruled}
 use Rattle.bus_proofs.proofs.list_table.push_turns_on.Given as goal

@@ -1,7 +1,7 @@
 use Rattle.std.proofs.Common.{◌≡◌, ◌+◌, ℕ, suc, drop, subst, arith}
 use Rattle.std.proofs.lemmas.List.{length-map}
 use Rattle.std.proofs.lemmas.Option.{slice_get_within}
-use Rattle.bus_proofs.specs.Proofs.{node_value}
+use Rattle.proof_model.specs.Proofs.{node_value}
 use Rattle.bus_proofs.specs.Bounds.{all_cases}
 use Rattle.bus_proofs.specs.Bases.{chip_of, limits_of}
 use Rattle.bus_proofs.specs.Walks.{GoesOn}

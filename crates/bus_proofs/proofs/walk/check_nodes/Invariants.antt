@@ -1,6 +1,6 @@
 use Rattle.std.proofs.Common.{◌≡◌, ◌<◌, ◌≤◌, ℕ, Some, drop}
 use Rattle.std.specs.Prelude.{slice_get}
-use Rattle.bus_proofs.specs.Proofs.{CaseTree, nodes_of}
+use Rattle.proof_model.specs.Proofs.{CaseTree, nodes_of}
 use Rattle.bus_proofs.specs.Cases.{NodeCase}
 use Rattle.bus_proofs.specs.Bounds.{IsEnough, all_cases}
 use Rattle.bus_proofs.specs.CaseRooms.{IsFurther}

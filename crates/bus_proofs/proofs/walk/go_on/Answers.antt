@@ -1,5 +1,5 @@
 use Rattle.std.proofs.Common.{◌+◌, ℕ, Some, List, refl, sym, ap, ◌∙◌}
-use Rattle.bus_proofs.specs.Proofs.{OfPlace, OfSplit, OfWide, node_value, weights_value}
+use Rattle.proof_model.specs.Proofs.{OfPlace, OfSplit, OfWide, node_value, weights_value}
 use Rattle.bus_proofs.proofs.RoomSteps.{further_then}
 use Rattle.bus_proofs.proofs.WalkSteps.{leaf_awaits, leaf_enough, split_goes, split_judged}
 use Rattle.bus_proofs.proofs.walk.go_on.Goals as goal

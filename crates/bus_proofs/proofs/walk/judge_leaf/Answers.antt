@@ -1,5 +1,5 @@
 use Rattle.std.proofs.Common.{length, refl}
-use Rattle.bus_proofs.specs.Proofs.{weights_value}
+use Rattle.proof_model.specs.Proofs.{weights_value}
 use Rattle.bus_proofs.proofs.walk.judge_leaf.Goals as goal
 
 pub check_leaf-answer-requires-clause-few : goal.check_leaf-answer-requires-clause-few

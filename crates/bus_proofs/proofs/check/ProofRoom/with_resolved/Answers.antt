@@ -4,8 +4,8 @@ use Rattle.std.proofs.lemmas.List.{length-map}
 use Rattle.soc_model.specs.Chips.{module_value, soc_value}
 use Rattle.soc_model.specs.declared.Module.{Module}
 use Rattle.plan_model.specs.Views.{limits_value}
-use Rattle.bus_proofs.specs.declared.Node.{Node}
-use Rattle.bus_proofs.specs.Proofs.{WeightsValue, OfSum, node_value, proof_value}
+use Rattle.proof_model.specs.declared.Node.{Node}
+use Rattle.proof_model.specs.Proofs.{WeightsValue, OfSum, node_value, proof_value}
 use Rattle.bus_proofs.proofs.ProofChecks.{few_modules, new_room}
 use Rattle.bus_proofs.proofs.check.ProofRoom.with_resolved.Goals as goal
 

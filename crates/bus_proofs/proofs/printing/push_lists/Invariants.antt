@@ -1,9 +1,0 @@
-use Rattle.std.proofs.Common.{◌≡◌, ◌++◌, map, drop}
-use Rattle.keyword_text.specs.Lines.{text_of}
-use Rattle.bus_proofs.specs.Proofs.{list_value}
-use Rattle.bus_proofs.specs.Tokens.{spelling}
-use Rattle.bus_proofs.specs.ProofLines.{list_line}
-use Rattle.bus_proofs.proofs.printing.push_lists.Given as goal
-
-abbrev pub invariant-loop-list : goal.invariant-loop-list
-invariant-loop-list l = l.to.items ++ text_of spelling (map list_line (map list_value (drop l.list-index l.lists))) ≡ l.fn.to.items ++ text_of spelling (map list_line (map list_value l.lists))

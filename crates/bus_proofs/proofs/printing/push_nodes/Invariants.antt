@@ -1,9 +1,0 @@
-use Rattle.std.proofs.Common.{◌≡◌, ◌++◌, map, drop}
-use Rattle.keyword_text.specs.Lines.{text_of}
-use Rattle.bus_proofs.specs.Proofs.{node_value}
-use Rattle.bus_proofs.specs.Tokens.{spelling}
-use Rattle.bus_proofs.specs.ProofLines.{node_line}
-use Rattle.bus_proofs.proofs.printing.push_nodes.Given as goal
-
-abbrev pub invariant-loop-node : goal.invariant-loop-node
-invariant-loop-node l = l.to.items ++ text_of spelling (map node_line (map node_value (drop l.node-index l.nodes))) ≡ l.fn.to.items ++ text_of spelling (map node_line (map node_value l.nodes))

@@ -1,9 +1,0 @@
-use Rattle.std.proofs.Common.{◌≡◌, ◌++◌, drop}
-use Rattle.std.specs.List.{flat_map}
-use Rattle.keyword_text.specs.Lines.{spaced}
-use Rattle.bus_proofs.specs.Tokens.{spelling}
-use Rattle.bus_proofs.specs.ProofLines.{use_tokens}
-use Rattle.bus_proofs.proofs.printing.push_uses.Given as goal
-
-abbrev pub invariant-loop-list : goal.invariant-loop-list
-invariant-loop-list l = l.to.items ++ spaced spelling (flat_map use_tokens (drop l.list-index l.uses)) ≡ l.fn.to.items ++ spaced spelling (flat_map use_tokens l.uses)

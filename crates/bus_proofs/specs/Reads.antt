@@ -1,7 +1,0 @@
--- What was read of a proof's text.
-use Rattle.bus_proofs.specs.declared.reading.ProofText.{ProofText}
-use Rattle.bus_proofs.specs.Words.{State, at}
-use Rattle.bus_proofs.specs.PartValues.{draft_value, part_value}
-
-abbrev pub state_of : ProofText → State
-state_of text = at (draft_value text.read.value.draft) (part_value text.read.value.part)

@@ -1,0 +1,70 @@
+-- Proofs of bounds by cases on buses. Modules and tests go by their numbers, buses by their ranks: rank 0 is the widest.
+use Rattle.std.specs.Prelude.{ℕ, List, [], ◌∷◌, ◌++◌, map}
+use Rattle.soc_model.specs.declared.TestId.{TestId}
+use Rattle.proof_model.specs.declared.TestList.{TestList}
+use Rattle.proof_model.specs.declared.TestList.TheVariants.{Turns, TurnsOn, Crowd, Power}
+use Rattle.proof_model.specs.declared.Weights.{Weights}
+use Rattle.proof_model.specs.declared.Node.{Node}
+use Rattle.proof_model.specs.declared.Node.TheVariants.{Wide, Place, Sum}
+use Rattle.proof_model.specs.declared.Proof.{Proof}
+
+-- what only so many tests can use at one cycle
+pub data ListValue : Type 0 where
+  -- of these tests no two are ever active together
+  OfTurns : (tests : List TestId) → ListValue
+  -- nor is one of them beside a test over the bus of that rank that excludes each of them
+  OfTurnsOn : (rank : ℕ) (tests : List TestId) → ListValue
+  -- at most so many of these tests are active together
+  OfCrowd : (most : ℕ) (tests : List TestId) → ListValue
+  -- the power; a test that is this near to all of it counts for all, one that draws less than this for nothing
+  OfPower : (near : ℕ) → ListValue
+
+-- the weights of a leaf: of a wire beyond the least, of each rank, and of lists by their places
+pub record WeightsValue : Type 0 where
+  pub wire : ℕ
+  pub ranks : List ℕ
+  pub lists : List (ℕ × ℕ)
+
+-- two cases: by the width of the bus of a rank, or by whether a module is on the bus of a rank, or of another one like it
+pub data SplitValue : Type 0 where
+  OfWide : (rank width : ℕ) → SplitValue
+  OfPlace : (number rank : ℕ) (twins : List ℕ) → SplitValue
+
+pub data NodeValue : Type 0 where
+  OfSplit : (split : SplitValue) → NodeValue
+  OfSum : (weights : WeightsValue) → NodeValue
+
+-- a tree of cases: a leaf, or two cases with a tree for each
+pub data CaseTree : Type 0 where
+  Leaf : (weights : WeightsValue) → CaseTree
+  Branches : (split : SplitValue) (first second : CaseTree) → CaseTree
+
+-- the nodes of a tree, each before those of its branches
+abbrev pub nodes_of : CaseTree → List NodeValue
+nodes_of (Leaf weights) = OfSum weights ∷ []
+nodes_of (Branches split first second) = OfSplit split ∷ (nodes_of first ++ nodes_of second)
+
+-- a claim in cycles, lists of tests, and the nodes of the tree that is to show the claim
+pub record ProofValue : Type 0 where
+  pub claimed : ℕ
+  pub lists : List ListValue
+  pub nodes : List NodeValue
+
+-- ---- the structs without where their lists lie in memory
+
+abbrev pub list_value : TestList → ListValue
+list_value (Turns tests) = OfTurns tests.items
+list_value (TurnsOn rank tests) = OfTurnsOn rank tests.items
+list_value (Crowd most tests) = OfCrowd most tests.items
+list_value (Power near) = OfPower near
+
+abbrev pub weights_value : Weights → WeightsValue
+weights_value w = record { wire = w.wire; ranks = w.ranks.items; lists = w.lists.items }
+
+abbrev pub node_value : Node → NodeValue
+node_value (Wide rank width) = OfSplit (OfWide rank width)
+node_value (Place number rank twins) = OfSplit (OfPlace number rank twins.items)
+node_value (Sum weights) = OfSum (weights_value weights)
+
+abbrev pub proof_value : Proof → ProofValue
+proof_value p = record { claimed = p.claimed; lists = map list_value p.lists.items; nodes = map node_value p.nodes.items }
