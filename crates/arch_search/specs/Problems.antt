@@ -10,7 +10,7 @@ use Rattle.arch_search.specs.declared.problem.Problem.{Problem}
 use Rattle.arch_search.specs.declared.state.State.{State}
 use Rattle.arch_search.specs.States.{IsState}
 
--- the cycles of a test on up to so many wires, and its module, which is one of so many
+-- the cycles of a test on up to `wires` wires, and its module, which is one of `modules` modules
 pub record IsTimed (wires modules : ℕ) (t : TestTimes) : Type 0 where
   pub long : length t.cycles.items ≡ wires + 1
   pub within : IfSome t.«module» (λ m. m < modules)

@@ -12,7 +12,7 @@ use Rattle.arch_search.specs.declared.room.Room.{Room}
 abbrev pub IsSlot : Option ℕ → Type 0
 IsSlot bus = IfSome bus (λ k. k < WIRES_MOST)
 
--- room for so many tests
+-- room for `tests` tests
 pub record HasRoom (tests : ℕ) (r : Room) : Type 0 where
   pub slots : length r.slots.items ≡ tests
   pub cycles : length r.cycles.items ≡ tests
@@ -27,7 +27,7 @@ pub record HasRoom (tests : ℕ) (r : Room) : Type 0 where
 abbrev pub HasRoomFor : Problem → Room → Type 0
 HasRoomFor p r = HasRoom (length p.tests.items) r
 
--- for each of so many tests those that precede it, in a sound job
+-- for each of `tests` tests those that precede it, in a sound job
 pub record AreBeforeSo (tests : ℕ) (before : List Neighbours) : Type 0 where
   pub job : JobValue
   pub sound : IsSoundJob job

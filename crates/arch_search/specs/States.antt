@@ -24,13 +24,13 @@ pub record AreTimesOn (b : Buses) (t : Times) : Type 0 where
   pub wires : t.wires ≡ length b.widths.items
   pub modules : length t.rows.items ≡ length b.slots.items
 
--- one of so many modules, and one of so many slots
+-- one of `modules` modules, and one of `wires` slots
 pub record IsTaken (wires modules : ℕ) (t : Taken) : Type 0 where
   pub is_module : t.«module» < modules
   pub is_slot : t.from < wires
 
--- A state for so many wires, modules with tests over the wires, and tests. That the order has each test once and keeps the
--- precedences is found out as its tests are placed.
+-- A state for `wires` wires, `modules` modules with tests over the wires, and `tests` tests. That the order has each test once and
+-- keeps the precedences is found out as its tests are placed.
 pub record IsState (wires modules tests : ℕ) (s : State) : Type 0 where
   pub buses : AreBuses s.buses
   pub as_many_slots : length s.buses.widths.items ≡ wires

@@ -7,15 +7,15 @@ use Rattle.arch_search.specs.declared.times.Column.{Column}
 use Rattle.arch_search.specs.declared.times.Ranking.{Ranking}
 use Rattle.arch_search.specs.declared.times.Times.{Times}
 
--- the cycles of a module on up to so many wires
+-- the cycles of a module on up to `wires` wires
 abbrev pub IsRow : ℕ → ModuleCycles → Type 0
 IsRow wires r = length r.cycles.items ≡ wires + 1
 
--- the cycles of so many modules
+-- the cycles of `modules` modules
 abbrev pub IsColumn : ℕ → Column → Type 0
 IsColumn modules c = length c.cycles.items ≡ modules
 
--- an order of some of so many modules
+-- an order of some of `modules` modules
 abbrev pub IsRanking : ℕ → Ranking → Type 0
 IsRanking modules r = All (λ m. m < modules) r.modules.items
 

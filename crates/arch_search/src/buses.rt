@@ -41,7 +41,7 @@ impl Buses {
         used
     }
 
-    /// The first slot whose load is greater than so many cycles.
+    /// The first slot whose load is greater than `cap` cycles.
     pub(crate) fn first_over(&self, cap: u64) -> Option<usize>
         requires { AreBuses self.now }
         ensures { IfSome result (λ slot. slot < length self.now.widths.items) }
@@ -89,7 +89,7 @@ impl Buses {
         module
     }
 
-    /// Moves so many wires from the bus of one slot to that of another. It leaves the loads as they were.
+    /// Moves `wires` wires from the bus of one slot to that of another. It leaves the loads as they were.
     pub(crate) fn move_wires(&mut self, from: usize, to: usize, wires: u64)
         requires buses { AreBuses self.old }
         requires from { from < length self.old.widths.items }
@@ -144,7 +144,7 @@ impl Buses {
         self.widths[slot]
     }
 
-    /// The cycles of the modules on the bus of a slot, together, if it had so many wires.
+    /// The cycles of the modules on the bus of a slot, together, if it had `width` wires.
     pub(crate) fn load_on(&self, times: &Times, slot: usize, width: u64) -> u64
         requires buses { AreBuses self.now }
         requires times { AreTimesOn self.now times.now }

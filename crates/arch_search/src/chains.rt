@@ -8,7 +8,7 @@ ghost use Rattle.arch_search.specs.Rooms.{AreBeforeSo};
 use live_tests::Neighbours;
 use resource_table::{Job, earlier_than};
 
-/// Raises the chains of tests that precede one, whose own chain takes so many cycles.
+/// Raises the chains of tests that precede one, whose own chain takes `chain` cycles.
 fn raise_chains(earlier: &[usize], chain: u64, cycles: &[u64], chains: &mut [u64])
     requires earlier { All (λ test. test < length cycles.now) earlier.now }
     requires long { length cycles.now ≡ length chains.old }
@@ -55,7 +55,7 @@ pub(crate) fn set_chains(
     longest
 }
 
-/// The cycle, counted from the start of a test of so many cycles, at which the step at a place ends.
+/// The cycle, counted from the start of a test of `cycles` cycles, at which the step at a place ends.
 fn step_end(steps: &[(u64, u64)], place: usize, cycles: u64) -> u64
     requires { place < length steps.now }
 {
@@ -65,14 +65,14 @@ fn step_end(steps: &[(u64, u64)], place: usize, cycles: u64) -> u64
     cycles
 }
 
-/// What a power draws in so many cycles. It is always exact, and so takes less time than a product with a limit.
+/// What a power draws in `cycles` cycles. It is always exact, and so takes less time than a product with a limit.
 fn drawn(power: u64, cycles: u64) -> u128
     ensures { result ≡ power * cycles }
 {
     u128::from(power) * u128::from(cycles)
 }
 
-/// The power of a test of so many cycles, added up over its cycles.
+/// The power of a test of `cycles` cycles, added up over its cycles.
 fn energy_of(steps: &[(u64, u64)], cycles: u64) -> u128 {
     let mut sum: u128 = 0;
     for place in 0..steps.len() {
@@ -83,7 +83,7 @@ fn energy_of(steps: &[(u64, u64)], cycles: u64) -> u128 {
     sum
 }
 
-/// Whether tests of so many cycles draw more together than a limit on power lets them draw up to a cycle.
+/// Whether tests that take these cycles draw more together than a limit on power lets them draw in `cap` cycles.
 pub(crate) fn draw_too_much(job: &Job, cycles: &[u64], limit: u64, cap: u64) -> bool
     requires { length cycles.now ≡ length job.now.tests.items }
 {

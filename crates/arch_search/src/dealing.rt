@@ -59,7 +59,7 @@ fn take_off(times: &Times, buses: &mut Buses, module: usize) -> Taken
     Taken { module, from }
 }
 
-/// Takes so many modules off their buses, the first one and others that are drawn.
+/// Takes `count` modules off their buses, the first one and others that are drawn.
 fn take_all(
     times: &Times,
     buses: &mut Buses,
@@ -124,7 +124,7 @@ fn deal_again(times: &Times, buses: &mut Buses, one: Taken, rng: &mut Xoshiro256
     slot != one.from
 }
 
-/// Deals the first so many modules that were taken off. Whether any is on another bus than before.
+/// Deals the first `count` modules that were taken off. Whether any is on another bus than before.
 fn deal_all(
     times: &Times,
     buses: &mut Buses,

@@ -25,7 +25,7 @@ pub enum ChangeKind {
 pub struct Weighted {
     /// The kind.
     pub kind: ChangeKind,
-    /// Of as many draws as all weights together it comes in so many.
+    /// In as many draws as all weights together, the kind comes this many times on average.
     pub weight: usize,
 }
 

@@ -5,9 +5,9 @@ ghost use Rattle.arch_search.specs.States.{AreBuses, AreAlike, AreTimesOn};
 use crate::buses::Buses;
 use crate::times::Times;
 
-/// A search over so many modules has an opening.
+/// A search over this many modules or more has an opening.
 const MANY: usize = 100;
-/// It deals them to so many buses. More of them can take fewer cycles at once, but wide buses that are split later come to less.
+/// It deals them to this many buses. More buses can take fewer cycles at once, but wide buses that are split later end with fewer.
 const OPENING_BUSES: usize = 4;
 
 /// The buses of the opening, at most one for each wire; none where there is no opening.
@@ -29,7 +29,7 @@ fn gather_wires(buses: &mut Buses)
     }
 }
 
-/// Shares the wires of the first slot out to the first so many slots.
+/// Shares the wires of the first slot out to the first `count` slots.
 fn share_out(buses: &mut Buses, count: usize)
     requires buses { AreBuses buses.old }
     requires some { 1 ≤ count }
@@ -63,7 +63,7 @@ fn empty_loads(buses: &mut Buses)
     }
 }
 
-/// The slot, of the first so many, that would end first with one module more.
+/// The slot, of the first `count`, that would end first with one module more.
 fn first_to_end(times: &Times, buses: &Buses, module: usize, count: usize) -> usize
     requires buses { AreBuses buses.now }
     requires times { AreTimesOn buses.now times.now }
@@ -84,7 +84,7 @@ fn first_to_end(times: &Times, buses: &Buses, module: usize, count: usize) -> us
     first
 }
 
-/// Puts a module on the one of the first so many buses that ends first with it.
+/// Puts a module on the one of the first `count` buses that ends first with it.
 fn deal_one(times: &Times, buses: &mut Buses, module: usize, count: usize)
     requires buses { AreBuses buses.old }
     requires times { AreTimesOn buses.old times.now }
@@ -100,7 +100,7 @@ fn deal_one(times: &Times, buses: &mut Buses, module: usize, count: usize)
     buses.set_load(slot, end);
 }
 
-/// Deals all modules to so many equal buses, those of the most cycles first.
+/// Deals all modules to `count` equal buses, those of the most cycles first.
 pub(crate) fn deal_to_equal(times: &Times, buses: &mut Buses, count: usize)
     requires buses { AreBuses buses.old }
     requires times { AreTimesOn buses.old times.now }

@@ -20,7 +20,7 @@ pub struct TestTimes {
     pub id: TestId,
     /// The module that it is of, by its place among those with tests over the wires; None for a self test.
     pub module: Option<usize>,
-    /// Its cycles on a bus of so many wires, from none on. Over the wires it can't be tested on none, which stands as 0.
+    /// Its cycles for each number of wires of the bus, from none on. A test over the wires can't run on none, which stands as 0.
     pub cycles: Vec<u64>,
 }
 

@@ -50,7 +50,7 @@ fn fill_less(times: &Times, buses: &Buses, less: &mut Vec<u64>)
     }
 }
 
-/// Of the slots but one, the one whose load on one wire less is least, where that is at most so many cycles.
+/// Of all slots but `but`, the one whose load on one wire less is least, where that is at most `cap` cycles.
 fn giver(less: &[u64], but: usize, cap: u64) -> Option<usize>
     ensures { IfSome result (λ slot. slot < length less.now) }
 {
@@ -87,7 +87,7 @@ fn pass_wire(times: &Times, buses: &mut Buses, less: &mut Vec<u64>, from: usize,
     less[from] = load_on_less(times, buses, from);
 }
 
-/// Whether no bus takes more than so many cycles, once wires have gone from buses that can spare them to buses that take more.
+/// Whether no bus takes more than `cap` cycles, once wires have gone from buses that can spare them to buses that take more.
 pub(crate) fn fits(times: &Times, buses: &mut Buses, less: &mut Vec<u64>, cap: u64) -> bool
     requires buses { AreBuses buses.old }
     requires times { AreTimesOn buses.old times.now }

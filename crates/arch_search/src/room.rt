@@ -25,7 +25,7 @@ pub struct Room {
     pub second: Vec<usize>,
 }
 
-/// No slot for so many tests.
+/// No slot for each of `count` tests.
 fn no_slots(alloc: Global, count: usize) -> Result<Vec<Option<usize>>, NoMemory>
     ensures { IfOk result (λ v. v.items ≡ replicate count None) }
 {
@@ -33,7 +33,7 @@ fn no_slots(alloc: Global, count: usize) -> Result<Vec<Option<usize>>, NoMemory>
 }
 
 impl Room {
-    /// Room for so many tests.
+    /// Room for `tests` tests.
     pub(crate) fn new(alloc: Global, tests: usize) -> Result<Room, NoMemory>
         ensures { IfOk result (HasRoom tests) }
     {

@@ -18,7 +18,7 @@ use plan_model::START_MOST;
 use resource_table::{TableOf, earlier_than, list_schedules_are_short};
 use std::alloc::Global;
 
-/// So many zeros.
+/// A list of `count` zeros.
 pub(crate) fn zeros(alloc: Global, count: usize) -> Result<Vec<u64>, NoMemory>
     ensures { IfOk result (λ v. v.items ≡ replicate count 0) }
 {
@@ -91,7 +91,7 @@ fn cycles_over(test: &TestTimes, buses: &Buses, slot: Option<usize>) -> u64
     test.cycles[buses.width_of(slot) as usize]
 }
 
-/// Notes that a test goes over the bus of a slot and takes so many cycles.
+/// Notes that a test goes over the bus of a slot and takes `cycles` cycles.
 fn assign_bus(room: &mut Room, test: usize, slot: Option<usize>, cycles: u64)
     requires test { test < length room.old.slots.items }
     requires cycles { test < length room.old.cycles.items }

@@ -28,12 +28,12 @@ use std::alloc::Global;
 use std::marker::Model;
 use std::mem;
 
-/// After so many tries without a new best state the search goes on from another one.
+/// After this many tries without a new best state the search goes on from another one.
 const PATIENCE: u64 = 1_000;
 /// How many changes are made at once then.
 const KICK: usize = 4;
-/// They are made from the current state, where that takes at most so many times the cycles of the best one, counted as the part
-/// by which it may take more: one in so many.
+/// They are made from the current state, where that takes at most one part in `NEAR` more cycles than the best one, else from
+/// the best one.
 const NEAR: u64 = 64;
 
 /// A search for an architecture of fixed buses, and an order of the tests, whose schedule ends early. Its model is the cycles
@@ -92,7 +92,7 @@ pub struct Found<'s> {
     pub cycles: u64,
 }
 
-/// Room for so many modules that are dealt again.
+/// Room for `count` modules that are dealt again.
 fn taken_room(alloc: Global, count: usize) -> Result<Vec<Taken>, NoMemory>
     ensures { IfOk result (λ taken. taken.items ≡ replicate count (record { «module» = 0; from = 0 })) }
 {
@@ -331,7 +331,7 @@ impl<'a> Search<'a> {
         }
     }
 
-    /// Tries so many times. Nothing in a try depends on how many there are to be, so that tries in several calls are as
+    /// Makes `tries` tries. Nothing in a try depends on how many there are to be, so that tries in several calls are as
     /// those of one call, and more of them never give more cycles.
     pub fn run(&mut self, tries: u64)
         ensures { self.new ≤ self.old }

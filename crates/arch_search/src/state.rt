@@ -133,15 +133,15 @@ fn first_order(
     sorted_by(alloc, &starts)
 }
 
-/// The first slot for so many modules.
+/// The first slot for each of `modules` modules.
 fn first_slots(alloc: Global, modules: usize) -> Result<Vec<usize>, NoMemory>
     ensures { IfOk result (λ v. v.items ≡ replicate modules 0) }
 {
     vec![in alloc; 0; modules].map_err(|_| NoMemory)
 }
 
-/// Puts a module on the bus of a slot, which has so many wires at first; where the slot was unused, these are taken from
-/// those that are left. Answers how many are left then.
+/// Puts a module on the bus of a slot. Where the slot has no wires yet, it takes `width` of those that are left, or all of them
+/// where they are fewer. Answers how many are left then.
 fn put_on_bus(buses: &mut Buses, module: usize, slot: usize, width: u64, left: u64) -> u64
     requires there { «module» < length buses.old.slots.items }
     requires slot { slot < length buses.old.widths.items }

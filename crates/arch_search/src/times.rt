@@ -14,8 +14,8 @@ use std::alloc::Global;
 /// The cycles of a module.
 #[derive(Drop)]
 pub struct ModuleCycles {
-    /// Its tests over the wires take so many cycles together on a bus of so many wires, from none on. On none it can't be
-    /// tested, which stands as the greatest number.
+    /// The cycles that its tests over the wires take together, for each number of wires of the bus, from none on. On none it
+    /// can't be tested, which stands as the greatest number.
     pub cycles: Vec<u64>,
 }
 
@@ -47,7 +47,7 @@ pub struct Times {
 }
 
 impl Times {
-    /// The cycles of a module on a bus of so many wires.
+    /// The cycles of a module on a bus of `width` wires.
     pub(crate) fn on(&self, module: usize, width: u64) -> u64
         requires times { AreTimes self.now }
         requires there { «module» < length self.now.rows.items }
@@ -56,7 +56,7 @@ impl Times {
         self.rows[module].cycles[width as usize]
     }
 
-    /// The cycles of all modules on a bus of so many wires.
+    /// The cycles of all modules on a bus of `width` wires.
     pub(crate) fn column(&self, width: u64) -> &[u64]
         requires times { AreTimes self.now }
         requires within { width ≤ self.now.wires }
@@ -65,7 +65,7 @@ impl Times {
         &self.columns[width as usize].cycles
     }
 
-    /// The modules, those of the most cycles on so many wires first.
+    /// The modules, those of the most cycles on `width` wires first.
     pub(crate) fn ranked(&self, width: u64) -> &[usize]
         requires times { AreTimes self.now }
         requires within { width ≤ self.now.wires }
@@ -85,7 +85,7 @@ fn empty_row(alloc: Global, wires: usize) -> Result<ModuleCycles, NoMemory>
     Ok(ModuleCycles { cycles })
 }
 
-/// So many modules without tests.
+/// The cycles of `modules` modules without tests.
 fn empty_rows(alloc: Global, modules: usize, wires: usize) -> Result<Vec<ModuleCycles>, NoMemory>
     requires { wires ≤ 256 }
     ensures long { IfOk result (λ rows. length rows.items ≡ modules) }

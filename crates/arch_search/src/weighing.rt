@@ -46,7 +46,7 @@ fn load_ends(setting: &SearchSetting<'_>, buses: &Buses, most: u64) -> Option<En
     Some(Ends::at(cycles, late))
 }
 
-/// Whether the tests, as they were sent, could end within so many cycles, by their chains of precedences and by their power.
+/// Whether the tests, as they were sent, could end within `most` cycles, by their chains of precedences and by their power.
 fn could_end(setting: &SearchSetting<'_>, order: &[usize], room: &mut Room, most: u64) -> bool
     requires setting { IsSetting setting.now }
     requires order { All (λ test. test < length setting.now.problem.now.tests.items) order.now }

@@ -13,8 +13,8 @@ use outside::{NoMemory, push};
 use std::alloc::Global;
 use width_table::WidthTable;
 
-/// A move of one module of a bus, the `nth` of its list: to the end of another bus, or to a new last bus that takes so
-/// many of its wires.
+/// A move of one module of a bus, the `nth` of its list: to the end of another bus, or to a new last bus that takes
+/// `width` of its wires.
 #[derive(Clone, Copy)]
 pub(crate) enum Move {
     To { nth: usize, bus: usize },
@@ -177,7 +177,7 @@ pub(crate) fn cost_to(
     weights.besides[bus].max(left).max(reached)
 }
 
-/// The cost in cycles once a module is moved to a new bus of so many of the wires.
+/// The cost in cycles once a module is moved to a new bus of `width` of the wires.
 pub(crate) fn cost_alone(
     table: &WidthTable,
     arch: &Arch,
@@ -306,7 +306,7 @@ fn move_to(arch: &mut Arch, from: usize, nth: usize, bus: usize) -> Result<(), N
     Ok(())
 }
 
-/// Moves a module to a new last bus, which takes so many of the wires.
+/// Moves a module to a new last bus, which takes `width` of the wires.
 fn move_alone(
     alloc: Global,
     arch: &mut Arch,

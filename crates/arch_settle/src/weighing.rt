@@ -116,7 +116,7 @@ fn widen_slowest(
     };
 }
 
-/// The cost in cycles once so many wires are spread over the loads.
+/// The cost in cycles once `wires` wires are spread over the loads.
 fn spread_cost(
     table: &WidthTable,
     arch: &Arch,

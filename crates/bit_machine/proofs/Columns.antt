@@ -126,7 +126,7 @@ same_down wires row row' n column f g old new at same put =
     subst (λ (r : ℕ). ArePutDown wires r n column g old new) at
     (record { long = put.long; put = λ i h. put.put i h ∙ ap Some (same i h); others = λ r c h e. put.others r c h e })
 
--- a bit of a walk that is put so many lines above the last one
+-- a bit of a walk that is put `place` lines above the last line
 pub walked_bit : (line : Line) (numbers : List ℕ) (last count place b : ℕ) (bit : Bool) → place < count → count ≤ last + 1 → last < length numbers → b ≡ digit bit →
     bit ≡ line_bit line (slice_index numbers (last - (count - 1) + place)) → b ≡ digit (bit_at_place line numbers (last - (count - (place + 1) + 0)))
 walked_bit line numbers last count place b bit h back within made is =

@@ -113,7 +113,7 @@ vectors_view s p seed = record { soc = s; plan = p; seed = seed }
 pub vectors_some : (s : SocValue) (p : PlanValue) (seed n : ℕ) (lanes : List Lane) → AreVectors s p seed n lanes → AreSomeLanes lanes n
 vectors_some s p seed n lanes is = record { content = made_content s seed; tests = planned s p; are = is.are; on = is.on }
 
--- so many wires as the value has
+-- the number of wires is that of the value's plan
 pub vectors_wide : (v : VectorsValue) (s : SocValue) (p : PlanValue) (seed n : ℕ) (lanes : List Lane) → vectors_view s p seed ≡ v → AreVectors s p seed n lanes → n ≡ wires_of v.plan
 vectors_wide v s p seed n lanes same is = is.all ∙ ap (λ (v : VectorsValue). wires_of v.plan) same
 

@@ -133,7 +133,7 @@ on_least : (b : Option Turn) (i s k : ℕ) → option_map turn_value (later i b)
 on_least None i s k e = absurd cc
 on_least (Some t) i s k e = let same = same_pair (t.shifts + i, t.pattern) (s, k) e in omega (arith, same.0)
 
--- so many Shifts later the capture ahead is as much nearer, and the one behind as much farther
+-- `i` Shifts later the capture ahead is `i` Shifts nearer, and the one behind `i` Shifts farther
 moment_before : (p : Phases) (n i : ℕ) (a : Turn) (b : Option Turn) → IsMoment p n (moment.Shift (Some a) b) → i ≤ a.shifts → IsMoment p (n + i) (moment.Shift (earlier i (Some a)) (later i b))
 moment_before p n i a b is h =
     let next : ahead (drop (suc n) (phase_ops p)) ≡ Some (a.shifts, a.pattern) = next_ahead (phase_ops p) n (Some (a.shifts, a.pattern)) is.operation is.wants in

@@ -123,7 +123,7 @@ abbrev pub down_from : ℕ → List ℕ
 down_from zero = []
 down_from (suc n) = suc n ∷ down_from n
 
--- the modules with a test over the wires that need so many wires, in a plan of less than `b` cycles
+-- the modules with a test over the wires that need `k` wires, in a plan of fewer than `b` cycles
 abbrev pub with_need : SocValue → (w b k : ℕ) → List ℕ
 with_need soc w b k = map (number_at soc) (filter (λ place. has_tam_at soc place && nat_eq (need soc w b place) k) (places soc))
 
@@ -159,7 +159,7 @@ pub record IsBestWith (soc : SocValue) (limits : LimitsValue) (cycles : ℕ) (ch
   pub part : (winning soc limits chain).cycles < cycles → IsForcedPart soc limits cycles forced
   pub is : bound ≡ forced_or soc limits cycles forced (winning soc limits chain)
 
--- the planner's bound for a plan of so many cycles
+-- the planner's bound for a plan of `cycles` cycles
 pub record IsBestBound (soc : SocValue) (limits : LimitsValue) (cycles : ℕ) (bound : BoundValue) : Type 0 where
   pub chain : Option (List TestId)
   pub printed : IsPrintedChain soc limits chain

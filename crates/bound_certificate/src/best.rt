@@ -1,4 +1,4 @@
-//! The planner's bound for a plan of so many cycles.
+//! The planner's bound for a plan of a given number of cycles.
 ghost use Rattle.std.specs.Prelude.{ℕ, ◌≤◌, IfOk, IfSome};
 ghost use Rattle.soc_model.specs.Chips.{soc_value};
 ghost use Rattle.soc_model.specs.SoundChips.{IsSoundChip};
@@ -66,7 +66,7 @@ fn best_with(
     })
 }
 
-/// The planner's bound for a good plan of so many cycles, of a sound chip under sound limits: the first of greatest value
+/// The planner's bound for a good plan of `cycles` cycles, of a sound chip under sound limits: the first of greatest value
 /// among the certificates of every kind but Forced, or, where that is less than the cycles, the forced list that reaches
 /// them, if the one that is tried does. It is accepted, and so a lower bound; it is at least every elementary value and at
 /// most the cycles, and it names modules and live tests of the chip.

@@ -50,7 +50,7 @@ fn greatest_sum(nodes: &[PrecedenceNode], sums: &mut Vec<Sum>, test: usize) -> u
     sum
 }
 
-/// Nothing known yet of so many tests.
+/// A sum that is not yet known, for each of `count` tests.
 fn unknown_sums(alloc: Global, count: usize) -> Result<Vec<Sum>, NoMemory>
     ensures { IfOk result (λ sums. sums.items ≡ replicate count Unknown) }
 {

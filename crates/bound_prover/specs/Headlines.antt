@@ -16,7 +16,7 @@ use Rattle.commands.specs.Trusted.{IsChipIn, AreLimitsIn, IsPlanIn}
 
 -- For the chip and the limits in the files, the proof that is written is accepted, and no good plan has fewer cycles than it
 -- claims. It claims at most the cycles of the good plan in its file; where it claims as many, no good plan has fewer than that one.
--- It has at most so many nodes. What is written is no longer than a file may be, and reads back as that proof.
+-- It has at most `nodes` nodes. What is written is no longer than a file may be, and reads back as that proof.
 pub record IsProvedFor (soc limits plan : List ℕ) (nodes : ℕ) (files : Files) (old new : Option (List ℕ)) : Type 0 where
   pub chip : SocValue
   pub bounds : LimitsValue

@@ -25,7 +25,7 @@ pub record IsPrinted (value : ProofValue) (text : List ℕ) : Type 0 where
   pub short : length text ≤ FILE_MOST
   pub said : SaysProof text value
 
--- A proof for a plan of so many cycles: it is accepted, claims no more cycles than these, and has at most so many nodes. Where the
+-- A proof for a plan of `cycles` cycles: it is accepted, claims no more cycles than these, and has at most `nodes` nodes. Where the
 -- plan has no cycles it is the one that claims nothing.
 pub record IsProved (soc : SocValue) (limits : LimitsValue) (cycles nodes : ℕ) (value : ProofValue) : Type 0 where
   pub accepted : IsAccepted soc limits value

@@ -3,7 +3,7 @@ use Rattle.std.specs.Prelude.{◌≡◌, ℕ, ◌≤◌, ◌⊎◌, List, Option
 use Rattle.commands.specs.Commands.{CommandValue, Prove}
 use Rattle.commands.specs.Progress.{MayAdd, MayReport as MayReportAny, reported_line}
 
--- nothing is added, or the line of the nodes that were made, at least so many, and of the claim so far
+-- nothing is added, or the line of the nodes that were made, at least `reached`, and of the claim so far
 abbrev pub MayPass : (reached : ℕ) → (old new : Option (List ℕ)) → Type 0
 MayPass reached old new =
     (new ≡ old) ⊎ ((made claim : ℕ) × (reached ≤ made) × MayAdd (reported_line (codes "nodes ") made (codes " bound ") claim) old new)

@@ -10,7 +10,7 @@ abbrev pub IsQuiet : Option CommandValue → Type 0
 IsQuiet (Some (Prove soc limits plan nodes)) = nodes < REPORTED_FROM
 IsQuiet other = Unit {0}
 
--- The answer is the text of a proof of at most so many nodes: for the chip and the limits, and the cycles of the plan that is
+-- The answer is the text of a proof of at most `nodes` nodes: for the chip and the limits, and the cycles of the plan that is
 -- accepted for both. All other commands are none here.
 abbrev pub procedure_of : CommandValue → Procedure
 procedure_of (Prove soc limits plan nodes) =

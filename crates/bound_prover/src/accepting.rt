@@ -63,8 +63,8 @@ fn short_text(alloc: Global, proof: &Proof) -> Result<Option<Vec<u8>>, NoMemory>
     Ok(Some(text))
 }
 
-/// The text of a proof that was read, where it is accepted for a chip under limits, claims at most so many cycles and has at most
-/// so many nodes.
+/// The text of a proof that was read, where it is accepted for a chip under limits, claims at most `cycles` cycles and has at most
+/// `nodes` nodes.
 fn text_of(
     alloc: Global,
     soc: &Soc,
@@ -93,8 +93,8 @@ fn text_of(
     short_text(alloc, proof)
 }
 
-/// The text of a proof that was found, where it is accepted for a chip under limits, claims at most so many cycles and has at
-/// most so many nodes. It is judged as it is read again of its text.
+/// The text of a proof that was found, where it is accepted for a chip under limits, claims at most `cycles` cycles and has at
+/// most `nodes` nodes. It is judged as it is read again from its text.
 pub(crate) fn accepted_text(
     alloc: Global,
     soc: &Soc,

@@ -7,10 +7,10 @@ use commands::{REPORTS, report_line};
 use outside::Sink;
 use proof_search::Search;
 
-/// From so many nodes on it is reported how many are made.
+/// From this many nodes on it is reported how many are made.
 const REPORTED_FROM: u64 = 10_000;
 
-/// Searches on until so many nodes are made, and reports it where they are.
+/// Searches on until `reached` nodes are made, and reports it where they are.
 fn go_on_reported<T: Sink>(search: &mut Search, reached: u64, line: &mut Vec<u8>, progress: &mut T)
     ensures faults { T.faults progress.old ≤ T.faults progress.new }
     ensures reported { MayPass reached (T.written progress.old) (T.written progress.new) }
@@ -23,7 +23,7 @@ fn go_on_reported<T: Sink>(search: &mut Search, reached: u64, line: &mut Vec<u8>
     report_line(progress, line, b"nodes ", made, b" bound ", search.claim());
 }
 
-/// Searches until so many nodes are made, or nothing is left to do. Where they are many, each tenth of them is reported.
+/// Searches until `nodes` nodes are made, or nothing is left to do. From `REPORTED_FROM` nodes on, each tenth of them is reported.
 pub(crate) fn run_reported<T: Sink>(
     search: &mut Search,
     nodes: u64,

@@ -20,8 +20,8 @@ use proof_search::Search;
 use soc_model::Soc;
 use std::alloc::Global;
 
-/// The proof that a search of so many nodes finds that no good plan takes fewer than so many cycles, or than as many as it can
-/// show. Nothing is known of it.
+/// The proof, found by a search of up to `nodes` nodes, that no good plan takes fewer than `cycles` cycles, or than as many as it
+/// can show. Nothing is known of it.
 fn searched<T: Sink>(
     alloc: Global,
     soc: &Soc,
@@ -79,8 +79,8 @@ pub fn proved_with<T: Sink>(
     }
 }
 
-/// The text of a proof by cases on buses of at most so many nodes: it is accepted for the chip under the limits, and claims at
-/// most so many cycles, as many as a search could show. Where it could show nothing, or where the cycles are 0, it is the proof that
+/// The text of a proof by cases on buses, of at most `nodes` nodes: it is accepted for the chip under the limits, and claims at
+/// most `cycles` cycles, as many as a search could show. Where it could show nothing, or where the cycles are 0, it is the proof that
 /// claims nothing. From 10,000 nodes on each tenth of them that was made is reported to `progress`, with the claim so far; a
 /// `progress` that fails changes nothing else. `NoMemory` where there is none.
 pub fn proved<T: Sink>(

@@ -9,7 +9,7 @@ use Rattle.plan_model.specs.Bounds.{sum_below}
 use Rattle.bound_rules.specs.declared.sizes.Sizes.{Sizes}
 use Rattle.bound_rules.specs.Sizes.{time_by}
 
--- what a test draws so many cycles after its start, by the first profile of its name or else its own power
+-- what a test draws `r` cycles after its start, by the first profile of its name or else its own power
 abbrev pub powers_of : TestId → ℕ → List ProfileValue → ℕ → ℕ
 powers_of id own profiles r = of_first (λ (p : ProfileValue). same_test p.test id) (λ p. step_power r 0 p.steps) own profiles
 

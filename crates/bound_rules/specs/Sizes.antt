@@ -19,7 +19,7 @@ sizes_of m = record {
   flops = sum m.chains;
 }
 
--- the least length of the longest chain, with so many cells at its end
+-- the least length of the longest of `w` chains, with `ends` cells at their ends
 abbrev pub least_chain : Sizes → Bool → (ends w : ℕ) → ℕ
 least_chain s scan ends w = if scan then max s.longest (quotient_up (ends + s.flops) w) else quotient_up ends w
 

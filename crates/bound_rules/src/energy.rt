@@ -19,7 +19,7 @@ use indexmap::IndexMap;
 use plan_model::{Limits, Profile, profile_of};
 use soc_model::{Soc, Test, TestId, live, module_at};
 
-/// What a power draws in so many cycles.
+/// What a power draws in `cycles` cycles.
 fn drawn(power: u64, cycles: u64) -> u128
     ensures drawn { result ≡ power * cycles }
     ensures fits { result ≤ 2 ^ 64 * cycles }

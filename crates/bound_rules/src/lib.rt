@@ -27,7 +27,7 @@ use sizes::Sizes;
 use soc_model::{Module, Soc, Test, parent};
 pub use widths::{area_bound, lower_tam_time, need};
 
-/// A total over so many parts, rounded up.
+/// A total divided by `parts`, rounded up.
 fn quotient_up(total: u128, parts: u64) -> u64
     requires some { 1 ≤ parts }
     requires fits { total ≤ 10 ^ 18 * parts }

@@ -68,7 +68,7 @@ impl Sizes {
         }
     }
 
-    /// The least length of the longest chain of a wrapper of `width` chains, with so many input or output cells.
+    /// The least length of the longest chain of a wrapper of `width` chains, with `ends` input or output cells.
     fn chain_length(&self, scan: bool, ends: u64, width: u64) -> u64
         requires width { 1 ≤ width }
         requires fits { ends + self.now.flops < 2 ^ 63 }

@@ -6,7 +6,7 @@ ghost use Rattle.bus_model.specs.Sound.{IsSoundBus, IsSoundArch, times_listed, d
 use crate::{Arch, ArchBus};
 use width_table::WidthTable;
 
-/// The cycles that modules, by their places, take one after another on a bus of so many wires.
+/// The cycles that modules, by their places, take one after another on a bus of `width` wires.
 ///
 /// No place is listed twice, and each has a live test over the wires, so that the sum is at most 10^18.
 pub fn time_at(table: &WidthTable, places: &[usize], width: u64) -> u64

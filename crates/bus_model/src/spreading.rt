@@ -24,7 +24,7 @@ fn widen_bottleneck(table: &WidthTable, arch: &mut Arch)
     }
 }
 
-/// Gives so many free wires to the buses, one after another, each to the bottleneck as it is by then. Takes no memory.
+/// Gives `wires` free wires to the buses, one after another, each to the bottleneck as it is by then. Takes no memory.
 pub fn spread(table: &WidthTable, arch: &mut Arch, wires: u64)
     requires sound { IsSoundArch table.now (arch_value arch.old) }
     requires bus { 0 < wires → 0 < length (arch_value arch.old) }

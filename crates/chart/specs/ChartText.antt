@@ -32,7 +32,7 @@ times_text start end = codes " start " ++ (decimal start ++ (codes " end " ++ de
 abbrev pub bar_text : (start end cycles : ℕ) → List ℕ
 bar_text start end cycles = codes " |" ++ (bar start end cycles ++ codes "|\n")
 
--- the line of a test, in a plan of so many cycles
+-- the line of a test, in a plan of `cycles` cycles
 abbrev pub row_text : (cycles : ℕ) → PlacedTest → List ℕ
 row_text cycles t = dotted_numbers t.id.module t.id.test ++ (bus_text t.bus ++ (times_text t.start t.end ++ bar_text t.start t.end cycles))
 

@@ -89,7 +89,7 @@ fn push_framed(text: &mut Vec<u8>, start: u64, end: u64, cycles: u64) -> Result<
     extend(text, b"|\n")
 }
 
-/// Appends the line of a test, in a plan of so many cycles.
+/// Appends the line of a test, in a plan of `cycles` cycles.
 fn push_row(text: &mut Vec<u8>, test: &PlacedTest, cycles: u64) -> Result<(), NoMemory>
     ensures { OnOk result (text.new.items ≡ text.old.items ++ row_text cycles test.now) }
 {

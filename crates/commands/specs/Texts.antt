@@ -141,10 +141,10 @@ fault_line fault = codes "refused plan " ++ fault_keyword fault ++ carried_text 
 
 -- ---- runs that are refused
 
--- a run of so many wire cycles, which is too long
+-- the line that refuses a run of `cells` wire cycles, which is too long
 abbrev pub run_line : ℕ → List ℕ
 run_line cells = codes "refused run " ++ decimal cells ++ codes "\n"
 
--- the line that refuses a run, where it has so many wire cycles that it is too long
+-- the line that refuses a run, where it is too long; `cells` is then the number of its wire cycles
 abbrev pub run_refusal : Option ℕ → Option (List ℕ)
 run_refusal cells = option_map run_line cells

@@ -43,7 +43,7 @@ pub enum Command<'a> {
     Print {
         soc: &'a str,
     },
-    /// The cycles that the tests of each module take over 1 to so many wires.
+    /// The cycles that the tests of each module take over 1 to `wires` wires.
     Widths {
         soc: &'a str,
         wires: u64,
@@ -72,7 +72,7 @@ pub enum Command<'a> {
         plan: &'a str,
         seed: u64,
     },
-    /// A made chip of so many modules, planned and checked.
+    /// A made chip of `n` modules, planned and checked.
     Sample {
         n: u64,
         seed: u64,
@@ -90,7 +90,7 @@ pub enum Command<'a> {
         limits: &'a str,
         tree: &'a str,
     },
-    /// The tests cut into parts of so many patterns, and a plan of the parts.
+    /// The tests cut into parts of at most `most` patterns, and a plan of the parts.
     Split {
         soc: &'a str,
         limits: &'a str,
@@ -103,7 +103,7 @@ pub enum Command<'a> {
         plan: &'a str,
         program: &'a str,
     },
-    /// A plan of no more cycles than one that is accepted, by so many tries with draws from a seed.
+    /// A plan of no more cycles than one that is accepted, by `tries` tries with draws from a seed.
     Improve {
         soc: &'a str,
         limits: &'a str,
@@ -130,7 +130,7 @@ pub enum Command<'a> {
         limits: &'a str,
         proof: &'a str,
     },
-    /// A proof by cases on buses of at most so many nodes, which claims no more than the cycles of a plan that is accepted.
+    /// A proof by cases on buses, of at most `nodes` nodes, which claims no more than the cycles of a plan that is accepted.
     Prove {
         soc: &'a str,
         limits: &'a str,

@@ -9,7 +9,7 @@ use Rattle.fail_locate.specs.Spots.{cell_value}
 abbrev pub cells_at : List (List cells.Cell) → ℕ → List cells.Cell
 cells_at chains chain = get_or chains chain []
 
--- the cell that stands so many places from the end of a chain, within the out-length, or that none does
+-- the cell that stands `shifts` places from the end of a chain, within the out-length, or that none does
 abbrev pub IsFromEnd : List cells.Cell → ℕ → Option Cell → Type 0
 IsFromEnd cells shifts None = out_length cells ≤ shifts
 IsFromEnd cells shifts (Some cell) = (shifts < out_length cells) × (slice_get (reverse cells) shifts ≡ Some (cell_value cell))

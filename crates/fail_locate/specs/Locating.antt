@@ -30,7 +30,7 @@ pub record IsLast (tests : List WiredTest) (bus cycle : ℕ) (last : WiredTest) 
   pub begun : last.start ≤ cycle
   pub latest : (n : ℕ) (t : WiredTest) → slice_get tests n ≡ Some t → t.bus ≡ bus → t.start ≤ cycle → t.start ≤ last.start
 
--- operation `n` comes so many Shifts after the capture of a pattern
+-- between the capture of a pattern and operation `n` there are `shifts` operations
 pub record IsBehind (p : Phases) (n shifts pattern : ℕ) : Type 0 where
   pub at : ℕ
   pub captures : slice_get (phase_ops p) at ≡ Some (Capture pattern)

@@ -1,4 +1,4 @@
-//! The cell that stands so many places from the end of a chain, of those whose bits are read.
+//! The cell that stands a given number of places from the end of a chain, of those whose bits are read.
 ghost use Rattle.std.specs.Prelude.{◌≡◌, ◌+◌, ◌^◌, ◌<◌, ◌≤◌, ◌++◌, length, map, option_map, reverse, slice_get, take};
 ghost use Rattle.std.specs.List.{All, flat_map, sum_by};
 ghost use Rattle.soc_model.specs.Chips.{module_value};
@@ -26,7 +26,7 @@ fn outs_before(chains: &[ChainPlan], chain: usize) -> u64
     outs
 }
 
-/// The flop that is so many places from the end of scan chains, one behind the other.
+/// The flop that is `shifts` places from the end of scan chains, one behind the other.
 fn flop_from_end(lengths: &[u64], scans: &[u64], shifts: u64) -> Option<Cell>
     requires { All (λ c. c < length lengths.now) scans.now }
     ensures { option_map cell_value result ≡ slice_get (reverse (flat_map (flops lengths.now) scans.now)) shifts }
@@ -48,7 +48,7 @@ fn flop_from_end(lengths: &[u64], scans: &[u64], shifts: u64) -> Option<Cell>
     None
 }
 
-/// The cell that is so many places from the end of a chain, of its flops and its output cells; these are numbered from
+/// The cell that is `shifts` places from the end of a chain, of its flops and its output cells; these are numbered from
 /// `outs_from` on.
 fn read_from_end(lengths: &[u64], chain: &ChainPlan, outs_from: u64, shifts: u64) -> Option<Cell>
     requires listed { All (λ c. c < length lengths.now) chain.now.scans.items }
@@ -63,7 +63,7 @@ fn read_from_end(lengths: &[u64], chain: &ChainPlan, outs_from: u64, shifts: u64
     flop_from_end(lengths, &chain.scans, shifts - chain.outs)
 }
 
-/// The cell whose bit a chain of a wrapper shows so many Shifts after a capture. None comes exactly where the chain has no
+/// The cell whose bit a chain of a wrapper shows `shifts` Shifts after a capture. None comes exactly where the chain has no
 /// cell there that is read.
 pub fn cell_shown(module: &Module, wrapper: &Wrapper, chain: usize, shifts: u64) -> Option<Cell>
     requires proper { IsProper (module_value «module».now) wrapper.now.scan (map chain_value wrapper.now.chains.items) }

@@ -113,7 +113,7 @@ fn turn_behind(test: &WiredTest, cycle: u64) -> Option<Turn>
     test.phases.at(cycle - test.start).behind()
 }
 
-/// The cell of a test that is read so many Shifts after a capture on the chain of a wire of its bus.
+/// The cell of a test that is read `shifts` Shifts after a capture on the chain of a wire of its bus.
 fn cell_of(placing: &ChipWithPlan<'_>, test: &WiredTest, chain: usize, shifts: u64) -> Option<Cell>
     requires sound { IsSoundChip (soc_value placing.now.soc.now) }
     requires wired { (u : PlannedTest) × IsWired (soc_value placing.now.soc.now) (plan_value placing.now.plan.now) u test.now }

@@ -2,7 +2,7 @@
 use Rattle.std.proofs.Common.{◌≡◌, ℕ, ◌+◌, ◌≤◌, List, [], ◌∷◌, ◌++◌, length, refl, sym, ap, ◌∙◌, arith, append_assoc, append-nil}
 use Rattle.std.specs.List.{flat_map}
 
--- so many trees more make one tree
+-- these nodes and those of any `n` trees behind them make one tree
 abbrev pub Fills : {T N : Type 0} → (T → List N) → List N → ℕ → Type 0
 Fills {T} nodes_of nodes n = (us : List T) → length us ≡ n → (t : T) × (nodes_of t ≡ nodes ++ flat_map nodes_of us)
 

@@ -13,6 +13,6 @@ held_none (e ∷ pairs) j = by (nat_eq j e.1) (held_none pairs j)
     by true ih = omega (arith, ih)
     by false ih = omega (arith, ih)
 
--- so many before each test
+-- where `counts` says how many come before each test, as many hold it back while no test is gone
 pub counts_held : (count : ℕ) (counts : List ℕ) (pairs : List (ℕ × ℕ)) → length counts ≡ count → ((i : ℕ) → i < count → slice_index_or counts i 0 ≡ length (before i pairs)) → Counts counts (held [] pairs)
 counts_held count counts pairs long are j less = are j (omega (arith, less, long)) ∙ sym (held_none pairs j)

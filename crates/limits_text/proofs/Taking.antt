@@ -407,7 +407,7 @@ all_taken pairs count counts order done u past = record {
         let k = some_left order pairs j (λ z. false_true (is_in order j) fresh (u.kept.zero_taken j small (are ∙ z))) in
         (k.0, contains_here pairs (k.0, j) k.1 k.2, k.3)
 
--- so many are taken at most
+-- at most `count` tests are taken
 pub few_taken : (pairs : List (ℕ × ℕ)) (count : ℕ) (counts order : List ℕ) (done : ℕ) → IsUnderWay pairs count counts order done → length order ≤ count
 few_taken pairs count counts order done u = few order count u.kept.within u.kept.once
 

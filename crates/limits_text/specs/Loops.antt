@@ -15,7 +15,7 @@ pub data IsTaken (pairs : List (ℕ × ℕ)) : ℕ → Type 0 where
 abbrev pub Remains : List (ℕ × ℕ) → ℕ → Type 0
 Remains pairs j = IsTaken pairs j → ⊥
 
--- the first of so many tests that remains
+-- the first of `count` tests that remains
 pub record IsFirstRemaining (pairs : List (ℕ × ℕ)) (count i : ℕ) : Type 0 where
   pub within : i < count
   pub remains : Remains pairs i

@@ -10,7 +10,7 @@ use outside::{NoMemory, push};
 use plan_model::{Limits, Profile};
 use std::alloc::Global;
 
-/// Limits before any item, with room for so many precedences.
+/// Limits before any item, with room for `precedences` precedences.
 fn no_limits(alloc: Global, precedences: usize) -> Result<Limits, NoMemory>
     ensures { IfOk result (λ limits. limits_value limits ≡ no_limits_said) }
 {

@@ -14,7 +14,7 @@ use std::alloc::Global;
 /// What most texts have at least for each item, in bytes: `Before` with four numbers.
 const ITEM_BYTES: usize = 16;
 
-/// No items, with room for those of a text of so many bytes.
+/// No items, with room for those of a text of `bytes` bytes.
 pub fn no_items(alloc: Global, bytes: usize) -> Result<Items, NoMemory>
     ensures none { IfOk result (λ items. done_of items ≡ []) }
     ensures first_form { IfOk result (λ items. items.second ≡ false) }

@@ -1,4 +1,4 @@
-//! The first loop of precedences of so many tests, which go by their places.
+//! The first loop of the precedences of a number of tests, which go by their places.
 ghost use Rattle.std.specs.Prelude.{◌≡◌, ℕ, ◌+◌, ◌-◌, ◌<◌, ◌≤◌, ◌++◌, ◌∷◌, [], false, not, min, length, nat_eq, position, slice_index, slice_set, replicate, IfOk, OnOk, MatchOption, if◌then◌else◌};
 ghost use Rattle.std.specs.List.{All};
 ghost use Rattle.limits_text.specs.Loops.{IsFirstLoop, HasRank};
@@ -8,7 +8,7 @@ use live_tests::{all_after, count_before};
 use outside::{NoMemory, push};
 use std::alloc::Global;
 
-/// A number, so many times.
+/// A number, repeated `count` times.
 fn repeated(alloc: Global, count: usize, number: usize) -> Result<Vec<usize>, NoMemory>
     ensures { IfOk result (λ counts. counts.items ≡ replicate count number) }
 {
@@ -98,7 +98,7 @@ fn taking(alloc: Global, count: usize, pairs: &[(usize, usize)]) -> Result<Vec<u
     Ok(order)
 }
 
-/// Which of so many tests are in the order.
+/// Which of `count` tests are in the order.
 fn marks(alloc: Global, count: usize, order: &[usize]) -> Result<Vec<bool>, NoMemory>
     requires { All (λ j. j < count) order.now }
     ensures long { IfOk result (λ gone. length gone.items ≡ count) }
@@ -111,7 +111,7 @@ fn marks(alloc: Global, count: usize, order: &[usize]) -> Result<Vec<bool>, NoMe
     Ok(gone)
 }
 
-/// No marks of so many tests.
+/// No mark for any of `count` tests.
 fn unmarked(alloc: Global, count: usize) -> Result<Vec<bool>, NoMemory>
     ensures { IfOk result (λ gone. gone.items ≡ replicate count false) }
 {
@@ -201,7 +201,7 @@ fn first_left(gone: &[bool]) -> Option<usize>
     gone.iter().position(|is_gone| !*is_gone)
 }
 
-/// The first loop of the pairs of so many tests. None comes exactly where the pairs have no loop.
+/// The first loop of the pairs of `count` tests. None comes exactly where the pairs have no loop.
 pub fn first_loop(
     alloc: Global,
     count: usize,

@@ -173,7 +173,7 @@ fn note_item(
     }
 }
 
-/// No precedences, with room for so many.
+/// No precedences, with room for `count` of them.
 fn room_for_pairs(alloc: Global, count: usize) -> Result<Vec<(usize, usize)>, NoMemory>
     ensures { IfOk result (λ pairs. pairs.items ≡ []) }
 {

@@ -9,7 +9,7 @@ use Rattle.std.proofs.lemmas.List.Elements.{All-get_or}
 use Rattle.live_tests.specs.Neighbours.{before}
 use Rattle.live_tests.proofs.Sides.{sides-append}
 
--- so many tests are counted
+-- for each of `count` tests it is counted how many come before it
 pub record AreCounts (count : ℕ) (pairs : List (ℕ × ℕ)) (counts : List ℕ) : Type 0 where
   pub long : length counts ≡ count
   pub are : (i : ℕ) → i < count → slice_index_or counts i 0 ≡ length (before i pairs)

@@ -11,7 +11,7 @@ use Rattle.live_tests.specs.declared.placed.PlacedTest.{PlacedTest}
 abbrev pub bus_over : (tam : Bool) (bus : ℕ) → Option ℕ
 bus_over tam bus = if tam then Some bus else None
 
--- a test of that name of the module at a place, from a start on for so many cycles
+-- a test of that name of the module at a place, from a start on for `cycles` cycles
 abbrev pub placed_at : TestId → (place : ℕ) → Test → (bus start cycles : ℕ) → PlacedTest
 placed_at id place t bus start cycles =
     record { id = id; place = place; bus = bus_over t.tam bus; start = start; end = start + cycles; power = t.power }

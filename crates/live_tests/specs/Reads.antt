@@ -9,7 +9,8 @@ use Rattle.plan_model.specs.Runs.{chain_at}
 abbrev pub since_capture : PlannedTest → (cycle : ℕ) → Option (ℕ × ℕ)
 since_capture t c = ahead (reverse (take (c - t.start) t.operations))
 
--- the pattern and the cell whose bit a chain shows: the cell that stands so many places from the end, within the out-length
+-- the pattern and the cell whose bit a chain shows: the cell stands as many places from the end as there were Shifts since the
+-- capture, within the out-length
 abbrev pub bit_shown : List Cell → Option (ℕ × ℕ) → Option (ℕ × Cell)
 bit_shown cells None = None
 bit_shown cells (Some since) =

@@ -46,7 +46,7 @@ pub fn count_before(
     Ok(counts)
 }
 
-/// No neighbours for any test, with room for so many of each.
+/// No neighbours for any test, with room for as many of each as `rooms` says.
 fn no_neighbours(alloc: Global, rooms: &[usize]) -> Result<Vec<Neighbours>, NoMemory>
     ensures long { IfOk result (λ lists. length lists.items ≡ length rooms.now) }
     ensures none { IfOk result (λ lists. (i : ℕ) → i < length rooms.now → slice_index_or (map tests_of lists.items) i [] ≡ []) }

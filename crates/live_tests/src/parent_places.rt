@@ -17,7 +17,7 @@ fn level_of(soc: &Soc, place: usize) -> u64
     module_at(soc, place).level
 }
 
-/// The place before one; where it is the first, so many.
+/// The place before one; where it is the first, `count`.
 fn before(place: usize, count: usize) -> usize
     requires { place < count }
     ensures within { result ≤ count }

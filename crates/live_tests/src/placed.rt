@@ -106,7 +106,7 @@ pub fn bus_over(tam: bool, bus: usize) -> Option<usize>
     if tam { Some(bus) } else { None }
 }
 
-/// A test of that name of the module at a place of the chip, from a start on for so many cycles; the bus is that of its module.
+/// A test of that name of the module at a place of the chip, from a start on for `cycles` cycles; the bus is that of its module.
 pub fn placed_test(
     id: TestId,
     place: usize,

@@ -8,7 +8,7 @@ use outside::{NoMemory, push};
 use plan_model::Plan;
 use std::alloc::Global;
 
-/// The wire that comes so many wires after another.
+/// The wire that comes `width` wires after another.
 fn wire_after(wire: u64, width: u64) -> Result<u64, NoMemory>
     ensures { IfOk result (λ after. after ≡ wire + width) }
 {

@@ -3,7 +3,7 @@ use Rattle.std.specs.Prelude.{ℕ, ◌<◌, List, length, drop}
 use Rattle.outside.specs.declared.sink.Put.{Put}
 use Rattle.outside.specs.declared.sink.Put.TheVariants.{Taken, Failed}
 
--- Puts that took bytes, from a first state to this one, until so many bytes are left. Each was of all that was left then, and
+-- Puts that took bytes, from a first state to this one, until these bytes are left. Each was of all that was left then, and
 -- something was.
 pub data PutDownTo {S : Type 0} (is_put : S → List ℕ → Put → S → Type 0) (first : S) (bytes : List ℕ) : S → List ℕ → Type 0 where
   begins : PutDownTo is_put first bytes first bytes

@@ -6,7 +6,7 @@ ghost use Rattle.outside.specs.Puts.{PutDownTo, PutUntilFailed};
 /// How a put ended.
 #[derive(Clone, Copy, PartialEq, Eq, Debug)]
 pub enum Put {
-    /// So many bytes from the front of the piece were written.
+    /// This number of bytes, from the front of the piece, was written.
     Taken(usize),
     /// Nothing was written.
     Failed,
