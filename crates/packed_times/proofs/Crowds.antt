@@ -1,4 +1,4 @@
--- Of so many numbers in so few boxes some box has many: the boxes are wrapper chains, the numbers lengths of scan chains.
+-- Of more than `k * w` numbers in `w` boxes some box has more than `k`: boxes are wrapper chains, numbers lengths of scan chains.
 use Rattle.std.proofs.Common.{◌≡◌, ℕ, zero, suc, ◌+◌, ◌-◌, ◌*◌, ◌≤◌, ◌<◌, Bool, true, false, List, [], ◌∷◌, map, length, drop, take, refl, ap, ◌∙◌, sym, arith, inl, inr, eqb, leb}
 use Rattle.std.specs.Prelude.{if◌then◌else◌}
 use Rattle.std.specs.List.{sum, sum_by}
@@ -80,7 +80,7 @@ count-le-length b (p ∷ ps) =
     at_most true = omega arith
     at_most false = omega arith
 
--- the least so many of all are no more than those of the box
+-- the `j` least of all are together no more than all of box `b`, where it has at least `j`
 few_least : (b j : ℕ) (ps : List (ℕ × ℕ)) → Rises (map second ps) → j ≤ count_in b ps → sum (take j (map second ps)) ≤ held b ps
 few_least b zero ps rises many = omega arith
 few_least b (suc j) [] rises many = omega arith

@@ -1,4 +1,4 @@
--- No proper wrapper of so many chains takes a test less than its packed time there, and this never grows with their number.
+-- No proper wrapper of at most `w` chains makes a test shorter than its packed time on `w` wires, and this never grows with `w`.
 use Rattle.std.proofs.Common.{◌≡◌, ℕ, ◌+◌, ◌-◌, ◌*◌, ◌≤◌, ◌<◌, max, min, Bool, true, false, Some, List, [], ◌∷◌, map, length, get_or, take, drop, eqb, refl, ap, ◌∙◌, arith, zero-add, inl, inr, ◌⊎◌, ltb}
 use Rattle.std.specs.Prelude.{slice_get, if◌then◌else◌}
 use Rattle.std.specs.List.{sum, sum_by, count_by, range_with_len}

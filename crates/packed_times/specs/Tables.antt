@@ -7,7 +7,7 @@ use Rattle.packed_times.specs.declared.table.ModuleTimes.{ModuleTimes}
 use Rattle.packed_times.specs.Packed.{packed}
 use Rattle.packed_times.specs.Times.{tam_times_of, self_times_of}
 
--- what a table of packed times is for: a chip, on so many wires
+-- what a table of packed times is for: a chip, and a number of wires
 pub record TableValue : Type 0 where
   pub chip : SocValue
   pub wires : ℕ

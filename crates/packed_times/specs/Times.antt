@@ -9,7 +9,7 @@ use Rattle.plan_model.specs.Bounds.{quotient_up}
 use Rattle.packed_times.specs.Packed.{packed, packed_time}
 use Rattle.packed_times.specs.declared.times.Packing.{Packing}
 
--- the least length of the longest chain, with so many cells at its end
+-- the least length of the longest chain, where all chains together have `ends` input or output cells
 abbrev pub longest_chain : Packing → Bool → (ends : ℕ) → ℕ
 longest_chain p scan ends = if scan then max (quotient_up (ends + p.flops) p.width) p.packed else quotient_up ends p.width
 

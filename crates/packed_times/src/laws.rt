@@ -10,7 +10,7 @@ ghost use Rattle.plan_model.specs.Rules.{IsGood};
 ghost use Rattle.plan_model.specs.Bounds.{lower_time};
 ghost use Rattle.packed_times.specs.Packed.{packed_time};
 
-/// No proper wrapper of 1 to so many chains makes a test shorter than its packed time there: of `k * w + 1` scan chains
+/// No proper wrapper of 1 to `w` chains makes a test shorter than its packed time on `w` wires: of `k * w + 1` scan chains
 /// one of `w` wrapper chains has `k + 1`. A self test takes its patterns. Packed times never grow with the chains of a
 /// wrapper, are at least the lower times, and within the test's part of the chip's work.
 pub fn packed_times_are_least()

@@ -18,7 +18,7 @@ use std::marker::Model;
 /// The packed times of one module on each width from 1 on.
 #[derive(Drop)]
 struct ModuleTimes {
-    /// The cells that the longest of so many wrapper chains has at least of the module's scan chains.
+    /// For each width `w`: how many cells of the module's scan chains the longest of `w` wrapper chains has at least.
     packed: Vec<u64>,
     /// The cycles of the live tests over the wires, together.
     tam: Vec<u64>,
@@ -102,7 +102,7 @@ fn next_changes(alloc: Global, numbers: &[u64]) -> Result<Vec<u64>, NoMemory>
     Ok(next)
 }
 
-/// The packed times of a module on each of so many wires.
+/// The packed times of a module on each width from 1 to `wires`.
 fn module_times(alloc: Global, module: &Module, wires: u64) -> Result<ModuleTimes, NoMemory>
     requires work { works_of (module_value «module».now) «module».now.tests.items ≤ 10 ^ 18 }
     requires flops { sum «module».now.chains.items < 2 ^ 63 }
@@ -141,7 +141,7 @@ fn all_rows(alloc: Global, soc: &Soc, wires: u64) -> Result<Vec<ModuleTimes>, No
 }
 
 impl<'a> PackedTimes<'a> {
-    /// The packed times of a chip's live tests on each of so many wires. `NoMemory` where there is none.
+    /// The packed times of a chip's live tests on each width from 1 to `wires`. `NoMemory` where there is none.
     pub fn new(alloc: Global, soc: &'a Soc, wires: u64) -> Result<PackedTimes<'a>, NoMemory>
         requires sound { IsSoundChip (soc_value soc.now) }
         requires some_wire { 1 ≤ wires }

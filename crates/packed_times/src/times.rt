@@ -13,13 +13,13 @@ use soc_model::{Module, Test, live, over_wires};
 pub struct Packing {
     /// The width, in wires.
     pub width: u64,
-    /// The cells that the longest of so many wrapper chains has at least of its scan chains.
+    /// How many cells of scan chains the longest of `width` wrapper chains has at least.
     pub packed: u64,
     /// The lengths of all scan chains together.
     pub flops: u64,
 }
 
-/// The least length of the longest of so many wrapper chains, with so many input or output cells.
+/// The least length of the longest of `packing.width` wrapper chains, with `ends` input or output cells in all.
 fn chain_length(packing: &Packing, scan: bool, ends: u64) -> u64
     requires some_wire { 1 ≤ packing.now.width }
     requires fits { ends + packing.now.flops < 2 ^ 63 }

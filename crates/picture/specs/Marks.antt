@@ -54,7 +54,7 @@ spaced_name name = if nat_eq (length name) 0 then [] else codes " " ++ flat_map 
 abbrev pub id_size : TestId → ℕ
 id_size id = length (decimal id.module) + length (decimal id.test) + 1
 
--- so many characters have room, of some seven units each
+-- a text of this number of characters has room, at seven units each
 abbrev pub has_room : Outline → (characters : ℕ) → Bool
 has_room o characters = nat_le (7 * characters) o.width && is_high o
 

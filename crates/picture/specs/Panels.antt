@@ -4,11 +4,11 @@ use Rattle.picture.specs.declared.panels.Outline.{Outline}
 use Rattle.picture.specs.declared.panels.Panel.{Panel}
 use Rattle.picture.specs.declared.panels.Rectangle.{Rectangle}
 
--- where a part of all stands on a stretch of so many units, which it doesn't leave
+-- where `part` of `all` stands on a stretch of `size` units, which it doesn't leave
 unfoldable pub scaled : (part all size : ℕ) → ℕ
 scaled part all size = if nat_eq all 0 then 0 else min (part * size / all) size
 
--- where a cycle begins, of so many cycles beside each other
+-- where a cycle begins, of `cycles` cycles beside each other
 abbrev pub column : (cycle cycles : ℕ) → ℕ
 column cycle cycles = 120 + scaled cycle cycles 1000
 

@@ -56,7 +56,7 @@ load_line top load most = top + (100 - scaled load most 100)
 abbrev pub step_text : (top cycles most : ℕ) → ℕ × ℕ → List ℕ
 step_text top cycles most s = codes "H" ++ (decimal (column s.0 cycles) ++ (codes "V" ++ decimal (load_line top s.1 most)))
 
--- the steps of a load over so many cycles
+-- the steps of a load over `cycles` cycles
 unfoldable pub load_text : (top cycles most : ℕ) → List (ℕ × ℕ) → List ℕ
 load_text top cycles most steps =
     codes "<path class='p' d='M120 " ++ (decimal (top + 100) ++ (flat_map (step_text top cycles most) steps ++ codes "'/>\n"))

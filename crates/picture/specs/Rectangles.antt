@@ -5,7 +5,7 @@ use Rattle.plan_model.specs.Plans.{PlanValue, widths}
 use Rattle.live_tests.specs.declared.placed.PlacedTest.{PlacedTest}
 use Rattle.picture.specs.declared.panels.Drawn.{Drawn}
 
--- a test over so many rows, from the first to before the last
+-- a test over the rows from `first` to before `last`
 abbrev pub drawn_over : PlacedTest → (first last : ℕ) → Drawn
 drawn_over t first last = record { rectangle = record { start = t.start; end = t.end; first = first; last = last }; test = t }
 

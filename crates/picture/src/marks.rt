@@ -85,7 +85,7 @@ fn id_size(id: TestId) -> u64
     digits(id.module) + digits(id.test) + 1
 }
 
-/// Whether so many characters have room in a rectangle.
+/// Whether a text of this number of characters has room in a rectangle.
 fn has_room(outline: &Outline, characters: u128) -> bool
     requires { characters ≤ 2 ^ 66 }
     ensures { result ≡ the_room outline.now characters }
@@ -274,7 +274,7 @@ fn push_bus_label(text: &mut Vec<u8>, place: usize, wires: u64) -> Result<(), No
     push_wires_word(text, wires)
 }
 
-/// Appends the frame of the bus at a place, with so many wires.
+/// Appends the frame of the bus at a place. Its title gives the number of wires.
 #[tactic(auto, unfolding(crate::specs::Marks::bus_frame))]
 fn push_frame(
     text: &mut Vec<u8>,

@@ -38,7 +38,7 @@ pub struct Outline {
     pub height: u64,
 }
 
-/// Where a part of all stands on a stretch of so many units.
+/// Where `part` of `all` stands on a stretch of `size` units.
 #[tactic(auto, unfolding(crate::specs::Panels::scaled))]
 pub fn scaled(part: u64, all: u64, size: u32) -> u32
     ensures is { result ≡ the_scaled part all size }
@@ -51,7 +51,7 @@ pub fn scaled(part: u64, all: u64, size: u32) -> u32
     units.min(u128::from(size)) as u32
 }
 
-/// Where a cycle begins, of so many beside each other.
+/// Where a cycle begins, of `cycles` cycles beside each other.
 pub fn column(cycle: u64, cycles: u64) -> u64
     ensures is { result ≡ the_column cycle cycles }
     ensures left { 120 ≤ result }

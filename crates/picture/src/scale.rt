@@ -135,7 +135,7 @@ fn push_scale_by(text: &mut Vec<u8>, step: u64, cycles: u64, bottom: u64) -> Res
     push_mark_numbers(text, step, cycles, bottom)
 }
 
-/// Appends the scale of so many cycles, below all that ends at `bottom`.
+/// Appends the scale of `cycles` cycles, below all that ends at `bottom`.
 pub fn push_scale(text: &mut Vec<u8>, cycles: u64, bottom: u64) -> Result<(), NoMemory>
     requires { bottom ≤ 2 ^ 40 }
     ensures { OnOk result (text.new.items ≡ text.old.items ++ scale_text cycles bottom) }

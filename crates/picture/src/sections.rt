@@ -31,7 +31,7 @@ fn push_style(text: &mut Vec<u8>) -> Result<(), NoMemory>
     )
 }
 
-/// Appends the head of a picture of so many units from top to bottom.
+/// Appends the head of a picture of `height` units from top to bottom.
 #[tactic(auto, unfolding(crate::specs::PictureText::head_text))]
 pub fn push_head(text: &mut Vec<u8>, height: u64) -> Result<(), NoMemory>
     ensures { OnOk result (text.new.items ≡ text.old.items ++ head_text height) }
@@ -128,7 +128,7 @@ fn push_steps(
     Ok(())
 }
 
-/// Appends a load over so many cycles.
+/// Appends a load over `cycles` cycles.
 #[tactic(auto, unfolding(crate::specs::PictureText::load_text))]
 fn push_load(
     text: &mut Vec<u8>,

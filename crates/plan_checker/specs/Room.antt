@@ -20,7 +20,7 @@ pub record HasRoom (soc : SocValue) (room : RoomValue) : Type 0 where
   pub pairs : length (used_pairs soc) ≤ room.pairs
   pub tests : room.tests ≡ length (live_tests soc)
 
--- lists for so many modules and live tests
+-- lists for `modules` modules and `live` live tests
 pub record HasPlacedRoom (modules live : ℕ) (room : PlacedRooms) : Type 0 where
   pub parents : length room.parents.items ≡ modules
   pub tests : length room.tests.items ≡ live
@@ -29,7 +29,7 @@ pub record HasPlacedRoom (modules live : ℕ) (room : PlacedRooms) : Type 0 wher
   pub profiles : length room.profiles.items ≡ live
   pub events : live * EVENTS_EACH ≤ vec_capacity room.events
 
--- and for so many pairs of a module and a mode
+-- and for `pairs` pairs of a module and a mode
 pub record HasRuleRoom (modules pairs live : ℕ) (rooms : Rooms) : Type 0 where
   pub marks : length rooms.marks.items ≡ modules
   pub wrappers : pairs ≤ length (keys rooms.wrappers) + spare rooms.wrappers

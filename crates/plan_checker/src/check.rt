@@ -118,7 +118,7 @@ fn live_count(soc: &Soc) -> Option<usize>
     Some(count)
 }
 
-/// Room for the placed tests of a chip of so many modules and live tests.
+/// Room for the placed tests of a chip of `modules` modules and `tests` live tests.
 fn placed_rooms(alloc: Global, modules: usize, tests: usize) -> Result<PlacedRooms, NoMemory>
     ensures { IfOk result (HasPlacedRoom modules tests) }
 {
@@ -138,7 +138,7 @@ fn placed_rooms(alloc: Global, modules: usize, tests: usize) -> Result<PlacedRoo
     })
 }
 
-/// Room for the rules of so many modules, pairs of a module and a mode, and live tests.
+/// Room for the rules of `modules` modules, `pairs` pairs of a module and a mode, and `tests` live tests.
 fn rule_rooms(alloc: Global, modules: usize, pairs: usize, tests: usize) -> Result<Rooms, NoMemory>
     ensures { IfOk result (HasRuleRoom modules pairs tests) }
 {
@@ -152,7 +152,7 @@ fn rule_rooms(alloc: Global, modules: usize, pairs: usize, tests: usize) -> Resu
 }
 
 impl Scratch {
-    /// Room for so many modules, pairs of a module and a mode, and live tests.
+    /// Room for `modules` modules, `pairs` pairs of a module and a mode, and `tests` live tests.
     fn sized(
         alloc: Global,
         modules: usize,

@@ -7,7 +7,7 @@ use Rattle.plan_model.specs.Certificates.{IsAccepted}
 use Rattle.bound_certificate.specs.Best.{IsBestBound}
 use Rattle.plan_text.specs.Grammar.{AreSmallStarts, IsInRange}
 
--- the greater of a given bound and of the best one at so many cycles; of equal ones the given one
+-- the greater of a given bound and of the best one at `cycles` cycles; of equal ones the given one
 pub record IsGreaterBound (soc : SocValue) (limits : LimitsValue) (cycles : ℕ) (given bound : BoundValue) : Type 0 where
   pub best : BoundValue
   pub is_best : IsBestBound soc limits cycles best

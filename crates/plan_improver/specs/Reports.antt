@@ -3,7 +3,7 @@ use Rattle.std.specs.Prelude.{◌≡◌, ℕ, List, Option, Some, codes}
 use Rattle.commands.specs.Commands.{CommandValue, Improve}
 use Rattle.commands.specs.Progress.{MayAdd, MayReport as MayReportAny, reported_line}
 
--- so many tries, and the best cycles so far
+-- a line may be added with the number of tries and the best cycles so far
 abbrev pub MayPass : (tries : ℕ) → (old new : Option (List ℕ)) → Type 0
 MayPass tries old new = (cycles : ℕ) × MayAdd (reported_line (codes "tries ") tries (codes " cycles ") cycles) old new
 

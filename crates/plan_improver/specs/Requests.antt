@@ -12,7 +12,7 @@ abbrev pub IsQuiet : Option CommandValue → Type 0
 IsQuiet (Some (Improve soc limits plan tries seed)) = tries < REPORTED_FROM
 IsQuiet other = Unit {0}
 
--- The answer is the text of a plan that is improved after so many tries: for the chip and the limits, from the plan that is
+-- The answer is the text of a plan that is improved after `tries` tries: for the chip and the limits, from the plan that is
 -- accepted for both. All other commands are none here.
 abbrev pub procedure_of : CommandValue → Procedure
 procedure_of (Improve soc limits plan tries seed) = with_all soc limits plan

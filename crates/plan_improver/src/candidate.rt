@@ -143,7 +143,7 @@ fn is_accepted(alloc: Global, soc: &Soc, limits: &Limits, plan: &Plan) -> Result
     }
 }
 
-/// The plan of what was found, where it is good and ends before so many cycles. Its starts are small enough for a plan's text.
+/// The plan of what was found, where it is good and takes fewer than `cycles` cycles. Its starts are small enough for a plan's text.
 pub(crate) fn better_plan(
     alloc: Global,
     soc: &Soc,

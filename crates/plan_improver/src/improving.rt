@@ -146,7 +146,7 @@ fn grounds_of<'a>(alloc: Global, known: &Known<'a>, given: &Plan) -> Result<Grou
     })
 }
 
-/// A good plan of fewer cycles than the given one, where so many tries of a search on its grounds find one.
+/// A good plan of fewer cycles than the given one, where `tries` tries of a search on its grounds find one.
 fn searched_on<T: Sink>(
     alloc: Global,
     known: &Known<'_>,
@@ -186,7 +186,7 @@ fn searched_on<T: Sink>(
     plan
 }
 
-/// A good plan of fewer cycles than the given one, where so many tries find one.
+/// A good plan of fewer cycles than the given one, where `tries` tries find one.
 fn searched<T: Sink>(
     alloc: Global,
     known: &Known<'_>,
@@ -218,7 +218,7 @@ fn searched<T: Sink>(
     plan
 }
 
-/// A plan of no more cycles than the given one has, for the same chip and limits, after so many tries of a search that draws
+/// A plan of no more cycles than the given one has, for the same chip and limits, after `tries` tries of a search that draws
 /// from a seed; the given plan where none is better. It is good, so that it runs right for every content, and its bound is
 /// the greater of the given one and of the best one at its cycles. Every number of it is in the range of a plan's text, where
 /// the given plan's starts are. From 100,000 tries on `progress` gets a line at each tenth of them, with the best cycles so far; where that

@@ -7,7 +7,7 @@ use arch_search::Search;
 use commands::{REPORTS, report_line};
 use outside::Sink;
 
-/// From so many tries on it is reported how far they are.
+/// From this number of tries on, it is reported how many were made.
 const REPORTED_FROM: u64 = 100_000;
 
 /// Reports how many tries were made, and the best cycles so far.
@@ -18,7 +18,7 @@ fn report_tries<T: Sink>(progress: &mut T, line: &mut Vec<u8>, tries: u64, cycle
     report_line(progress, line, b"tries ", tries, b" cycles ", cycles);
 }
 
-/// Tries so many changes. Where they are many, each tenth of them is reported.
+/// Tries `tries` changes. Where they are many, each tenth of them is reported.
 pub(crate) fn run_reported<T: Sink>(
     search: &mut Search<'_>,
     tries: u64,

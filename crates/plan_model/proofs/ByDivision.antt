@@ -20,7 +20,7 @@ ops_split : (setup si so p : ℕ) → ops_of setup si so p ≡ replicate setup S
 unfolding ops_of
 ops_split setup si so p = append_assoc (replicate setup Setup) (replicate si Shift) (captures (max si so) so p 1 p)
 
--- so many replicas less
+-- without the first `n` of `s` replicas
 drop-replicate : (n s : ℕ) (x : Operation) (rest : List Operation) → n ≤ s → drop n (replicate s x ++ rest) ≡ replicate (s - n) x ++ rest
 drop-replicate zero s x rest h = let e : s - 0 ≡ s = omega arith in rw e refl
 drop-replicate (suc n) zero x rest h = absurd (omega arith)
@@ -37,7 +37,7 @@ drop-past (suc s) n x rest = let e : suc s + n ≡ suc (s + n) = omega arith in 
 block_of : (b l p k m : ℕ) → captures b l p k (suc m) ≡ Capture k ∷ (replicate (cond (ltb k p) b l) Shift ++ captures b l p (k + 1) m)
 block_of b l p k m = refl
 
--- so many blocks later
+-- `d` blocks later
 blocks_on : (b l p k m d r : ℕ) → k + m ≡ suc p → d < m → drop (d * (1 + b) + r) (captures b l p k m) ≡ drop r (captures b l p (k + d) (m - d))
 blocks_on b l p k zero d r e h = absurd (omega arith)
 blocks_on b l p k (suc m) zero r e h =

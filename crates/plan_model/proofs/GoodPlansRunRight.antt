@@ -262,7 +262,7 @@ one_stand soc plan i t at stand =
     let cells : t.cells ≡ cells_of o.l.core o.l.test.scan = ap (λ (t : PlannedTest). t.cells) (sym o.is) ∙ planned_cells plan o.l.place o.l.core o.l.test in
     place_once o.l.core o.l.test.scan t.chains (rw cells at stand)
 
--- a cell that is read so many places from the end stands there
+-- a cell at place `r` of the reversed list stands `r` places from the end
 stands_at : (cells : List Cell) (r : ℕ) (x : Cell) → slice_get (reverse cells) r ≡ Some x → (r < length cells) × (slice_get cells (length cells - 1 - r) ≡ Some x)
 stands_at cells r x at =
     let long : length (reverse cells) ≡ length cells = length-reverse cells in

@@ -42,7 +42,7 @@ law_by_place t setup si so p ops long enough_in enough_out ends = record {
   reads = λ n k r e h. reads_of t si so n k r enough_out long ends (block_of t setup si so p n k ops e) h;
 }
 
--- the cell so many places from the end
+-- the cell `r` places from the end
 pub reverse_is : (cells : List Cell) (r : ℕ) (x : Cell) → slice_get (reverse cells) r ≡ Some x → from_end cells r ≡ x
 reverse_is cells r x at =
     let within : r < length (reverse cells) = slice_get_within (reverse cells) r x at in

@@ -9,7 +9,7 @@ use Rattle.plan_model.specs.Plans.{ProfileValue, LimitsValue, PlannedTest, is_ac
 use Rattle.plan_model.proofs.Sums.{sum_by-le_at, sum_by-filter}
 use Rattle.plan_model.proofs.Lists.{none_of}
 
--- a step begins so many cycles after the start
+-- a step begins `r` cycles after the start
 abbrev pub begins : ℕ → List (ℕ × ℕ) → Bool
 begins r steps = list_any (λ (s : ℕ × ℕ). nat_eq s.0 r) steps
 

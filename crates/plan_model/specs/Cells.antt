@@ -23,7 +23,7 @@ is_read (In k) = false
 is_read (Flop c i) = true
 is_read (Out k) = true
 
--- one chain of a wrapper: so many input cells, these scan chains, so many output cells
+-- one chain of a wrapper: `ins` input cells, the scan chains `scans`, and `outs` output cells
 pub record ChainValue : Type 0 where
   pub ins : ℕ
   pub scans : List ℕ
@@ -33,7 +33,7 @@ pub record ChainValue : Type 0 where
 abbrev pub flops : (lengths : List ℕ) (chain : ℕ) → List Cell
 flops lengths c = map (λ i. Flop c i) (range_with_len 0 (slice_index lengths c))
 
--- so many cells of input terminals, by number, and the same of output terminals
+-- `count` cells of input terminals, numbered from `from` on, and the same of output terminals
 abbrev pub in_cells : (from count : ℕ) → List Cell
 in_cells from count = map (λ k. In k) (range_with_len from count)
 
@@ -76,10 +76,10 @@ IsStimulusBit m scan x n = slice_get (stimulus_cells m scan) n ≡ Some x
 abbrev pub IsResponseBit : ModuleValue → Bool → Cell → ℕ → Type 0
 IsResponseBit m scan x n = slice_get (response_cells m scan) n ≡ Some x
 
--- so many cells of a chain are loaded
+-- how many cells of a chain are loaded
 abbrev pub in_length : List Cell → ℕ
 in_length cells = count_by is_loaded cells
 
--- so many cells of a chain are read
+-- how many cells of a chain are read
 abbrev pub out_length : List Cell → ℕ
 out_length cells = count_by is_read cells

@@ -32,7 +32,7 @@ moment_behind moment.Setup = None
 moment_behind (moment.Shift a b) = option_map turn_value b
 moment_behind (moment.Capture k) = None
 
--- the bit that a chain wants so many Shifts before a capture
+-- the bit that a chain wants at a Shift, given the number of Shifts between it and the next capture, and the pattern of that
 abbrev pub wanted_by : (stimulus : ℕ → Cell → Bool) → List Cell → Option (ℕ × ℕ) → Bool
 wanted_by stimulus cells None = false
 wanted_by stimulus cells (Some a) = if nat_lt a.0 (in_length cells) then stimulus a.1 (get_or cells a.0 (In 0)) else false

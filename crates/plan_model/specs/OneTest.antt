@@ -12,7 +12,7 @@ pub record ChainTest : Type 0 where
   pub initial : List Bool
   pub operations : List Operation
 
--- the bits of the chain after so many operations
+-- the bits of the chain after a number of operations
 unfoldable pub bits_after : ChainTest → ℕ → List Bool
 bits_after t zero = t.initial
 bits_after t (suc n) =

@@ -163,7 +163,7 @@ uses c x t = t.tam && (is_active c t && (nat_le t.first_wire x && nat_lt x (t.fi
 abbrev pub users : List PlannedTest → ℕ → ℕ → List PlannedTest
 users tests c x = filter (uses c x) tests
 
--- The power of a test, so many cycles after its start: of the last step of its profile that is from then or before.
+-- The power of a test, `r` cycles after its start: of the last step of its profile that is from then or before.
 abbrev pub step_power : ℕ → ℕ → List (ℕ × ℕ) → ℕ
 step_power r now [] = now
 step_power r now (s ∷ steps) = if nat_le s.0 r then step_power r s.1 steps else step_power r now steps
@@ -172,7 +172,7 @@ step_power r now (s ∷ steps) = if nat_le s.0 r then step_power r s.1 steps els
 abbrev pub power_of_id : LimitsValue → TestId → ℕ → ℕ → ℕ
 power_of_id limits id own r = of_first (λ (p : ProfileValue). same_test p.test id) (λ p. step_power r 0 p.steps) own limits.profiles
 
--- what a planned test draws, so many cycles after its start
+-- what a planned test draws, `r` cycles after its start
 abbrev pub power_of : LimitsValue → PlannedTest → ℕ → ℕ
 power_of limits t r = power_of_id limits t.id t.power r
 

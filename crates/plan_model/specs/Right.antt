@@ -34,7 +34,7 @@ pub record Loads (content : Content) (tests : List PlannedTest) (i : ℕ) (t : P
 -- ---- reads
 
 -- At cycle `c` wire `w` shows the bit of response `k` for cell `x`: the cell stands `shifts` places from the end of its
--- chain, within the out-length, and so many Shifts lie between the capture and the cycle.
+-- chain, within the out-length, and this number of Shifts lies between the capture and the cycle.
 pub record IsReadAt (t : PlannedTest) (k : ℕ) (x : Cell) (c w : ℕ) : Type 0 where
   pub chain : ℕ
   pub cells : List Cell

@@ -156,7 +156,7 @@ Keeps soc limits plan Cycles = plan.cycles ≡ greatest (map end_of (planned soc
 abbrev pub IsGood : SocValue → LimitsValue → PlanValue → Type 0
 IsGood soc limits plan = (r : Rule) → Keeps soc limits plan r
 
--- every good plan has at least so many cycles
+-- every good plan has at least `b` cycles
 abbrev pub IsBound : SocValue → LimitsValue → ℕ → Type 0
 IsBound soc limits b = (plan : PlanValue) → IsGood soc limits plan → b ≤ plan.cycles
 

@@ -51,7 +51,7 @@ pub fn tests_are_short()
         t.start ≤ START_MOST → end_of t ≤ PLAN_NUMBER_MOST }
 {}
 
-/// No proper wrapper on so many wires makes a test shorter than its lower time; that of a self test is its cycles.
+/// No proper wrapper of 1 to `w` chains makes a test shorter than its lower time on `w` wires; that of a self test is its cycles.
 pub fn lower_times_are_least()
     ensures over_wires { (m : ModuleValue) (t : Test) (chains : List ChainValue) (w : ℕ) → t.tam ≡ true → 1 ≤ t.patterns →
         1 ≤ length chains → length chains ≤ w → IsProper m t.scan chains →

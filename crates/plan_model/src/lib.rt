@@ -66,7 +66,7 @@ pub struct Bus {
     pub modules: Vec<u64>,
 }
 
-/// One chain of a wrapper: so many input cells, these scan chains, and so many output cells, from wire in to wire out.
+/// One chain of a wrapper: `ins` input cells, the scan chains `scans`, and `outs` output cells, from wire in to wire out.
 #[derive(Drop)]
 pub struct ChainPlan {
     /// Cells of input terminals.

@@ -65,7 +65,7 @@ pub struct Phases {
 }
 
 impl Phases {
-    /// What the test does so many cycles after its start, counted from 0, and how many Shifts lie between this cycle and the
+    /// What the test does `cycle` cycles after its start, counted from 0, and how many Shifts lie between this cycle and the
     /// captures ahead and behind.
     pub fn at(&self, cycle: u64) -> Moment
         requires phases { ArePhases self.now }
@@ -98,7 +98,7 @@ impl Phases {
         }
     }
 
-    /// What the test does so many cycles after its first capture. Each block begins with a capture, and each but the last
+    /// What the test does `cycle` cycles after its first capture. Each block begins with a capture, and each but the last
     /// has as many Shifts as the longest path has cells.
     fn in_block(&self, cycle: u64) -> Moment
         requires phases { ArePhases self.now }
@@ -121,7 +121,7 @@ impl Phases {
         }
     }
 
-    /// The capture that comes so many Shifts later, after a block.
+    /// The capture that comes `shifts` Shifts later, after a block.
     fn capture_after(&self, block: u64, shifts: u64) -> Option<Turn>
         requires { block + 2 < 2 ^ 64 }
         ensures { result ≡ cond (nat_lt (suc block) self.now.patterns) (Some (record { shifts = shifts; pattern = suc (suc block) })) None }

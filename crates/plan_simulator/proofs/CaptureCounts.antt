@@ -69,7 +69,7 @@ planned_captures plan place m test = elim (cases_Bool test.tam) [
 abbrev capture_at : PlannedTest → ℕ → ℕ
 capture_at t c = cond (is_capture (operation_at t c)) 1 0
 
--- a capture, so many cycles after the start
+-- a capture, `n` cycles after the start
 abbrev capture_after : List Operation → ℕ → ℕ
 capture_after ops n = cond (is_capture (slice_get ops n)) 1 0
 

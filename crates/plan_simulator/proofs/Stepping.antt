@@ -48,7 +48,7 @@ pub record IsCycle (drive : List Bool) (old new : ChipValue) : Type 0 where
   pub captures : new.captures ≡ old.captures + captures_at (chip_tests old) old.cycle
   pub right_loads : new.right_loads ≡ old.right_loads + right_loads_at (chip_content old) (chip_tests old) old.cycle old.state
 
--- the value of a chip that is after so many cycles
+-- the value of a chip after `c` cycles
 abbrev run_value : SocValue → PlanValue → ℕ → ℕ → ChipValue
 run_value soc plan seed c = record {
   soc = soc;

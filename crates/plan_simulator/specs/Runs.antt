@@ -7,7 +7,7 @@ use Rattle.plan_model.specs.Plans.{PlanValue, PlannedTest, planned}
 use Rattle.plan_model.specs.Runs.{Content, state_at}
 use Rattle.bit_machine.specs.Chips.{made_content, captures_at, right_loads_at}
 
--- the captures of all tests in so many cycles
+-- the captures of all tests in the first `cycles` cycles
 abbrev pub captures_in : List PlannedTest → (cycles : ℕ) → ℕ
 captures_in tests cycles = sum_below (captures_at tests) cycles
 

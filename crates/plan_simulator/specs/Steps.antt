@@ -6,7 +6,7 @@ use Rattle.plan_model.specs.Runs.{state_at}
 use Rattle.bit_machine.specs.Chips.{ChipValue, made_content}
 use Rattle.plan_simulator.specs.Runs.{captures_in, right_loads_in}
 
--- The chip after so many cycles of the plan's own run: its bits are those of the run, and it has counted the captures so far.
+-- The chip after `cycle` cycles of the plan's own run: its bits are those of the run, and it has counted the captures so far.
 pub record IsAfter (soc : SocValue) (plan : PlanValue) (seed cycle : ℕ) (chip : ChipValue) : Type 0 where
   pub soc_is : chip.soc ≡ soc
   pub plan_is : chip.plan ≡ plan

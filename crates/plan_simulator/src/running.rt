@@ -16,7 +16,7 @@ use plan_model::Plan;
 use soc_model::Soc;
 use std::alloc::Global;
 
-/// So many bits 0.
+/// `count` bits, all 0.
 fn zero_bits(alloc: Global, count: usize) -> Result<Vec<bool>, NoMemory>
     ensures { IfOk result (λ bits. length bits.items ≡ count) }
 {

@@ -14,7 +14,7 @@ use Rattle.schedule_search.specs.Found.{IsFound}
 abbrev pub start_of : JobValue → Placement → TestId × ℕ
 start_of job p = ((test_at job p.test).id, p.start)
 
--- the starts are those of the list schedule of an order, which ends at so many cycles
+-- the starts are those of the list schedule of an order, which takes `cycles` cycles
 pub record IsSchedule (job : JobValue) (order : List ℕ) (starts : List (TestId × ℕ)) (cycles : ℕ) : Type 0 where
   pub placed : List Placement
   pub in_order : map (λ (p : Placement). p.test) placed ≡ order
@@ -45,7 +45,7 @@ pub record IsFoundList (job : JobValue) (budget : ℕ) (listed : List (TestId ×
   pub found : IsFound job budget order starts cycles complete
   pub are : AreStartsOf job order starts listed
 
--- a plan keeps the rules that look at its starts, and its last test ends at so many cycles
+-- a plan keeps the rules that look at its starts, and its last test ends after `cycles` cycles
 pub record KeepsTimes (soc : SocValue) (limits : LimitsValue) (plan : PlanValue) (cycles : ℕ) : Type 0 where
   pub starts : Keeps soc limits plan Starts
   pub wires : Keeps soc limits plan Wires

@@ -54,7 +54,7 @@ pub record IsUsedMode (soc : SocValue) (buses : List BusValue) (u : UsedMode) : 
 abbrev pub mode_of_module : SocValue → UsedMode → ℕ × Bool
 mode_of_module soc u = (number_at soc u.place, u.scan)
 
--- those are listed, of so many modules from the front on
+-- these modes have the pairs `pairs`, in this order, and each of them is used
 pub record AreUsedModes (soc : SocValue) (buses : List BusValue) (pairs : List (ℕ × Bool)) (modes : List UsedMode) : Type 0 where
   pub pairs_are : map (mode_of_module soc) modes ≡ pairs
   pub used : All (IsUsedMode soc buses) modes

@@ -88,7 +88,7 @@ takes_not o k no' is = let yes' = takes_from o k is in absurd cc
 
 -- ---- a timeline and the placed tests
 
--- a test of so many cycles from a start meets this time
+-- a test of `length'` cycles from a start meets this time
 abbrev meets : (length' start : ℕ) → Span → Bool
 meets length' start s = nat_lt start s.to && nat_lt s.from (start + length')
 

@@ -14,7 +14,7 @@ use Rattle.resource_table.specs.BusyTimes.{timeline_of, AreTimelines, AreTimes, 
 use Rattle.resource_table.proofs.Places.{all_from}
 use Rattle.resource_table.proofs.Spans.{read_at, set_here, set_there}
 
--- the first so many timelines have no times; all have the room that they had
+-- the first `count` timelines have no times; all have the room that they had
 pub record AreClearedTo (count : ℕ) (old now : List Timeline) : Type 0 where
   pub long : length now ≡ length old
   pub empty : (k : ℕ) (line : Timeline) → k < count → slice_get now k ≡ Some line → line.spans.items ≡ []

@@ -46,7 +46,7 @@ test_over_at (bus ∷ buses) [] [] i lt b l = absurd (omega (arith, lt))
 test_over_at [] lengths (t ∷ tests) i lt b l = absurd (omega (arith, b))
 test_over_at [] lengths [] i lt b l = absurd (omega (arith, lt))
 
--- the first so many are over their buses, the others as they were
+-- the first `p` are over their buses, the others as they were: with the one at place `p` set, the first `p + 1` are
 pub over_more : (buses : List (Option ℕ)) (lengths : List ℕ) (tests : List TestValue) (p : ℕ) → p < length tests → length buses ≡ length tests → length lengths ≡ length tests →
     tests_over (take (suc p) buses) (take (suc p) lengths) tests ≡ set (tests_over (take p buses) (take p lengths) tests) p (test_over (get_or buses p None) (get_or lengths p 0) (get_or tests p no_test))
 over_more (bus ∷ buses) (cycles ∷ lengths) (t ∷ tests) zero lt b l = refl

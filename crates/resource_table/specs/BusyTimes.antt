@@ -13,7 +13,7 @@ use Rattle.resource_table.specs.Jobs.{TestValue, JobValue, test_at}
 use Rattle.resource_table.specs.LatestEnds.{IsLater, IsBack, AreLatestEnds}
 use Rattle.resource_table.specs.Schedules.{is_at, end_of}
 
--- a test of so many cycles from a start doesn't meet this time
+-- a test of `length` cycles from a start doesn't meet this time
 abbrev pub IsClear : (length start : ℕ) → Span → Type 0
 IsClear length start s = (s.to ≤ start) ⊎ (start + length ≤ s.from)
 

@@ -15,7 +15,7 @@ abbrev pub rewound : List Change → List Note → List Note
 rewound [] values = values
 rewound (c ∷ later) values = slice_set (rewound later values) c.place c.was
 
--- the notes as they were after so many changes
+-- the notes as they were after the first `n` changes
 abbrev pub at_change : History → ℕ → List Note
 at_change h n = rewound (drop n h.log.items) h.values.items
 

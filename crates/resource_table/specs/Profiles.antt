@@ -58,7 +58,7 @@ HaveMarkMore cycle old new =
 abbrev pub raised_by : Draw → Point → Point
 raised_by d p = record { cycle = p.cycle; load = p.load + taken_by p.cycle d; uses = p.uses }
 
--- from a cycle on so much is left free for so many cycles
+-- from a cycle on the load is at most `free` for `width` cycles
 abbrev pub IsFreeFor : (load : ℕ → ℕ) (free width from : ℕ) → Type 0
 IsFreeFor load free width from = (c : ℕ) → from ≤ c → c < from + width → load c ≤ free
 

@@ -8,7 +8,7 @@ use Rattle.resource_table.specs.Schedules.{end_of}
 
 -- ---- power
 
--- where a step ends, so many cycles after the start: where the next one begins, and with the test at the latest
+-- where a step ends, in cycles after the start: where the next one begins, and with the test at the latest
 abbrev pub step_end : (length : ℕ) → (next : List (ℕ × ℕ)) → ℕ
 step_end length [] = length
 step_end length (s ∷ next) = min s.0 length

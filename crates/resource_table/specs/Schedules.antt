@@ -43,7 +43,7 @@ exclude t u = (same_bus t.bus u.bus || nat_eq t.place u.place) || (is_at t.paren
 
 -- ---- power
 
--- what a test draws so many cycles after its start: the power of its last step that is from then or before
+-- what a test draws `r` cycles after its start: the power of its last step that is from then or before
 abbrev pub power_of : JobValue → ℕ → ℕ → ℕ
 power_of job test r = step_power r 0 (test_at job test).steps
 

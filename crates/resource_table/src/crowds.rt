@@ -86,8 +86,8 @@ fn last_crowd(points: &[Point], from: usize, to: usize, free: u64) -> Option<usi
     None
 }
 
-/// The least cycle from `from` on from which no more than so much is drawn for so many cycles. The point that tells the load at
-/// `from` is sought from a near place. From each start the last crowd that it meets is looked for, from the last of its cycles back,
+/// The least cycle from `from` on from which no more than `free` is drawn for `width` cycles. The point that has the load at `from`
+/// is looked for from a near place. From each start the last crowd that it meets is looked for, from the last of its cycles back,
 /// and where that crowd ends is the next start: no earlier one is free of it. So each point is looked at once at most, and what
 /// stands before the last crowd isn't looked at.
 pub fn after_crowds(

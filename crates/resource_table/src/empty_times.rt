@@ -63,7 +63,7 @@ fn count_one(counts: &mut [usize], place: Option<usize>)
     }
 }
 
-/// For each of so many timelines of a kind how many tests take it.
+/// For each of `count` timelines of a kind how many tests take it.
 fn count_takers(
     alloc: Global,
     tests: &[JobTest],
@@ -82,7 +82,7 @@ fn count_takers(
     Ok(counts)
 }
 
-/// An empty timeline with room for so many times.
+/// An empty timeline with room for `room` times.
 fn empty_timeline(alloc: Global, room: usize) -> Result<Timeline, NoMemory>
     ensures empty { IfOk result (λ line. line.spans.items ≡ []) }
     ensures room { IfOk result (λ line. room ≤ vec_capacity line.spans) }
@@ -91,7 +91,7 @@ fn empty_timeline(alloc: Global, room: usize) -> Result<Timeline, NoMemory>
     Ok(Timeline { spans })
 }
 
-/// Empty timelines, each with room for so many times.
+/// Empty timelines, one for each number of `rooms`, with room for this number of times.
 fn timelines_of_rooms(alloc: Global, rooms: &[usize]) -> Result<Vec<Timeline>, NoMemory>
     ensures long { IfOk result (λ lines. length lines.items ≡ length rooms.now) }
     ensures empty { IfOk result (λ lines. (k : ℕ) (line : Timeline) → slice_get lines.items k ≡ Some line → line.spans.items ≡ []) }
@@ -105,7 +105,7 @@ fn timelines_of_rooms(alloc: Global, rooms: &[usize]) -> Result<Vec<Timeline>, N
     Ok(lines)
 }
 
-/// The same room so many times.
+/// The same room, `count` times.
 fn equal_rooms(alloc: Global, room: usize, count: usize) -> Result<Vec<usize>, NoMemory>
     ensures { IfOk result (λ rooms. rooms.items ≡ replicate count room) }
 {

@@ -37,7 +37,7 @@ pub struct History {
 /// Nothing is noted.
 const NO_NOTE: Note = Note { start: 0, depth: 0 };
 
-/// So many empty notes, with room for so many marks and changes.
+/// `count` empty notes, with room for `marks` marks and `changes` changes.
 pub fn new_history(
     alloc: Global,
     count: usize,

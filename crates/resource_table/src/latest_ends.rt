@@ -15,7 +15,7 @@ pub struct LatestEnds {
     pub before: Vec<u64>,
 }
 
-/// Ends for so many modules, with room for the placing of so many tests.
+/// Ends for `modules` modules, with room for the placing of `tests` tests.
 pub fn new_latest_ends(alloc: Global, modules: usize, tests: usize) -> Result<LatestEnds, NoMemory>
     ensures ends { IfOk result (λ latest. length latest.ends.items ≡ modules) }
     ensures before { IfOk result (λ latest. latest.before.items ≡ []) }

@@ -92,7 +92,7 @@ fn remove_mark(points: &mut Vec<Point>, near: usize, cycle: u64) -> usize
     place
 }
 
-/// Sees to room for so many points more, where the marks leave it.
+/// Makes room for `more` further points, where the marks leave it.
 fn make_room(points: &mut Vec<Point>, more: usize)
     requires room { all_uses points.old.items + more ≤ vec_capacity points.old }
     ensures points { (held : List Draw) (cycles : List ℕ) → ArePoints held cycles points.old.items →
@@ -105,7 +105,7 @@ fn make_room(points: &mut Vec<Point>, more: usize)
     }
 }
 
-/// How many of so many first marks of a test find no point at their cycle. Marks of one cycle that follow each other count once.
+/// How many of the first `first` marks of a test find no point at their cycle. Marks of one cycle that follow each other count once.
 fn missing(points: &[Point], draws: &[Draw], from: usize, start: u64, first: usize) -> usize
     requires from { from ≤ length draws.now }
     requires first { first ≤ length draws.now - from + 1 }
@@ -128,8 +128,8 @@ fn missing(points: &[Point], draws: &[Draw], from: usize, start: u64, first: usi
     count
 }
 
-/// Puts spare points behind the place of the last of so many first marks of a test, where several of them find no point at their
-/// cycle, in room that is there. The first place of a spare point is answered, and without one a place past all points.
+/// Puts spare points behind the place of the last of the first `first` marks of a test, where several of them find no point at
+/// their cycle, in room that is there. The first place of a spare point is answered, and without one a place past all points.
 fn open_gap(points: &mut Vec<Point>, draws: &[Draw], from: usize, start: u64, first: usize) -> usize
     requires from { from ≤ length draws.now }
     requires first { first ≤ length draws.now - from + 1 }
@@ -199,8 +199,8 @@ fn add_standing(points: &mut Vec<Point>, draws: &[Draw], from: usize, start: u64
     (left, near)
 }
 
-/// Adds so many first marks of a test with the draws from a place on, where the others are in the profile, in room that these leave.
-/// The last of them is sought from a near place. The place of its start is answered.
+/// Adds the first `first` marks of a test with the draws from a place on, where the others are in the profile, in room that these
+/// leave. The last of them is looked for from a near place. The place of the test's start is answered.
 fn add_first(
     points: &mut Vec<Point>,
     last: usize,

@@ -33,7 +33,7 @@ fn is_passed(points: &[Point], place: usize, cycle: u64) -> bool
     place > 0 && points[place - 1].cycle >= cycle
 }
 
-/// How many points stand before a cycle, where these are so many at least and fewer than so many more.
+/// How many points stand before a cycle, where these are at least `from` and at most `to`.
 fn places_between(points: &[Point], from: usize, to: usize, cycle: u64) -> usize
     requires order { from ≤ to }
     requires bound { to ≤ length points.now }
@@ -56,7 +56,7 @@ fn places_between(points: &[Point], from: usize, to: usize, cycle: u64) -> usize
     low
 }
 
-/// How many points stand before a cycle, where these are so many at least. They are looked for in steps that grow eightfold.
+/// How many points stand before a cycle, where these are at least `from`. They are looked for in steps that grow eightfold.
 #[inline(never)]
 fn places_from(points: &[Point], from: usize, cycle: u64) -> usize
     requires bound { from ≤ length points.now }
@@ -78,7 +78,7 @@ fn places_from(points: &[Point], from: usize, cycle: u64) -> usize
     places_between(points, low, points.len(), cycle)
 }
 
-/// How many points stand before a cycle, where these are so many at most. They are looked for in steps that grow eightfold.
+/// How many points stand before a cycle, where these are at most `to`. They are looked for in steps that grow eightfold.
 #[inline(never)]
 fn places_up_to(points: &[Point], to: usize, cycle: u64) -> usize
     requires bound { to ≤ length points.now }

@@ -50,8 +50,8 @@ pub fn push_draws(draws: &mut Vec<Draw>, steps: &[(u64, u64)], start: u64, lengt
     }
 }
 
-/// The least start from `start` on at which a step of a test leaves the load within what is free: the step is from so many
-/// cycles after the start of the test on up to so many cycles after it. Its points are sought from a near place.
+/// The least start from `start` on at which a step of a test leaves the load within what is free: the step is from `offset`
+/// cycles after the start of the test on up to `end` cycles after it. Its points are looked for from a near place.
 fn after_step(
     points: &[Point],
     near: usize,
@@ -96,8 +96,8 @@ struct Look {
     start: u64,
 }
 
-/// A place near to the point at which a step begins, from a near one; that one where the step is over as it begins. The step is from so
-/// many cycles after a start on up to so many after it.
+/// A place near to the point at which a step begins, from a near one; that one where the step is over as it begins. The step is from
+/// `offset` cycles after a start on up to `end` cycles after it.
 fn near_step(points: &[Point], near: usize, offset: u64, end: u64, start: u64) -> usize
     requires { IsNonDecreasingBy (λ (p : Point). p.cycle) points.now }
 {

@@ -110,7 +110,7 @@ fn add_draws(points: &mut Vec<Point>, draws: &[Draw], from: usize, start: u64, l
     }
 }
 
-/// Takes away all draws but so many first ones: those of a test from a start.
+/// Takes away all draws but the first `count`: those of a test from a start.
 fn take_draws(points: &mut Vec<Point>, draws: &[Draw], count: usize, start: u64)
     requires count { count ≤ length draws.now }
     requires points { (cycles : List ℕ) × ArePoints draws.now (marks_from start (drop count draws.now) ++ cycles) points.old.items }
@@ -151,7 +151,7 @@ pub fn add_drawn(
     }
 }
 
-/// Under a limit on power, takes away all draws but so many first ones: those of a test from a start. Without a limit no
+/// Under a limit on power, takes away all draws but the first `count`: those of a test from a start. Without a limit no
 /// profile is kept.
 pub fn take_drawn(
     limit: Option<u64>,

@@ -7,7 +7,7 @@ ghost use Rattle.resource_table.specs.Profiles.{no_point};
 
 use crate::points::{Point, put_point, stands_at};
 
-/// Adds so many copies of a point behind all others, in room that is there.
+/// Adds `more` copies of a point behind all others, in room that is there.
 fn push_copies(points: &mut Vec<Point>, more: usize, point: Point)
     requires room { length points.old.items + more ≤ vec_capacity points.old }
     ensures items { points.new.items ≡ points.old.items ++ replicate more point }
@@ -19,7 +19,7 @@ fn push_copies(points: &mut Vec<Point>, more: usize, point: Point)
     }
 }
 
-/// Puts so many spare points before a place, in room that is there. They stand at the cycle of the point before it.
+/// Puts `more` spare points before a place, in room that is there. They stand at the cycle of the point before it.
 pub fn put_spares(points: &mut Vec<Point>, place: usize, more: usize)
     requires first { 1 ≤ place }
     requires place { place ≤ length points.old.items }

@@ -131,7 +131,7 @@ fn no_ends(alloc: Global, tests: usize) -> Result<Vec<Option<u64>>, NoMemory>
     vec![in alloc; None; tests].map_err(|_| NoMemory)
 }
 
-/// A trail with room for so many placements.
+/// A trail with room for `tests` placements.
 fn new_trail(alloc: Global, tests: usize) -> Result<SmallVec<Placement, 16>, NoMemory>
     ensures items { IfOk result (λ trail. trail.items ≡ []) }
     ensures room { IfOk result (λ trail. tests ≤ trail.capacity) }
@@ -141,7 +141,7 @@ fn new_trail(alloc: Global, tests: usize) -> Result<SmallVec<Placement, 16>, NoM
     Ok(trail)
 }
 
-/// Ends with room for so many.
+/// No ends yet, with room for those of `tests` tests.
 fn new_lasts(alloc: Global, tests: usize) -> Result<Vec<u64>, NoMemory>
     ensures items { IfOk result (λ lasts. lasts.items ≡ []) }
     ensures room { IfOk result (λ lasts. tests ≤ vec_capacity lasts) }
@@ -181,7 +181,7 @@ struct Rows {
     bounds: History,
 }
 
-/// Rows in which none of so many tests is placed, with room for all of them and for their steps.
+/// Rows in which none of `tests` tests is placed, with room for all of them and for their steps.
 fn new_rows(alloc: Global, tests: usize, steps: usize) -> Result<Rows, NoMemory>
     ensures { IfOk result (AreEmptyRows tests steps) }
 {
@@ -231,7 +231,7 @@ fn clear_trail(trail: &mut SmallVec<Placement, 16>)
     trail.clear();
 }
 
-/// Lets a test go over a bus and take so many cycles.
+/// Lets a test go over a bus and take `length` cycles.
 fn send_one_over(test: &mut JobTest, bus: Option<usize>, length: u64)
     ensures { test_value test.new ≡ test_over bus length (test_value test.old) }
 {

@@ -209,8 +209,8 @@ fn take_span(spans: &mut Vec<Span>, span: Span)
     spans.remove(place);
 }
 
-/// The least start from `start` on at which a test of so many cycles meets none of these times, of which the first ones,
-/// up to a place, have ended by `start`.
+/// The least start from `start` on at which a test of `length` cycles meets none of these times, of which the first `first`
+/// have ended by `start`.
 fn after_spans(spans: &[Span], first: usize, length: u64, start: u64, last: u64) -> u64
     requires start { start ≤ last }
     requires last { last + length < 2 ^ 63 }
@@ -234,7 +234,7 @@ fn after_spans(spans: &[Span], first: usize, length: u64, start: u64, last: u64)
     next
 }
 
-/// The least start from `start` on at which a test of so many cycles meets nothing of the timeline at a place, where there
+/// The least start from `start` on at which a test of `length` cycles meets nothing of the timeline at a place, where there
 /// is one. The times of a timeline don't overlap here.
 fn after_alone(lines: &[Timeline], place: Option<usize>, length: u64, start: u64, last: u64) -> u64
     requires start { start ≤ last }
@@ -263,7 +263,7 @@ fn after_alone(lines: &[Timeline], place: Option<usize>, length: u64, start: u64
     after_spans(spans, first, length, start, last)
 }
 
-/// The least start from `start` on at which a test of so many cycles meets nothing of the timeline at a place, where there
+/// The least start from `start` on at which a test of `length` cycles meets nothing of the timeline at a place, where there
 /// is one. The times of a timeline may overlap here.
 fn after_together(lines: &[Timeline], place: usize, length: u64, start: u64, last: u64) -> u64
     requires start { start ≤ last }
@@ -282,7 +282,7 @@ fn after_together(lines: &[Timeline], place: usize, length: u64, start: u64, las
     after_spans(&line.spans, 0, length, start, last)
 }
 
-/// The least start from `start` on at which a test of so many cycles meets no child of the module at a place. Mostly these have
+/// The least start from `start` on at which a test of `length` cycles meets no child of the module at a place. Mostly these have
 /// all ended.
 fn after_children(times: &Timelines, place: usize, length: u64, start: u64, last: u64) -> u64
     requires start { start ≤ last }

@@ -18,7 +18,7 @@ use width_table::WidthTable;
 /// The most wires of a table.
 const WIRES_MOST: u64 = 256;
 
-/// The start solution for so many of the wires of a table, with the other wires given to its buses.
+/// The start solution for `first` of the wires of a table, with the other wires given to its buses.
 fn start_for(alloc: Global, soc: &Soc, table: &WidthTable<'_>, first: u64) -> Result<Arch, NoMemory>
     requires sound { IsSoundChip (soc_value soc.now) }
     requires table { table.now.soc ≡ soc_value soc.now }
@@ -70,7 +70,7 @@ fn push_arch(text: &mut Vec<u8>, table: &WidthTable<'_>, arch: &Arch) -> Result<
     Ok(())
 }
 
-/// The start solution for so many wires, with the other wires given to its buses, and what a kind of step makes of it.
+/// The start solution for `first` of `wires` wires, with the other wires given to its buses, and what a kind of step makes of it.
 fn text_of_step(
     alloc: Global,
     soc: &Soc,

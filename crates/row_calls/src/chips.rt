@@ -25,7 +25,7 @@ pub struct Wires {
     pub read: Vec<bool>,
 }
 
-/// So many bits 0.
+/// `count` bits, all 0.
 fn zero_bits(alloc: Global, count: usize) -> Result<Vec<bool>, NoMemory>
     ensures { IfOk result (λ bits. length bits.items ≡ count) }
 {
@@ -33,7 +33,7 @@ fn zero_bits(alloc: Global, count: usize) -> Result<Vec<bool>, NoMemory>
 }
 
 impl Wires {
-    /// So many wires.
+    /// `count` wires, with all bits 0.
     fn new(alloc: Global, count: usize) -> Result<Wires, NoMemory>
         ensures { IfOk result (λ wires. IsWide count wires) }
     {

@@ -10,7 +10,7 @@ pub enum RowLine<'a> {
         name: &'a str,
         text: &'a str,
     },
-    /// `more N NAME TEXT`: the file NAME holds so many copies of the text behind what it has.
+    /// `more N NAME TEXT`: the file NAME holds N copies of the text behind what it has.
     More {
         name: &'a str,
         copies: u64,
@@ -34,7 +34,7 @@ pub enum RowLine<'a> {
     Loads {
         failing: &'a str,
     },
-    /// `puts ROOM MOST N ..`: the output of each run from here on has room for so many bytes, takes at most MOST of them
+    /// `puts ROOM MOST N ..`: the output of each run from here on has room for ROOM bytes, takes at most MOST of them
     /// a call, and fails at the calls N, counted from 0. `puts` alone: room for every answer, seven bytes a call.
     Puts {
         shape: &'a str,

@@ -123,7 +123,7 @@ impl Rig {
         self.hold_bytes(name, bytes)
     }
 
-    /// Has a file hold so many copies of a text behind what it holds.
+    /// Appends `copies` copies of a text to what a file holds.
     pub fn hold_more(&mut self, name: &str, copies: u64, text: &str) -> Result<(), NoMemory> {
         let text = bytes_of_text(self.alloc, text)?;
         let mut bytes = copied(self.alloc, self.bytes_of(name))?;

@@ -77,7 +77,7 @@ top_module = record {
   tests = [];
 }
 
--- so many made modules, below the chip's own
+-- `n` made modules, below the chip's own
 abbrev pub made_chip : (n seed : ℕ) → SocValue
 made_chip n seed = record {
   name = codes "sample";

@@ -84,7 +84,7 @@ fn start_chip(alloc: Global, seed: u64) -> Result<Soc, NoMemory>
     Ok(soc)
 }
 
-/// Adds so many made modules.
+/// A chip of its own module and `n` made ones.
 fn make_chip(alloc: Global, n: u64, seed: u64) -> Result<Soc, NoMemory>
     requires few { n ≤ 200 }
     requires seed { seed < 10 ^ 12 }
@@ -98,7 +98,7 @@ fn make_chip(alloc: Global, n: u64, seed: u64) -> Result<Soc, NoMemory>
     Ok(soc)
 }
 
-/// The made chip of so many modules, 1 to [`SAMPLE_MODULES_MOST`], and a seed: a sound chip whose module 0 has nothing, and
+/// The made chip of `n` modules, 1 to [`SAMPLE_MODULES_MOST`], and a seed: a sound chip whose module 0 has nothing, and
 /// whose other modules have up to nine scan chains, a test over the wires, and some a self test; none draws more than 99. `SampleSize`
 /// comes exactly where the number of modules is 0 or more than that; `NoMemory` where there is no memory for the chip.
 pub fn sample(alloc: Global, n: u64, seed: u64) -> Result<Soc, SampleFault>

@@ -24,7 +24,7 @@ by_length_row = refl
 walk_row : walk three_job ≡ [] ∷ (2 ∷ []) ∷ (2 ∷ 0 ∷ []) ∷ (2 ∷ 0 ∷ 1 ∷ []) ∷ (0 ∷ []) ∷ (0 ∷ 1 ∷ []) ∷ (0 ∷ 1 ∷ 2 ∷ []) ∷ (0 ∷ 2 ∷ []) ∷ (0 ∷ 2 ∷ 1 ∷ []) ∷ []
 walk_row = refl
 
--- a prefix of so many tests of five without precedences; the order 1, 3, 4, 2, 5 is the entry 27
+-- the walk over five tests without precedences has 326 entries; the order 1, 3, 4, 2, 5 is the entry 27
 count_row : length (walk five_job) ≡ 326
 count_row = refl
 

@@ -8,7 +8,7 @@ use Rattle.schedule_search.specs.OrderCycles.{Takes}
 use Rattle.schedule_search.specs.Exchanges.{NoExchangeHelps}
 use Rattle.schedule_search.specs.Walks.{stands_before, IsWithinBudget, HasMoreOpen}
 
--- the list schedule of an order has these starts, in its order, and takes so many cycles
+-- the list schedule of an order has these starts, in its order, and takes `cycles` cycles
 pub record HasStarts (job : JobValue) (order starts : List ℕ) (cycles : ℕ) : Type 0 where
   pub placed : List Placement
   pub in_order : map (λ (p : Placement). p.test) placed ≡ order

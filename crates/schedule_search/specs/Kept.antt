@@ -9,7 +9,7 @@ use Rattle.schedule_search.specs.Orders.{IsFirstOrder}
 use Rattle.schedule_search.specs.Prefixes.{HasPrefixRoom}
 use Rattle.schedule_search.specs.Progress.{AreTries}
 
--- room for so many tests
+-- room for `tests` tests
 pub record HasRoom (tests : ℕ) (room : WalkRoom) : Type 0 where
   pub prefix : HasPrefixRoom tests room.prefix
   pub best : tests ≤ vec_capacity room.progress.best

@@ -5,14 +5,14 @@ use Rattle.resource_table.specs.Jobs.{JobValue, cycles_of}
 use Rattle.resource_table.specs.Schedules.{TableValue, ready_at, is_placed, IsEarliest}
 use Rattle.schedule_search.specs.declared.walk.Seen.{Seen}
 
--- a test that isn't placed ends, if it is placed now, as late as so many cycles, or later
+-- a test that isn't placed ends, if it is placed now, at `cycles` or later
 pub record IsLateAt (t : TableValue) (cycles : ℕ) : Type 0 where
   pub test : ℕ
   pub in_job : test < length t.job.tests
   pub unplaced : is_placed t.placed test ≡ false
   pub late : (start : ℕ) → IsEarliest t.job t.placed test start → cycles ≤ start + cycles_of t.job test
 
--- each test that isn't placed is ready, and has run, before so many cycles
+-- each test that isn't placed ends before `cycles` if it starts as soon as it is ready
 abbrev pub AreInTime : TableValue → ℕ → Type 0
 AreInTime t cycles =
     (test : ℕ) → test < length t.job.tests → is_placed t.placed test ≡ false → ready_at t.job t.placed test + cycles_of t.job test < cycles

@@ -29,7 +29,7 @@ pub record AreSorted (job : JobValue) (tests : List ℕ) : Type 0 where
 abbrev pub IsWithout : (p q : ℕ → Bool) → ℕ → Type 0
 IsWithout p q x = (t : ℕ) → q t ≡ (p t && not (nat_eq x t))
 
--- so many of some tests are tried before a test, and these stand first
+-- of these tests the first `place` are tried before a test, and the others aren't
 pub record IsPlaceOf (job : JobValue) (tests : List ℕ) (test place : ℕ) : Type 0 where
   pub most : place ≤ length tests
   pub before : (k : ℕ) → k < place → goes_before job (slice_index_or tests k 0) test ≡ true
@@ -81,7 +81,7 @@ pub record AreLess (old new places : List ℕ) : Type 0 where
   pub long : length new ≡ length old
   pub are : (n : ℕ) → n < length old → slice_index_or new n 0 + times_in places n ≡ slice_index_or old n 0
 
--- room for the prefixes of so many tests
+-- room for the prefixes of `tests` tests
 pub record HasPrefixRoom (tests : ℕ) (p : Prefix) : Type 0 where
   pub tests_room : tests ≤ vec_capacity p.tests
   pub rest_room : tests ≤ vec_capacity p.rest

@@ -12,17 +12,17 @@ abbrev pub factorial : ℕ → ℕ
 factorial zero = 1
 factorial (suc n) = suc n * factorial n
 
--- how many lists of so many different things there are, taken from n: n * (n - 1) * .., which is n! / (n - count)!
+-- how many lists of `count` different things there are, taken from n: n * (n - 1) * .., which is n! / (n - count)!
 abbrev pub lists_of : (n count : ℕ) → ℕ
 lists_of n zero = 1
 lists_of zero (suc count) = 0
 lists_of (suc n) (suc count) = suc n * lists_of n count
 
--- and of at most so many
+-- and of at most `count`
 abbrev pub lists_upto : (n count : ℕ) → ℕ
 lists_upto n zero = lists_of n zero
 lists_upto n (suc count) = lists_upto n count + lists_of n (suc count)
 
--- the sum of n! / (n - k)! for k from 0 to n: so many prefixes have the orders of n tests without precedences
+-- the sum of n! / (n - k)! for k from 0 to n: how many prefixes the orders of n tests without precedences have
 abbrev pub prefixes : ℕ → ℕ
 prefixes n = lists_upto n n

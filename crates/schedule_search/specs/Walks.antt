@@ -42,7 +42,7 @@ is_in tests test = list_any (λ (other : ℕ). nat_eq other test) tests
 abbrev pub may_follow : JobValue → List ℕ → ℕ → Bool
 may_follow job prefix test = not (is_in prefix test) && list_all (is_in prefix) (tests_before test job.before)
 
--- a prefix, and then all that extend it by at most so many tests
+-- a prefix, and then all that extend it by at most a given number of tests
 abbrev pub walk_from : JobValue → ℕ → List ℕ → List (List ℕ)
 walk_from job zero prefix = prefix ∷ []
 walk_from job (suc more) prefix =
@@ -84,7 +84,7 @@ StandIn {X} [] ys = Unit {0}
 StandIn {X} (x ∷ xs) [] = ⊥
 StandIn {X} (x ∷ xs) (y ∷ ys) = ((x ≡ y) × StandIn xs ys) ⊎ StandIn (x ∷ xs) ys
 
--- more than so many entries of the walk are open
+-- more than `budget` entries of the walk are open
 pub record HasMoreOpen (job : JobValue) (budget : ℕ) : Type 0 where
   pub entries : List (List ℕ)
   pub in_walk : StandIn entries (walk job)

@@ -124,7 +124,7 @@ fn exchange_first<J>(
     exchange_from(job, table, order, 0, 0, cycles)
 }
 
-/// Exchanges neighbours in a topological order that takes so many cycles: the first exchange that gives fewer is made,
+/// Exchanges neighbours in a topological order that takes `cycles` cycles: the first exchange that gives fewer is made,
 /// again and again, until none does. Answers the cycles that the order takes then.
 pub(crate) fn improve_order<J>(
     job: &Job,

@@ -6,7 +6,7 @@ use outside::NoMemory;
 use std::alloc::Global;
 use std::mem::replace;
 
-/// Room for so many items.
+/// Room for `items` items.
 pub(crate) fn room_for<T>(alloc: Global, items: usize) -> Result<Vec<T>, NoMemory>
     ensures { IfOk result (λ room. items ≤ vec_capacity room) }
 {

@@ -52,7 +52,7 @@ pub fn walks_are_in_order()
 {}
 
 /// The walk over the orders of n tests has at most as many entries as the sum of n! / (n - k)! for k from 0 to n, and so at
-/// most as many are open. A search that may enter so many is complete. Seven tests have at most 13,700 entries.
+/// most as many are open. A search that may enter this number of prefixes is complete. Seven tests have at most 13,700 entries.
 pub fn walks_are_short()
     ensures lists { (n count : ℕ) → count ≤ n → lists_of n count * factorial (n - count) ≡ factorial n }
     ensures few { (job : JobValue) → length (walk job) ≤ prefixes (length job.tests) }

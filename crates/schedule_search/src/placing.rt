@@ -25,7 +25,7 @@ pub(crate) fn place_next<J>(table: &mut TableOf<J>, test: usize) -> u64
     start
 }
 
-/// Places the tests of an order from a place on, as long as the test that ends last ends before so many cycles, and answers
+/// Places the tests of an order from a place on, as long as the test that ends last ends before `most`, and answers
 /// where that ends. The tests before that place are placed.
 fn place_rest<J>(
     job: &Job,
@@ -58,8 +58,8 @@ fn place_rest<J>(
     last_end
 }
 
-/// The cycles that the list schedule of an order takes, where these are fewer than so many. The tests before a place are
-/// placed, and end last at `end`; the others are placed as long as that is less, and taken back.
+/// The cycles that the list schedule of an order takes, where these are fewer than `most`. The tests before a place are
+/// placed, and end last at `end`; the others are placed as long as the last end is less, and taken back.
 pub(crate) fn fewer_cycles<J>(
     job: &Job,
     table: &mut TableOf<J>,

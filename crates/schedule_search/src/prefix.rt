@@ -169,7 +169,7 @@ fn pass_left(job: &Job, rest: &mut Vec<usize>, left: usize, test: usize, next: u
 
 // Where a call takes the job and doesn't read it, its contract speaks of it.
 impl Prefix {
-    /// Room for the prefixes of so many tests.
+    /// Room for the prefixes of `tests` tests.
     pub(crate) fn new(alloc: Global, tests: usize) -> Result<Prefix, NoMemory>
         ensures { IfOk result (HasPrefixRoom tests) }
     {

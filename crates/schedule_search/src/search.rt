@@ -26,7 +26,7 @@ use resource_table::{Job, Table, TableOf};
 use std::alloc::Global;
 use std::marker::Model;
 
-/// Up to so many tests, neighbours of the best order are exchanged.
+/// Up to this number of tests, neighbours of the best order are exchanged.
 const EXCHANGED_MOST: usize = 64;
 
 /// Room for a walk, and for what it finds.
@@ -186,7 +186,7 @@ fn search_all<J, E: Estimate<J>>(
     list_starts(job, table, &room.progress.best, &mut room.starts);
 }
 
-/// Room for the best order of so many tests.
+/// Room for the best order of `tests` tests.
 fn no_progress(alloc: Global, tests: usize) -> Result<Progress, NoMemory>
     ensures { IfOk result (λ progress. tests ≤ vec_capacity progress.best) }
 {
@@ -200,7 +200,7 @@ fn no_progress(alloc: Global, tests: usize) -> Result<Progress, NoMemory>
 }
 
 impl WalkRoom {
-    /// Room for so many tests.
+    /// Room for `tests` tests.
     fn new(alloc: Global, tests: usize) -> Result<WalkRoom, NoMemory>
         ensures { IfOk result (HasRoom tests) }
     {
@@ -245,7 +245,7 @@ fn kept_for<'a>(
 }
 
 impl<'a, F: Fn(&Table<'_>, usize) -> u64> Search<'a, F> {
-    /// A search over a sound job that may enter so many prefixes of orders. All memory that it ever takes is taken here;
+    /// A search over a sound job that may enter `budget` prefixes of orders. All memory that it ever takes is taken here;
     /// `NoMemory` where there is none.
     pub fn new(
         alloc: Global,

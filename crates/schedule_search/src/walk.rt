@@ -41,7 +41,7 @@ pub(crate) struct Progress {
 pub(crate) struct Seen {
     /// The test.
     pub(crate) test: usize,
-    /// Before so many cycles the others end.
+    /// The others end before this cycle.
     pub(crate) cycles: u64,
 }
 
@@ -89,9 +89,8 @@ fn is_still_in_time(job: &Job, seen: Option<Seen>, test: usize, cycles: u64) -> 
     !job.tests[last.test].excludes(&job.tests[test])
 }
 
-/// Whether a test that isn't placed ends, by its estimate, as late as so many cycles, or later. Its least start is noted, so
-/// that it is found the sooner beside more placed tests. Where it ends in time if it is placed now, no estimate is later, and
-/// none is asked for.
+/// Whether a test that isn't placed ends, by its estimate, at `cycles` or later. Its least start is noted, so that it is found the
+/// sooner beside more placed tests. Where it ends in time if it is placed now, no estimate is later, and none is asked for.
 fn ends_late<J, E: Estimate<J>>(
     job: &Job,
     ahead: &E,
@@ -114,8 +113,8 @@ fn ends_late<J, E: Estimate<J>>(
     ahead.ask(table, test) >= cycles
 }
 
-/// Whether a test is left that ends, by its estimate, as late as so many cycles, or later. Any number may be asked of. It isn't
-/// looked at where the test takes fewer cycles than are left behind the last placed one, and where it is still in time.
+/// Whether a test is left and ends, by its estimate, at `cycles` or later. `test` may be any number. The estimate isn't asked for
+/// where the test takes fewer cycles than are left behind the last placed one, or where it is still in time.
 fn asks_late<J, E: Estimate<J>>(
     job: &Job,
     ahead: &E,
@@ -147,7 +146,7 @@ fn asks_late<J, E: Estimate<J>>(
     ends_late(job, ahead, table, test, cycles)
 }
 
-/// After so many tests that were asked of, it pays to see from which cycle on little power is drawn.
+/// After this number of tests that were looked at, it pays to see from which cycle on little power is drawn.
 const MANY: usize = 16;
 
 /// A cycle from which on each test fits within the limit on power that draws no more than so much, if it was looked for: that is done
@@ -173,7 +172,7 @@ fn calm_after<J>(
     Some(table.calm_from(most))
 }
 
-/// Whether a test ends before so many cycles if it starts from a calm cycle on.
+/// Whether a test ends before `cycles` if it starts from a calm cycle on.
 fn is_in_time<J>(
     job: &Job,
     table: &TableOf<J>,
@@ -200,7 +199,7 @@ fn is_in_time<J>(
 struct Asked {
     /// The end of the last placed test.
     end: u64,
-    /// So many cycles, or later, are late.
+    /// A test that ends at this cycle or later is late.
     cycles: u64,
     /// The greatest power of a step of a test.
     most: u64,
@@ -210,7 +209,7 @@ struct Asked {
     entered: u64,
 }
 
-/// Whether a test that isn't placed ends, by its estimate, as late as so many cycles, or later. Where it is still in time, or in time
+/// Whether a test that isn't placed ends, by its estimate, at `by.cycles` or later. Where it is still in time, or in time
 /// from a calm cycle on, it isn't asked where it fits first.
 fn ends_late_after<J, E: Estimate<J>>(
     job: &Job,
@@ -240,10 +239,10 @@ fn ends_late_after<J, E: Estimate<J>>(
     ends_late(job, ahead, table, test, by.cycles)
 }
 
-/// Whether one of some tests ends, by its estimate, as late as so many cycles, or later. The tests are those that aren't
-/// placed, longest first. Each starts at the end of the last placed test at the latest, and so the look ends at the first
-/// of them that is in time even then. The one that was late last is asked of first: it often is again. One that is still in time, as
-/// it was before the last test was placed, isn't asked of; nor, after many, one that is in time even from a calm cycle on.
+/// Whether one of some tests ends, by its estimate, at `by.cycles` or later. The tests are those that aren't placed, longest first.
+/// Each starts at the end of the last placed test at the latest, and so the look ends at the first of them that is in time even
+/// then. The one that was late last is looked at first: it often is again. No estimate is asked for where one is still in time, as
+/// it was before the last test was placed; nor, after many, where one is in time even from a calm cycle on.
 fn is_late<J, E: Estimate<J>>(
     job: &Job,
     ahead: &E,
@@ -297,7 +296,7 @@ fn note_few<J>(table: &mut TableOf<J>, rest: &[usize])
     }
 }
 
-/// Where the walk goes on, the power profile is tidied if the number of prefixes that were entered is a multiple of so many.
+/// Where the walk goes on, the power profile is tidied if the number of prefixes that were entered is a multiple of this number.
 const OFTEN: u64 = 4096;
 
 /// Now and then takes the points at the end of the power profile out that no placed test needs any longer. They are of orders that were
@@ -362,7 +361,7 @@ struct NextTest {
     end: u64,
     /// The test.
     test: usize,
-    /// All tests that are left end before so many cycles, by their estimates.
+    /// All tests that are left end before this cycle, by their estimates.
     cycles: u64,
 }
 

@@ -39,7 +39,7 @@ all_kinds (Capture k ∷ ops) = omega (arith, all_kinds ops)
 all_kinds (Setup ∷ ops) = omega (arith, all_kinds ops)
 all_kinds (SelfTest ∷ ops) = omega (arith, all_kinds ops)
 
--- the operations begin with so many at rest
+-- operations that begin with `s` at rest have at least `s` at rest
 pub first_rests : (ops : List Operation) (s : ℕ) → ((n : ℕ) → n < s → slice_get ops n ≡ Some Setup) → s ≤ rests_in ops
 first_rests ops zero rests = omega arith
 first_rests [] (suc s) rests = let e = rests 0 (omega arith) in absurd cc

@@ -142,7 +142,7 @@ loaded content cells ops n k r x front enough captures there loads =
 
 -- ---- reads
 
--- so many Shifts, and no capture, move a bit so many places on
+-- `i` Shifts, and no capture, move a bit `i` places on
 pub moved_on : (content : TestContent) (cells : List Cell) (ops : List Operation) (drive : ℕ → Bool) (rest : List Operation) (base q i p m : ℕ) → drop base ops ≡ rest → ShiftAt rest i q → base + q ≡ m → p + i < length cells →
     get_or (bits_before content cells ops drive m) (p + i) false ≡ get_or (bits_before content cells ops drive base) p false
 moved_on content cells ops drive [] base q i p m e s at_m within = let shifts = s.shifts in absurd cc

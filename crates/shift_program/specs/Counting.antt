@@ -13,7 +13,7 @@ use Rattle.shift_program.specs.Faults.{Needed, shifts_since, Rests}
 abbrev pub needed_by : Need → Needed
 needed_by need = record { setup = need.setup; si = need.si; so = need.so; patterns = need.patterns }
 
--- the entries did so many operations, were all Rests or not, and did so many Shifts since the last capture or the beginning
+-- what was counted of the entries: all operations, the Shifts since the last capture or the beginning, and whether one was no Rest
 pub record AreCounted (entries : List Entry) (passed : Passed) : Type 0 where
   pub counted : passed.operations ≡ length (operations entries)
   pub shifts : passed.shifts ≡ shifts_since 0 (operations entries)

@@ -28,7 +28,7 @@ with_entry d e = record d { entries = d.entries ++ e ∷ [] }
 abbrev pub with_test : ProgramValue → ℕ → ℕ → ProgramValue
 with_test d m n = record d { test = record { «module» = m; test = n } }
 
--- an entry of so many cycles
+-- an entry of `n` cycles
 abbrev pub lasting_entry : Bool → ℕ → Entry
 lasting_entry true n = entry.Shift n
 lasting_entry false n = entry.Rest n

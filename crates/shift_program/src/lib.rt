@@ -24,12 +24,12 @@ pub use reading::read_program;
 use soc_model::TestId;
 use thiserror::Error;
 
-/// One step of a program, of so many cycles.
+/// One step of a program, of one cycle or more.
 #[derive(Clone, Copy, PartialEq, Eq, Debug)]
 pub enum Entry {
-    /// All cells stay for so many cycles, at least one.
+    /// All cells stay for `cycles` cycles, at least one.
     Rest { cycles: u64 },
-    /// All cells move one place on in each of so many cycles, at least one.
+    /// All cells move one place on in each of `cycles` cycles, at least one.
     Shift { cycles: u64 },
     /// The response of a pattern, counted from 1, is captured in one cycle.
     Capture { pattern: u64 },

@@ -85,7 +85,7 @@ const SUBJECTS_MOST: u64 = 1 + MODULES_MOST + TESTS_MOST;
 /// What most texts have at least for each subject, in bytes: the keywords of a test with their numbers.
 const SUBJECT_BYTES: u64 = 64;
 
-/// No marks, with room for the subjects of a text of so many bytes.
+/// No marks, with room for the subjects of a text of `bytes` bytes.
 fn no_marks(alloc: Global, bytes: usize) -> Result<Marks, NoMemory>
     ensures { IfOk result IsEmpty }
 {
@@ -94,7 +94,7 @@ fn no_marks(alloc: Global, bytes: usize) -> Result<Marks, NoMemory>
     Ok(marks)
 }
 
-/// What is kept of no items, of a text of so many bytes.
+/// What is kept of no items, of a text of `bytes` bytes.
 #[tactic(auto, unfolding(crate::specs::Views::known_of, crate::specs::Known::known_by))]
 pub fn nothing_kept<'a>(alloc: Global, bytes: usize) -> Result<Kept<'a>, NoMemory>
     ensures none { IfOk result (λ kept. known_of kept ≡ known_by []) }

@@ -223,7 +223,7 @@ fn give_value<'a>(
     }
 }
 
-/// With so many lengths to come.
+/// Goes on with a list that has `left` lengths to come. Without any it is whole, and is added.
 fn go_on_listing<'a>(
     kept: &mut Kept<'a>,
     part: &mut ReadPart<'a>,
@@ -299,7 +299,7 @@ fn step_value<'a>(
     give_value(kept, part, subject, key, word_value(shape, word))
 }
 
-/// One more length, and then so many are left.
+/// Reads one more length of a list, which then has `left` lengths to come.
 fn step_length<'a>(
     kept: &mut Kept<'a>,
     part: &mut ReadPart<'a>,
@@ -319,7 +319,7 @@ fn step_length<'a>(
     go_on_listing(kept, part, subject, key, read, left)
 }
 
-/// A list without lengths, with room for so many, or for as many as a module of a chip may have.
+/// A list without lengths, with room for `count`, or for as many as a module of a chip may have where these are fewer.
 fn no_lengths(alloc: Global, count: u64) -> Result<Vec<u64>, Stop>
     ensures none { IfOk result (λ read. read.items ≡ []) }
     ensures memory { OnErr result (result ≡ Err Stop.NoMemory) }

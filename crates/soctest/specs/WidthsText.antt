@@ -10,7 +10,7 @@ abbrev pub width_line : (number width cycles : ℕ) → List ℕ
 width_line number width cycles =
     codes "module " ++ decimal number ++ codes " width " ++ decimal width ++ codes " time " ++ decimal cycles ++ codes "\n"
 
--- the lines of a module at so many widths, from this one on
+-- the lines of a module at `count` widths, from `width` on
 abbrev pub lines_from : ModuleValue → (width count : ℕ) → List ℕ
 lines_from m width zero = []
 lines_from m width (suc count) = width_line m.number width (time m width) ++ lines_from m (width + 1) count

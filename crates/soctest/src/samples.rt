@@ -150,7 +150,7 @@ fn sample_line(alloc: Global, n: u64) -> Result<Vec<u8>, NoMemory>
     numbered(alloc, b"refused sample ", u128::from(n))
 }
 
-/// `sample N SEED`: the summary of the made chip of so many modules.
+/// `sample N SEED`: the summary of the made chip of N modules.
 pub(crate) fn decide_sample(alloc: Global, n: u64, seed: u64) -> Verdict
     requires { seed ≤ NUMBER_WORD_MOST }
     ensures { (held : Option Files) (before after : ℕ) → Follows (procedure_of (Sample n seed)) held before after result }

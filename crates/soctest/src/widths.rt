@@ -46,7 +46,7 @@ fn push_module(
 }
 
 /// The text of `widths`: for each module with a live test over the wires, in the order of the chip, and each width from
-/// 1 to so many wires, the cycles that its tests over the wires take on so many wires.
+/// 1 to `wires`, the cycles that its tests over the wires take on that width.
 pub fn widths_text(alloc: Global, soc: &Soc, wires: u64) -> Result<Vec<u8>, NoMemory>
     requires sound { IsSoundChip (soc_value soc.now) }
     requires some { 1 ≤ wires }

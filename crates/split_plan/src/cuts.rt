@@ -54,7 +54,7 @@ fn peak(limits: &Limits, profiled: &IndexSet<TestId>, id: TestId, own: u64) -> u
     }
 }
 
-/// The power of each of so many parts of a test.
+/// The power of each of `count` parts of a test.
 fn part_power(
     limits: &Limits,
     profiled: &IndexSet<TestId>,

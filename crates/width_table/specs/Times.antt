@@ -31,7 +31,7 @@ pub record IsChosen (f : ℕ → ℕ) (w v : ℕ) : Type 0 where
   pub least : (u : ℕ) → 1 ≤ u → u ≤ w → f v ≤ f u
   pub first : (u : ℕ) → 1 ≤ u → u < v → f v < f u
 
--- the least time of the mode's tests on at most so many wires
+-- the least time of the mode's tests on at most `width` wires
 abbrev pub least_time : ModuleValue → Bool → ℕ → ℕ
 least_time m scan width = least_from_one (mode_time m scan) width
 

@@ -1,5 +1,5 @@
-//! The times of the modules of a chip on buses of 1 to so many wires, and the widths whose designs are taken (after the
-//! widths of TR-ARCHITECT, Goel and Marinissen 2002). A wider bus may leave wires unused, so no time grows with the width.
+//! The times of the modules of a chip on buses of 1 to a given number of wires, and the widths whose designs are taken (after
+//! the widths of TR-ARCHITECT, Goel and Marinissen 2002). A wider bus may leave wires unused, so no time grows with the width.
 //!
 //! Times are in cycles, widths in wires; modules go by their places in the chip, from 0.
 //!
@@ -30,7 +30,7 @@ use std::alloc::Global;
 use std::marker::Model;
 use wrapper_design::design;
 
-/// The times of all modules of a chip on 1 to so many wires, and the widths whose designs are taken.
+/// The times of all modules of a chip on 1 to `wires` wires, and the widths whose designs are taken.
 #[derive(Drop)]
 pub struct WidthTable<'a> {
     soc: &'a Soc,

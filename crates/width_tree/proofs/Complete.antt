@@ -63,7 +63,7 @@ leaf_read (OfApart a b) s d n may some = record {
   may = between_goes (with_node (record d { wanted = n }) (OfLeaf (OfApart a b)));
 }
 
--- the draft with these nodes more, and so many wanted
+-- the draft with these nodes more, and `n` nodes still to come
 abbrev with_nodes : DraftValue → List NodeValue → ℕ → DraftValue
 with_nodes d nodes n = record d { nodes = d.nodes ++ nodes; wanted = n }
 

@@ -22,7 +22,7 @@ pub record IsInterval (w : ℕ) (i : Interval) : Type 0 where
   pub order : i.low ≤ i.high
   pub few : i.high ≤ w
 
--- so many intervals, each of some of the wires
+-- `n` intervals, each of some of the wires
 pub record AreIntervals (w n : ℕ) (c : Case) : Type 0 where
   pub long : length c ≡ n
   pub each : (place : ℕ) → place < n → IsInterval w (interval_at c place)
@@ -37,7 +37,7 @@ pub record AreWidths (w n : ℕ) (times : List ℕ) (widths : Widths) : Type 0 w
 
 -- ---- what is found at a node
 
--- it breaks its rule; or keeps it and shows no cycles; or keeps it and shows so many
+-- it breaks its rule; or keeps it and shows no cycles; or keeps it and shows `cycles` cycles
 abbrev pub IsFinding : SocValue → (w : ℕ) → Case → NodeValue → Finding → Type 0
 IsFinding soc w c n Broken = KeepsNode soc w c n → ⊥
 IsFinding soc w c n Unsaid = KeepsNode soc w c n × (node_shows soc w c n ≡ None)
@@ -58,7 +58,7 @@ pub record IsBusSoFar (soc : SocValue) (w : ℕ) (c : Case) (earlier : List ℕ)
 abbrev pub AreOlder : (stamp : ℕ) → List ℕ → Type 0
 AreOlder stamp marks = (p : ℕ) → slice_index marks p < stamp
 
--- the least area of each of so many modules
+-- the least area of each of `n` modules
 pub record AreAreas (n : ℕ) (times : List ℕ) (c : Case) (areas : List ℕ) : Type 0 where
   pub long : length areas ≡ n
   pub each : (place : ℕ) → place < n → slice_index areas place ≡ area_by times (interval_at c place) place

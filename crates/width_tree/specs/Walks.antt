@@ -37,7 +37,7 @@ abbrev pub Behind : SocValue → Case → OpenSplit → (List NodeCase → Type 
 Behind soc c turn Rest left = MatchBool turn.second (Rest left)
     ((tree : WidthTree) × (rest : List NodeCase) × (left ≡ cases_of soc (case_later c turn) tree ++ rest) × Rest rest)
 
--- behind a tree in this case, within so many splits, the nodes `left` are to come
+-- behind a tree in this case, within `depth` splits, the nodes `left` are to come
 unfoldable pub Awaits : SocValue → (w : ℕ) → (times : List ℕ) → List OpenSplit → (depth : ℕ) → Case → List NodeCase → Type 0
 Awaits soc w times turns zero c left = left ≡ []
 Awaits soc w times turns (suc depth) c left =

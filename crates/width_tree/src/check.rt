@@ -62,7 +62,7 @@ const NO_TURN: OpenSplit = OpenSplit {
 };
 
 impl TreeRoom {
-    /// Room for so many modules and nodes.
+    /// Room for `modules` modules and `nodes` nodes.
     fn sized(alloc: Global, modules: usize, nodes: usize) -> Result<TreeRoom, NoMemory>
         ensures { IfOk result (λ room. (room.modules ≡ modules) × (room.nodes ≡ nodes)) }
     {

@@ -59,7 +59,7 @@ fn find_time(table: &ChipTimes<'_>, intervals: &[Interval], module: u64) -> Find
     }
 }
 
-/// A total over so many parts, rounded up.
+/// A total over `parts` parts, rounded up.
 fn divided_up(total: u128, parts: u64) -> u128
     requires { 1 ≤ parts }
     ensures { result ≡ quotient_up total parts }

@@ -17,7 +17,7 @@ use Rattle.wrapper_design.specs.Loads.{IsOrder}
 use Rattle.wrapper_design.proofs.Parts.{put_at, push_length}
 use Rattle.wrapper_design.proofs.Follow.{greatest_set, parts_after, parts_next, length-parts_after, greatest_zeros}
 
--- no more chains than so many have flops, and this is the greatest scan length
+-- at most `k` chains have flops, and `longest` is the greatest scan length
 record Alone (lengths : List ℕ) (ss : List (List ℕ)) (k longest : ℕ) : Type 0 where
   idle : length ss ≤ k + sum_by (λ x. one_if (eqb x 0)) (map (scan_length lengths) ss)
   greatest_is : longest ≡ greatest (map (scan_length lengths) ss)

@@ -1,5 +1,5 @@
-//! The wrapper of a module for one mode on so many wires: balanced chains, scan chains longest first (after the wrapper
-//! design of Iyengar, Chakrabarty and Marinissen 2002; the order, the ties and the filling are this program's own).
+//! The wrapper of a module for one mode on a given number of wires: balanced chains, scan chains longest first (after the
+//! wrapper design of Iyengar, Chakrabarty and Marinissen 2002; the order, the ties and the filling are this program's own).
 //!
 //! Widths are in wires, one chain a wire; lengths are in cells.
 //!
@@ -27,8 +27,8 @@ use plan_model::{ChainPlan, Wrapper};
 use soc_model::{Module, mode_chains};
 use std::alloc::{AllocError, Global};
 
-/// The wrapper of the module in one mode (the scan mode, or else the one over the terminals alone) on `width` wires: so
-/// many chains, balanced.
+/// The wrapper of the module in one mode (the scan mode, or else the one over the terminals alone) on `width` wires:
+/// `width` chains, balanced.
 ///
 /// The scan chains go, longest first, ties by place, each into the first chain of least scan length. Then the chains in
 /// order are filled with input cells up to the greater of the longest scan length and an even share of all input and scan

@@ -12,7 +12,7 @@ use std::alloc::{AllocError, Global};
 use std::cmp::Reverse;
 use std::collections::BinaryHeap;
 
-/// So many chains without scan chains, by scan length and place.
+/// `width` chains without scan chains, by scan length and place.
 pub fn empty_heap(alloc: Global, width: u64) -> Result<BinaryHeap<Reverse<(u64, u64)>>, AllocError>
     ensures len { IfOk result (λ h. heap_len h ≡ width) }
     ensures heap { IfOk result (λ h. IsHeap entry_cmp (heap_items h)) }
