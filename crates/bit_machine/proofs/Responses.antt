@@ -14,7 +14,7 @@ use Rattle.plan_model.proofs.LowerTimes.{count_all_chains}
 use Rattle.bit_machine.specs.Sessions.{response_place}
 use Rattle.bit_machine.proofs.Captures.{AreRead, read_numbered, range_map}
 
--- as many as are read
+-- the chains together have as many cells that are read as a response has bits
 pub response_length : (m : ModuleValue) (scan : Bool) (chains : List ChainValue) → IsProper m scan chains → sum_by out_length (chain_cells m scan chains) ≡ length (response_cells m scan)
 response_length m scan chains proper =
     sym (count_all_chains is_read (chain_cells m scan chains))

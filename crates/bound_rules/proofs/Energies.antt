@@ -178,7 +178,7 @@ pub no_rest : (limits : LimitsValue) (ms : List ModuleValue) (p base : ℕ) → 
 unfolding live_from
 no_rest limits ms p base all = rw (drop_all p ms all) refl
 
--- the energy where the limits allow so much power
+-- where the limits allow a power of `most`: a bound of the least energy, and one of `most`
 pub allowed-energy : (soc : SocValue) (limits : LimitsValue) (most : ℕ) → limits.power ≡ Some most → IsSoundChip soc → IsSoundLimits soc limits → (least_energy soc limits ≤ 10 ^ 18 * most) × (most ≤ 10 ^ 9)
 allowed-energy soc limits most is sound limited =
     let few = rw is at limited.power in

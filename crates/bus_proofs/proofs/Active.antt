@@ -29,7 +29,7 @@ ends soc limits plan good i l at = end-le-cycles soc limits plan good i (plan_of
 
 -- ---- counted cycle by cycle
 
--- where at each cycle at most `most` of those that pass are active, their times are at most so many times the cycles
+-- where at each cycle at most `most` of those that pass are active, their times together are at most `most` times the cycles
 pub few_bound : {X : Type 0} (q : X → Bool) (t : X → PlannedTest) (xs : List X) (n most : ℕ) → ((c : ℕ) → c < n → sum_by (λ x. one_if (q x && is_active c (t x))) xs ≤ most) →
     ((i : ℕ) (x : X) → slice_get xs i ≡ Some x → end_of (t x) ≤ n) → sum_by (λ x. if q x then length (t x).operations else 0) xs ≤ n * most
 few_bound {X} q t xs n most few within =

@@ -95,7 +95,7 @@ among_bound g ls differ (id ∷ tests) =
         let ih : sum_by (λ l. if is_among (id ∷ tests) l then g l else 0) xs ≤ sum_by (λ l. if is_called id l then g l else 0) xs + sum_by (λ l. if is_among tests l then g l else 0) xs = parted xs in
         omega (arith, here, ih, sum_by-cons (λ l. if is_among (id ∷ tests) l then g l else 0) x xs, sum_by-cons (λ l. if is_called id l then g l else 0) x xs, sum_by-cons (λ l. if is_among tests l then g l else 0) x xs)
 
--- ---- at most so many at one cycle
+-- ---- at most `most` at one cycle
 
 -- each that passes and how far it falls short of a number give at least that number
 short-le : (p : LiveTest → Bool) (g : LiveTest → ℕ) (v : ℕ) (ls : List LiveTest) → sum_by (λ l. one_if (p l)) ls * v ≤ sum_by (λ l. if p l then g l else 0) ls + sum_by (λ l. if p l then v - g l else 0) ls
@@ -115,7 +115,7 @@ first_short id g v (l ∷ ls) = elim (cases_Bool (is_called id l)) [
   | inr no' ↦ rw no' (first_short id g v ls)
 ]
 
--- live tests that draw at least so much
+-- each live test draws at least its least power at any cycle
 abbrev pub LeastDraws : SocValue → LimitsValue → Type 0
 LeastDraws soc limits = (i : ℕ) (l : LiveTest) → slice_get (live_tests soc) i ≡ Some l → (r : ℕ) → least_power limits l ≤ draw_of limits l r
 

@@ -16,7 +16,7 @@ use Rattle.proof_model.specs.Proofs.{ListValue, WeightsValue}
 use Rattle.proof_model.specs.Sayable.{AreWeights}
 use Rattle.bus_proofs.specs.LeafCosts.{AreTotals, AreUses, IsMade, IsWeighed, all_weights, by_places, weighed_by}
 
--- the sum over the first so many places
+-- the sum over the first `n` places
 abbrev up : (ℕ → ℕ) → List ℕ → ℕ → ℕ
 up f totals n = sum_by (λ (o : ℕ × ℕ). o.1 * f o.0) (by_places totals n)
 

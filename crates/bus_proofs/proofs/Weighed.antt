@@ -115,7 +115,8 @@ scaled f m (suc n) =
     let product : (sum_below f n + f n) * m ≡ sum_below f n * m + f n * m = add-mul (sum_below f n) (f n) m in
     omega (arith, scaled f m n, product)
 
--- where the tests over the wires of each rank take at most so many cycles, all at the rates of their ranks take no more than the ranks at theirs
+-- where the tests over the wires of each rank take at most `n` cycles, all of them at the rates of their ranks take no more than
+-- `n` cycles at the rates of all ranks together
 pub by_rank : (rate : ℕ → ℕ) (rk time : LiveTest → ℕ) (ls : List LiveTest) (top n : ℕ) → ((i : ℕ) (l : LiveTest) → slice_get ls i ≡ Some l → l.test.tam ≡ true → rk l < top) →
     ((k : ℕ) → sum_by (λ l. if l.test.tam && nat_eq (rk l) k then time l else 0) ls ≤ n) → sum_by (λ l. if l.test.tam then rate (rk l) * time l else 0) ls ≤ sum_below rate top * n
 by_rank rate rk time ls top n below few =

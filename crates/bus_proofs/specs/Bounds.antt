@@ -52,7 +52,7 @@ pub record IsBadNode (soc : SocValue) (limits : LimitsValue) (lists : List ListV
   pub first : IsFirstLess soc limits lists claim nodes place n
   pub broken : KeepsNode soc limits lists n.within n.node → ⊥
 
--- it keeps its rule, and is a leaf that doesn't hold, which shows so many cycles
+-- it keeps its rule, and is a leaf that doesn't hold, which shows `shown` cycles
 pub record IsLessNode (soc : SocValue) (limits : LimitsValue) (lists : List ListValue)
     (claim : ℕ) (nodes : List NodeCase) (place claimed shown : ℕ) : Type 0 where
   pub n : NodeCase

@@ -25,7 +25,7 @@ pub record IsFurther (before after : CaseRoom) : Type 0 where
   pub ranks : IsAfter before.ranks after.ranks
   pub modules : after.modules ≡ before.modules
 
--- so much is noted in a room
+-- the mark says how much is noted in a room
 pub record IsMark (mark : Mark) (room : CaseRoom) : Type 0 where
   pub changes : length room.widths.trail.items ≡ mark.changes
   pub takings : length room.ranks.trail.items ≡ mark.takings

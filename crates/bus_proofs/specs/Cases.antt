@@ -59,7 +59,7 @@ abbrev pub tightened_by : (more : ℕ) → List Interval → List Interval
 tightened_by more [] = []
 tightened_by more (i ∷ is) = tightened_below more i.high (i ∷ is)
 
--- all intervals of the case, on so many wires
+-- all intervals of the case, on `w` wires
 abbrev pub tightened : (w : ℕ) → Case → Case
 tightened w c = record { intervals = tightened_by (spare w c.intervals) c.intervals; may = c.may; may_rest = c.may_rest }
 

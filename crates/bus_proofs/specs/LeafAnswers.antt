@@ -18,7 +18,7 @@ pub record IsCaseFor (g : Basis) (room : CaseRoom) : Type 0 where
   pub wires : room.widths.wires ≡ (limits_of g).wires
   pub within : All (λ (i : Interval). i.high ≤ (limits_of g).wires) room.widths.intervals.items
 
--- it keeps its rule and doesn't hold, and shows so many cycles
+-- it keeps its rule and doesn't hold, and shows `shown` cycles
 pub record IsShort (g : Basis) (c : Case) (weights : WeightsValue) (shown : ℕ) : Type 0 where
   pub rule : IsSum (lists_of g) c weights
   pub less : LeafHolds (chip_of g) (limits_of g) (lists_of g) (claim_of g) c weights → ⊥

@@ -44,7 +44,7 @@ pub record HasSpaceFor (g : Basis) (room : Weighed) : Type 0 where
 abbrev pub all_weights : List (ℕ × ℕ) → ℕ
 all_weights os = sum_by (λ (o : ℕ × ℕ). o.1) os
 
--- the first so many places, each with its weight
+-- the first `count` places, each with its weight
 abbrev pub by_places : (totals : List ℕ) → (count : ℕ) → List (ℕ × ℕ)
 by_places totals count = map (λ place. (place, slice_index totals place)) (range_with_len 0 count)
 
@@ -77,7 +77,7 @@ in_weight role weight = if is_in role then weight else 0
 abbrev pub weighed_by : List ListValue → List (ℕ × ℕ) → (ListValue → ℕ) → ℕ
 weighed_by lists os f = sum_by (λ (o : ℕ × ℕ). o.1 * on (slice_get lists o.0) f) os
 
--- at its weight what the test at a place uses in so many cycles of a list that it may be beside; `at` says which rank its bus has
+-- at its weight what the test at a place uses in `cycles` cycles of a list that it may be beside; `at` says which rank its bus has
 abbrev pub beside_use : ListTable → (at : ℕ → Bool) → (test cycles : ℕ) → BesideUse → ℕ
 beside_use table at test cycles b = if at b.rank && is_aside (role_at table b.list test) then b.weight * cycles else 0
 

@@ -69,7 +69,7 @@ IsOfModule soc w claim c weights place s = (n : ℕ) × (slice_get (slots_of soc
 
 -- ---- the least cost
 
--- a bus costs so much, and none costs less
+-- a bus costs `n`, and none costs less
 pub record IsLeast (f : Slot → ℕ) (Is : Slot → Type 0) (n : ℕ) : Type 0 where
   pub bus : Slot
   pub is : Is bus
@@ -120,7 +120,7 @@ IsModuleCost g c weights place (Some n) = (n ≡ least_at g c weights place) × 
 abbrev pub IsNamed : List ListValue → (known : ℕ) → ℕ × ℕ → Type 0
 IsNamed lists known o = MatchOption (slice_get lists o.0) ⊥ (IsKnownList known)
 
--- the leaf doesn't hold at this cost and worth, and shows so many cycles
+-- the leaf doesn't hold at this cost and worth, and shows `shown` cycles
 pub record IsTooLittle (cost worth claim shown : ℕ) : Type 0 where
   pub less : worth * claim < cost + worth → ⊥
   pub shown_is : shown ≡ cycles_shown cost worth
@@ -131,7 +131,7 @@ IsConclusion cost worth claim Broken = ⊥
 IsConclusion cost worth claim Holds = worth * claim < cost + worth
 IsConclusion cost worth claim (Shows shown) = IsTooLittle cost worth claim shown
 
--- the modules at the first places cost at least so much and each has a bus; or some module has none
+-- what the modules at the first `count` places cost at least, together, and each has a bus; or some module has none
 abbrev pub IsSumOfLeast : Basis → Case → WeightsValue → (count : ℕ) → Option ℕ → Type 0
 IsSumOfLeast g c weights count None = HasNoBusIn g c weights
 IsSumOfLeast g c weights count (Some n) = (n ≡ sum_below (least_at g c weights) count) × ((p : ℕ) → p < count → HasBus g c weights p)

@@ -73,7 +73,7 @@ both_marked marks [] = marks
 both_marked [] (o ∷ others) = []
 both_marked (m ∷ marks) (o ∷ others) = (m && o) ∷ both_marked marks others
 
--- some powers, which are more than so many, pass the limit by so many and one more of the least
+-- `most` is at least 1, there are more powers than that, and the `most + 1` least of them together pass the limit
 abbrev pub AreHeavy : Option ℕ → (most : ℕ) → List ℕ → Type 0
 AreHeavy power most powers = (1 ≤ most) × (most < length powers) × MatchOption power ⊥ (λ limit. limit < least_together (most + 1) powers)
 

@@ -22,7 +22,7 @@ role_of soc limits (OfPower near) l = Drawing
 abbrev pub role_at : ListTable → (list test : ℕ) → Role
 role_at table list test = slice_index_or table.roles.items (list * table.tests + test) Out
 
--- all lists keep their rules, or the one behind the first so many is the first that breaks its own
+-- all lists keep their rules, or the one behind the first `kept` is the first that breaks its own
 abbrev pub KeepFirst : SocValue → LimitsValue → List ListValue → (kept : ℕ) → Type 0
 KeepFirst soc limits lists kept =
     ((kept ≡ length lists) × AreKept soc limits lists) ⊎ ((list : ListValue) × IsFirstBreach (KeptBehind soc limits) lists kept list)

@@ -40,7 +40,7 @@ pub record IsCrowdItem (soc : SocValue) (earlier : List TestId) (id : TestId) : 
 abbrev pub least_power_of : SocValue → LimitsValue → TestId → ℕ
 least_power_of soc limits id = of_first (is_called id) (least_power limits) 0 (live_tests soc)
 
--- so many least of some numbers, together
+-- the `n` least of some numbers, together
 abbrev pub least_together : (n : ℕ) → List ℕ → ℕ
 least_together n xs = sum (take n (rising xs))
 
@@ -64,14 +64,14 @@ KeepsList soc limits (OfPower near) = IsNear limits near
 
 -- ---- how much there is at each cycle
 
--- room for one test at a time, or for so many of a crowd; of the power all
+-- room for one test at a time, or for `most` tests of a crowd; of the power all
 abbrev pub room_of : ListValue → ℕ
 room_of (OfTurns tests) = 1
 room_of (OfTurnsOn rank tests) = 1
 room_of (OfCrowd most tests) = most
 room_of (OfPower near) = 1
 
--- ---- how much of it a test uses, in so many cycles
+-- ---- how much of it a test uses in a given number of cycles
 
 -- the test excludes each of those that the list names
 abbrev pub excludes_all : SocValue → LimitsValue → List TestId → LiveTest → Bool
@@ -85,7 +85,7 @@ is_beside soc limits on rank tests l = l.test.tam && (on rank && excludes_all so
 abbrev pub counted : (limit near power : ℕ) → ℕ
 counted limit near power = if nat_lt limit (power + near) then limit else if nat_lt power near then 0 else power
 
--- the share of all power in a cycle that the test takes in so many cycles, rounded down
+-- the share of all power in a cycle that the test takes in `cycles` cycles, rounded down
 abbrev pub power_use : LimitsValue → (near : ℕ) → LiveTest → (cycles : ℕ) → Option ℕ → ℕ
 power_use limits near l cycles None = 0
 power_use limits near l cycles (Some limit) =

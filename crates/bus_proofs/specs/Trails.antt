@@ -38,7 +38,7 @@ pub record IsPart (new old : Interval) : Type 0 where
   pub high : new.high ≤ old.high
   pub few : IsFew new
 
--- so often can an interval become narrower at either end, by one wire each time
+-- how often an interval can still become narrower at either end, by one wire each time
 abbrev pub changes_left : Interval → ℕ
 changes_left i = i.high + (256 - i.low)
 
@@ -59,7 +59,7 @@ pub record IsBack (before after : Widths) : Type 0 where
   pub roomy : IsRoomy after
   pub later : IsLater before after
 
--- the interval of a rank, with no more than so many wires beyond its least width, and no wider than `above`
+-- the interval of a rank, with no more than `more` wires beyond its least width, and no wider than `above`
 abbrev pub tight : (more above : ℕ) → Interval → Interval
 tight more above i = interval i.low (min (min i.high (i.low + more)) above)
 
@@ -67,6 +67,6 @@ tight more above i = interval i.low (min (min i.high (i.low + more)) above)
 abbrev pub HasGap : List Interval → Type 0
 HasGap is = (rank : ℕ) × (rank < length is) × ((interval_of is rank).high < (interval_of is rank).low)
 
--- each of the first so many ranks has one
+-- each of the first `n` ranks has one
 abbrev pub HasNoGap : List Interval → (n : ℕ) → Type 0
 HasNoGap is n = (rank : ℕ) → rank < n → (interval_of is rank).low ≤ (interval_of is rank).high

@@ -120,7 +120,7 @@ pub record IsWithin (g : Basis) (root : CaseRoom) (turn : OpenSplit) (Rest : Cas
   pub turn_is : IsTurn g root room turn before c split
   pub behind : MatchBool turn.second (Rest before left) (IsLaterThen g c split (Rest before) left)
 
--- behind a tree in the case of the room, within so many splits, the nodes `left` are to come
+-- behind a tree in the case of the room, within `depth` splits, the nodes `left` are to come
 unfoldable pub Awaits : Basis → (root : CaseRoom) → List OpenSplit → (depth : ℕ) → CaseRoom → List NodeCase → Type 0
 Awaits g root turns zero room left = left ≡ []
 Awaits g root turns (suc depth) room left = IsWithin g root (turn_at turns depth) (Awaits g root turns depth) room left

@@ -30,7 +30,7 @@ pub(crate) struct Mark {
 }
 
 impl CaseRoom {
-    /// Room for so many modules and ranks, with the case of the root. `NoMemory` where there is none.
+    /// Room for `modules` modules and `ranks` ranks, with the case of the root. `NoMemory` where there is none.
     pub fn new(
         alloc: Global,
         modules: usize,
@@ -66,7 +66,7 @@ impl CaseRoom {
         }
     }
 
-    /// Undoes what was changed since so much was noted.
+    /// Undoes what was changed since `mark` was taken.
     pub fn undo(&mut self, mark: Mark)
         ensures { (before : CaseRoom) → IsMark mark before → HasCase before → IsFurther before self.old → IsSame before self.new }
     {

@@ -27,7 +27,7 @@ pub(crate) enum LeafAnswer {
     Broken,
     /// It keeps its rule and holds.
     Holds,
-    /// It keeps its rule and doesn't hold; it shows so many cycles.
+    /// It keeps its rule and doesn't hold; it shows this number of cycles.
     Shows(u128),
 }
 
@@ -48,7 +48,7 @@ impl LeafRoom {
     }
 }
 
-/// Whether a list may be weighed where so many ranks are known: a rank that it speaks of is one of them.
+/// Whether a list may be weighed where `known` ranks are known: a rank that it speaks of is one of them.
 fn is_known_list(list: &TestList, known: usize) -> bool
     ensures yes { result ≡ true → IsKnownList known (list_value list.now) }
     ensures no { result ≡ false → IsKnownList known (list_value list.now) → ⊥ }

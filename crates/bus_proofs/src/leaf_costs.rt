@@ -231,7 +231,7 @@ pub(crate) fn weigh_leaf(basis: &Basis<'_>, weights: &Weights, room: &mut Weighe
     weigh_totals(basis, room);
 }
 
-/// So many cycles of a power as it counts, together.
+/// A power as it counts, over `cycles` cycles, together.
 fn counted_cycles(limit: u64, near: u64, power: u64, cycles: u64) -> u128
     requires near { near ≤ limit }
     ensures drawn { result ≡ the_counted limit near power * cycles }
@@ -259,7 +259,7 @@ fn counted_steps(limit: u64, near: u64, steps: &[(u64, u64)], cycles: u64) -> u1
     sum + counted_cycles(limit, near, power, cycles - begun)
 }
 
-/// So much of a limit, in whole limits.
+/// `drawn` in whole limits, rounded down.
 fn whole_limits(drawn: u128, limit: u64, cycles: u64) -> u64
     requires some { 1 ≤ limit }
     requires few { drawn ≤ limit * cycles }
@@ -292,7 +292,7 @@ fn drawn_by(
     }
 }
 
-/// The share of all power that a live test takes in so many cycles, where this is the place of its profile, and its own power.
+/// The share of all power that a live test takes in `cycles` cycles, where this is the place of its profile, and its own power.
 fn power_use(limits: &Limits, near: u64, profile: Option<usize>, own: u64, cycles: u64) -> u64
     requires near { IsNear (limits_value limits.now) near }
     requires steps { (i : ℕ) (p : Profile) → slice_get limits.now.profiles.items i ≡ Some p → Grow 0 p.steps.items }
@@ -365,7 +365,7 @@ fn drawn_uses(
     sum
 }
 
-/// The weights of the lists that the live test at a place is in, in so many cycles.
+/// The weights of the lists that the live test at a place is in, together, times `cycles`.
 fn inside_uses(room: &Weighed, test: usize, cycles: u64) -> u128
     requires { test < length room.now.sums.items }
     ensures { result ≡ slice_index room.now.sums.items test * cycles }
@@ -404,7 +404,7 @@ fn is_over(wires: bool, tam: bool) -> bool
     if wires { tam } else { !tam }
 }
 
-/// So many cycles at a rate.
+/// What `cycles` cycles cost at a rate.
 fn rated(rate: u64, cycles: u64) -> u128
     requires rate { rate < 2 ^ 40 }
     requires cycles { cycles ≤ 10 ^ 18 }
@@ -414,7 +414,7 @@ fn rated(rate: u64, cycles: u64) -> u128
     u128::from(rate) * u128::from(cycles)
 }
 
-/// What the live test at a place uses of all lists on the bus of a rank in so many cycles, at their weights.
+/// What the live test at a place uses of all lists on the bus of a rank in `cycles` cycles, at their weights.
 fn test_uses(
     basis: &Basis<'_>,
     room: &Weighed,

@@ -90,7 +90,7 @@ fn is_known(known: usize, rank: u64) -> bool
     rank < known as u64
 }
 
-/// Whether one of the first so many twins is this rank.
+/// Whether one of the first `count` twins is this rank.
 fn is_among(twins: &[u64], count: usize, rank: u64) -> bool
     requires { count ≤ length twins.now }
     ensures yes { result ≡ true → (q : ℕ) × (q < count) × (slice_index twins.now q ≡ rank) }

@@ -17,7 +17,7 @@ pub(crate) struct Ranks {
     pub most: usize,
 }
 
-/// Room for so many modules, of which each may be on the rest, and for so many ranks. `NoMemory` where there is none.
+/// Room for `modules` modules, of which each may be on the rest, and for `ranks` ranks. `NoMemory` where there is none.
 pub(crate) fn anywhere(alloc: Global, modules: usize, ranks: usize) -> Result<Ranks, NoMemory>
     requires modules { modules < 2 ^ 40 }
     requires ranks { ranks ≤ 256 }
@@ -130,7 +130,7 @@ pub(crate) fn takings(ranks: &Ranks) -> usize
     ranks.trail.len()
 }
 
-/// Gives back all that was noted but the first so many.
+/// Gives back all places that were noted but the first `kept`.
 fn undo_takings(ranks: &mut Ranks, kept: usize)
     ensures { (before : Ranks) → length before.trail.items ≡ kept → IsAfter before ranks.old → IsGivenBack before ranks.new }
 {
@@ -140,7 +140,7 @@ fn undo_takings(ranks: &mut Ranks, kept: usize)
     }
 }
 
-/// Gives back all that was noted but the first so many, and leaves out the ranks behind the first so many places.
+/// Gives back all places that were noted but the first `kept`, and leaves out the ranks behind the first `places` places.
 pub(crate) fn undo_ranks(ranks: &mut Ranks, kept: usize, places: usize)
     ensures { (before : Ranks) → length before.trail.items ≡ kept → length before.may.items ≡ places →
         HasSpace before → IsAfter before ranks.old → IsRestored before ranks.new }

@@ -42,7 +42,7 @@ const WIDTH_MOST: u64 = 256;
 /// How often a rank is noted at most: once as it comes, and each time that an end of its interval moves by a wire.
 const CHANGES_MOST: usize = 513;
 
-/// Room for so many ranks, of which none is known. `NoMemory` where there is none.
+/// Room for `most` ranks, of which none is known. `NoMemory` where there is none.
 pub(crate) fn no_ranks(alloc: Global, wires: u64, most: usize) -> Result<Widths, NoMemory>
     requires wires { wires ≤ 256 }
     requires most { most ≤ 256 }
@@ -178,7 +178,7 @@ pub(crate) fn is_empty(widths: &Widths) -> bool
     any_without_width(widths)
 }
 
-/// The interval with no more than so many wires beyond its least width, and no wider than `above`.
+/// The interval with no more than `more` wires beyond its least width, and no wider than `above`.
 fn tight(interval: Interval, more: u64, above: u64) -> Interval
     requires few { IsFew interval }
     requires more { more ≤ 256 }
@@ -246,7 +246,7 @@ pub(crate) fn narrow_ranks(widths: &mut Widths, from: usize, width: u64)
     }
 }
 
-/// No bus of the first so many ranks is narrower than `width`.
+/// No bus of the first `count` ranks is narrower than `width`.
 pub(crate) fn widen_ranks(widths: &mut Widths, count: usize, width: u64)
     requires roomy { IsRoomy widths.old }
     requires count { count ≤ length widths.old.intervals.items }
@@ -318,7 +318,7 @@ pub(crate) fn changes(widths: &Widths) -> usize
     widths.trail.len()
 }
 
-/// Takes back all changes but the first so many.
+/// Takes back all changes but the first `kept`.
 pub(crate) fn undo_changes(widths: &mut Widths, kept: usize)
     ensures { (before : Widths) → length before.trail.items ≡ kept →
         IsRoomy before → IsLater before widths.old → IsBack before widths.new }

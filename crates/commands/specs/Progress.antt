@@ -11,8 +11,8 @@ reported_line first done second best = first ++ decimal done ++ second ++ decima
 abbrev pub MayAdd : List ℕ → (old new : Option (List ℕ)) → Type 0
 MayAdd line old new = (new ≡ old) ⊎ AppendedFront old line new
 
--- For each part of the whole something may be added, and behind the last of them, until so much is left. What may be added where
--- so much is done is `May`.
+-- For each part of the whole something may be added, and behind the last of them, until a given number is left. `May d` says what
+-- may be added where `d` is done.
 pub data ReportsDownTo (May : ℕ → (old new : Option (List ℕ)) → Type 0) (whole part : ℕ) (first : Option (List ℕ)) :
     ℕ → Option (List ℕ) → Type 0 where
   begins : ReportsDownTo May whole part first whole first

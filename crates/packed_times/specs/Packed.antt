@@ -26,7 +26,7 @@ crowd lengths w k = sum (take (k + 1) (drop (length lengths - (k * w + 1)) (risi
 abbrev pub crowd_within : List ℕ → (w k : ℕ) → ℕ
 crowd_within lengths w k = if nat_lt (k * w) (length lengths) then crowd lengths w k else 0
 
--- Of w chains that hold scan chains of these lengths one is at least so long: one has k + 1 of the k * w + 1 longest.
+-- Of w chains that hold scan chains of these lengths one is at least this long: one has k + 1 of the k * w + 1 longest.
 unfoldable pub packed : List ℕ → ℕ → ℕ
 packed lengths w = greatest (map (crowd_within lengths w) (range_with_len 0 (length lengths)))
 

@@ -8,13 +8,13 @@ use Rattle.proof_model.specs.declared.Node.{Node}
 use Rattle.proof_model.specs.declared.Node.TheVariants.{Wide, Place, Sum}
 use Rattle.proof_model.specs.declared.Proof.{Proof}
 
--- what only so many tests can use at one cycle
+-- something of which tests can use only a limited amount at one cycle
 pub data ListValue : Type 0 where
   -- of these tests no two are ever active together
   OfTurns : (tests : List TestId) → ListValue
   -- nor is one of them beside a test over the bus of that rank that excludes each of them
   OfTurnsOn : (rank : ℕ) (tests : List TestId) → ListValue
-  -- at most so many of these tests are active together
+  -- at most `most` of these tests are active together
   OfCrowd : (most : ℕ) (tests : List TestId) → ListValue
   -- the power; a test that is this near to all of it counts for all, one that draws less than this for nothing
   OfPower : (near : ℕ) → ListValue

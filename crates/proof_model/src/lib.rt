@@ -12,7 +12,7 @@ pub const LISTS_MOST: usize = 256;
 /// The greatest weight of a proof's text.
 pub const WEIGHT_MOST: u64 = 999_999_999;
 
-/// A list of tests that a leaf may weigh: what only so many of them can use at one cycle.
+/// A list of tests that a leaf may weigh: something of which they can use only a limited amount at one cycle.
 #[derive(Drop)]
 pub enum TestList {
     /// Each of the tests excludes each other one, so that no two are ever active together.
@@ -50,7 +50,7 @@ pub enum Node {
         rank: u64,
         twins: Vec<u64>,
     },
-    /// What all tests weigh is more than so many cycles can have.
+    /// What all tests weigh is more than can go into `claimed - 1` cycles; `claimed` is the claim of the [`Proof`].
     Sum {
         weights: Weights,
     },

@@ -109,8 +109,8 @@ impl Classes {
         })
     }
 
-    /// Begins the classes of a level: no vertex that is allowed there has one. All vertices that exclude the level's clique
-    /// count so much beside it.
+    /// Begins the classes of a level: no vertex that is allowed there has one. `beside` is what all vertices that exclude the
+    /// level's clique count beside it, together.
     fn restart(&mut self, words: usize, levels: &Levels, level: usize, beside: i64) {
         self.end = item_or(&levels.first, level, 0);
         self.closed = 0;
@@ -199,8 +199,8 @@ impl Classes {
         true
     }
 
-    /// Puts all vertices that may join the clique of a level into classes; none is left to try where there is no room. All
-    /// vertices that exclude the clique count so much beside it.
+    /// Puts all vertices that may join the clique of a level into classes; none is left to try where there is no room. `beside`
+    /// is what all vertices that exclude the clique count beside it, together.
     pub fn make_all(&mut self, graph: &Graph, levels: &mut Levels, level: usize, beside: i64) {
         self.restart(graph.words, levels, level, beside);
         for _ in 0..graph.vertices.saturating_add(1) {

@@ -76,7 +76,7 @@ impl Queue {
         put_item(&mut self.heap, at, node);
     }
 
-    /// The place below another one that comes first; as many as there are where there is none.
+    /// The place below another one that comes first; where there is none, a place that is no less than `count`.
     fn below(&self, entries: &[EnteringColumn], at: usize) -> usize {
         let left = at.saturating_mul(2).saturating_add(1);
         let right = left.saturating_add(1);

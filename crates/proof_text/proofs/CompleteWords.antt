@@ -192,7 +192,7 @@ node_words_append [] b = refl
 node_words_append (n ∷ a) b =
     ap (λ l. line_tokens (node_line n) ++ l) (node_words_append a b) ∙ sym (append_assoc (line_tokens (node_line n)) (node_words a) (node_words b))
 
--- the draft with these nodes more, and so many wanted
+-- the draft with these nodes more, and `n` nodes still to begin
 abbrev with_nodes : DraftValue → List NodeValue → ℕ → DraftValue
 with_nodes d nodes n = record d { nodes = d.nodes ++ nodes; wanted = n }
 

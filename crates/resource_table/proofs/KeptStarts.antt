@@ -95,7 +95,7 @@ steps_calm load limit most start length' (s ∷ next) calm low within =
       steps_calm load limit most start length' next calm (All-tail (λ (s : ℕ × ℕ). s.1 ≤ most) s next low) (All-tail (λ (s : ℕ × ℕ). s.1 ≤ limit) s next within),
     )
 
--- each step draws no more than so much
+-- each step draws no more than `most`
 pub steps_low : (steps : List (ℕ × ℕ)) (most : ℕ) → ((k : ℕ) → k < length steps → (get_or steps k (0, 0)).1 ≤ most) → All (λ (s : ℕ × ℕ). s.1 ≤ most) steps
 steps_low steps most low k d lt = subst (λ (s : ℕ × ℕ). s.1 ≤ most) (sym (same_item steps k d (0, 0) lt)) (low k lt)
 

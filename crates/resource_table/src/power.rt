@@ -250,7 +250,7 @@ pub fn after_power(
     after_steps(points, limit, steps, length, start, last)
 }
 
-/// Whether no step draws more than so much.
+/// Whether no step draws more than `most`.
 pub fn are_low(steps: &[(u64, u64)], most: u64) -> bool
     ensures { result ≡ true → (k : ℕ) → k < length_of steps.now → (slice_index_or steps.now k (0, 0)).1 ≤ most }
 {

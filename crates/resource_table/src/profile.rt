@@ -94,7 +94,7 @@ fn lower_load(points: &mut Vec<Point>, near: usize, draw: &Draw) -> usize
 }
 
 /// Adds the draws from a place on, those of a test from a start, in room that is there. Those before it are in the profile,
-/// and with them no more than so much is drawn.
+/// and with them no more than `limit` is drawn at any cycle.
 fn add_draws(points: &mut Vec<Point>, draws: &[Draw], from: usize, start: u64, limit: u64)
     requires from { from ≤ length draws.now }
     requires room { all_uses points.old.items + (length draws.now - from + 1) ≤ vec_capacity points.old }

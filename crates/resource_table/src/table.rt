@@ -434,7 +434,7 @@ impl<J> TableOf<J> {
     }
 
     /// A cycle from which on a test fits within the limit on power beside the placed tests, whatever it is, if none of its steps draws
-    /// more than so much. It is the end of the last placed test at the latest.
+    /// more than `most`. It is the end of the last placed test at the latest.
     pub fn calm_from(&self, most: u64) -> u64
         ensures calm { IsCalm self.now.job self.now.placed most result }
         ensures at_last { result ≤ last_end_of self.now.job self.now.placed }

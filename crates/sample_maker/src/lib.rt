@@ -98,9 +98,10 @@ fn make_chip(alloc: Global, n: u64, seed: u64) -> Result<Soc, NoMemory>
     Ok(soc)
 }
 
-/// The made chip of `n` modules, 1 to [`SAMPLE_MODULES_MOST`], and a seed: a sound chip whose module 0 has nothing, and
-/// whose other modules have up to nine scan chains, a test over the wires, and some a self test; none draws more than 99. `SampleSize`
-/// comes exactly where the number of modules is 0 or more than that; `NoMemory` where there is no memory for the chip.
+/// The made chip of `n`, 1 to [`SAMPLE_MODULES_MOST`], and a seed: a sound chip of module 0, the top level, which has nothing, and
+/// of `n` modules below it. These have up to nine scan chains, a test over the wires, and some a self test; no test draws more than
+/// 99. `SampleSize` comes exactly where `n` is 0 or more than [`SAMPLE_MODULES_MOST`]; `NoMemory` where there is no memory for the
+/// chip.
 pub fn sample(alloc: Global, n: u64, seed: u64) -> Result<Soc, SampleFault>
     requires seed { seed < 10 ^ 12 }
     ensures chip { IfOk result (λ soc. soc_value soc ≡ made_chip n seed) }

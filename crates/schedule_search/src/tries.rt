@@ -88,7 +88,7 @@ fn all_missing(alloc: Global, job: &Job) -> Result<Vec<usize>, NoMemory>
     Ok(missing)
 }
 
-/// The greatest power of some steps, or so much where none is greater.
+/// The greatest power of some steps, or `most` where none is greater.
 fn greater_power(steps: &[(u64, u64)], most: u64) -> u64
     ensures { most ≤ result }
 {

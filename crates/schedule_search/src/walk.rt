@@ -149,7 +149,7 @@ fn asks_late<J, E: Estimate<J>>(
 /// After this number of tests that were looked at, it pays to see from which cycle on little power is drawn.
 const MANY: usize = 16;
 
-/// A cycle from which on each test fits within the limit on power that draws no more than so much, if it was looked for: that is done
+/// A cycle from which on each test fits within the limit on power that draws no more than `most`, if it was looked for: that is done
 /// under such a limit, as soon as many tests were asked of.
 fn calm_after<J>(
     job: &Job,
@@ -279,8 +279,9 @@ fn is_late<J, E: Estimate<J>>(
     false
 }
 
-/// Where so few tests are left, the least start of each is noted. What is noted beside more placed tests is gone again as these are
-/// taken back, and the orders of the last tests are walked again and again: each question would be a search from the first cycle on.
+/// Where this number of tests is left, the least start of each is noted. What is noted beside more placed tests is gone again as
+/// these are taken back, and the orders of the last tests are walked again and again: each question would be a search from the first
+/// cycle on.
 const FEW: usize = 32;
 
 /// Notes the least starts of the tests that are left, where they have just become few.
