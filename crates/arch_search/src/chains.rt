@@ -1,8 +1,6 @@
 //! What no schedule of given tests can be shorter than: the longest chain of precedences, and the energy over the limit.
-ghost use Rattle.std.specs.Prelude.{◌≡◌, ◌*◌, ◌<◌, ◌≤◌, length, map};
+ghost use Rattle.std.specs.Prelude.{◌≡◌, ◌*◌, ◌<◌, length};
 ghost use Rattle.std.specs.List.{All};
-ghost use Rattle.resource_table.specs.Jobs.{JobValue, IsSoundJob};
-ghost use Rattle.resource_table.specs.Befores.{listed, AreListed};
 ghost use Rattle.arch_search.specs.Rooms.{AreBeforeSo};
 
 use live_tests::Neighbours;

@@ -1,5 +1,5 @@
 //! The first try of a search over many modules: all of them are dealt to a few equal buses.
-ghost use Rattle.std.specs.Prelude.{◌≡◌, ◌<◌, ◌≤◌, length};
+ghost use Rattle.std.specs.Prelude.{◌<◌, ◌≤◌, length};
 ghost use Rattle.arch_search.specs.States.{AreBuses, AreAlike, AreTimesOn};
 
 use crate::buses::Buses;

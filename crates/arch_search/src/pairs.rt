@@ -1,5 +1,5 @@
 //! A change of the buses of a state: the wires and the modules of two buses are dealt again.
-ghost use Rattle.std.specs.Prelude.{◌<◌, ◌≤◌, length};
+ghost use Rattle.std.specs.Prelude.{◌<◌, length};
 ghost use Rattle.arch_search.specs.States.{AreBuses, AreAlike, AreTimesOn};
 
 use crate::buses::Buses;

@@ -1,5 +1,5 @@
 //! Wires go from buses with time to spare to buses that take too long.
-ghost use Rattle.std.specs.Prelude.{◌≡◌, ◌<◌, ◌≤◌, length, IfSome};
+ghost use Rattle.std.specs.Prelude.{◌≡◌, ◌<◌, length, IfSome};
 ghost use Rattle.arch_search.specs.States.{AreBuses, AreAlike, AreTimesOn};
 
 use crate::buses::Buses;

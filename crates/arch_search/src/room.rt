@@ -1,5 +1,5 @@
 //! Room for the schedules of a search.
-ghost use Rattle.std.specs.Prelude.{◌≡◌, ℕ, ◌<◌, ◌≤◌, length, replicate, None, IfOk};
+ghost use Rattle.std.specs.Prelude.{◌≡◌, ℕ, ◌<◌, length, replicate, None, IfOk};
 ghost use Rattle.std.specs.List.{All};
 ghost use Rattle.arch_search.specs.Rooms.{HasRoom};
 

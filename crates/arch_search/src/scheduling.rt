@@ -6,7 +6,7 @@ ghost use Rattle.resource_table.specs.Jobs.{Precedes, cycles_of};
 ghost use Rattle.resource_table.specs.Befores.{listed, AreListed};
 ghost use Rattle.resource_table.specs.Schedules.{at_start, is_placed as is_placed_in, MayPlace, IsListSchedule, IsSoundTable};
 ghost use Rattle.arch_search.specs.States.{AreBuses};
-ghost use Rattle.arch_search.specs.Problems.{IsTimed, IsProblem, IsStateOf};
+ghost use Rattle.arch_search.specs.Problems.{IsTimed, IsProblem};
 ghost use Rattle.arch_search.specs.Rooms.{HasRoom, HasRoomFor, AreShort, AreCyclesOf};
 
 use crate::buses::Buses;

@@ -1,5 +1,5 @@
 //! What a search goes by: the problem, what binds its schedules, and the cycles of its modules.
-ghost use Rattle.std.specs.Prelude.{◌≡◌, ◌<◌, ◌≤◌, length, IfOk};
+ghost use Rattle.std.specs.Prelude.{◌≡◌, ◌<◌, length, IfOk};
 ghost use Rattle.resource_table.specs.Jobs.{job_value, IsSoundJob};
 ghost use Rattle.arch_search.specs.Problems.{IsProblem};
 ghost use Rattle.arch_search.specs.Settings.{IsSetting};

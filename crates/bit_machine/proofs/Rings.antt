@@ -1,7 +1,7 @@
 -- The bits of a ring after one of them is written, or one enters.
 use Rattle.std.proofs.Common.{◌≡◌, ℕ, zero, suc, ◌+◌, ◌-◌, ◌≤◌, ◌<◌, ◌⊎◌, Bool, List, [], ◌∷◌, ◌++◌, length, take, drop, set, refl, ap, sym, ◌∙◌, arith, inl, inr, length-drop}
-use Rattle.std.proofs.lemmas.List.{length-append, length-take-le, drop-set-add, drop-set-lt, drop_more, take-set-le, take-append-le, set-append_left, set-append_right}
-use Rattle.std.proofs.Math.Seq.{take-set-lt, take-append-add, take-length}
+use Rattle.std.proofs.lemmas.List.{length-append, length-take-le, drop-set-add, drop-set-lt, drop_more, take-set-le, set-append_left, set-append_right}
+use Rattle.std.proofs.Math.Seq.{take-set-lt, take-append-add}
 use Rattle.bit_machine.specs.Rings.{IsHead}
 use Rattle.bit_machine.specs.Sessions.{entered}
 

@@ -5,7 +5,7 @@ ghost use Rattle.plan_model.specs.Plans.{PlannedTest};
 ghost use Rattle.plan_model.specs.Moments.{moment_behind};
 ghost use Rattle.plan_model.specs.Runs.{Content, wanted, next_bits, last_bit, chain_at};
 ghost use Rattle.bit_machine.specs.Chips.{holds};
-ghost use Rattle.bit_machine.specs.Lanes.{lane_bits, capture_answer, ArePages, AreRings, AreAtRest, IsAtRest, IsBusy, IsLane, IsNow, IsSameTest, IsSteppable, resting_bits};
+ghost use Rattle.bit_machine.specs.Lanes.{lane_bits, capture_answer, ArePages, AreAtRest, IsAtRest, IsBusy, IsLane, IsNow, IsSameTest, IsSteppable, resting_bits};
 ghost use Rattle.bit_machine.specs.Numbers.{IsLineWord};
 ghost use Rattle.bit_machine.specs.Paths.{is_answered};
 ghost use Rattle.bit_machine.specs.declared.path.Path.{Path};

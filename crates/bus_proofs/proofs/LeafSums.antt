@@ -23,7 +23,7 @@ use Rattle.bus_proofs.specs.Bounds.{AreKept}
 use Rattle.bus_proofs.specs.ListTables.{KeepFirst, role_of, role_at}
 use Rattle.bus_proofs.specs.Leaves.{weighed}
 use Rattle.bus_proofs.specs.Bases.{IsBasis, AllKept, chip_of, limits_of, lists_of}
-use Rattle.bus_proofs.specs.LeafCosts.{AreTotals, AreUses, IsMade, all_weights, by_places, IsWeighed, USES_COST_MOST, beside_use, drawn_use, in_weight, is_aside, weighed_by}
+use Rattle.bus_proofs.specs.LeafCosts.{AreUses, IsMade, all_weights, IsWeighed, USES_COST_MOST, beside_use, drawn_use, in_weight, is_aside, weighed_by}
 use Rattle.bus_proofs.proofs.CountedSteps.{power_use-le}
 use Rattle.bus_proofs.proofs.CrowdSizes.{room-le}
 

@@ -1,5 +1,5 @@
 -- How the check goes over the nodes of a proof: the splits whose second branch is to come, or is under way.
-use Rattle.std.specs.Prelude.{◌≡◌, ◌⊎◌, ℕ, zero, suc, ◌+◌, ◌*◌, ◌^◌, ◌<◌, ◌≤◌, false, MatchBool, Some, Result, Ok, Err, List, [], ◌∷◌, ◌++◌, length, slice_get, slice_index, slice_index_or}
+use Rattle.std.specs.Prelude.{◌≡◌, ◌⊎◌, ℕ, zero, suc, ◌+◌, ◌^◌, ◌<◌, ◌≤◌, false, MatchBool, Some, Result, Ok, Err, List, [], ◌∷◌, ◌++◌, length, slice_get, slice_index, slice_index_or}
 use Rattle.std.specs.List.{All}
 use Rattle.soc_model.specs.Chips.{SocValue}
 use Rattle.soc_model.specs.Lookups.{module_place}
@@ -9,10 +9,9 @@ use Rattle.bus_proofs.specs.declared.ProofFault.{ProofFault}
 use Rattle.bus_proofs.specs.declared.ProofFault.TheVariants.{BadList, BadNode, Less}
 use Rattle.bus_proofs.specs.declared.basis.Basis.{Basis}
 use Rattle.bus_proofs.specs.declared.case.CaseRoom.{CaseRoom}
-use Rattle.bus_proofs.specs.declared.case.Mark.{Mark}
 use Rattle.bus_proofs.specs.declared.leaf.LeafRoom.{LeafRoom}
 use Rattle.bus_proofs.specs.declared.walk.OpenSplit.{OpenSplit}
-use Rattle.proof_model.specs.Proofs.{WeightsValue, SplitValue, OfWide, OfPlace, NodeValue, OfSplit, OfSum, CaseTree, nodes_of}
+use Rattle.proof_model.specs.Proofs.{WeightsValue, SplitValue, OfWide, OfPlace, NodeValue, OfSplit, OfSum, CaseTree}
 use Rattle.bus_proofs.specs.Cases.{Case, known_ranks, with_rank, wide, placed_off, case_by, first_case, second_case, NodeCase, cases_of, IsWide, IsPlace, KeepsSplit}
 use Rattle.bus_proofs.specs.Bounds.{AreEnough, HasFault, IsEnough, KeepsNode}
 use Rattle.bus_proofs.specs.CaseRooms.{HasCase, IsCaseOf, IsFurther, IsMark}

@@ -10,13 +10,13 @@ ghost use Rattle.proof_model.specs.Proofs.{proof_value};
 ghost use Rattle.bus_proofs.specs.Takings.{bit_at};
 ghost use Rattle.bus_proofs.specs.Bases.{IsBasis, chip_of, limits_of, proof_of};
 
-use proof_model::Proof;
 use crate::list_table::{ListTable, list_table};
 use crate::test_table::{TestTable, test_table};
 use live_tests::Resolved;
 use outside::{NoMemory, push};
 use packed_times::PackedTimes;
 use plan_model::Limits;
+use proof_model::Proof;
 use soc_model::{Soc, has_tam_test, module_at};
 use std::alloc::Global;
 

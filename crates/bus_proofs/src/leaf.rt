@@ -16,8 +16,8 @@ use crate::case::CaseRoom;
 use crate::leaf_costs::{Weighed, self_cost, weigh_leaf};
 use crate::leaf_sums::{conclusion, sum_of_least, worth_of_cycle};
 use crate::widths::{is_empty, known_ranks};
-use proof_model::{TestList, Weights};
 use outside::NoMemory;
+use proof_model::{TestList, Weights};
 use std::alloc::Global;
 
 /// What is found at a leaf.

@@ -18,9 +18,9 @@ use crate::basis::Basis;
 use crate::list_table::{ListTable, Role};
 use crate::lists::{counted, room_of};
 use crate::test_table::{TestPlace, TestTable};
-use proof_model::{TestList, Weights};
 use outside::NoMemory;
 use plan_model::Limits;
+use proof_model::{TestList, Weights};
 use soc_model::{Module, Test, module_at};
 use std::alloc::Global;
 

@@ -1,5 +1,5 @@
 //! The least cost of a module over the buses that it may be on in a case.
-ghost use Rattle.std.specs.Prelude.{◌≡◌, ◌+◌, ◌-◌, ◌*◌, ◌^◌, ◌<◌, ◌≤◌, true, length, nat_lt, IfSome};
+ghost use Rattle.std.specs.Prelude.{◌≡◌, ◌+◌, ◌-◌, ◌*◌, ◌^◌, ◌<◌, ◌≤◌, length, nat_lt, IfSome};
 ghost use Rattle.packed_times.specs.Packed.{packed_tam_time, self_test_time};
 ghost use Rattle.proof_model.specs.declared.TheConstants.{WEIGHT_MOST};
 ghost use Rattle.proof_model.specs.Proofs.{WeightsValue, weights_value};
@@ -13,7 +13,6 @@ ghost use Rattle.bus_proofs.specs.LeafCosts.{IsWeighed, LEAF_COST_MOST};
 ghost use Rattle.bus_proofs.specs.LeafAnswers.{IsCaseFor};
 ghost use Rattle.bus_proofs.specs.LeafSlots.{IsCostOf, IsLeastOf, IsOfModule, IsOfRange, IsOfRank, IsOfRanks, IsOfRest, costs_at, lesser, range_slot, rank_range, rest_range};
 
-use proof_model::Weights;
 use crate::basis::Basis;
 use crate::case::CaseRoom;
 use crate::laws::wider_slots_cost_no_less;
@@ -21,6 +20,7 @@ use crate::leaf_costs::{Weighed, module_cost};
 use crate::places::{Placing, may_be_on};
 use crate::ranks::is_left;
 use crate::widths::{interval_at, known_ranks, spare_wires};
+use proof_model::Weights;
 
 /// The buses of one rank, where it is known, on each width of a range, in wires.
 #[derive(Clone, Copy)]

@@ -12,13 +12,13 @@ ghost use Rattle.bus_proofs.specs.LeafCosts.{IsWeighed, LEAF_COST_MOST};
 ghost use Rattle.bus_proofs.specs.LeafAnswers.{IsCaseFor};
 ghost use Rattle.bus_proofs.specs.LeafSlots.{IsConclusion, IsModuleCost, IsSumOfLeast};
 
-use proof_model::Weights;
 use crate::basis::Basis;
 use crate::case::CaseRoom;
 use crate::leaf::LeafAnswer;
 use crate::leaf_costs::Weighed;
 use crate::leaf_slots::least_cost;
 use crate::widths::spare_wires;
+use proof_model::Weights;
 
 /// Whether the module at a place has a test over the wires.
 fn is_wired(basis: &Basis<'_>, place: usize) -> bool

@@ -12,12 +12,12 @@ ghost use Rattle.proof_model.specs.Proofs.{OfCrowd, OfPower, OfTurns, OfTurnsOn,
 ghost use Rattle.bus_proofs.specs.ListRules.{AreTurnMarks, IsListRules, ListAdded, chip_ruled, limits_ruled, member_role, roles_in, turn_role as the_turn_role};
 ghost use Rattle.bus_proofs.specs.ListTables.{IsListTable, KeepFirst};
 
-use proof_model::TestList;
 use crate::list_rules::{ListRules, TurnMarks, are_heavy, crowd_marks, turn_marks};
 use crate::lists::is_near;
 use live_tests::Resolved;
 use outside::{NoMemory, push};
 use plan_model::Limits;
+use proof_model::TestList;
 use soc_model::{Soc, TestId};
 use std::alloc::Global;
 

@@ -1,8 +1,8 @@
 //! Whether a split keeps its rule in a case.
-ghost use Rattle.std.specs.Prelude.{◌≡◌, ℕ, None, ◌+◌, ◌*◌, ◌^◌, ◌<◌, ◌≤◌, ◌∷◌, true, false, length, slice_index, IfSome};
+ghost use Rattle.std.specs.Prelude.{◌≡◌, ℕ, None, ◌<◌, ◌≤◌, ◌∷◌, true, false, length, slice_index, IfSome};
 ghost use Rattle.std.specs.List.{All};
 ghost use Rattle.plan_model.specs.Certificates.{HasTamTest};
-ghost use Rattle.bus_proofs.specs.Cases.{Case, AreTwins, IsPlace, IsWide, interval_of, with_rank};
+ghost use Rattle.bus_proofs.specs.Cases.{Case, AreTwins, IsPlace, IsWide, with_rank};
 ghost use Rattle.bus_proofs.specs.CaseRooms.{HasCase, IsCaseOf, IsFurther};
 ghost use Rattle.bus_proofs.specs.Bases.{IsBasis, chip_of};
 ghost use Rattle.bus_proofs.specs.Walks.{AreRanks, IsNewTwin, IsPlaceAt, IsRoomFor, IsWideNow, IsWiredAt};

@@ -7,16 +7,16 @@ ghost use Rattle.proof_model.specs.Proofs.{WeightsValue, SplitValue, OfWide, OfP
 ghost use Rattle.bus_proofs.specs.Cases.{Case, IsPlace, IsWide, NodeCase, in_case, root_case};
 ghost use Rattle.proof_model.specs.Sayable.{MayBeSaid};
 ghost use Rattle.bus_proofs.specs.Bounds.{all_cases};
-ghost use Rattle.bus_proofs.specs.CaseRooms.{IsCaseOf, IsFurther, IsMark};
+ghost use Rattle.bus_proofs.specs.CaseRooms.{IsCaseOf, IsFurther};
 ghost use Rattle.bus_proofs.specs.Bases.{IsBasis, AllKept, chip_of, limits_of, claim_of, proof_of};
 ghost use Rattle.bus_proofs.specs.LeafAnswers.{IsLeafAnswer};
 ghost use Rattle.bus_proofs.specs.Walks.{Awaits, FitsLeaves, GoesOn, IsAt, IsBegun, IsChecked, IsForked, IsHere, IsJudged, IsNodeAt, IsRoomFor, IsSecond, IsTurn, branch_later, turn_at};
 
+use crate::ProofFault;
 use crate::basis::Basis;
 use crate::case::{CaseRoom, Mark};
 use crate::leaf::{LeafAnswer, LeafRoom, check_leaf};
 use crate::nodes::{is_wide, placed};
-use crate::ProofFault;
 use proof_model::{Node, Proof, Weights};
 use soc_model::place_of;
 

@@ -1,7 +1,7 @@
 //! What exclusions ask of each live test: its module, that module's parent, and the least that it draws.
-ghost use Rattle.std.specs.Prelude.{◌≡◌, ◌++◌, ◌+◌, Some, map, slice_get, IfOk, OnOk};
+ghost use Rattle.std.specs.Prelude.{◌≡◌, ◌++◌, ◌+◌, Some, map, IfOk, OnOk};
 ghost use Rattle.std.specs.List.{filter};
-ghost use Rattle.soc_model.specs.Chips.{SocValue, is_live, module_value, soc_value};
+ghost use Rattle.soc_model.specs.Chips.{is_live, soc_value};
 ghost use Rattle.plan_model.specs.Views.{limits_value};
 ghost use Rattle.live_tests.specs.Profiles.{AreProfilePlaces};
 ghost use Rattle.live_tests.specs.Resolved.{IsResolved};

@@ -4,7 +4,7 @@ use Rattle.std.proofs.lemmas.Option.{same_Some}
 use Rattle.soc_model.specs.declared.TestId.{TestId}
 use Rattle.soc_model.specs.Chips.{SocValue}
 use Rattle.plan_model.specs.Cells as cells
-use Rattle.plan_model.specs.Cells.{is_read, out_length}
+use Rattle.plan_model.specs.Cells.{is_read}
 use Rattle.plan_model.specs.Plans.{LimitsValue, PlanValue, PlannedTest, planned, uses, of_first}
 use Rattle.plan_model.specs.Right.{IsAt, IsReadAt, IsRight}
 use Rattle.plan_model.specs.Rules.{IsGood, IsGoodAlone, bare_limits}

@@ -1,5 +1,5 @@
 //! A format of texts: its keywords, its numbers, and what reads its words one by one.
-ghost use Rattle.std.specs.Prelude.{◌≡◌, ℕ, List};
+ghost use Rattle.std.specs.Prelude.{◌≡◌};
 ghost use Rattle.outside.specs.declared.reading.Unread.{Unread as WhyUnread};
 ghost use Rattle.keyword_text.specs.Tokens.{table_value};
 ghost use Rattle.keyword_text.specs.Texts.{Grammar};

@@ -1,5 +1,5 @@
 //! The packed times of all modules of a chip on each width, taken once.
-ghost use Rattle.std.specs.Prelude.{◌≡◌, ◌+◌, ◌++◌, ◌^◌, ◌<◌, ◌≤◌, ℕ, IfOk, IsTrue, Some, length, map, slice_get, slice_index, sum};
+ghost use Rattle.std.specs.Prelude.{◌≡◌, ◌+◌, ◌^◌, ◌<◌, ◌≤◌, ℕ, IfOk, IsTrue, Some, length, map, slice_get, slice_index, sum};
 ghost use Rattle.std.specs.List.{All, range_with_len};
 ghost use Rattle.soc_model.specs.Chips.{ModuleValue, is_live, module_value, soc_value};
 ghost use Rattle.soc_model.specs.Sizes.{test_work};

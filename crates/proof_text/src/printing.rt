@@ -7,9 +7,9 @@ ghost use Rattle.proof_text.specs.Tokens.{spelling};
 ghost use Rattle.proof_text.specs.ProofLines.{test_numbers, use_tokens, list_line, weight_tokens, node_line, head_lines, proof_text};
 ghost use Rattle.proof_text.specs.Answers.{IsReadAgain};
 
-use proof_model::{Node, Proof, TestList, Weights};
 use keyword_text::push_numbers;
 use outside::{NoMemory, extend, push_spaced};
+use proof_model::{Node, Proof, TestList, Weights};
 use soc_model::TestId;
 use std::alloc::Global;
 

@@ -4,14 +4,14 @@ ghost use Rattle.proof_text.specs.Answers.{ProofRead};
 ghost use Rattle.proof_text.specs.Reads.{state_of};
 ghost use Rattle.proof_text.specs.Words.{step as step_value};
 
+use crate::ProofTextFault;
 use crate::parts::{Part, ReadSoFar};
 use crate::tokens::{KEYWORDS, Keyword};
 use crate::words::{end_proof, new_draft, step_token};
-use crate::ProofTextFault;
-use proof_model::Proof;
 use keyword_text::{Format, Spelled, Token, read_by};
 use outside::{Stop, Unread};
 use plan_model::PLAN_NUMBER_MOST;
+use proof_model::Proof;
 use std::alloc::Global;
 
 /// What was read of a proof's text so far. It stands in a box, so that no more than a pointer moves from word to word.

@@ -7,9 +7,9 @@ ghost use Rattle.proof_text.specs.Words.{at, start as state_at_first, with_list,
 
 use crate::parts::{Draft, ListKind, Part};
 use crate::tokens::Keyword;
-use proof_model::{LISTS_MOST, Node, Proof, TestList, WEIGHT_MOST, Weights};
 use keyword_text::Token;
 use outside::Stop;
+use proof_model::{LISTS_MOST, Node, Proof, TestList, WEIGHT_MOST, Weights};
 use soc_model::TestId;
 use std::alloc::Global;
 use std::mem::replace;

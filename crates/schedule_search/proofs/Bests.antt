@@ -10,7 +10,7 @@ use Rattle.plan_model.proofs.Lists.{contains_at, at_contains, from_map, in_appen
 use Rattle.plan_model.proofs.Greatest.{le-greatest_at}
 use Rattle.resource_table.specs.declared.Placement.{Placement}
 use Rattle.resource_table.specs.Jobs.{JobValue, cycles_of, Precedes, IsSoundJob}
-use Rattle.resource_table.specs.Schedules.{TableValue, at_start, end_of, last_end, is_placed, drawn, power_at, power_of, Fits, IsEarliest, MayPlace, IsSoundTable, IsListSchedule}
+use Rattle.resource_table.specs.Schedules.{TableValue, end_of, is_placed, drawn, power_at, power_of, Fits, IsEarliest, IsSoundTable}
 use Rattle.resource_table.proofs.Placed.{each_front, each_last, each_take, not_placed, in_take}
 use Rattle.schedule_search.specs.Orders.{IsReady, IsTopological, GoesFirst, IsLongest, IsFirstOrder}
 use Rattle.schedule_search.specs.OrderCycles.{Takes, HasPlaced}

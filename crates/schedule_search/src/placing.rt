@@ -2,7 +2,7 @@
 ghost use Rattle.std.specs.Prelude.{◌≡◌, ℕ, ◌+◌, ◌^◌, ◌<◌, ◌≤◌, ◌++◌, ◌∷◌, [], List, true, false, length, take, IfSome, IfNone};
 ghost use Rattle.resource_table.specs.declared.Placement.{Placement};
 ghost use Rattle.resource_table.specs.Jobs.{job_value, cycles_of, Precedes};
-ghost use Rattle.resource_table.specs.Schedules.{at_start, is_placed, IsEarliest, IsSoundTable, IsListSchedule};
+ghost use Rattle.resource_table.specs.Schedules.{at_start, is_placed, IsEarliest, IsListSchedule};
 ghost use Rattle.schedule_search.specs.Orders.{IsTopological};
 ghost use Rattle.schedule_search.specs.OrderCycles.{Takes, HasPlaced};
 

@@ -3,7 +3,7 @@ ghost use Rattle.std.specs.Prelude.{◌≡◌, ℕ, ◌+◌, ◌^◌, ◌<◌, �
 ghost use Rattle.std.specs.List.{list_any};
 ghost use Rattle.indexmap.specs.IndexSet.{keys, spare};
 ghost use Rattle.shift_program.specs.Programs.{operations};
-ghost use Rattle.shift_program.specs.Faults.{captured, patterns_of, IsFault, IsFaultless};
+ghost use Rattle.shift_program.specs.Faults.{patterns_of, IsFault, IsFaultless};
 ghost use Rattle.shift_program.specs.Counting.{needed_by, passed_more, starts_early as is_early, is_wrong as wrong, unloads_few as is_short, shift_fault as fault_of_shift, capture_fault as fault_of_capture, entry_fault as fault_of_entry, end_fault as fault_of_end};
 
 use crate::{Entry, ProgramFault};

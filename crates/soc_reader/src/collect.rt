@@ -1,5 +1,5 @@
 //! Adds items to what is kept of those before.
-ghost use Rattle.std.specs.Prelude.{◌≡◌, ◌||◌, ◌&&◌, ◌∷◌, ℕ, List, not, IfOk, OnOk, OnErr, true, false, []};
+ghost use Rattle.std.specs.Prelude.{◌≡◌, ◌||◌, ◌&&◌, ℕ, List, not, IfOk, OnOk, OnErr, true, false, []};
 ghost use Rattle.soc_reader.specs.Grammar.{opens, after_entry, gives_xy as gives, is_given as gives_this, renames as gives_other};
 ghost use Rattle.soc_reader.specs.Table.{Value, nothing, lengths, may_repeat as repeats, entry, name as named_item, place_data, coordinate};
 ghost use Rattle.soc_reader.specs.Marks.{is_marked};

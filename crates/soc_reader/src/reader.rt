@@ -1,10 +1,10 @@
 //! Reads a text word by word.
-ghost use Rattle.std.specs.Prelude.{◌≡◌, ◌∷◌, [], true, false, option_map, IfOk, OnErr};
+ghost use Rattle.std.specs.Prelude.{◌≡◌, [], true, false, option_map, IfOk, OnErr};
 ghost use Rattle.soc_reader.specs.Known.{add, of_known, may_name as may_be_named};
 ghost use Rattle.soc_reader.specs.Drafts.{IsIndexed};
 ghost use Rattle.soc_reader.specs.Steps.{begin_if, after_value, at, between, begun, begin_entry as begins_entry, begin_data as begins_data, begin_free as begins_free, begin as begins, list_from as lists_from, after_length as lists_after, step_value as steps_value, step_counted as steps_counted, step_name as steps_name, step_at, closed_at};
 ghost use Rattle.soc_reader.specs.Views.{value_of, known_of, part_of, is_list, Steps, Closes, AddsLength};
-ghost use Rattle.soc_reader.specs.Table.{word_value as value_that_is, owner as owner_of, shape_of as shape_that_follows, entry, name as named_item, lengths};
+ghost use Rattle.soc_reader.specs.Table.{word_value as value_that_is, owner as owner_of, shape_of as shape_that_follows, entry, name as named_item};
 ghost use Rattle.soc_reader.specs.Keywords.{number as number_in, is_lengths_word as says_lengths, is_coordinate as is_number_like};
 
 use crate::collect::{

@@ -1,6 +1,6 @@
 //! Decides how a command ends before anything is written. Where another file comes after those of a plan or a chip, what was
 //! loaded is dropped by a call, as the room of a checker is.
-ghost use Rattle.std.specs.Prelude.{◌≡◌, ◌≤◌, ℕ, List, Option, Some, IfOk, IfSome, map, string_bytes};
+ghost use Rattle.std.specs.Prelude.{◌≡◌, ◌≤◌, ℕ, Option, Some, IfOk, IfSome, map, string_bytes};
 ghost use Rattle.outside.specs.Held.{Files};
 ghost use Rattle.soc_model.specs.Chips.{soc_value};
 ghost use Rattle.soc_model.specs.SoundChips.{IsSoundChip};

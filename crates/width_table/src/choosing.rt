@@ -5,7 +5,7 @@ ghost use Rattle.soc_model.specs.declared.Test.{Test};
 ghost use Rattle.soc_model.specs.Chips.{ModuleValue, module_value, is_live};
 ghost use Rattle.soc_model.specs.Sizes.{test_work};
 ghost use Rattle.plan_model.specs.Listing.{module_size};
-ghost use Rattle.width_table.specs.Times.{mode_tests, mode_time};
+ghost use Rattle.width_table.specs.Times.{mode_tests};
 ghost use Rattle.soc_model.specs.Modes.{is_of_mode};
 ghost use Rattle.width_table.specs.Choices.{IsChoice, AreChoices, takes_fewer, with_choice};
 

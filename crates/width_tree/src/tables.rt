@@ -2,7 +2,6 @@
 ghost use Rattle.std.specs.Prelude.{◌≡◌, ℕ, ◌+◌, ◌*◌, ◌^◌, ◌<◌, ◌≤◌, length, slice_index};
 ghost use Rattle.soc_model.specs.Chips.{soc_value};
 ghost use Rattle.soc_model.specs.SoundChips.{IsSoundChip};
-ghost use Rattle.plan_model.specs.Bounds.{lower_tam_time};
 ghost use Rattle.width_tree.specs.Tables.{place_of_time, AreTimes, HasRow, own_time as own_time_is, AreOwnTimes};
 
 use bound_rules::LowerTimes;

@@ -1,4 +1,4 @@
-use Rattle.std.proofs.Common.{◌≡◌, ◌≤◌, length, sym, arith}
+use Rattle.std.proofs.Common.{arith}
 use Rattle.std.proofs.lemmas.List.{length-map}
 use Rattle.proof_model.specs.Proofs.{list_value}
 use Rattle.bus_proofs.specs.Bases.{chip_of, limits_of, lists_of, proof_of}

@@ -1,4 +1,4 @@
-use Rattle.std.proofs.Common.{length, refl}
+use Rattle.std.proofs.Common.{refl}
 use Rattle.proof_model.specs.Proofs.{weights_value}
 use Rattle.bus_proofs.proofs.walk.judge_leaf.Goals as goal
 

@@ -1,4 +1,4 @@
-use Rattle.std.proofs.Common.{length, arith}
+use Rattle.std.proofs.Common.{arith}
 use Rattle.resource_table.proofs.Profiles.{unused_more}
 use Rattle.resource_table.proofs.points.count_used.Goals as goal
 
