@@ -1,17 +1,14 @@
 -- What a search begins with.
 use Rattle.std.proofs.Common.{◌≡◌, ◌∙◌, ◌<◌, ◌≤◌, ℕ, Option, None, List, length, replicate, arith, sym, ap, subst}
 use Rattle.std.specs.List.{All}
-use Rattle.std.proofs.lemmas.List.{length-map, length-replicate}
+use Rattle.std.proofs.lemmas.List.{length-replicate}
 use Rattle.std.proofs.lemmas.List.Elements.{All-replicate}
 use Rattle.std.proofs.lemmas.List.Folds.{sum_by-replicate}
-use Rattle.live_tests.specs.declared.neighbours.Neighbours.{Neighbours}
 use Rattle.plan_model.specs.declared.TheConstants.{START_MOST}
-use Rattle.resource_table.specs.Befores.{listed}
-use Rattle.resource_table.specs.Jobs.{JobValue}
 use Rattle.arch_search.specs.declared.buses.Buses.{Buses}
 use Rattle.arch_search.specs.declared.problem.Problem.{Problem}
 use Rattle.arch_search.specs.declared.room.Room.{Room}
-use Rattle.arch_search.specs.Problems.{IsProblem, AreFirstBuses}
+use Rattle.arch_search.specs.Problems.{AreFirstBuses}
 use Rattle.arch_search.specs.Rooms.{IsSlot, HasRoom}
 
 pub empty_room : (tests n m : ℕ) (r : Room) → r.slots.items ≡ replicate tests None → r.cycles.items ≡ replicate tests 0 → r.chains.items ≡ replicate tests 0 → r.starts.items ≡ replicate tests 0 →
@@ -38,9 +35,6 @@ first_are p b n some widths slots loads modules =
       as_many_modules = ap length slots ∙ length-replicate n 0 ∙ modules;
       as_many_loads = ap length loads ∙ length-replicate p.wires 0 ∙ sym long;
     }
-
-pub as_many_before : (job : JobValue) (p : Problem) (before : List Neighbours) → before ≡ p.before.items → IsProblem job p → length before ≡ length p.tests.items
-as_many_before job p before is problem = ap length is ∙ sym (length-map p.before.items listed) ∙ problem.before.long ∙ sym problem.tests
 
 pub long_zeros : (n : ℕ) (now items : List ℕ) → items ≡ replicate n 0 → now ≡ items → length now ≡ n
 long_zeros n now items are is = ap length (is ∙ are) ∙ length-replicate n 0

@@ -33,12 +33,6 @@ without_limits soc limits held before mid after chip verdict result order read d
     after_file Soc SaysChip RefusesChip soc (λ chip. with_limits chip limits (λ bounds. nothing)) held before mid after chip verdict order read d in
     subst (LoadsBoth soc limits held before after) (sym is) both
 
--- both from one shelf
-pub both_read : (held : Option Files) (soc limits : List ℕ) (both : Both) → IfSome held (λ files. IsRead Soc SaysChip (get files soc) (soc_value both.soc)) → IfSome held (λ files. IsRead Limits (SaysLimits (soc_value both.soc)) (get files limits) (limits_value both.limits)) →
-    IfSome held (λ files. BothRead files soc limits both)
-both_read None soc limits both chip bounds = tt
-both_read (Some files) soc limits both chip bounds = record { chip = chip; bounds = bounds }
-
 chip_of : (held : Option Files) (soc limits : List ℕ) (both : Both) → IfSome held (λ files. BothRead files soc limits both) → IfSome held (λ files. IsRead Soc SaysChip (get files soc) (soc_value both.soc))
 chip_of None soc limits both read = tt
 chip_of (Some files) soc limits both read = read.chip

@@ -2,7 +2,7 @@
 use Rattle.std.proofs.Common.{◌≡◌, ℕ, ◌+◌, ◌<◌, ◌≤◌, ◌^◌, Bool, Result, Ok, Err, Some, List, [], ◌∷◌, ◌++◌, length, get_or, take, map, refl, sym, ◌∙◌, ap, subst, arith}
 use Rattle.std.specs.Prelude.{slice_get, IfOk}
 use Rattle.std.specs.List.{All}
-use Rattle.std.proofs.lemmas.List.{take_all, take_more, take-map, map-append, length-map}
+use Rattle.std.proofs.lemmas.List.{take_more, take-map, map-append, length-map}
 use Rattle.std.proofs.lemmas.Option.{slice_get-get_or, slice_get-map, get_or_from_slice_get}
 use Rattle.soc_model.specs.declared.TestId.{TestId}
 use Rattle.soc_model.specs.Chips.{SocValue}
@@ -22,7 +22,7 @@ use Rattle.schedule_search.specs.Found.{IsFound}
 use Rattle.schedule_search.proofs.PlacedOrders.{placed_has, placed_not}
 use Rattle.schedule_search.proofs.CycleCounts.{takes_short}
 use Rattle.planner.specs.Jobs.{settled_parts, job_of}
-use Rattle.planner.specs.Schedules.{start_of, IsFoundSchedule, AreStartsOf, IsFoundList, KeepsTimes}
+use Rattle.planner.specs.Schedules.{start_of, IsFoundSchedule, IsFoundList, KeepsTimes}
 use Rattle.planner.proofs.Planned.{IsPlaced, keeps_times}
 
 pub if_ok : {A E : Type 0} (r : Result A E) (P Q : A → Type 0) → ((a : A) → P a → Q a) → IfOk r P → IfOk r Q
@@ -81,11 +81,6 @@ has_found job budget listed cycles sound list =
       };
     }
 
-pub found_long : (job : JobValue) (budget : ℕ) (order starts : List ℕ) (cycles : ℕ) (complete : Bool) → IsFound job budget order starts cycles complete → length starts ≡ length order
-found_long job budget order starts cycles complete found =
-    let s = found.schedule in
-    ap length s.starts_are ∙ length-map s.placed (λ (p : Placement). p.start) ∙ sym (length-map s.placed (λ (p : Placement). p.test)) ∙ ap length s.in_order
-
 pub found_inside : (job : JobValue) (budget : ℕ) (order starts : List ℕ) (cycles : ℕ) (complete : Bool) → IsFound job budget order starts cycles complete → All (λ test. test < length job.tests) order
 found_inside job budget order starts cycles complete found k d less = (found.topological.ready k (get_or order k d) (slice_get-get_or order k d less)).in_job
 
@@ -100,11 +95,6 @@ no_placement = record { test = 0; start = 0 }
 abbrev pub AreFirstStarts : JobValue → (order starts : List ℕ) → ℕ → List (TestId × ℕ) → Type 0
 AreFirstStarts job order starts count listed =
     (placed : List Placement) → map (λ (p : Placement). p.test) placed ≡ order → map (λ (p : Placement). p.start) placed ≡ starts → listed ≡ map (start_of job) (take count placed)
-
-pub starts_whole : (job : JobValue) (order starts : List ℕ) (count : ℕ) (listed : List (TestId × ℕ)) → length order ≤ count → AreFirstStarts job order starts count listed → AreStartsOf job order starts listed
-starts_whole job order starts count listed all first placed in_order starts_are =
-    let many : length placed ≡ length order = sym (length-map placed (λ (p : Placement). p.test)) ∙ ap length in_order in
-    first placed in_order starts_are ∙ ap (map (start_of job)) (take_all count placed (omega (arith, many, all)))
 
 -- one start more
 pub starts_more : (job : JobValue) (order starts : List ℕ) (k : ℕ) (listed listed' : List (TestId × ℕ)) (id : TestId) → length starts ≡ length order → k < length order → AreFirstStarts job order starts k listed → listed' ≡ listed ++ (id, get_or starts k 0) ∷ [] → id ≡ (test_at job (get_or order k 0)).id → AreFirstStarts job order starts (k + 1) listed'

@@ -40,14 +40,6 @@ nothing_more : (pairs : List (ℕ × Bool)) → pairs ++ [] ≡ pairs
 nothing_more [] = refl
 nothing_more (p ∷ pairs) = ap (λ (ps : List (ℕ × Bool)). p ∷ ps) (nothing_more pairs)
 
--- a mode that isn't used
-pub skip_mode : (soc : SocValue) (buses : List BusValue) (place : ℕ) (scan : Bool) (m core : ModuleValue) (pairs : List (ℕ × Bool)) (modes : List UsedMode) → slice_get soc.modules place ≡ Some m → slice_get soc.modules place ≡ Some core →
-    uses_mode scan m ≡ false → AreUsedModes soc buses pairs modes → AreUsedModes soc buses (pairs ++ mode_pair scan core) modes
-skip_mode soc buses place scan m core pairs modes at at' none are =
-    let same : m ≡ core = same_module (slice_get soc.modules place) m core at at' in
-    let none' : mode_pair scan core ≡ [] = rw (ap (uses_mode scan) (sym same) ∙ none) refl in
-    subst (λ (ps : List (ℕ × Bool)). AreUsedModes soc buses ps modes) (sym (ap (λ (ps : List (ℕ × Bool)). pairs ++ ps) none' ∙ nothing_more pairs)) are
-
 -- a mode that is used
 pub take_mode : (soc : SocValue) (buses : List BusValue) (u : UsedMode) (m core : ModuleValue) (pairs : List (ℕ × Bool)) (old new : List UsedMode) → slice_get soc.modules u.place ≡ Some m → slice_get soc.modules u.place ≡ Some core →
     uses_mode u.scan m ≡ true → u.width ≡ bus_width buses m.number → new ≡ old ++ u ∷ [] → AreUsedModes soc buses pairs old → AreUsedModes soc buses (pairs ++ mode_pair u.scan core) new

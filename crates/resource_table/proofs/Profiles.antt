@@ -30,9 +30,6 @@ taken_same d a c le (inl f) (inl t) = none_taken d c (inr (omega arith)) ∙ sym
 taken_same d a c le (inl f) (inr t) = all_taken d c (omega arith) t ∙ sym (all_taken d a f (omega arith))
 taken_same d a c le (inr f) t = none_taken d c (inl f) ∙ sym (none_taken d a (inl (omega arith)))
 
-pub taken-le : (d : Draw) (c : ℕ) → taken_by c d ≤ d.power
-taken-le d c = grind arith
-
 never_taken : (d : Draw) (c : ℕ) → d.to ≤ d.from → taken_by c d ≡ 0
 never_taken d c empty = elim (cases_lt c d.from) [
   | inl early ↦ none_taken d c (inl early)
@@ -274,13 +271,6 @@ pub record AreRaised (d : Draw) (low high : List Point) (place : ℕ) : Type 0 w
   pub done : (k : ℕ) (e : Point) → k < place → k < length low → get_or high k e ≡ raised_by d (get_or low k e)
   pub rest : (k : ℕ) (e : Point) → place ≤ k → get_or high k e ≡ get_or low k e
 
-pub raised_first : (d : Draw) (points : List Point) (place : ℕ) → IsPartitionPoint (λ (p : Point). p.cycle < d.from) (λ (p : Point). d.from ≤ p.cycle) points place → AreRaised d points points place
-raised_first d points place parts = record {
-  long = refl;
-  done = (λ k e lt inside. sym (raised_none d (get_or points k e) (none_taken d (get_or points k e).cycle (inl (parts.0 k e (omega arith) lt)))));
-  rest = (λ k e le. refl);
-}
-
 pub raised_all : (d : Draw) (low high : List Point) (place : ℕ) → AreRaised d low high place → ((k : ℕ) (e : Point) → place ≤ k → k < length low → d.to ≤ (get_or low k e).cycle) → high ≡ map (raised_by d) low
 raised_all d low high place are over = same_lists high (map (raised_by d) low) (sym are.long ∙ sym (length-map low (raised_by d))) each
   where
@@ -297,24 +287,6 @@ raised_all d low high place are over = same_lists high (map (raised_by d) low) (
 -- one point more
 raised_here : (d : Draw) (p : Point) → d.from ≤ p.cycle → p.cycle < d.to → (let q : Point = record { cycle = p.cycle; load = p.load + d.power; uses = p.uses } in q) ≡ raised_by d p
 raised_here d p from to = ap (λ (n : ℕ). (let q : Point = record { cycle = p.cycle; load = p.load + n; uses = p.uses } in q)) (sym (all_taken d p.cycle from to))
-
-pub raised_more : (d : Draw) (low high : List Point) (place : ℕ) → AreRaised d low high place → place < length low → d.from ≤ (get_or low place no_point).cycle → (get_or low place no_point).cycle < d.to →
-    AreRaised d low (set high place (record { cycle = (get_or high place no_point).cycle; load = (get_or high place no_point).load + d.power; uses = (get_or high place no_point).uses })) (place + 1)
-raised_more d low high place are lt from to = record {
-  long = are.long ∙ sym (length-set high place new);
-  done = (λ k e before inside. elim (cases_eq k place) [
-    | inl same ↦
-        (let old : get_or high place no_point ≡ get_or low place no_point = are.rest place no_point (omega arith) in
-        let here : new ≡ raised_by d (get_or low place no_point) = ap (λ (p : Point). (let q : Point = record { cycle = p.cycle; load = p.load + d.power; uses = p.uses } in q)) old ∙ raised_here d (get_or low place no_point) from to in
-        subst (λ (v : ℕ). get_or (set high place new) v e ≡ raised_by d (get_or low v e)) (sym same)
-        (get_or-set_same high place new e (let long = are.long in omega arith) ∙ here ∙ ap (raised_by d) (same_item low place no_point e lt)))
-    | inr apart ↦ get_or-set_other high place k new e apart ∙ are.done k e (omega (arith, before, apart)) inside
-  ]);
-  rest = (λ k e after. get_or-set_other high place k new e (λ (same : k ≡ place). omega (arith, after, same)) ∙ are.rest k e (omega arith));
-}
-  where
-    new : Point
-    new = record { cycle = (get_or high place no_point).cycle; load = (get_or high place no_point).load + d.power; uses = (get_or high place no_point).uses }
 
 pub lowered_more : (d : Draw) (low high : List Point) (place : ℕ) → AreRaised d low high place → place < length low → d.from ≤ (get_or high place no_point).cycle → (get_or high place no_point).cycle < d.to →
     taken_by (get_or high place no_point).cycle d ≤ (get_or high place no_point).load →

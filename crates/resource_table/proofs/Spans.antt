@@ -89,13 +89,6 @@ module _ (lines : List Timeline) (place : Option ℕ) (at : ℕ) (was : Timeline
         (was, r.1, subst (λ (v : Timeline). IsTaken span was.spans.items v.spans.items) (sym r.0) taken, ap (λ (v : Timeline). vec_capacity v.spans) r.0 ∙ room));
   }
 
-pub none_put : (lines : List Timeline) (place : Option ℕ) (span : Span) → place ≡ None → ArePut place span lines lines
-none_put lines place span none = record {
-  long = refl;
-  others = (λ k l apart found. found);
-  here = (λ k l here found. absurd (let never : (let a : Option ℕ = None in a) ≡ Some k = sym none ∙ here in cc));
-}
-
 pub none_taken : (lines : List Timeline) (place : Option ℕ) (span : Span) → place ≡ None → AreTaken place span lines lines
 none_taken lines place span none = record {
   long = refl;

@@ -321,6 +321,7 @@ impl<J> TableOf<J> {
     }
 
     /// The least start from `start` on at which a test meets no placed one that excludes it.
+    #[inline(always)]
     fn after_times(&self, test: usize, start: u64, last: u64) -> u64
         requires in_job { test < length self.now.job.tests }
         requires start { start ≤ last }

@@ -300,6 +300,7 @@ fn after_children(times: &Timelines, place: usize, length: u64, start: u64, last
 }
 
 /// Adds a time to the timeline at a place, where there is one, in room that is there.
+#[inline(always)]
 fn add_span(lines: &mut Vec<Timeline>, place: Option<usize>, span: Span)
     requires { MayFill place lines.old.items }
     ensures { ArePut place span lines.old.items lines.new.items }
@@ -310,6 +311,7 @@ fn add_span(lines: &mut Vec<Timeline>, place: Option<usize>, span: Span)
 }
 
 /// Takes a time out of the timeline at a place, where there is one.
+#[inline(always)]
 fn remove_span(lines: &mut Vec<Timeline>, place: Option<usize>, span: Span)
     requires { MayClear place span lines.old.items }
     ensures { AreTaken place span lines.old.items lines.new.items }

@@ -116,9 +116,6 @@ open_more job prefix test before here n less shut = elim (cases_lt n (length pre
       here (subst (IsShut job) (ap (λ k. take k (prefix ++ test ∷ [])) n_is ∙ take_at prefix (test ∷ []) (length prefix) refl) shut)
 ]
 
-pub open_none : (job : JobValue) → IsOpen job []
-open_none job n less shut = omega (arith, less)
-
 -- ---- orders that stand before others
 
 here_longest : (job : JobValue) (prefix : List ℕ) (test : ℕ) (rest : List ℕ) → Each (IsLongest job) (prefix ++ test ∷ rest) → IsLongest job prefix test

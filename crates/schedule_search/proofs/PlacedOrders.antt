@@ -1,5 +1,5 @@
 -- The tests of an order are placed one by one.
-use Rattle.std.proofs.Common.{◌≡◌, inl, inr, ℕ, ◌+◌, ◌<◌, ◌≤◌, max, Some, List, [], ◌∷◌, ◌++◌, length, get_or, take, map, true, false, refl, sym, ◌∙◌, ap, subst, arith, append_assoc, length-append}
+use Rattle.std.proofs.Common.{◌≡◌, inl, inr, ℕ, ◌+◌, ◌<◌, ◌≤◌, max, Some, List, [], ◌∷◌, ◌++◌, length, get_or, take, map, true, false, sym, ◌∙◌, ap, subst, arith, append_assoc, length-append}
 use Rattle.std.specs.Prelude.{slice_get, nat_eq}
 use Rattle.std.specs.List.{Contains}
 use Rattle.std.proofs.lemmas.Bool.{cases_Bool, eqb-true, eq-eqb}
@@ -67,10 +67,6 @@ takes_placed t job order cycles same placed = record {
   list = subst (λ (j : JobValue). IsListSchedule j t.placed) same placed.list;
   ends = placed.ends ∙ ap (λ (j : JobValue). last_end j t.placed) same;
 }
-
--- no tests take no cycles
-pub takes_none : (job : JobValue) (order : List ℕ) → order ≡ [] → Takes job order 0
-takes_none job order none = record { placed = []; in_order = sym none; list = λ n p at. absurd cc; ends = refl }
 
 -- ---- the first order is topological
 

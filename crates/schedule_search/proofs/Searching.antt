@@ -1,6 +1,6 @@
 -- What a search finds.
 use Rattle.std.proofs.Common.{◌≡◌, ◌⊎◌, inl, inr, ℕ, ◌+◌, ◌-◌, ◌<◌, ◌≤◌, Bool, true, false, not, List, [], ◌∷◌, ◌++◌, length, get_or, take, map, refl, sym, ◌∙◌, ap, subst, arith}
-use Rattle.std.proofs.lemmas.List.{map-append, take_more, length-map}
+use Rattle.std.proofs.lemmas.List.{map-append, take_more}
 use Rattle.resource_table.specs.declared.Placement.{Placement}
 use Rattle.resource_table.specs.Jobs.{JobValue, Precedes}
 use Rattle.resource_table.specs.Schedules.{TableValue, at_start, last_end, is_placed, IsEarliest, IsListSchedule}
@@ -45,9 +45,6 @@ pub next_placed : (t : TableValue) (job : JobValue) (order : List ℕ) (k : ℕ)
 next_placed t job order k starts topological within noted same earlier before =
     placed_has t.placed (take k order) earlier noted.in_order ((next_ready job order k topological within).after earlier (subst (λ (j : JobValue). Precedes j earlier (get_or order k 0)) same before))
 
-pub notes_long : (t : TableValue) (order starts : List ℕ) → HasNoted t order starts → length starts ≡ length order
-notes_long t order starts noted = ap length noted.starts_are ∙ length-map t.placed (λ (p : Placement). p.start) ∙ sym (length-map t.placed (λ (p : Placement). p.test)) ∙ ap length noted.in_order
-
 pub starts_noted : (t : TableValue) (job : JobValue) (order starts : List ℕ) → t.job ≡ job → HasNoted t order starts → AreStarts job order starts
 starts_noted t job order starts same noted cycles takes =
     let list : IsListSchedule job t.placed = subst (λ (j : JobValue). IsListSchedule j t.placed) same noted.list in
@@ -58,17 +55,6 @@ starts_noted t job order starts same noted cycles takes =
       list = list;
       starts_are = noted.starts_are;
       ends = takes.ends ∙ ap (last_end job) placed;
-    }
-
-pub no_starts : (job : JobValue) (order starts : List ℕ) → order ≡ [] → starts ≡ [] → AreStarts job order starts
-no_starts job order starts none none' = λ cycles takes.
-    let empty : takes.placed ≡ [] = same_placed job takes.placed [] (takes.in_order ∙ none) takes.list (λ n p at. absurd cc) in
-    record {
-      placed = [];
-      in_order = sym none;
-      list = λ n p at. absurd cc;
-      starts_are = none';
-      ends = takes.ends ∙ ap (last_end job) empty;
     }
 
 -- ---- the search

@@ -34,10 +34,6 @@ stand_both (e ∷ es) fs [] ys in_ in' = absurd in_
 stand_both (e ∷ es) fs (x ∷ xs) ys (inl here) in' = inl (here.0, stand_both es fs xs ys here.1 in')
 stand_both (e ∷ es) fs (x ∷ xs) ys (inr later) in' = inr (stand_both (e ∷ es) fs xs ys later in')
 
-later_stand : {X : Type 0} (es : List X) (x : X) (xs : List X) → StandIn es xs → StandIn es (x ∷ xs)
-later_stand [] x xs in_ = tt
-later_stand (e ∷ es) x xs in_ = inr in_
-
 -- ---- the best order
 
 no_better_on : (job : JobValue) (ws : List (List ℕ)) (a b : Stand) (w : List ℕ) → IsKeptOrFewer ws a b → NoBetter job a w → NoBetter job b w
@@ -55,10 +51,6 @@ kept_on xs ys a b c (inl same) (inl same') = inl (same'.0 ∙ same.0, same'.1 �
 kept_on xs ys a b c (inl same) (inr fewer') = inr (omega (arith, same.1, fewer'.0), Contains-append_right xs ys c.best fewer'.1)
 kept_on xs ys a b c (inr fewer) (inl same') = inr (omega (arith, same'.1, fewer.0), Contains-append_left xs ys c.best (subst (Contains xs) (sym same'.0) fewer.1))
 kept_on xs ys a b c (inr fewer) (inr fewer') = inr (omega (arith, fewer.0, fewer'.0), Contains-append_right xs ys c.best fewer'.1)
-
-pub fewest_on : (ws : List (List ℕ)) (a b : Stand) → IsKeptOrFewer ws a b → b.cycles ≤ a.cycles
-fewest_on ws a b (inl same) = omega (arith, same.1)
-fewest_on ws a b (inr fewer) = omega (arith, fewer.0)
 
 -- ---- stretches
 

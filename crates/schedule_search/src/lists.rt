@@ -50,6 +50,7 @@ pub(crate) fn put_at(to: &mut Vec<usize>, place: usize, item: usize)
 }
 
 /// Takes the item at a place out. At the end nothing has to move.
+#[inline(always)]
 pub(crate) fn take_at(from: &mut Vec<usize>, place: usize) -> usize
     requires { place < length from.old.items }
     ensures item { result ≡ slice_index_or from.old.items place result }

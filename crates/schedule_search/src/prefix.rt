@@ -208,6 +208,7 @@ impl Prefix {
     }
 
     /// Appends a test that was taken out.
+    #[inline(always)]
     pub(crate) fn append(&mut self, job: &Job, tries: &Tries, test: usize)
         requires tries { AreTries (job_value job.now) tries.now }
         requires in_range { AreInRange (job_value job.now) }

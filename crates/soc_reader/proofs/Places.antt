@@ -139,9 +139,6 @@ pub on_ok : {A E P Q : Type 0} (r : Result A E) → (P → Q) → OnOk r P → O
 on_ok (Ok x) f p = f p
 on_ok (Err e) f p = p
 
-pub soc-missing : (soc : Soc) (n : ℕ) (change : ModuleValue → ModuleValue) (o : Option ℕ) → o ≡ module_place (soc_value soc) n → o ≡ None → soc_value soc ≡ at_module n change (soc_value soc)
-soc-missing soc n change o is none = ap (λ p. with_lists soc (soc_value soc).keys (change_found p change (soc_value soc).modules)) (sym (sym is ∙ none))
-
 pub soc-changed : (soc : Soc) (n : ℕ) (change : ModuleValue → ModuleValue) (place : ℕ) (old new : Module) (o : Option ℕ) → o ≡ module_place (soc_value soc) n → o ≡ Some place → slice_get (map {A = ℕ × Module} (λ e. e.1) soc.modules.entries) place ≡ Some old → module_value new ≡ change (module_value old)
     → with_lists soc (map key_of (set_value_at soc.modules.entries place new)) (map value_of (set_value_at soc.modules.entries place new)) ≡ at_module n change (soc_value soc)
 soc-changed soc n change place old new o is some at changes =

@@ -47,12 +47,6 @@ subject_same (OfTest m t) (OfTest n u) e =
     let second = eqb-true t u parts.1 in
     cc
 
--- the rows of a subject that is equal to one whose rows are known
-pub rows_known : {S : Type 0} (marks : IndexMap Subject ℕ S) (last subject : Subject) (rows : ℕ) → bits_of marks last ≡ Some rows → is_same last subject ≡ true → bits_of marks subject ≡ Some rows
-rows_known marks last subject rows known same =
-    let one : subject ≡ last = subject_same subject last (sym (same_turned last subject) ∙ same) in
-    ap (λ v. bits_of marks v) one ∙ known
-
 subject_is : (s u : Subject) → is_same s u ≡ true → s ≡ u
 subject_is s u e = sym (subject_same u s (sym (same_turned s u) ∙ e))
 
