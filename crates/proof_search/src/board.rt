@@ -8,6 +8,7 @@ use crate::lists::Chosen;
 use crate::play::Play;
 use crate::resources::RESOURCES_MOST;
 use crate::slots::Spans;
+use crate::tables::both;
 use crate::values::{LeafChip, Values};
 use crate::weights::Weighing;
 use outside::NoMemory;
@@ -27,10 +28,15 @@ pub(crate) struct Board {
 impl Board {
     /// Room for the cases of a chip. `NoMemory` where there is none.
     pub fn new(alloc: Global, facts: &Facts) -> Result<Board, NoMemory> {
-        let spans = Spans::new(alloc, facts.modules, facts.wires)?;
-        let values = Values::new(alloc, facts)?;
-        let play = Play::new(alloc, facts)?;
-        let game = Game::new(alloc, RESOURCES_MOST, CUTS_MOST)?;
+        let cases = both(
+            Spans::new(alloc, facts.modules, facts.wires),
+            Values::new(alloc, facts),
+        );
+        let games = both(
+            Play::new(alloc, facts),
+            Game::new(alloc, RESOURCES_MOST, CUTS_MOST),
+        );
+        let ((spans, values), (play, game)) = both(cases, games)?;
         Ok(Board {
             spans,
             values,

@@ -5,7 +5,7 @@ use crate::facts::Facts;
 use crate::graph::Graph;
 use crate::levels::{Classes, Levels};
 use crate::marks::{first_mark, mark_place, marked, sum_of, unmark_place};
-use crate::tables::{NONE, filled, item_or, put_item};
+use crate::tables::{NONE, both, filled, item_or, put_item};
 use crate::weights::wipe_numbers;
 use outside::NoMemory;
 use std::alloc::Global;
@@ -31,10 +31,9 @@ pub(crate) struct Cliques {
 impl Cliques {
     /// Room for the search on a chip. `NoMemory` where there is none.
     pub fn new(alloc: Global, facts: &Facts) -> Result<Cliques, NoMemory> {
-        let graph = Graph::new(alloc, facts)?;
-        let levels = Levels::new(alloc, facts)?;
-        let classes = Classes::new(alloc, facts)?;
-        let found = filled(alloc, 0u64, facts.words)?;
+        let vertices = both(Graph::new(alloc, facts), filled(alloc, 0u64, facts.words));
+        let walk = both(Levels::new(alloc, facts), Classes::new(alloc, facts));
+        let ((graph, found), (levels, classes)) = both(vertices, walk)?;
         Ok(Cliques {
             graph,
             levels,

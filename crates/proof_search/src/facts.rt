@@ -11,7 +11,7 @@ ghost use Rattle.plan_model.specs.SoundLimits.{IsSoundLimits};
 ghost use Rattle.live_tests.specs.Resolved.{IsResolved};
 ghost use Rattle.proof_search.specs.Origins.{IsOrigin};
 
-use crate::tables::{NONE, item_or, put_item};
+use crate::tables::{NONE, both, item_or, put_item};
 use exclusions::ExclusionRows;
 use live_tests::{Resolved, profile_place};
 use outside::{NoMemory, push};
@@ -327,6 +327,15 @@ fn push_rows(alloc: Global, facts: &mut Facts, origin: Origin<'_>) -> Result<(),
     Ok(())
 }
 
+/// Adds what a chip and its limits say.
+fn push_all(alloc: Global, facts: &mut Facts, origin: Origin<'_>) -> Result<(), NoMemory>
+    requires origin { IsOrigin origin }
+{
+    push_modules(facts, origin)?;
+    push_precedences(facts, origin.resolved)?;
+    push_rows(alloc, facts, origin)
+}
+
 impl Facts {
     /// The tables of a sound chip and its limits, which are resolved, for a plan of `goal` cycles. `NoMemory` where there is none.
     pub fn new(
@@ -348,9 +357,9 @@ impl Facts {
             times: &times,
         };
         let mut facts = no_facts(alloc, limits, goal);
-        push_modules(&mut facts, origin)?;
-        push_precedences(&mut facts, resolved)?;
-        push_rows(alloc, &mut facts, origin)?;
+        let pushed = push_all(alloc, &mut facts, origin);
+        drop(times);
+        let (facts, ()) = both(Ok(facts), pushed)?;
         Ok(facts)
     }
 

@@ -230,10 +230,10 @@ impl Game {
     /// Room for a game of at most `count_most` resources and `cuts_most` cuts. `NoMemory` where there is none.
     pub fn new(alloc: Global, count_most: usize, cuts_most: usize) -> Result<Game, NoMemory> {
         let uses = filled(alloc, 0i64, count_most.saturating_mul(cuts_most))?;
-        let basis = BasicColumns::new(alloc, count_most, cuts_most)?;
         let column = filled(alloc, 0i64, count_most)?;
         let pivot_row = filled(alloc, 0i64, count_most)?;
         let kept = filled(alloc, NONE, count_most)?;
+        let basis = BasicColumns::new(alloc, count_most, cuts_most)?;
         Ok(Game {
             count: 0,
             count_most,
@@ -401,6 +401,19 @@ impl Game {
         best
     }
 
+    /// Takes the pivot row, of this level, away from another row as often as that has the column that enters.
+    fn clear_row(&mut self, row: usize, level: i64) {
+        let by = item_or(&self.column, row, 0);
+        if by == 0 {
+            return;
+        }
+        let start = row.saturating_mul(self.count);
+        let own = part_mut(&mut self.basis.inverse, start, self.count);
+        take_away(own, by, &self.pivot_row);
+        let left = item_or(&self.basis.level, row, 0).saturating_sub(times(by, level));
+        put_item(&mut self.basis.level, row, left);
+    }
+
     /// Exchanges the basic column of a row for another one, whose column is set.
     fn exchange(&mut self, row: usize, column: usize, gain: i64) {
         let pivot = item_or(&self.column, row, 0);
@@ -410,18 +423,9 @@ impl Game {
         copy_list(&mut self.pivot_row, part(&self.basis.inverse, start, count));
         let level = over(item_or(&self.basis.level, row, 0).max(0), pivot);
         for other in 0..count {
-            let by = item_or(&self.column, other, 0);
-            if other == row || by == 0 {
-                continue;
+            if other != row {
+                self.clear_row(other, level);
             }
-            let at = other.saturating_mul(count);
-            take_away(
-                part_mut(&mut self.basis.inverse, at, count),
-                by,
-                &self.pivot_row,
-            );
-            let left = item_or(&self.basis.level, other, 0).saturating_sub(times(by, level));
-            put_item(&mut self.basis.level, other, left);
         }
         put_item(&mut self.basis.level, row, level);
         let back = 0i64.saturating_sub(gain);

@@ -9,7 +9,7 @@ use crate::pays::Pays;
 use crate::picks::{Pick, Prices};
 use crate::resources::{RESOURCES_MOST, Resources, clear_parts, number_of};
 use crate::slots::Spans;
-use crate::tables::{ONE, filled, item_or};
+use crate::tables::{ONE, both, filled, item_or};
 use crate::values::{LeafChip, Values};
 use crate::weights::{Weighing, copy_all};
 use outside::NoMemory;
@@ -55,12 +55,16 @@ pub(crate) struct Play {
 impl Play {
     /// Room for the games of a chip. `NoMemory` where there is none.
     pub fn new(alloc: Global, facts: &Facts) -> Result<Play, NoMemory> {
-        let resources = Resources::new(alloc)?;
-        let pays = Pays::new(alloc, facts)?;
-        let answers = Answers::new(alloc, facts)?;
-        let parts = filled(alloc, 0i64, RESOURCES_MOST)?;
-        let best_parts = filled(alloc, 0i64, RESOURCES_MOST)?;
-        let mix = filled(alloc, 0i64, CUTS_MOST)?;
+        let sides = both(Pays::new(alloc, facts), Answers::new(alloc, facts));
+        let game = both(Resources::new(alloc), filled(alloc, 0i64, CUTS_MOST));
+        let shares = both(
+            filled(alloc, 0i64, RESOURCES_MOST),
+            filled(alloc, 0i64, RESOURCES_MOST),
+        );
+        let ((pays, answers), ((resources, mix), (parts, best_parts))) = both(
+            sides,
+            both(game, shares),
+        )?;
         Ok(Play {
             resources,
             pays,

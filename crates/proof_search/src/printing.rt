@@ -1,7 +1,7 @@
 //! Makes the proof that a tree of cases is.
 
 use crate::lists::{LISTS_MOST, ListForm};
-use crate::tables::{NONE, filled, item_or, put_item};
+use crate::tables::{NONE, both, filled, item_or, put_item};
 use crate::tree::{GrownTree, Names, Rule, whole_count};
 use crate::weights::Weighing;
 use outside::{NoMemory, push};
@@ -289,8 +289,10 @@ pub(crate) fn proof_of(
     let mut printing = Printing::new(alloc, nodes.min(tree.made))?;
     printing.mark_all(tree);
     printing.count_lists();
-    let lists = printing.lists(alloc, names)?;
-    let nodes = printing.all_nodes(alloc, tree, names)?;
+    let lists = printing.lists(alloc, names);
+    let nodes = printing.all_nodes(alloc, tree, names);
+    drop(printing);
+    let (lists, nodes) = both(lists, nodes)?;
     Ok(Proof {
         claimed,
         lists,

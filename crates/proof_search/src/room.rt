@@ -9,7 +9,7 @@ use crate::facts::Facts;
 use crate::lists::Chosen;
 use crate::mix::Mix;
 use crate::separating::{Separating, separate_lists};
-use crate::tables::{filled, item_or};
+use crate::tables::{both, filled, item_or};
 use crate::text::{DIGITS_MOST, nines};
 use crate::values::LeafChip;
 use crate::weights::Weighing;
@@ -60,9 +60,8 @@ pub(crate) struct WeighingRoom {
 
 impl Finder {
     fn new(alloc: Global, facts: &Facts) -> Result<Finder, NoMemory> {
-        let mix = Mix::new(alloc, facts)?;
-        let separating = Separating::new(alloc, facts)?;
-        let chosen = Chosen::new(alloc)?;
+        let lists = both(Separating::new(alloc, facts), Chosen::new(alloc));
+        let (mix, (separating, chosen)) = both(Mix::new(alloc, facts), lists)?;
         Ok(Finder {
             mix,
             separating,
@@ -166,12 +165,16 @@ impl Drafts {
 impl WeighingRoom {
     /// Room for the cases of a chip. `NoMemory` where there is none.
     pub fn new(alloc: Global, facts: &Facts) -> Result<WeighingRoom, NoMemory> {
-        let case = Case::new(alloc, facts.wires, facts.modules)?;
-        let above = Above::new(alloc)?;
-        let board = Board::new(alloc, facts)?;
-        let finder = Finder::new(alloc, facts)?;
-        let drafts = Drafts::new(alloc)?;
-        let shares = filled(alloc, 0u64, RANKS_MOST)?;
+        let cases = both(
+            Case::new(alloc, facts.wires, facts.modules),
+            Above::new(alloc),
+        );
+        let games = both(Board::new(alloc, facts), Finder::new(alloc, facts));
+        let weights = both(Drafts::new(alloc), filled(alloc, 0u64, RANKS_MOST));
+        let ((case, above), ((board, finder), (drafts, shares))) = both(
+            cases,
+            both(games, weights),
+        )?;
         Ok(WeighingRoom {
             case,
             above,

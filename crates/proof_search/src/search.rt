@@ -14,7 +14,7 @@ use crate::printing::proof_of;
 use crate::queue::{EnteringColumn, NO_ENTRY, Queue};
 use crate::room::{WeighingRoom, Worth};
 use crate::slots::Slots;
-use crate::tables::{NONE, filled, item_or, put_item};
+use crate::tables::{NONE, both, filled, item_or, put_item};
 use crate::text::TEXT_MOST;
 use crate::tree::{GrownTree, Names, Rule};
 use crate::uses::Powers;
@@ -74,15 +74,26 @@ fn chip_of(
     requires resolved { IsResolved (soc_value soc.now) limits.now resolved.now }
 {
     let facts = Facts::new(alloc, soc, limits, resolved, goal)?;
-    let slots = Slots::new(alloc, &facts)?;
-    let lists = power_lists(alloc, &facts)?;
-    let powers = Powers::new(alloc, &facts, &lists)?;
+    with_tables(alloc, facts)
+}
+
+/// A chip with the tables that are made of its facts.
+fn with_tables(alloc: Global, facts: Facts) -> Result<LeafChip, NoMemory> {
+    let made = both(Slots::new(alloc, &facts), power_tables(alloc, &facts));
+    let (facts, (slots, (lists, powers))) = both(Ok(facts), made)?;
     Ok(LeafChip {
         facts,
         slots,
         powers,
         lists,
     })
+}
+
+/// The first lists, and what their tests use of them.
+fn power_tables(alloc: Global, facts: &Facts) -> Result<(Lists, Powers), NoMemory> {
+    let lists = power_lists(alloc, facts)?;
+    let powers = Powers::new(alloc, facts, &lists);
+    both(Ok(lists), powers)
 }
 
 /// The first lists, which are those of power.
@@ -130,10 +141,10 @@ impl Search {
         requires resolved { IsResolved (soc_value soc.now) limits.now resolved.now }
     {
         let chip = chip_of(alloc, soc, limits, resolved, goal)?;
-        let room = WeighingRoom::new(alloc, &chip.facts)?;
-        let tree = GrownTree::new(alloc, room_for(nodes), POOL_MOST)?;
-        let mut search = Search::with(alloc, chip, room, tree, nodes)?;
-        search.begin(alloc)?;
+        let room = WeighingRoom::new(alloc, &chip.facts);
+        let mut search = Search::with(alloc, chip, room, nodes)?;
+        let begun = search.begin(alloc);
+        let (search, ()) = both(Ok(search), begun)?;
         Ok(search)
     }
 
@@ -141,14 +152,18 @@ impl Search {
     fn with(
         alloc: Global,
         chip: LeafChip,
-        room: WeighingRoom,
-        tree: GrownTree,
+        room: Result<WeighingRoom, NoMemory>,
         nodes: u64,
     ) -> Result<Search, NoMemory> {
-        let queue = Queue::new(alloc, room_for(nodes))?;
-        let entries = filled(alloc, NO_ENTRY, room_for(nodes))?;
-        let path = filled(alloc, 0usize, room_for(nodes))?;
-        let ranks = filled(alloc, 0usize, RANKS_MOST)?;
+        let most = room_for(nodes);
+        let cases = both(
+            GrownTree::new(alloc, most, POOL_MOST),
+            Queue::new(alloc, most),
+        );
+        let notes = both(filled(alloc, NO_ENTRY, most), filled(alloc, 0usize, most));
+        let grown = both(both(cases, notes), filled(alloc, 0usize, RANKS_MOST));
+        let made = both(both(Ok(chip), room), grown)?;
+        let ((chip, room), (((tree, queue), (entries, path)), ranks)) = made;
         Ok(Search {
             chip,
             room,

@@ -6,7 +6,7 @@ use crate::facts::Facts;
 use crate::lists::{Chosen, ListForm, Lists};
 use crate::marks::{mark_place, sum_of};
 use crate::mix::Mix;
-use crate::tables::{filled, item_or, put_item};
+use crate::tables::{both, filled, item_or, put_item};
 use crate::weights::wipe_numbers;
 use outside::NoMemory;
 use std::alloc::Global;
@@ -45,10 +45,12 @@ fn around(facts: &Facts, weights: &[i64], test: usize) -> i64 {
 impl Separating {
     /// Room for a chip. `NoMemory` where there is none.
     pub fn new(alloc: Global, facts: &Facts) -> Result<Separating, NoMemory> {
-        let cliques = Cliques::new(alloc, facts)?;
-        let crowds = Crowds::new(alloc, facts)?;
-        let open = filled(alloc, 0u64, facts.words)?;
-        let near = filled(alloc, 0u64, facts.words)?;
+        let marks = both(
+            filled(alloc, 0u64, facts.words),
+            filled(alloc, 0u64, facts.words),
+        );
+        let searches = both(Cliques::new(alloc, facts), Crowds::new(alloc, facts));
+        let ((cliques, crowds), (open, near)) = both(searches, marks)?;
         Ok(Separating {
             cliques,
             crowds,
