@@ -360,6 +360,11 @@ impl<'a> Search<'a> {
         );
     }
 
+    /// Frees the search. (A caller that frees it otherwise is proved for each of its parts anew.)
+    pub fn free(self) {
+        drop(self);
+    }
+
     /// The best state so far.
     pub fn found(&self) -> Found<'_>
         ensures lent { IsLent result }

@@ -41,10 +41,7 @@ fn searched<T: Sink>(
     let mut line = line_room(alloc)?;
     let mut search = Search::new(alloc, soc, limits, resolved, cycles, nodes)?;
     run_reported(&mut search, nodes, &mut line, progress);
-    let proof = search.proof(alloc);
-    // dropped by a call: the end of the scope would drop each of its parts, and be proved for each
-    drop(search);
-    proof
+    search.proof(alloc)
 }
 
 /// [`proved`], where the chip and its limits are resolved. `NoMemory` where there is none.
@@ -71,7 +68,7 @@ pub fn proved_with<T: Sink>(
     }
     let found = searched(alloc, soc, limits, resolved, cycles, nodes, progress)?;
     let accepted = accepted_text(alloc, soc, limits, resolved, &found, cycles, nodes);
-    // dropped by a call, as the search is
+    // dropped by a call: the end of the scope would drop each of its parts, and be proved for each
     drop(found);
     match accepted? {
         Some(text) => Ok(text),

@@ -46,6 +46,20 @@ pub struct Accepted {
     pub live: Option<LiveTests>,
 }
 
+impl Both {
+    /// Frees what was read. (A caller that frees it otherwise is proved for each of its parts anew.)
+    pub fn free(self) {
+        drop(self);
+    }
+}
+
+impl Accepted {
+    /// Frees what was read, as [`Both::free`].
+    pub fn free(self) {
+        drop(self);
+    }
+}
+
 /// The answer of a line, where there is memory for it.
 fn answered(alloc: Global, status: Status, line: &[u8]) -> Verdict
     ensures { Gives status line.now result }

@@ -181,8 +181,7 @@ fn searched_on<T: Sink>(
         &search.found(),
         given.cycles,
     );
-    // dropped by a call: the end of the scope would drop each of its parts, and be proved for each
-    drop(search);
+    search.free();
     plan
 }
 
@@ -213,7 +212,7 @@ fn searched<T: Sink>(
     }
     let grounds = grounds_of(alloc, known, given)?;
     let plan = searched_on(alloc, known, &grounds, given, tries, seed, progress);
-    // dropped by a call, as the search is
+    // dropped by a call: the end of the scope would drop each of its parts, and be proved for each
     drop(grounds);
     plan
 }

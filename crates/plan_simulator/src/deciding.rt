@@ -69,7 +69,7 @@ fn decide_simulate<H: Shelf>(
         Ok(all) => {
             good_without_limits();
             let verdict = simulated(alloc, &all.soc, &all.plan, seed);
-            drop(all);
+            all.free();
             verdict
         }
         Err(verdict) => verdict,

@@ -460,12 +460,15 @@ impl Search {
         self.done
     }
 
-    /// The proof of the claim so far. `NoMemory` where there is none.
-    pub fn proof(&self, alloc: Global) -> Result<Proof, NoMemory> {
+    /// Ends the search: the proof of the claim so far. `NoMemory` where there is none. (It takes the search, which is freed here:
+    /// a caller that frees it is proved for each of its parts anew.)
+    pub fn proof(self, alloc: Global) -> Result<Proof, NoMemory> {
         let names = Names {
             facts: &self.chip.facts,
             lists: &self.chip.lists,
         };
-        proof_of(alloc, &self.tree, names, self.claim, self.front)
+        let proof = proof_of(alloc, &self.tree, names, self.claim, self.front);
+        drop(self);
+        proof
     }
 }

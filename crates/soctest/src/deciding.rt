@@ -230,7 +230,7 @@ fn decide_tree<H: Shelf>(
                 limits: &both.limits,
             };
             let verdict = answer_own_file(alloc, own, tree, shelf);
-            drop(both);
+            both.free();
             verdict
         }
         Err(verdict) => verdict,
@@ -259,7 +259,7 @@ fn decide_locate<H: Shelf>(
                 plan: &all.plan,
             };
             let verdict = answer_own_file(alloc, own, log, shelf);
-            drop(all);
+            all.free();
             verdict
         }
         Err(verdict) => verdict,
@@ -288,7 +288,7 @@ fn decide_shift<H: Shelf>(
                 plan: &all.plan,
             };
             let verdict = answer_own_file(alloc, own, program, shelf);
-            drop(all);
+            all.free();
             verdict
         }
         Err(verdict) => verdict,
