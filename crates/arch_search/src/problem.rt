@@ -42,7 +42,7 @@ fn own_cycles(alloc: Global, test: &Test, wires: u64) -> Result<Vec<u64>, NoMemo
     requires { wires ≤ 256 }
     ensures { IfOk result (λ row. length row.items ≡ wires + 1) }
 {
-    vec![in alloc; test.patterns; wires as usize + 1].map_err(|_| NoMemory)
+    Ok(vec![in alloc; test.patterns; wires as usize + 1]?)
 }
 
 /// The cycles of a live test over the wires on each width, in the wrapper that the width table gives there.

@@ -29,7 +29,7 @@ pub struct Room {
 fn no_slots(alloc: Global, count: usize) -> Result<Vec<Option<usize>>, NoMemory>
     ensures { IfOk result (λ v. v.items ≡ replicate count None) }
 {
-    vec![in alloc; None; count].map_err(|_| NoMemory)
+    Ok(vec![in alloc; None; count]?)
 }
 
 impl Room {

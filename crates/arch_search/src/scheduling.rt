@@ -22,7 +22,7 @@ use std::alloc::Global;
 pub(crate) fn zeros(alloc: Global, count: usize) -> Result<Vec<u64>, NoMemory>
     ensures { IfOk result (λ v. v.items ≡ replicate count 0) }
 {
-    vec![in alloc; 0; count].map_err(|_| NoMemory)
+    Ok(vec![in alloc; 0; count]?)
 }
 
 /// When a schedule ends.

@@ -97,7 +97,7 @@ fn taken_room(alloc: Global, count: usize) -> Result<Vec<Taken>, NoMemory>
     ensures { IfOk result (λ taken. taken.items ≡ replicate count (record { «module» = 0; from = 0 })) }
 {
     let none = Taken { module: 0, from: 0 };
-    vec![in alloc; none; count].map_err(|_| NoMemory)
+    Ok(vec![in alloc; none; count]?)
 }
 
 /// Room for the modules of a problem that are dealt again.

@@ -137,7 +137,7 @@ fn first_order(
 fn first_slots(alloc: Global, modules: usize) -> Result<Vec<usize>, NoMemory>
     ensures { IfOk result (λ v. v.items ≡ replicate modules 0) }
 {
-    vec![in alloc; 0; modules].map_err(|_| NoMemory)
+    Ok(vec![in alloc; 0; modules]?)
 }
 
 /// Puts a module on the bus of a slot. Where the slot has no wires yet, it takes `width` of those that are left, or all of them

@@ -49,7 +49,7 @@ pub fn with_bit(word: u64, place: usize, bit: bool) -> u64
 fn zero_words(alloc: Global, count: usize) -> Result<Vec<u64>, NoMemory>
     ensures { IfOk result (λ words. words.items ≡ replicate count 0) }
 {
-    vec![in alloc; 0u64; count].map_err(|_| NoMemory)
+    Ok(vec![in alloc; 0u64; count]?)
 }
 
 impl Bits {

@@ -65,7 +65,7 @@ impl<'a> Model for Chip<'a> {
 fn nobody(alloc: Global, wires: usize) -> Result<Vec<Option<usize>>, NoMemory>
     ensures { IfOk result (λ users. length users.items ≡ wires) }
 {
-    vec![in alloc; None; wires].map_err(|_| NoMemory)
+    Ok(vec![in alloc; None; wires]?)
 }
 
 impl<'a> Chip<'a> {

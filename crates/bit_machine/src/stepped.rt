@@ -46,7 +46,7 @@ pub struct SteppedLane {
 fn no_pages(alloc: Global, chains: usize) -> Result<Vec<u64>, NoMemory>
     ensures { IfOk result (λ pages. length pages.items ≡ chains) }
 {
-    vec![in alloc; 0u64; chains].map_err(|_| NoMemory)
+    Ok(vec![in alloc; 0u64; chains]?)
 }
 
 /// The bits of chains before any cycle: 0 in each cell.

@@ -13,7 +13,7 @@ const LINE_ROOM: usize = 64;
 
 /// Room for a line.
 pub fn line_room(alloc: Global) -> Result<Vec<u8>, NoMemory> {
-    Vec::with_capacity(alloc, LINE_ROOM).map_err(|_| NoMemory)
+    Ok(Vec::with_capacity(alloc, LINE_ROOM)?)
 }
 
 /// Writes a line of two numbers, each behind its words.

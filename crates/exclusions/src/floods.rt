@@ -30,7 +30,7 @@ fn led_to(alloc: Global, lists: &[Neighbours], from: usize) -> Result<Vec<bool>,
     ensures long { IfOk result (λ marks. length marks.items ≡ length lists.now) }
     ensures marks { IfOk result (λ marks. (j : ℕ) → (is_marked marks.items j ≡ true) ↔ LedTo (map tests_of lists.now) from j) }
 {
-    let mut marks: Vec<bool> = vec![in alloc; false; lists.len()].map_err(|_| NoMemory)?;
+    let mut marks: Vec<bool> = vec![in alloc; false; lists.len()]?;
     let mut stack = Vec::new(alloc);
     push(&mut stack, from)?;
     while let Some(test) = stack.pop() {

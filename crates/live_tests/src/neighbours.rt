@@ -22,7 +22,7 @@ fn count_after(
     requires { All (λ (e : ℕ × ℕ). (e.0 < count) × (e.1 < count)) pairs.now }
     ensures { IfOk result (λ rooms. length rooms.items ≡ count) }
 {
-    let mut rooms: Vec<usize> = vec![in alloc; 0; count].map_err(|_| NoMemory)?;
+    let mut rooms: Vec<usize> = vec![in alloc; 0; count]?;
     for (first, _) in pairs {
         rooms[*first] = rooms[*first].saturating_add(1);
     }
@@ -39,7 +39,7 @@ pub fn count_before(
     ensures long { IfOk result (λ counts. length counts.items ≡ count) }
     ensures counts { IfOk result (λ counts. (i : ℕ) → i < count → slice_index_or counts.items i 0 ≡ length (before i pairs.now)) }
 {
-    let mut counts: Vec<usize> = vec![in alloc; 0; count].map_err(|_| NoMemory)?;
+    let mut counts: Vec<usize> = vec![in alloc; 0; count]?;
     for (_, second) in pairs {
         counts[*second] += 1;
     }

@@ -74,7 +74,7 @@ pub fn parents(alloc: Global, soc: &Soc) -> Result<Vec<Option<usize>>, NoMemory>
     ensures { IfOk result (λ parents. AreParentPlaces (soc_value soc.now) parents.items) }
 {
     let count = module_count(soc);
-    let mut places: Vec<usize> = vec![in alloc; 0; count].map_err(|_| NoMemory)?;
+    let mut places: Vec<usize> = vec![in alloc; 0; count]?;
     fill_parents(soc, &mut places);
     let mut parents = Vec::new(alloc);
     for place in &places {

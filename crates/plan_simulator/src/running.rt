@@ -20,7 +20,7 @@ use std::alloc::Global;
 fn zero_bits(alloc: Global, count: usize) -> Result<Vec<bool>, NoMemory>
     ensures { IfOk result (λ bits. length bits.items ≡ count) }
 {
-    vec![in alloc; false; count].map_err(|_| NoMemory)
+    Ok(vec![in alloc; false; count]?)
 }
 
 /// One cycle of a chip, whose wires carry what its tests want. Each list has a bit for each wire: what is driven, and what is

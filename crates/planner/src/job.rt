@@ -46,7 +46,7 @@ fn module_count(soc: &Soc) -> usize
 fn one_step(alloc: Global, power: u64) -> Result<Vec<(u64, u64)>, NoMemory>
     ensures { IfOk result (λ steps. steps.items ≡ (0, power) ∷ []) }
 {
-    vec![in alloc; (0, power)].map_err(|_| NoMemory)
+    Ok(vec![in alloc; (0, power)]?)
 }
 
 /// The power of a test in steps: those of its profile, found by those of all tests, or its own power at every cycle.

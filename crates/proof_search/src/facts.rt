@@ -315,7 +315,7 @@ fn push_rows(alloc: Global, facts: &mut Facts, origin: Origin<'_>) -> Result<(),
 {
     let tests = origin.resolved.tests.names().len();
     let words = tests.div_ceil(64).max(1);
-    let mut bits = vec![in alloc; 0u64; tests.saturating_mul(words)].map_err(|_| NoMemory)?;
+    let mut bits = vec![in alloc; 0u64; tests.saturating_mul(words)]?;
     let rows = ExclusionRows::new(alloc, origin.soc, origin.limits, origin.resolved)?;
     for test in 0..tests {
         let marks = rows.row(alloc, test)?;

@@ -10,7 +10,7 @@ pub(crate) const ONE: i64 = 1 << 30;
 
 /// `count` copies of an item. `NoMemory` where there is none.
 pub(crate) fn filled<T: Copy>(alloc: Global, item: T, count: usize) -> Result<Vec<T>, NoMemory> {
-    vec![in alloc; item; count].map_err(|_| NoMemory)
+    Ok(vec![in alloc; item; count]?)
 }
 
 /// The item at a place, another one where there is none.

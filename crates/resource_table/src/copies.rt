@@ -10,7 +10,7 @@ use std::alloc::Global;
 fn copy_test(alloc: Global, test: &JobTest) -> Result<JobTest, NoMemory>
     ensures { IfOk result (λ copy. test_value copy ≡ test_value test.now) }
 {
-    let power = Vec::from_slice(alloc, &test.power).map_err(|_| NoMemory)?;
+    let power = Vec::from_slice(alloc, &test.power)?;
     Ok(JobTest {
         id: test.id,
         place: test.place,
@@ -37,7 +37,7 @@ pub fn copy_job(alloc: Global, job: &Job) -> Result<Job, NoMemory>
     ensures { IfOk result (λ copy. job_value copy ≡ job_value job.now) }
 {
     let tests = copy_tests(alloc, &job.tests)?;
-    let before = Vec::from_slice(alloc, &job.before).map_err(|_| NoMemory)?;
+    let before = Vec::from_slice(alloc, &job.before)?;
     Ok(Job {
         tests,
         before,

@@ -75,7 +75,7 @@ fn count_takers(
     ensures counts { IfOk result (λ counts. (k : ℕ) → k < count →
         slice_index_or counts.items k 0 ≡ sum_by (λ (t : JobTest). if takes kind k (test_value t) then 1 else 0) tests.now) }
 {
-    let mut counts = vec![in alloc; 0; count].map_err(|_| NoMemory)?;
+    let mut counts = vec![in alloc; 0; count]?;
     for test in tests {
         count_one(&mut counts, timeline_of(test, kind));
     }
@@ -87,7 +87,7 @@ fn empty_timeline(alloc: Global, room: usize) -> Result<Timeline, NoMemory>
     ensures empty { IfOk result (λ line. line.spans.items ≡ []) }
     ensures room { IfOk result (λ line. room ≤ vec_capacity line.spans) }
 {
-    let spans = Vec::with_capacity(alloc, room).map_err(|_| NoMemory)?;
+    let spans = Vec::with_capacity(alloc, room)?;
     Ok(Timeline { spans })
 }
 
@@ -109,7 +109,7 @@ fn timelines_of_rooms(alloc: Global, rooms: &[usize]) -> Result<Vec<Timeline>, N
 fn equal_rooms(alloc: Global, room: usize, count: usize) -> Result<Vec<usize>, NoMemory>
     ensures { IfOk result (λ rooms. rooms.items ≡ replicate count room) }
 {
-    vec![in alloc; room; count].map_err(|_| NoMemory)
+    Ok(vec![in alloc; room; count]?)
 }
 
 /// The empty timelines of the buses: as many as a chip may have, or more, each with room for the times of all tests.

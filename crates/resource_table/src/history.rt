@@ -50,9 +50,9 @@ pub fn new_history(
     ensures room { IfOk result (λ h. marks ≤ vec_capacity h.marks) }
 {
     Ok(History {
-        values: vec![in alloc; NO_NOTE; count].map_err(|_| NoMemory)?,
-        log: Vec::with_capacity(alloc, changes).map_err(|_| NoMemory)?,
-        marks: Vec::with_capacity(alloc, marks).map_err(|_| NoMemory)?,
+        values: vec![in alloc; NO_NOTE; count]?,
+        log: Vec::with_capacity(alloc, changes)?,
+        marks: Vec::with_capacity(alloc, marks)?,
     })
 }
 

@@ -22,8 +22,8 @@ pub fn new_latest_ends(alloc: Global, modules: usize, tests: usize) -> Result<La
     ensures room { IfOk result (λ latest. tests ≤ vec_capacity latest.before) }
 {
     Ok(LatestEnds {
-        ends: vec![in alloc; 0; modules].map_err(|_| NoMemory)?,
-        before: Vec::with_capacity(alloc, tests).map_err(|_| NoMemory)?,
+        ends: vec![in alloc; 0; modules]?,
+        before: Vec::with_capacity(alloc, tests)?,
     })
 }
 

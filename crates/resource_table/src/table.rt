@@ -128,7 +128,7 @@ fn count_steps(tests: &[JobTest]) -> usize
 fn no_ends(alloc: Global, tests: usize) -> Result<Vec<Option<u64>>, NoMemory>
     ensures { IfOk result (λ ends. ends.items ≡ replicate tests None) }
 {
-    vec![in alloc; None; tests].map_err(|_| NoMemory)
+    Ok(vec![in alloc; None; tests]?)
 }
 
 /// A trail with room for `tests` placements.
@@ -137,7 +137,7 @@ fn new_trail(alloc: Global, tests: usize) -> Result<SmallVec<Placement, 16>, NoM
     ensures room { IfOk result (λ trail. tests ≤ trail.capacity) }
 {
     let mut trail = SmallVec::new(alloc);
-    trail.reserve(tests).map_err(|_| NoMemory)?;
+    trail.reserve(tests)?;
     Ok(trail)
 }
 
@@ -146,7 +146,7 @@ fn new_lasts(alloc: Global, tests: usize) -> Result<Vec<u64>, NoMemory>
     ensures items { IfOk result (λ lasts. lasts.items ≡ []) }
     ensures room { IfOk result (λ lasts. tests ≤ vec_capacity lasts) }
 {
-    Vec::with_capacity(alloc, tests).map_err(|_| NoMemory)
+    Ok(Vec::with_capacity(alloc, tests)?)
 }
 
 /// Draws with room for one of each step.
@@ -154,7 +154,7 @@ fn new_draws(alloc: Global, steps: usize) -> Result<Vec<Draw>, NoMemory>
     ensures items { IfOk result (λ draws. draws.items ≡ []) }
     ensures room { IfOk result (λ draws. steps ≤ vec_capacity draws) }
 {
-    Vec::with_capacity(alloc, steps).map_err(|_| NoMemory)
+    Ok(Vec::with_capacity(alloc, steps)?)
 }
 
 /// Points with room for one of each test and one of each step, and for a quarter more of them that no test needs any longer.
@@ -166,7 +166,7 @@ fn new_points(alloc: Global, tests: usize, steps: usize) -> Result<Vec<Point>, N
         return Err(NoMemory);
     };
     let room = marks.saturating_add(marks / 4);
-    Vec::with_capacity(alloc, room).map_err(|_| NoMemory)
+    Ok(Vec::with_capacity(alloc, room)?)
 }
 
 /// What a table keeps of its placements. It is made by a function of its own, and what the table makes of its job by another: one

@@ -29,7 +29,7 @@ pub struct Wires {
 fn zero_bits(alloc: Global, count: usize) -> Result<Vec<bool>, NoMemory>
     ensures { IfOk result (λ bits. length bits.items ≡ count) }
 {
-    vec![in alloc; false; count].map_err(|_| NoMemory)
+    Ok(vec![in alloc; false; count]?)
 }
 
 impl Wires {

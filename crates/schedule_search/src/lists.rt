@@ -10,7 +10,7 @@ use std::mem::replace;
 pub(crate) fn room_for<T>(alloc: Global, items: usize) -> Result<Vec<T>, NoMemory>
     ensures { IfOk result (λ room. items ≤ vec_capacity room) }
 {
-    Vec::with_capacity(alloc, items).map_err(|_| NoMemory)
+    Ok(Vec::with_capacity(alloc, items)?)
 }
 
 /// Whether two lists are the same.

@@ -70,7 +70,7 @@ fn lines_in_block(line: usize, cycles: u64) -> u64
 fn bytes(alloc: Global, count: usize) -> Result<Vec<u8>, NoMemory>
     ensures { IfOk result (λ text. length text.items ≡ count) }
 {
-    vec![in alloc; 0u8; count].map_err(|_| NoMemory)
+    Ok(vec![in alloc; 0u8; count]?)
 }
 
 /// Appends the first line.
