@@ -6,7 +6,7 @@ use crate::draws::below;
 use rand_xoshiro::Xoshiro256PlusPlus;
 
 /// What is changed. Two modules are drawn for it, a first one and a second one.
-#[derive(Clone, Copy, PartialEq, Eq, Debug)]
+#[derive(Clone, Copy, PartialEq, Eq)]
 pub enum ChangeKind {
     /// The first module goes to the bus of the second.
     Move,
@@ -21,7 +21,7 @@ pub enum ChangeKind {
 }
 
 /// A kind with its weight.
-#[derive(Clone, Copy, Debug)]
+#[derive(Clone, Copy)]
 pub struct Weighted {
     /// The kind.
     pub kind: ChangeKind,

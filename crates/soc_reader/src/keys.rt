@@ -1,7 +1,7 @@
 //! The rows of the table of items, and what its columns hold.
 
 /// A keyword that begins an item, one row of the table.
-#[derive(Clone, Copy, PartialEq, Eq, Hash, Debug)]
+#[derive(Clone, Copy, PartialEq, Eq, Hash)]
 pub enum Key {
     /// The chip's name.
     SocName,
@@ -42,7 +42,7 @@ pub enum Key {
 }
 
 /// What an item speaks of.
-#[derive(Clone, Copy, PartialEq, Eq, Hash, Debug)]
+#[derive(Clone, Copy, PartialEq, Eq, Hash)]
 pub enum Subject {
     /// The chip.
     Chip,
@@ -53,7 +53,7 @@ pub enum Subject {
 }
 
 /// What follows a keyword.
-#[derive(Clone, Copy, PartialEq, Eq, Debug)]
+#[derive(Clone, Copy, PartialEq, Eq)]
 pub enum Shape {
     /// Nothing.
     NoWord,
@@ -68,7 +68,7 @@ pub enum Shape {
 }
 
 /// The places where more may stand than elsewhere.
-#[derive(Clone, Copy, PartialEq, Eq, Debug)]
+#[derive(Clone, Copy, PartialEq, Eq)]
 pub enum After {
     /// Directly after `Options` and its flags.
     AfterOptions,
@@ -81,7 +81,7 @@ pub enum After {
 }
 
 /// What may be given once: a keyword of a subject.
-#[derive(Clone, Copy, PartialEq, Eq, Hash, Debug)]
+#[derive(Clone, Copy, PartialEq, Eq, Hash)]
 pub struct Given {
     /// What it speaks of.
     pub subject: Subject,

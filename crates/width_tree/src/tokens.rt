@@ -2,7 +2,7 @@
 use keyword_text::Spelled;
 
 /// A keyword of a tree's text.
-#[derive(Clone, Copy, PartialEq, Eq, Debug)]
+#[derive(Clone, Copy, PartialEq, Eq)]
 pub enum Keyword {
     Tree,
     Bound,
