@@ -6,7 +6,7 @@ use crate::draws::below;
 use rand_xoshiro::Xoshiro256PlusPlus;
 
 /// What is changed. Two modules are drawn for it, a first one and a second one.
-#[derive(Clone, Copy, PartialEq, Eq)]
+#[derive(Clone, Copy)]
 pub enum ChangeKind {
     /// The first module goes to the bus of the second.
     Move,

@@ -10,7 +10,7 @@ use outside::NoMemory;
 use std::alloc::Global;
 
 /// The least and the greatest width of a bus, in wires.
-#[derive(Clone, Copy, PartialEq, Eq)]
+#[derive(Clone, Copy)]
 pub struct Interval {
     pub low: u64,
     pub high: u64,

@@ -2,7 +2,7 @@
 use keyword_text::Spelled;
 
 /// A keyword of a fail log.
-#[derive(Clone, Copy, PartialEq, Eq)]
+#[derive(Clone, Copy)]
 pub enum Keyword {
     Log,
     Fail,

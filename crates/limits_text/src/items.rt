@@ -4,7 +4,7 @@ use indexmap::IndexSet;
 use soc_model::TestId;
 
 /// A number that the limits name at most once.
-#[derive(Clone, Copy, PartialEq, Eq)]
+#[derive(Clone, Copy)]
 pub enum Amount {
     Wires,
     Power,
@@ -12,7 +12,7 @@ pub enum Amount {
 }
 
 /// A keyword that begins an item.
-#[derive(Clone, Copy, PartialEq, Eq)]
+#[derive(Clone, Copy)]
 pub enum Key {
     One(Amount),
     Before,
@@ -20,7 +20,7 @@ pub enum Key {
 }
 
 /// What a test is named for, with the line of the item's keyword.
-#[derive(Clone, Copy, PartialEq, Eq)]
+#[derive(Clone, Copy)]
 pub enum Naming {
     /// As the first test of a precedence.
     First { line: u64 },

@@ -94,7 +94,7 @@ pub enum Part {
 }
 
 /// The sections of a plan's text, of which each may begin at its word while it is not over.
-#[derive(Clone, Copy, PartialEq, Eq)]
+#[derive(Clone, Copy)]
 pub enum Section {
     Buses,
     Wrappers,

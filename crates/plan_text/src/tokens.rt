@@ -2,7 +2,7 @@
 use keyword_text::Spelled;
 
 /// A keyword of a plan's text.
-#[derive(Clone, Copy, PartialEq, Eq)]
+#[derive(Clone, Copy)]
 pub enum Keyword {
     Plan,
     Cycles,

@@ -14,7 +14,7 @@ pub struct Draft {
 }
 
 /// A kind of list that names tests.
-#[derive(Clone, Copy, PartialEq, Eq)]
+#[derive(Clone, Copy)]
 pub enum ListKind {
     Turns,
     TurnsOn { rank: u64 },

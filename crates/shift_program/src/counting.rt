@@ -10,7 +10,7 @@ use crate::{Entry, ProgramFault};
 use indexmap::IndexSet;
 
 /// The numbers that a program has to meet.
-#[derive(Clone, Copy, PartialEq, Eq)]
+#[derive(Clone, Copy)]
 pub struct Need {
     /// Cycles of setup at the beginning.
     pub setup: u64,
@@ -23,7 +23,7 @@ pub struct Need {
 }
 
 /// What the entries so far did.
-#[derive(Clone, Copy, PartialEq, Eq)]
+#[derive(Clone, Copy)]
 pub struct Passed {
     /// Operations in all.
     pub operations: u128,

@@ -18,7 +18,7 @@ pub struct Draft {
 }
 
 /// What was read of the part that comes next.
-#[derive(Clone, Copy, PartialEq, Eq)]
+#[derive(Clone, Copy)]
 pub enum Part {
     /// Nothing: the word `Program` comes.
     WantsProgram,

@@ -2,7 +2,7 @@
 use keyword_text::Spelled;
 
 /// A keyword of a program's text.
-#[derive(Clone, Copy, PartialEq, Eq)]
+#[derive(Clone, Copy)]
 pub enum Keyword {
     Program,
     Test,

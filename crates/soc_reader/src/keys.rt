@@ -53,7 +53,7 @@ pub enum Subject {
 }
 
 /// What follows a keyword.
-#[derive(Clone, Copy, PartialEq, Eq)]
+#[derive(Clone, Copy)]
 pub enum Shape {
     /// Nothing.
     NoWord,
@@ -68,7 +68,7 @@ pub enum Shape {
 }
 
 /// The places where more may stand than elsewhere.
-#[derive(Clone, Copy, PartialEq, Eq)]
+#[derive(Clone, Copy)]
 pub enum After {
     /// Directly after `Options` and its flags.
     AfterOptions,

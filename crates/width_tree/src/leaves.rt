@@ -13,7 +13,7 @@ use crate::tables::{ChipTimes, tam_time};
 use soc_model::place_of;
 
 /// What is found at a node.
-#[derive(Clone, Copy, PartialEq, Eq)]
+#[derive(Clone, Copy)]
 pub enum Finding {
     /// It breaks its rule.
     Broken,

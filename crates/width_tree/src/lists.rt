@@ -13,7 +13,7 @@ use crate::tables::{ChipTimes, tam_time};
 use soc_model::{has_tam_test, module_at, place_of};
 
 /// The least of the low widths and the least of the high widths of modules.
-#[derive(Clone, Copy, PartialEq, Eq)]
+#[derive(Clone, Copy)]
 pub struct Least {
     pub low: u64,
     pub high: u64,

@@ -2,7 +2,7 @@
 use keyword_text::Spelled;
 
 /// A keyword of a tree's text.
-#[derive(Clone, Copy, PartialEq, Eq)]
+#[derive(Clone, Copy)]
 pub enum Keyword {
     Tree,
     Bound,
