@@ -65,7 +65,11 @@ pub fn read_items(alloc: Global, bytes: &[u8]) -> Result<Items, Unread>
     };
     let read = match Box::new(alloc, nothing) {
         Ok(read) => read,
-        Err(_) => return Err(Unread::NoMemory),
+        Err(failed) => {
+            // dropped by a call: the end of the scope would drop each of its parts, and be proved for each
+            drop(failed);
+            return Err(Unread::NoMemory);
+        }
     };
     read_text(LimitsText { alloc, read }, bytes)
 }

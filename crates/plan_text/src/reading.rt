@@ -101,7 +101,11 @@ pub fn read_plan(alloc: Global, bytes: &[u8]) -> Result<Plan, PlanTextFault>
     };
     let read = match Box::new(alloc, nothing) {
         Ok(read) => read,
-        Err(_) => return Err(PlanTextFault::NoMemory),
+        Err(failed) => {
+            // dropped by a call: the end of the scope would drop each of its parts, and be proved for each
+            drop(failed);
+            return Err(PlanTextFault::NoMemory);
+        }
     };
     match read_by(PlanText { alloc, read }, bytes) {
         Ok(plan) => Ok(plan),

@@ -93,7 +93,11 @@ pub fn read_proof(alloc: Global, bytes: &[u8]) -> Result<Proof, ProofTextFault>
     };
     let read = match Box::new(alloc, nothing) {
         Ok(read) => read,
-        Err(_) => return Err(ProofTextFault::NoMemory),
+        Err(failed) => {
+            // dropped by a call: the end of the scope would drop each of its parts, and be proved for each
+            drop(failed);
+            return Err(ProofTextFault::NoMemory);
+        }
     };
     match read_by(ProofText { alloc, read }, bytes) {
         Ok(proof) => Ok(proof),

@@ -55,7 +55,11 @@ impl<'a> Reader<'a> for ChipText<'a> {
         let ReadSoFar { mut kept, part } = Box::into_inner(read);
         match close_text(alloc, &mut kept, part) {
             Ok(()) => Ok(chip_kept(kept)),
-            Err(stop) => Err(stop),
+            Err(stop) => {
+                // dropped by a call, as what failed to be boxed is
+                drop(kept);
+                Err(stop)
+            }
         }
     }
 }
@@ -86,7 +90,11 @@ fn read_all(alloc: Global, bytes: &[u8]) -> Result<ReadChip, Unread>
     };
     let read = match Box::new(alloc, nothing) {
         Ok(read) => read,
-        Err(_) => return Err(Unread::NoMemory),
+        Err(failed) => {
+            // dropped by a call: the end of the scope would drop each of its parts, and be proved for each
+            drop(failed);
+            return Err(Unread::NoMemory);
+        }
     };
     let start = ChipText { alloc, read };
     read_text(start, bytes)
