@@ -1,6 +1,6 @@
 //! The checker's room and its public call.
 
-ghost use Rattle.std.specs.Prelude.{◌≡◌, ℕ, ◌+◌, ◌≤◌, None, OnOk, IfOk, IfErr, IfSome, IsOk, length, vec_capacity};
+ghost use Rattle.std.specs.Prelude.{◌≡◌, ℕ, ◌+◌, ◌≤◌, None, OnOk, IfOk, IfErr, IfSome, IsOk, Ok, length, vec_capacity};
 ghost use Rattle.std.specs.List.{All, filter};
 ghost use Rattle.soc_model.specs.declared.TestId.{TestId};
 ghost use Rattle.soc_model.specs.Chips.{SocValue, soc_value, is_live, live_tests};
@@ -30,7 +30,7 @@ use outside::NoMemory;
 use plan_model::{Limits, Plan, WIRES_MOST, faults_are_exact, good_plans_run_right};
 use power_events::Event;
 use soc_model::{Soc, Test, TestId, live, module_at};
-use std::alloc::Global;
+use std::alloc::{AllocError, Global};
 use std::marker::Model;
 
 /// What a check of the rules fills: lists that are as long as the chip has modules or live tests, and sets with room for
@@ -118,36 +118,82 @@ fn live_count(soc: &Soc) -> Option<usize>
     Some(count)
 }
 
+/// Two values that were made, where both were. What is made of several such pairs has one exit at which memory is out, and drops
+/// nothing there itself.
+fn both<A: Drop, B: Drop>(
+    one: Result<A, AllocError>,
+    other: Result<B, AllocError>,
+) -> Result<(A, B), AllocError>
+    ensures { IfOk result (λ p. (one ≡ Ok p.0) × (other ≡ Ok p.1)) }
+{
+    let one = one?;
+    let other = other?;
+    Ok((one, other))
+}
+
 /// Room for the placed tests of a chip of `modules` modules and `tests` live tests.
-fn placed_rooms(alloc: Global, modules: usize, tests: usize) -> Result<PlacedRooms, NoMemory>
+fn placed_rooms(alloc: Global, modules: usize, tests: usize) -> Result<PlacedRooms, AllocError>
     ensures { IfOk result (HasPlacedRoom modules tests) }
 {
     let Some(slots) = modules.checked_add(WIRES_MOST as usize + 1) else {
-        return Err(NoMemory);
+        return Err(AllocError);
     };
     let Some(all_events) = tests.checked_mul(EVENTS_EACH) else {
-        return Err(NoMemory);
+        return Err(AllocError);
     };
+    let places = both(
+        Vec::from_elem(alloc, 0, modules),
+        Vec::from_elem(alloc, 0, slots),
+    );
+    let lists = both(
+        Vec::from_elem(alloc, NO_TEST, tests),
+        Vec::from_elem(alloc, NO_BEGIN, tests),
+    );
+    let power = both(
+        Vec::from_elem(alloc, 0, tests),
+        Vec::with_capacity(alloc, all_events),
+    );
+    let ((parents, ends), ((tests, begins), (profiles, events))) = both(
+        places,
+        both(lists, power),
+    )?;
     Ok(PlacedRooms {
-        parents: Vec::from_elem(alloc, 0, modules)?,
-        tests: Vec::from_elem(alloc, NO_TEST, tests)?,
-        begins: Vec::from_elem(alloc, NO_BEGIN, tests)?,
-        ends: Vec::from_elem(alloc, 0, slots)?,
-        profiles: Vec::from_elem(alloc, 0, tests)?,
-        events: Vec::with_capacity(alloc, all_events)?,
+        parents,
+        tests,
+        begins,
+        ends,
+        profiles,
+        events,
     })
 }
 
 /// Room for the rules of `modules` modules, `pairs` pairs of a module and a mode, and `tests` live tests.
-fn rule_rooms(alloc: Global, modules: usize, pairs: usize, tests: usize) -> Result<Rooms, NoMemory>
+fn rule_rooms(
+    alloc: Global,
+    modules: usize,
+    pairs: usize,
+    tests: usize,
+) -> Result<Rooms, AllocError>
     ensures { IfOk result (HasRuleRoom modules pairs tests) }
 {
+    let lists = both(
+        Vec::from_elem(alloc, 0, modules),
+        Vec::from_elem(alloc, NO_START, tests),
+    );
+    let sets = both(
+        IndexSet::with_capacity(alloc, pairs),
+        IndexSet::with_capacity(alloc, tests),
+    );
+    let (placed, ((marks, starts), (wrappers, names))) = both(
+        placed_rooms(alloc, modules, tests),
+        both(lists, sets),
+    )?;
     Ok(Rooms {
-        placed: placed_rooms(alloc, modules, tests)?,
-        marks: Vec::from_elem(alloc, 0, modules)?,
-        starts: Vec::from_elem(alloc, NO_START, tests)?,
-        wrappers: IndexSet::with_capacity(alloc, pairs)?,
-        names: IndexSet::with_capacity(alloc, tests)?,
+        marks,
+        wrappers,
+        names,
+        starts,
+        placed,
     })
 }
 
@@ -162,7 +208,11 @@ impl Scratch {
     ) -> Result<Scratch, NoMemory>
         ensures { IfOk result (λ room. (room.modules ≡ modules) × (pairs ≤ room.pairs) × (room.tests ≡ tests)) }
     {
-        let rooms = rule_rooms(alloc, modules, pairs, tests)?;
+        let Ok(rooms) = rule_rooms(alloc, modules, pairs, tests) else {
+            // dropped by a call: the end of the scope would drop each of its parts, and be proved for each
+            drop(bound);
+            return Err(NoMemory);
+        };
         Ok(Scratch { rooms, bound })
     }
 
@@ -170,7 +220,6 @@ impl Scratch {
     pub fn new(alloc: Global, soc: &Soc, plan: &Plan) -> Result<Scratch, NoMemory>
         ensures { IfOk result (HasRoom (soc_value soc.now)) }
     {
-        let bound = BoundScratch::new(alloc, &plan.bound)?;
         let modules = module_count(soc);
         let Some(pairs) = modules.checked_mul(2) else {
             return Err(NoMemory);
@@ -178,6 +227,7 @@ impl Scratch {
         let Some(tests) = live_count(soc) else {
             return Err(NoMemory);
         };
+        let bound = BoundScratch::new(alloc, &plan.bound)?;
         Scratch::sized(alloc, modules, pairs, tests, bound)
     }
 }
