@@ -30,3 +30,16 @@ loop-place-preserved c =
       late = (λ k d le lt. c.loop-place.invariant.late k d (omega (arith, le)) lt);
       there = (there.0, behind c.args.spans.now c.loop-place.place there.0 c.args.span there.1 there.2 c.loop-place-test.true, there.2);
     }
+
+-- the time that is there stands from the place on, so that the place is within
+inside : (spans : List Span) (place : ℕ) (span : Span) → (at : ℕ) × (place ≤ at) × (slice_get spans at ≡ Some span) → place < length spans
+inside spans place span there = let le = there.1 in omega (arith, le, slice_get_within spans there.0 span there.2)
+
+pub bounds-spans-place : goal.bounds-spans-place
+bounds-spans-place c = inside c.args.spans.now c.loop-place.place c.args.span c.loop-place.invariant.there
+
+pub offset_bounds-spans-place : goal.offset_bounds-spans-place
+offset_bounds-spans-place c = omega (arith, inside c.args.spans.now c.loop-place.place c.args.span c.loop-place.invariant.there)
+
+pub overflow_add-place : goal.overflow_add-place
+overflow_add-place c = omega (arith, inside c.args.spans.now c.loop-place.place c.args.span c.loop-place.invariant.there)
