@@ -1,7 +1,8 @@
-use Rattle.std.proofs.Common.{None, subst, arith, inl, inr}
-use Rattle.std.proofs.lemmas.Bool.{cases_eq}
+use Rattle.std.proofs.Common.{◌≡◌, ℕ, ◌<◌, ◌≤◌, true, None, get_or, refl, sym, ◌∙◌, subst, arith, inl, inr, true≢false}
+use Rattle.std.proofs.lemmas.Bool.{cases_eq, le-leb, lt-ltb}
 use Rattle.std.proofs.lemmas.Option.{slice_get_within, slice_get-get_or}
 use Rattle.live_tests.specs.declared.placed.PlacedTest.{PlacedTest}
+use Rattle.power_events.specs.Loads.{is_active}
 use Rattle.plan_checker.specs.Clashes.{keeps_apart, Clash}
 use Rattle.plan_checker.proofs.LeastPairs.{clash_gives}
 use Rattle.plan_checker.proofs.clashes.first_partner.Goals as goal
@@ -23,3 +24,12 @@ returns-clause-none c = λ j clash. c.loop-second.invariant j (omega (arith, c.l
 pub meet_at-requires : goal.meet_at-requires
 unfolding none
 meet_at-requires c = c.requires.slots c.loop-second.second _ (slice_get-get_or c.args.placed.now c.loop-second.second none c.loop-second-test.true)
+
+active_is : (t : PlacedTest) (c : ℕ) → t.start ≤ c → c < t.end → is_active c t ≡ true
+active_is t c begun active = rw (le-leb t.start c begun, lt-ltb c t.end active) refl
+
+pub returns-then-not-is_active-clause-none : goal.returns-then-not-is_active-clause-none
+unfolding none
+returns-then-not-is_active-clause-none c = λ j clash.
+    let both = clash_gives (keeps_apart c.args.parents.now c.args.apart) c.args.placed.now c.args.first j c.args.cycle none none clash in
+    true≢false (sym (active_is (get_or c.args.placed.now c.args.first none) c.args.cycle both.begun both.active) ∙ sym c.is_active.ensures ∙ c.if-not-is_active.true)

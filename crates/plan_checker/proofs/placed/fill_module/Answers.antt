@@ -1,14 +1,15 @@
 use Rattle.std.proofs.Common.{◌≡◌, ◌+◌, ◌++◌, List, ◌∷◌, [], ◌<◌, ◌≤◌, true, false, Some, length, get_or, take, sym, ap, ◌∙◌, append_assoc, arith}
-use Rattle.std.specs.Prelude.{slice_get}
+use Rattle.std.specs.Prelude.{slice_get, nat_lt}
 use Rattle.std.proofs.lemmas.Bool.{lt-ltb}
-use Rattle.std.proofs.lemmas.List.{take_more_set, length-append}
+use Rattle.std.proofs.lemmas.List.{take_all, take_more_set, length-append}
 use Rattle.std.proofs.lemmas.Option.{slice_get-get_or}
 use Rattle.soc_model.specs.declared.Test.{Test}
 use Rattle.soc_model.specs.Chips.{is_live, module_value}
 use Rattle.plan_model.specs.Plans.{planned_test}
 use Rattle.plan_model.specs.Views.{plan_value}
+use Rattle.live_tests.specs.declared.placed.PlacedTest.{PlacedTest}
 use Rattle.live_tests.specs.Placed.{placed_in, placed_of}
-use Rattle.plan_checker.proofs.Filling.{front_taken, passing_room, passing_within}
+use Rattle.plan_checker.proofs.Filling.{front_left, front_taken, passing_room, passing_within}
 use Rattle.plan_checker.proofs.placed.fill_module.Goals as goal
 
 none : Test
@@ -63,3 +64,27 @@ overflow_add-next c =
     let live : is_live t ≡ true = lt-ltb 0 _ (omega (arith, c.if-test-eq0.false)) in
     let within : c.loop-test.next < length c.args.placed.now = passing_within (λ (t : Test). placed_of (planned_test (plan_value c.args.from.now.plan.now) c.args.place m t)) is_live m.tests c.loop-test.test-index _ c.args.done c.loop-test.next (length c.args.placed.now) at live c.loop-test.invariant.count c.requires.room in
     omega (arith, within, c.loop-test.auto.placed)
+
+pub loop-test-preserved-then-test-eq0 : goal.loop-test-preserved-then-test-eq0
+unfolding none
+loop-test-preserved-then-test-eq0 c =
+    let m = module_value c.args.«module».now in
+    let plan = plan_value c.args.from.now.plan.now in
+    let t = get_or c.deref-test-items.result.now c.loop-test.test-index none in
+    let at : slice_get m.tests c.loop-test.test-index ≡ Some t = ap (λ (l : List Test). slice_get l c.loop-test.test-index) (sym c.deref-test-items.ensures.value) ∙ slice_get-get_or c.deref-test-items.result.now c.loop-test.test-index none c.loop-test-test.true in
+    let dead : is_live t ≡ false = ap (nat_lt 0) c.if-test-eq0.true in
+    let same : placed_in plan c.args.place m (take (c.loop-test.test-index + 1) m.tests) ≡ placed_in plan c.args.place m (take c.loop-test.test-index m.tests) = front_left (λ (t : Test). placed_of (planned_test plan c.args.place m t)) is_live m.tests c.loop-test.test-index t at dead in
+    record {
+      count = c.loop-test.invariant.count ∙ ap (λ (l : List PlacedTest). c.args.done + length l) (sym same);
+      filled = c.loop-test.invariant.filled ∙ ap (λ (l : List PlacedTest). take c.args.done c.args.placed.now ++ l) (sym same);
+    }
+
+pub returns-clause-count : goal.returns-clause-count
+returns-clause-count c =
+    let all = take_all c.loop-test.test-index c.args.«module».now.tests.items (omega (arith, c.loop-test-test.false, ap length c.deref-test-items.ensures.value)) in
+    c.loop-test.invariant.count ∙ ap (λ (l : List Test). c.args.done + length (placed_in (plan_value c.args.from.now.plan.now) c.args.place (module_value c.args.«module».now) l)) all
+
+pub returns-clause-filled : goal.returns-clause-filled
+returns-clause-filled c =
+    let all = take_all c.loop-test.test-index c.args.«module».now.tests.items (omega (arith, c.loop-test-test.false, ap length c.deref-test-items.ensures.value)) in
+    c.loop-test.invariant.filled ∙ ap (λ (l : List Test). take c.args.done c.args.placed.now ++ placed_in (plan_value c.args.from.now.plan.now) c.args.place (module_value c.args.«module».now) l) all
