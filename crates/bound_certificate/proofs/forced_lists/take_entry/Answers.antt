@@ -1,4 +1,4 @@
-use Rattle.std.proofs.Common.{◌≡◌, ◌<◌, get_or, length, sym, arith}
+use Rattle.std.proofs.Common.{◌≡◌, ◌∙◌, ◌<◌, get_or, length, sym, arith, true≢false}
 use Rattle.std.proofs.lemmas.Option.{get_or_from_slice_get}
 use Rattle.soc_model.specs.Chips.{soc_value}
 use Rattle.soc_model.proofs.Limits.{modules-le}
@@ -17,8 +17,7 @@ pub returns-in-None-clause-breach : goal.returns-in-None-clause-breach
 returns-in-None-clause-breach c = λ m at keeps.
     let number : get_or c.args.modules.now c.args.place 0 ≡ m = get_or_from_slice_get c.args.modules.now c.args.place m 0 at in
     let none = rw number at c.in-None.ensures.exact in
-    let tam = keeps.tam in
-    absurd cc
+    true≢false (sym (none ∙ keeps.tam))
 
 pub returns-then-marks-at-clause-breach : goal.returns-then-marks-at-clause-breach
 returns-then-marks-at-clause-breach c = λ m at keeps.

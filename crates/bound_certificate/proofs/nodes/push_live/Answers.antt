@@ -1,10 +1,12 @@
-use Rattle.std.proofs.Common.{◌≡◌, ◌∙◌, List, Some, false, get_or, sym, ap, refl}
+use Rattle.std.proofs.Common.{◌≡◌, ◌∙◌, ◌++◌, List, Some, false, get_or, length, map, sym, ap, refl, arith}
 use Rattle.std.specs.Prelude.{slice_get}
+use Rattle.std.specs.List.{filter}
+use Rattle.std.proofs.lemmas.List.{take_all}
 use Rattle.std.proofs.lemmas.Option.{slice_get-get_or}
 use Rattle.soc_model.specs.declared.Test.{Test}
-use Rattle.soc_model.specs.Chips.{ModuleValue, module_value}
+use Rattle.soc_model.specs.Chips.{ModuleValue, is_live, module_value}
 use Rattle.bound_certificate.specs.declared.nodes.PrecedenceNode.{PrecedenceNode}
-use Rattle.bound_certificate.specs.Nodes.{node_values}
+use Rattle.bound_certificate.specs.Nodes.{node_in, node_values}
 use Rattle.bound_certificate.proofs.LiveNodes.{node_made, node_taken, node_left}
 use Rattle.bound_certificate.proofs.nodes.push_live.Goals as goal
 use Rattle.bound_certificate.proofs.nodes.push_live.Goals.{then-live+in_ok-push, else-live}
@@ -33,3 +35,8 @@ loop-test-preserved c =
       | else-live w ↦
           rw w.nodes-is (node_left c.args.wires m (node_values c.args.nodes.now.items) c.loop-test.nodes.items items c.args.«module».now.tests.items i none c.deref-test-items.ensures.value c.loop-test-test.true (sym c.live.ensures ∙ w.if-live.false) c.loop-test.invariant)
     ]
+
+pub returns : goal.returns
+returns c =
+    let all = take_all c.loop-test.test-index c.args.«module».now.tests.items (omega (arith, c.loop-test-test.false, ap length c.deref-test-items.ensures.value)) in
+    c.loop-test.invariant ∙ ap (λ (l : List Test). node_values c.args.nodes.now.items ++ map (node_in c.args.wires (module_value c.args.«module».now)) (filter is_live l)) all
