@@ -1,4 +1,4 @@
-use Rattle.std.proofs.Common.{◌≡◌, ◌≤◌, ◌-◌, is_some, true, get_or, arith}
+use Rattle.std.proofs.Common.{◌≡◌, ◌∙◌, ◌≤◌, ◌-◌, is_some, not, true, get_or, sym, ap, arith, true≢false}
 use Rattle.std.proofs.lemmas.Option.{slice_get-get_or}
 use Rattle.std.specs.List.{find}
 use Rattle.soc_model.specs.Chips.{soc_value}
@@ -12,7 +12,7 @@ pub returns-then-is_none : goal.returns-then-is_none
 returns-then-is_none c = λ id at keeps.
     let found : is_some c.live_time.result ≡ is_some (find (is_called id) (live_tests (soc_value c.args.soc.now))) = found_of (soc_value c.args.soc.now) c.args.limits.now.wires c.args.tests.now c.args.place no_id id c.live_time.result c.live_time.ensures.time at in
     let live = live_found (soc_value c.args.soc.now) id keeps.0 in
-    absurd (cc c.is_none.ensures)
+    true≢false (sym live ∙ sym found ∙ c.is_none.ensures ∙ ap not c.if-is_none.true)
 
 pub returns-then-place-eq0 : goal.returns-then-place-eq0
 returns-then-place-eq0 c = λ id at.
