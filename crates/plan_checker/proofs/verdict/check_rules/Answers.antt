@@ -35,3 +35,30 @@ returns-in-None-check_tests-clause-good c = good_verdict (soc_value c.args.soc.n
 
 pub returns-in-None-check_tests-clause-marks_long : goal.returns-in-None-check_tests-clause-marks_long
 returns-in-None-check_tests-clause-marks_long c = with_long c.args.rooms.now.marks c.check_buses.new.marks (c.check_buses.auto.marks ∙ ap length c.deref_mut-marks.ensures.value)
+
+pub check_tests-requires-clause-early : goal.check_tests-requires-clause-early
+check_tests-requires-clause-early c = c.requires.early
+
+pub check_placed-requires-clause-kept : goal.check_placed-requires-clause-kept
+check_placed-requires-clause-kept c = c.in-None-check_tests.ensures.verdict
+
+pub check_placed-requires-clause-limits : goal.check_placed-requires-clause-limits
+check_placed-requires-clause-limits c = c.requires.limits
+
+pub check_placed-requires-clause-parents_fit : goal.check_placed-requires-clause-parents_fit
+check_placed-requires-clause-parents_fit c = c.requires.parents_fit
+
+pub check_placed-requires-clause-tests_fit : goal.check_placed-requires-clause-tests_fit
+check_placed-requires-clause-tests_fit c = c.requires.tests_fit
+
+pub check_placed-requires-clause-begins_fit : goal.check_placed-requires-clause-begins_fit
+check_placed-requires-clause-begins_fit c = c.requires.begins_fit
+
+pub check_placed-requires-clause-ends_fit : goal.check_placed-requires-clause-ends_fit
+check_placed-requires-clause-ends_fit c = omega (arith, c.requires.ends_fit, c.requires.marks_fit, c.requires.parents_fit)
+
+pub check_placed-requires-clause-profiles_fit : goal.check_placed-requires-clause-profiles_fit
+check_placed-requires-clause-profiles_fit c = c.requires.profiles_fit
+
+pub check_placed-requires-clause-events_fit : goal.check_placed-requires-clause-events_fit
+check_placed-requires-clause-events_fit c = c.requires.events_fit
