@@ -6,3 +6,5 @@ pub mod Wires
 pub mod Written
 pub mod Searching
 pub mod KindTable
+pub mod Changed
+pub mod Refilled

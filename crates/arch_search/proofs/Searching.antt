@@ -1,5 +1,6 @@
 -- What a search begins with is a search.
-use Rattle.std.proofs.Common.{◌≡◌, ◌∙◌, ℕ, zero, suc, ◌≤◌, List, length, replicate, arith, sym, ap, subst}
+use Rattle.std.proofs.Common.{◌≡◌, ◌∙◌, ℕ, zero, suc, ◌≤◌, Result, Ok, List, length, replicate, arith, sym, ap, subst}
+use Rattle.std.specs.Prelude.{IfOk}
 use Rattle.std.specs.List.{All}
 use Rattle.std.proofs.lemmas.List.Elements.{All-nil, All-replicate}
 use Rattle.resource_table.specs.Schedules.{TableValue, IsSoundTable}
@@ -13,6 +14,10 @@ use Rattle.arch_search.specs.Rooms.{HasRoomFor}
 use Rattle.arch_search.specs.Searches.{IsSearch}
 use Rattle.arch_search.specs.Settings.{IsSetting}
 use Rattle.arch_search.specs.States.{IsTaken}
+
+-- what holds of a value that was made
+pub at_ok : {A E : Type 0} (r : Result A E) (a : A) (P : A → Type 0) → IfOk r P → r ≡ Ok a → P a
+at_ok {A = A} {E = E} r a P holds is = subst (λ (s : Result A E). IfOk s P) is holds
 
 pub is_search : (s : SearchSetting) (p : Problem) (table : TableValue) (room : Room) (taken : List Taken) (less : List ℕ) (best current next : State) → s.problem.now ≡ p →
     IsSetting s → IsProblem table.job p → IsSoundTable table → HasRoomFor p room → All (IsTaken p.wires (length p.modules.items)) taken → length less ≡ p.wires → IsStateOf p best → IsStateOf p current → IsStateOf p next →

@@ -1,5 +1,5 @@
 //! The search.
-ghost use Rattle.std.specs.Prelude.{◌≡◌, ◌≤◌, length, replicate, IfOk};
+ghost use Rattle.std.specs.Prelude.{◌≡◌, ◌≤◌, Ok, length, replicate, IfOk};
 ghost use Rattle.std.specs.List.{All};
 ghost use Rattle.resource_table.specs.Jobs.{JobValue, job_value, IsSoundJob};
 ghost use Rattle.arch_search.specs.Problems.{IsProblem, IsStateOf};
@@ -110,6 +110,19 @@ fn no_modules(alloc: Global, problem: &Problem) -> Result<Vec<Taken>, NoMemory>
     Ok(taken)
 }
 
+/// Two values that were made, where both were. What is made of several such pairs has one exit at which memory may be out, and
+/// drops nothing there itself.
+fn both<A: Drop, B: Drop>(
+    one: Result<A, NoMemory>,
+    other: Result<B, NoMemory>,
+) -> Result<(A, B), NoMemory>
+    ensures { IfOk result (λ p. (one ≡ Ok p.0) × (other ≡ Ok p.1)) }
+{
+    let one = one?;
+    let other = other?;
+    Ok((one, other))
+}
+
 impl<'a> Search<'a> {
     /// A search that begins at a plan of the job's tests, each found by its name among these. All memory that it ever takes is
     /// taken here; `NoMemory` where there is none.
@@ -147,11 +160,17 @@ impl<'a> Search<'a> {
         requires current { IsStateOf problem.now current }
         requires next { IsStateOf problem.now next }
     {
-        let setting = SearchSetting::new(alloc, problem, job)?;
-        let room = Room::new(alloc, problem.tests.len())?;
-        let taken = no_modules(alloc, problem)?;
-        let less = zeros(alloc, problem.wires)?;
-        let table = Table::new(alloc, job)?;
+        let lists = both(no_modules(alloc, problem), zeros(alloc, problem.wires));
+        let parts = both(Room::new(alloc, problem.tests.len()), lists);
+        let base = both(
+            SearchSetting::new(alloc, problem, job),
+            Table::new(alloc, job),
+        );
+        let all = both(base, parts);
+        let (((setting, table), (room, (taken, less))), (best, (current, next))) = both(
+            all,
+            Ok((best, (current, next))),
+        )?;
         let opening = opening_count(problem.wires, problem.modules.len());
         let mut search = Search {
             setting,
