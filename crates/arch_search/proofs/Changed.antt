@@ -49,6 +49,10 @@ state_on p s t state buses alike same = record {
   within = subst (λ o. All (λ test. test < length p.tests.items) o.items) (sym same) state.within;
 }
 
+-- changes one after the other
+pub alike_then : (a b c : Buses) → AreAlike a b → AreAlike b c → AreAlike a c
+alike_then a b c one other = record { widths = other.widths ∙ one.widths; slots = other.slots ∙ one.slots }
+
 -- modules that are taken off the buses of a state
 pub taken_for : (p : Problem) (s : State) (taken : List Taken) → IsStateOf p s → All (IsTaken (length s.buses.widths.items) (length s.buses.slots.items)) taken → All (IsTaken p.wires (length p.modules.items)) taken
 taken_for p s taken state all = subst (λ (n : ℕ). All (IsTaken p.wires n) taken) state.as_many_modules (subst (λ (w : ℕ). All (IsTaken w (length s.buses.slots.items)) taken) state.as_many_slots all)
@@ -63,6 +67,21 @@ search_next s table room taken taken2 less best current next next2 is are state 
   has_room = is.has_room;
   are_taken = are;
   as_many_less = is.as_many_less;
+  best_is = is.best_is;
+  current_is = is.current_is;
+  next_is = state;
+}
+
+-- a search with another next state, and other loads on one wire less
+pub search_fit : (s : SearchSetting) (table : TableValue) (room : Room) (taken : List Taken) (less less2 : List ℕ) (best current next next2 : State) → IsSearch s table room taken less best current next →
+    length less2 ≡ length less → IsStateOf s.problem.now next2 → IsSearch s table room taken less2 best current next2
+search_fit s table room taken less less2 best current next next2 is long state = record {
+  setting = is.setting;
+  is_problem = is.is_problem;
+  is_sound = is.is_sound;
+  has_room = is.has_room;
+  are_taken = is.are_taken;
+  as_many_less = long ∙ is.as_many_less;
   best_is = is.best_is;
   current_is = is.current_is;
   next_is = state;
