@@ -12,9 +12,10 @@ use Rattle.arch_search.specs.declared.problem.Problem.{Problem}
 use Rattle.arch_search.specs.declared.room.Room.{Room}
 use Rattle.arch_search.specs.declared.setting.SearchSetting.{SearchSetting}
 use Rattle.arch_search.specs.declared.state.State.{State}
+use Rattle.arch_search.specs.declared.times.Times.{Times}
 use Rattle.arch_search.specs.Problems.{IsProblem, IsStateOf}
 use Rattle.arch_search.specs.Searches.{IsSearch}
-use Rattle.arch_search.specs.States.{AreBuses, AreAlike, IsTaken}
+use Rattle.arch_search.specs.States.{AreBuses, AreAlike, AreTimesOn, IsTaken}
 
 -- there is a list of what precedes it for each test
 pub before_long : (job : JobValue) (p : Problem) (before : List Neighbours) → before ≡ p.before.items → IsProblem job p → length before ≡ length p.tests.items
@@ -52,6 +53,10 @@ state_on p s t state buses alike same = record {
 -- changes one after the other
 pub alike_then : (a b c : Buses) → AreAlike a b → AreAlike b c → AreAlike a c
 alike_then a b c one other = record { widths = other.widths ∙ one.widths; slots = other.slots ∙ one.slots }
+
+-- the cycles of their modules stay
+pub times_alike : (a b : Buses) (t : Times) → AreAlike a b → AreTimesOn a t → AreTimesOn b t
+times_alike a b t alike on = record { times = on.times; wires = on.wires ∙ sym alike.widths; modules = on.modules ∙ sym alike.slots }
 
 -- modules that are taken off the buses of a state
 pub taken_for : (p : Problem) (s : State) (taken : List Taken) → IsStateOf p s → All (IsTaken (length s.buses.widths.items) (length s.buses.slots.items)) taken → All (IsTaken p.wires (length p.modules.items)) taken
