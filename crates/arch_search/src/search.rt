@@ -1,5 +1,5 @@
 //! The search.
-ghost use Rattle.std.specs.Prelude.{◌≡◌, ◌≤◌, Ok, length, replicate, IfOk};
+ghost use Rattle.std.specs.Prelude.{◌≡◌, ◌≤◌, length, replicate, IfOk};
 ghost use Rattle.std.specs.List.{All};
 ghost use Rattle.resource_table.specs.Jobs.{JobValue, job_value, IsSoundJob};
 ghost use Rattle.arch_search.specs.Problems.{IsProblem, IsStateOf};
@@ -19,7 +19,7 @@ use crate::setting::SearchSetting;
 use crate::state::{State, first_state};
 use crate::weighing::{schedule_state, weigh_state};
 use live_tests::LiveTests;
-use outside::NoMemory;
+use outside::{NoMemory, both};
 use plan_model::Plan;
 use rand_core::SeedableRng;
 use rand_xoshiro::Xoshiro256PlusPlus;
@@ -108,19 +108,6 @@ fn no_modules(alloc: Global, problem: &Problem) -> Result<Vec<Taken>, NoMemory>
     let count = problem.modules.len().min(DEALT_MOST);
     let taken = taken_room(alloc, count)?;
     Ok(taken)
-}
-
-/// Two values that were made, where both were. What is made of several such pairs has one exit at which memory may be out, and
-/// drops nothing there itself.
-fn both<A: Drop, B: Drop>(
-    one: Result<A, NoMemory>,
-    other: Result<B, NoMemory>,
-) -> Result<(A, B), NoMemory>
-    ensures { IfOk result (λ p. (one ≡ Ok p.0) × (other ≡ Ok p.1)) }
-{
-    let one = one?;
-    let other = other?;
-    Ok((one, other))
 }
 
 impl<'a> Search<'a> {

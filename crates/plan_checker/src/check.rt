@@ -1,6 +1,6 @@
 //! The checker's room and its public call.
 
-ghost use Rattle.std.specs.Prelude.{◌≡◌, ℕ, ◌+◌, ◌≤◌, None, OnOk, IfOk, IfErr, IfSome, IsOk, Ok, length, vec_capacity};
+ghost use Rattle.std.specs.Prelude.{◌≡◌, ℕ, ◌+◌, ◌≤◌, None, OnOk, IfOk, IfErr, IfSome, IsOk, length, vec_capacity};
 ghost use Rattle.std.specs.List.{All, filter};
 ghost use Rattle.soc_model.specs.declared.TestId.{TestId};
 ghost use Rattle.soc_model.specs.Chips.{SocValue, soc_value, is_live, live_tests};
@@ -26,7 +26,7 @@ use crate::verdict::check_rules;
 use bound_certificate::{BoundScratch, check_bound};
 use indexmap::IndexSet;
 use live_tests::PlacedTest;
-use outside::NoMemory;
+use outside::{NoMemory, both};
 use plan_model::{Limits, Plan, WIRES_MOST, faults_are_exact, good_plans_run_right};
 use power_events::Event;
 use soc_model::{Soc, Test, TestId, live, module_at};
@@ -116,19 +116,6 @@ fn live_count(soc: &Soc) -> Option<usize>
         count = count.checked_add(live_in(&module_at(soc, place).tests))?;
     }
     Some(count)
-}
-
-/// Two values that were made, where both were. What is made of several such pairs has one exit at which memory is out, and drops
-/// nothing there itself.
-fn both<A: Drop, B: Drop>(
-    one: Result<A, AllocError>,
-    other: Result<B, AllocError>,
-) -> Result<(A, B), AllocError>
-    ensures { IfOk result (λ p. (one ≡ Ok p.0) × (other ≡ Ok p.1)) }
-{
-    let one = one?;
-    let other = other?;
-    Ok((one, other))
 }
 
 /// Room for the placed tests of a chip of `modules` modules and `tests` live tests.

@@ -8,10 +8,9 @@ use crate::lists::Chosen;
 use crate::play::Play;
 use crate::resources::RESOURCES_MOST;
 use crate::slots::Spans;
-use crate::tables::both;
 use crate::values::{LeafChip, Values};
 use crate::weights::Weighing;
-use outside::NoMemory;
+use outside::{NoMemory, both};
 use std::alloc::Global;
 
 /// The slots of a case, what weights show there, and the game.

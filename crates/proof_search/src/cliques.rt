@@ -5,9 +5,9 @@ use crate::facts::Facts;
 use crate::graph::Graph;
 use crate::levels::{Classes, Levels};
 use crate::marks::{first_mark, mark_place, marked, sum_of, unmark_place};
-use crate::tables::{NONE, both, filled, item_or, put_item};
+use crate::tables::{NONE, filled, item_or, put_item};
 use crate::weights::wipe_numbers;
-use outside::NoMemory;
+use outside::{NoMemory, both};
 use std::alloc::Global;
 
 /// From how many of the heaviest vertices a clique is grown first.

@@ -11,10 +11,10 @@ ghost use Rattle.plan_model.specs.SoundLimits.{IsSoundLimits};
 ghost use Rattle.live_tests.specs.Resolved.{IsResolved};
 ghost use Rattle.proof_search.specs.Origins.{IsOrigin};
 
-use crate::tables::{NONE, both, item_or, put_item};
+use crate::tables::{NONE, item_or, put_item};
 use exclusions::ExclusionRows;
 use live_tests::{Resolved, profile_place};
-use outside::{NoMemory, push};
+use outside::{NoMemory, both, push};
 use packed_times::PackedTimes;
 use plan_model::Limits;
 use soc_model::{Module, Soc, Test, TestId, has_tam_test, live, module_at};

@@ -9,10 +9,10 @@ use crate::pays::Pays;
 use crate::picks::{Pick, Prices};
 use crate::resources::{RESOURCES_MOST, Resources, clear_parts, number_of};
 use crate::slots::Spans;
-use crate::tables::{ONE, both, filled, item_or};
+use crate::tables::{ONE, filled, item_or};
 use crate::values::{LeafChip, Values};
 use crate::weights::{Weighing, copy_all};
-use outside::NoMemory;
+use outside::{NoMemory, both};
 use std::alloc::Global;
 
 /// The play ends where the best parts are worth the bound of the game but for one part in `EXACT`.

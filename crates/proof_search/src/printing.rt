@@ -1,10 +1,10 @@
 //! Makes the proof that a tree of cases is.
 
 use crate::lists::{LISTS_MOST, ListForm};
-use crate::tables::{NONE, both, filled, item_or, put_item};
+use crate::tables::{NONE, filled, item_or, put_item};
 use crate::tree::{GrownTree, Names, Rule, whole_count};
 use crate::weights::Weighing;
-use outside::{NoMemory, push};
+use outside::{NoMemory, both, push};
 use proof_model::{Node, Proof, TestList, Weights};
 use soc_model::TestId;
 use std::alloc::Global;

@@ -9,11 +9,11 @@ use crate::facts::Facts;
 use crate::lists::Chosen;
 use crate::mix::Mix;
 use crate::separating::{Separating, separate_lists};
-use crate::tables::{both, filled, item_or};
+use crate::tables::{filled, item_or};
 use crate::text::{DIGITS_MOST, nines};
 use crate::values::LeafChip;
 use crate::weights::Weighing;
-use outside::NoMemory;
+use outside::{NoMemory, both};
 use std::alloc::Global;
 
 /// A mix passes a list of power where it takes more than the value by one part in `PARTS`.

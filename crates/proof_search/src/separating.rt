@@ -6,9 +6,9 @@ use crate::facts::Facts;
 use crate::lists::{Chosen, ListForm, Lists};
 use crate::marks::{mark_place, sum_of};
 use crate::mix::Mix;
-use crate::tables::{both, filled, item_or, put_item};
+use crate::tables::{filled, item_or, put_item};
 use crate::weights::wipe_numbers;
-use outside::NoMemory;
+use outside::{NoMemory, both};
 use std::alloc::Global;
 
 /// How many steps the search for a list of turns takes at most.

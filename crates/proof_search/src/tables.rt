@@ -28,14 +28,3 @@ pub(crate) fn put_item<T: Copy>(list: &mut [T], place: usize, item: T) {
         list[place] = item;
     }
 }
-
-/// Two values that were made, where both were. What is made of several such pairs has one exit at which memory may be out, and
-/// drops nothing there itself.
-pub(crate) fn both<A: Drop, B: Drop>(
-    one: Result<A, NoMemory>,
-    other: Result<B, NoMemory>,
-) -> Result<(A, B), NoMemory> {
-    let one = one?;
-    let other = other?;
-    Ok((one, other))
-}

@@ -1,0 +1,12 @@
+//! Values that are made of several others.
+ghost use Rattle.std.specs.Prelude.{◌≡◌, Ok, IfOk};
+
+/// Two values that were made, where both were, else the first error. What is made of several such pairs has one exit at which memory
+/// may be out, and drops nothing there itself.
+pub fn both<A: Drop, B: Drop, E: Drop>(one: Result<A, E>, other: Result<B, E>) -> Result<(A, B), E>
+    ensures { IfOk result (λ made. (one ≡ Ok made.0) × (other ≡ Ok made.1)) }
+{
+    let one = one?;
+    let other = other?;
+    Ok((one, other))
+}
