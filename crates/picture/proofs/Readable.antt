@@ -1,15 +1,15 @@
--- What can be read of a picture: names can't be taken for tags, and a scale has five to ten marks.
+-- What can be read of a picture: names can't be taken for tags and aren't long, and a scale has five to ten marks.
 use Rattle.std.proofs.Common.{◌≡◌, ℕ, zero, suc, ◌+◌, ◌-◌, ◌*◌, ◌/◌, ◌%◌, ◌^◌, ◌≤◌, ◌<◌, true, List, [], ◌∷◌, ◌++◌, length, refl, sym, ◌∙◌, subst, arith, inl, inr}
-use Rattle.std.specs.Prelude.{decimal, nat_eq}
+use Rattle.std.specs.Prelude.{codes, decimal, min, nat_eq, take}
 use Rattle.std.specs.List.{flat_map, list_all}
 use Rattle.std.proofs.Math.Nat.{div-lt_iff_lt-mul, le-div_iff_mul-le, pow-suc}
 use Rattle.std.proofs.lemmas.Bool.{cases_Bool, cases_lt, le-leb, lt-leb, ne_eqb}
 use Rattle.std.proofs.lemmas.Fmt.{decimal_by_steps}
-use Rattle.std.proofs.lemmas.List.{length-append}
+use Rattle.std.proofs.lemmas.List.{length-append, length-take-le}
 use Rattle.std.proofs.lemmas.List.Folds.{list_all-append}
 use Rattle.std.proofs.lemmas.List.FromFn.{length-map-range_with_len}
 use Rattle.picture.specs.Laws.{HasFewMarks, is_plain}
-use Rattle.picture.specs.Marks.{escaped, spaced_name}
+use Rattle.picture.specs.Marks.{escaped, shown, spaced_name}
 use Rattle.picture.specs.Scale.{leading_power, mark_step, step_within}
 
 -- ---- names
@@ -33,7 +33,20 @@ all_plain (b ∷ bs) = list_all-append is_plain (escaped b) (flat_map escaped bs
 pub names_plain : (name : List ℕ) → list_all is_plain (spaced_name name) ≡ true
 unfolding spaced_name
 names_plain [] = refl
-names_plain (b ∷ bs) = rw (ne_eqb (suc (length bs)) 0 (λ e. omega (arith, e))) (all_plain (b ∷ bs))
+names_plain (b ∷ bs) = rw (ne_eqb (suc (length bs)) 0 (λ e. omega (arith, e))) (all_plain (shown (b ∷ bs)))
+
+-- how many characters of a name are shown
+pub shown_size : (name : List ℕ) → length (shown name) ≡ min (length name) 64
+unfolding shown
+shown_size name = elim (cases_lt 64 (length name)) [
+  | inl long ↦
+      let front : length (take 61 name) ≡ 61 = length-take-le 61 name (omega (arith, long)) in
+      rw (lt-leb (length name) 64 long) (length-append (take 61 name) (codes "...") ∙ omega (arith, front, long))
+  | inr few ↦ rw (le-leb (length name) 64 few) (omega (arith, few))
+]
+
+pub names_short : (name : List ℕ) → length (shown name) ≤ 64
+names_short name = omega (arith, shown_size name)
 
 -- ---- the scale
 

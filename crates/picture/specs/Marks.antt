@@ -1,5 +1,5 @@
 -- The parts of a picture's text: rectangles, labels, and what they say.
-use Rattle.std.specs.Prelude.{ℕ, ◌+◌, ◌-◌, ◌*◌, ◌/◌, ◌%◌, Bool, ◌&&◌, Option, None, Some, List, [], ◌∷◌, ◌++◌, length, nat_eq, nat_le, slice_get, codes, decimal, if◌then◌else◌}
+use Rattle.std.specs.Prelude.{ℕ, ◌+◌, ◌-◌, ◌*◌, ◌/◌, ◌%◌, Bool, ◌&&◌, Option, None, Some, List, [], ◌∷◌, ◌++◌, length, nat_eq, nat_le, slice_get, codes, decimal, take, if◌then◌else◌}
 use Rattle.std.specs.List.{flat_map}
 use Rattle.outside.specs.Decimal.{dotted_numbers}
 use Rattle.soc_model.specs.declared.TestId.{TestId}
@@ -44,9 +44,13 @@ name_at soc place = name_of (slice_get soc.modules place)
 abbrev pub escaped : ℕ → List ℕ
 escaped b = if nat_eq b 38 then codes "&amp;" else if nat_eq b 60 then codes "&lt;" else if nat_eq b 62 then codes "&gt;" else b ∷ []
 
--- a name behind a space; without a name nothing
+-- as much of a name as is shown: of more than 64 characters the first 61, and three points
+unfoldable pub shown : (name : List ℕ) → List ℕ
+shown name = if nat_le (length name) 64 then name else take 61 name ++ codes "..."
+
+-- a name, as it is shown, behind a space; without a name nothing
 unfoldable pub spaced_name : (name : List ℕ) → List ℕ
-spaced_name name = if nat_eq (length name) 0 then [] else codes " " ++ flat_map escaped name
+spaced_name name = if nat_eq (length name) 0 then [] else codes " " ++ flat_map escaped (shown name)
 
 -- ---- tests
 
@@ -81,7 +85,8 @@ test_label o id name = label_at (codes "m") (middle o.x o.width) (middle o.y o.h
 -- with the name of its module, or without, as there is room
 unfoldable pub label_text : Outline → TestId → (name : List ℕ) → List ℕ
 label_text o id name =
-    if has_room o (id_size id + 1 + length name) then test_label o id name else if has_room o (id_size id) then test_label o id [] else []
+    if has_room o (id_size id + 1 + length (shown name)) then test_label o id name
+    else if has_room o (id_size id) then test_label o id [] else []
 
 -- the test of a module of that name
 abbrev pub named_test : Outline → (name : List ℕ) → PlacedTest → List ℕ

@@ -176,10 +176,10 @@ fn push_inner(
 
 /// The picture of a good plan of a sound chip under sound limits, as SVG of 1,140 units from left to right. The wires stand below
 /// each other, with the frames of their buses, and beside each its place and how many wires it has; a rectangle for each test
-/// lies over the wires of its bus, from its start to its end, with its numbers and the name of its module in it where there is
-/// room, and written in full as its title. Below are the self tests, by their starts, each in the first lane that is free then;
-/// and, where power has a limit, the steps of what all tests draw, under the line of the limit. Thin lines stand at round
-/// cycles, with a scale of their numbers below all. Lines with numbers mark the last cycle and the bound. A plan of 0 cycles
+/// lies over the wires of its bus, from its start to its end, with its numbers and the name of its module in its title, and in it
+/// where there is room; a name shows at most 64 characters. Below are the self tests, by their starts, each in the first lane that
+/// is free then; and, where power has a limit, the steps of what all tests draw, under the line of the limit. Thin lines stand at
+/// round cycles, with a scale of their numbers below all. Lines with numbers mark the last cycle and the bound. A plan of 0 cycles
 /// is the frame alone.
 /// `NoMemory` where there is none.
 pub fn print_picture(

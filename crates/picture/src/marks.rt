@@ -1,8 +1,8 @@
 //! The parts of a picture's text: rectangles, labels, and what they say.
-ghost use Rattle.std.specs.Prelude.{◌≡◌, [], ◌++◌, ◌≤◌, ◌<◌, ◌^◌, length, decimal, codes, nat_eq, OnOk, if◌then◌else◌};
+ghost use Rattle.std.specs.Prelude.{◌≡◌, [], ◌++◌, ◌≤◌, ◌<◌, ◌^◌, length, decimal, codes, nat_eq, take, OnOk, if◌then◌else◌};
 ghost use Rattle.std.specs.List.{flat_map};
 ghost use Rattle.soc_model.specs.Chips.{soc_value};
-ghost use Rattle.picture.specs.Marks.{box_text, bus_frame, bus_label as the_bus_label, bus_name, bus_text, bus_texts, escaped, fill, has_room as the_room, id_size as the_id_size, is_high as the_high, label_at, label_end, label_text, middle as the_middle, name_at as the_name, named_test, sides, spaced_name, test_label, test_text, title_text};
+ghost use Rattle.picture.specs.Marks.{box_text, bus_frame, bus_label as the_bus_label, bus_name, bus_text, bus_texts, escaped, fill, has_room as the_room, id_size as the_id_size, is_high as the_high, label_at, label_end, label_text, middle as the_middle, name_at as the_name, named_test, shown, sides, spaced_name, test_label, test_text, title_text};
 ghost use Rattle.picture.specs.Rectangles.{between};
 
 use crate::panels::{Drawn, Outline, Panel, Rectangle, outline_of};
@@ -11,6 +11,11 @@ use itoa::Buffer;
 use live_tests::PlacedTest;
 use outside::{NoMemory, extend, push, push_dotted, push_number};
 use soc_model::{Soc, TestId, module_at};
+
+/// The most characters of a name that are shown.
+const NAME_MOST: usize = 64;
+/// How many characters of a longer name are shown, before three points.
+const NAME_FRONT: usize = 61;
 
 /// Appends a text and a number.
 pub fn push_entry(text: &mut Vec<u8>, name: &[u8], number: u64) -> Result<(), NoMemory>
@@ -130,7 +135,35 @@ fn push_bytes(text: &mut Vec<u8>, name: &[u8]) -> Result<(), NoMemory>
     Ok(())
 }
 
-/// Appends a name behind a space, and nothing where there is none.
+/// How many characters of a name are shown.
+fn shown_size(name: &[u8]) -> u128
+    ensures is { result ≡ length (shown name.now) }
+    ensures few { result ≤ NAME_MOST }
+{
+    name.len().min(NAME_MOST) as u128
+}
+
+/// What is shown of a long name, before three points.
+fn front(name: &[u8]) -> &[u8]
+    requires { 64 < length name.now }
+    ensures { result.now ≡ take 61 name.now }
+{
+    &name[0..NAME_FRONT]
+}
+
+/// Appends as much of a name as is shown. Each test shows that of its module, so all of a long one would be written many times.
+#[tactic(auto, unfolding(crate::specs::Marks::shown))]
+fn push_shown(text: &mut Vec<u8>, name: &[u8]) -> Result<(), NoMemory>
+    ensures { OnOk result (text.new.items ≡ text.old.items ++ flat_map escaped (shown name.now)) }
+{
+    if name.len() <= NAME_MOST {
+        return push_bytes(text, name);
+    }
+    push_bytes(text, front(name))?;
+    extend(text, b"...")
+}
+
+/// Appends a name, as it is shown, behind a space, and nothing where there is none.
 #[tactic(auto, unfolding(crate::specs::Marks::spaced_name))]
 fn push_spaced_name(text: &mut Vec<u8>, name: &[u8]) -> Result<(), NoMemory>
     ensures { OnOk result (text.new.items ≡ text.old.items ++ spaced_name name.now) }
@@ -139,7 +172,7 @@ fn push_spaced_name(text: &mut Vec<u8>, name: &[u8]) -> Result<(), NoMemory>
         return Ok(());
     }
     extend(text, b" ")?;
-    push_bytes(text, name)
+    push_shown(text, name)
 }
 
 /// Appends one of four fills, by the place of a module.
@@ -207,7 +240,7 @@ fn push_label_within(
     ensures { OnOk result (text.new.items ≡ text.old.items ++ label_text outline.now id name.now) }
 {
     let alone = u128::from(id_size(id));
-    if has_room(outline, alone + 1 + name.len() as u128) {
+    if has_room(outline, alone + 1 + shown_size(name)) {
         return push_test_label(text, outline, id, name);
     }
     if has_room(outline, alone) {

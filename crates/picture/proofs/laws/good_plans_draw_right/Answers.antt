@@ -1,7 +1,7 @@
 use Rattle.picture.proofs.AllDrawn.{tests_drawn}
 use Rattle.picture.proofs.Apart.{rectangles_apart, steps_within, wires_used}
 use Rattle.picture.proofs.LanesApart.{lanes_apart}
-use Rattle.picture.proofs.Readable.{few_marks, names_plain}
+use Rattle.picture.proofs.Readable.{few_marks, names_plain, names_short}
 use Rattle.picture.proofs.SelfTests.{self_tests_laned}
 use Rattle.picture.proofs.laws.good_plans_draw_right.Goals as goal
 
@@ -25,6 +25,9 @@ returns-clause-self_drawn c = self_tests_laned
 
 pub returns-clause-names : goal.returns-clause-names
 returns-clause-names c = names_plain
+
+pub returns-clause-short : goal.returns-clause-short
+returns-clause-short c = names_short
 
 pub returns-clause-marks : goal.returns-clause-marks
 returns-clause-marks c = few_marks
