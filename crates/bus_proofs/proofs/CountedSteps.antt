@@ -1,5 +1,5 @@
 -- Powers as they count, added up over cycles by the steps of profiles.
-use Rattle.std.proofs.Common.{◌≡◌, ℕ, zero, suc, ◌+◌, ◌-◌, ◌*◌, ◌/◌, ◌≤◌, Option, Some, None, List, sym, ap, ◌∙◌, arith, inl, inr, mul_comm, mul-le-mul_left, div-mul-le_self, position}
+use Rattle.std.proofs.Common.{◌≡◌, ℕ, zero, suc, ◌+◌, ◌*◌, ◌/◌, ◌≤◌, Option, Some, None, List, sym, ap, ◌∙◌, arith, inl, inr, mul_comm, mul-le-mul_left, div-mul-le_self, position}
 use Rattle.std.specs.Prelude.{slice_get}
 use Rattle.std.proofs.lemmas.Bool.{cases_lt, lt-ltb, le-ltb}
 use Rattle.soc_model.specs.Chips.{LiveTest, id_of, same_test}

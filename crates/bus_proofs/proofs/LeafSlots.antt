@@ -20,7 +20,7 @@ use Rattle.bus_proofs.specs.Bases.{chip_of, limits_of, lists_of}
 use Rattle.bus_proofs.specs.Laws.{WiderSlotsCostNoLess}
 use Rattle.bus_proofs.specs.Cases.{Case, known_ranks, low_at, high_at}
 use Rattle.bus_proofs.specs.Leaves.{Slot, slot, from_to, slot_at, slots_at, rest_high, rest_slot, rest_slots, all_slots, is_short}
-use Rattle.bus_proofs.specs.LeafSlots.{IsCostOf, IsLeast, IsLeastOf, IsOfModule, IsOfRange, IsOfRank, IsOfRanks, IsOfRest, costs_at, lesser, range_slot, rank_range, rest_range}
+use Rattle.bus_proofs.specs.LeafSlots.{IsCostOf, IsLeast, IsLeastOf, IsLesserOf, IsLesserOfOne, IsOfModule, IsOfRange, IsOfRank, IsOfRanks, IsOfRest, costs_at, lesser, range_slot, rank_range, rest_range}
 use Rattle.bus_proofs.proofs.Slots.{of_known, of_rest, smallest-le}
 
 -- ---- the least of two
@@ -216,6 +216,39 @@ lesser_small None b k x y = y
 lesser_small (Some m) None k x y = x
 lesser_small (Some m) (Some n) k x y = omega (arith, x, y)
 
+-- what was least before is handed on from width to width
+
+pub alone : (o : Option ℕ) → o ≡ lesser o None
+alone None = refl
+alone (Some n) = refl
+
+lesser_assoc : (a b c : Option ℕ) → lesser (lesser a b) c ≡ lesser a (lesser b c)
+lesser_assoc None b c = refl
+lesser_assoc (Some m) None c = refl
+lesser_assoc (Some m) (Some n) None = refl
+lesser_assoc (Some m) (Some n) (Some k) = ap Some (omega arith)
+
+pub none_lesser : (f : Slot → ℕ) (Is : Slot → Type 0) (least : Option ℕ) → IsLeastOf f Is None → IsLesserOf f Is least least
+none_lesser f Is least x = record { own = None; own_is = x; is = alone least }
+
+pub range_lesser : (f : Slot → ℕ) (soc : SocValue) (claim place : ℕ) (r : WidthRange) (w n : ℕ) (least best new : Option ℕ) → r.first ≤ w → w < n → w ≤ r.high →
+    ((v : ℕ) → w ≤ v → v < n → f (range_slot r w) ≤ f (range_slot r v)) → ((v : ℕ) → w ≤ v → v < n → packed_tam_time soc place v ≡ packed_tam_time soc place w) →
+    IsLesserOf f (IsOfRange soc claim place r (min w (r.high + 1))) least best → IsLesserOfOne f soc claim place (range_slot r w) best new → IsLesserOf f (IsOfRange soc claim place r (min n (r.high + 1))) least new
+range_lesser f soc claim place r w n least best new from less in_range more same x y = record {
+  own = lesser x.own y.own;
+  own_is = range_jump f soc claim place r w n x.own y.own from less in_range more same x.own_is y.own_is;
+  is = y.is ∙ ap (λ o. lesser o y.own) x.is ∙ lesser_assoc least x.own y.own;
+}
+
+pub range_ended : (f : Slot → ℕ) (soc : SocValue) (claim place : ℕ) (r : WidthRange) (w : ℕ) (least best : Option ℕ) → r.high + 1 ≤ w → IsLesserOf f (IsOfRange soc claim place r (min w (r.high + 1))) least best → IsLesserOf f (IsOfRange soc claim place r (r.high + 1)) least best
+range_ended f soc claim place r w least best all x = record { own = x.own; own_is = range_done f soc claim place r w x.own all x.own_is; is = x.is }
+
+-- a bus that costs no less than what was least
+pub no_lesser : (f : Slot → ℕ) (soc : SocValue) (claim place : ℕ) (s : Slot) (least : Option ℕ) (n : ℕ) → is_short soc claim place s ≡ true → least ≡ Some n → n ≤ f s → IsLesserOfOne f soc claim place s least least
+no_lesser f soc claim place s least n short is less =
+    let same : min n (f s) ≡ n = omega (arith, less) in
+    record { own = Some (f s); own_is = (short, refl); is = rw is (ap Some (sym same)) }
+
 -- ---- one rank more
 
 -- the module may be on the rank
@@ -233,17 +266,60 @@ rank_skipped f soc claim c weights place k off = λ s is. let e : true ≡ false
 pub no_rank : (f : Slot → ℕ) (soc : SocValue) (claim : ℕ) (c : Case) (weights : WeightsValue) (place : ℕ) → IsLeastOf f (IsOfRanks soc claim c weights place 0) None
 no_rank f soc claim c weights place = λ s is. omega (arith, is.below)
 
+-- a bus of the first ranks is on the last of these or on one before it
+last_rank : (soc : SocValue) (claim : ℕ) (c : Case) (weights : WeightsValue) (place k : ℕ) (s : Slot) → IsOfRanks soc claim c weights place (k + 1) s →
+    IsOfRanks soc claim c weights place k s ⊎ IsOfRank soc claim c weights place k s
+last_rank soc claim c weights place k s is = elim (cases_eq is.rank k) [
+  | inl same ↦ inr (subst (λ q. IsOfRank soc claim c weights place q s) same is.of_rank)
+  | inr other ↦ inl record { rank = is.rank; below = omega (arith, is.below, other); of_rank = is.of_rank }
+]
+
 pub rank_more : (f : Slot → ℕ) (soc : SocValue) (claim : ℕ) (c : Case) (weights : WeightsValue) (place k : ℕ) (a b : Option ℕ) →
     IsLeastOf f (IsOfRanks soc claim c weights place k) a → IsLeastOf f (IsOfRank soc claim c weights place k) b → IsLeastOf f (IsOfRanks soc claim c weights place (k + 1)) (lesser a b)
 rank_more f soc claim c weights place k a b x y =
     joined f (IsOfRanks soc claim c weights place k) (IsOfRank soc claim c weights place k) (IsOfRanks soc claim c weights place (k + 1)) a b x y
-    (λ s is. which s is (cases_eq is.rank k))
+    (last_rank soc claim c weights place k)
     (λ s is. record { rank = is.rank; below = omega (arith, is.below); of_rank = is.of_rank })
     (λ s is. record { rank = k; below = omega arith; of_rank = is })
+
+-- a rank no bus of which costs less than that of an earlier rank needs no look
+pub rank_passed : (f : Slot → ℕ) (soc : SocValue) (claim : ℕ) (c : Case) (weights : WeightsValue) (place k earlier : ℕ) (o : Option ℕ) → earlier < k → c.may place earlier ≡ true →
+    low_at c k ≡ low_at c earlier → high_at c k ≤ high_at c earlier → ((w : ℕ) → f (range_slot (rank_range c weights earlier) w) ≤ f (range_slot (rank_range c weights k) w)) →
+    IsLeastOf f (IsOfRanks soc claim c weights place k) o → IsLeastOf f (IsOfRanks soc claim c weights place (k + 1)) o
+rank_passed f soc claim c weights place k earlier o before may low high less x = go o x
   where
-    which : (s : Slot) (is : IsOfRanks soc claim c weights place (k + 1) s) → (is.rank ≡ k) ⊎ (is.rank ≡ k → ⊥) → IsOfRanks soc claim c weights place k s ⊎ IsOfRank soc claim c weights place k s
-    which s is (inl same) = inr (subst (λ q. IsOfRank soc claim c weights place q s) same is.of_rank)
-    which s is (inr other) = inl record { rank = is.rank; below = omega (arith, is.below, other); of_rank = is.of_rank }
+    there : (s : Slot) (is : IsOfRank soc claim c weights place k s) → IsOfRanks soc claim c weights place k (range_slot (rank_range c weights earlier) is.of_range.width)
+    there s is = record {
+      rank = earlier;
+      below = before;
+      of_rank = record {
+        may = may;
+        of_range = record {
+          width = is.of_range.width;
+          from = omega (arith, low, is.of_range.from);
+          below = omega (arith, high, is.of_range.below);
+          slot_is = refl;
+          short = sym (ap (is_short soc claim place) is.of_range.slot_is) ∙ is.of_range.short;
+        };
+      };
+    }
+
+    go : (o : Option ℕ) → IsLeastOf f (IsOfRanks soc claim c weights place k) o → IsLeastOf f (IsOfRanks soc claim c weights place (k + 1)) o
+    go None x = λ s is. elim (last_rank soc claim c weights place k s is) [
+      | inl l ↦ x s l
+      | inr r ↦ x (range_slot (rank_range c weights earlier) r.of_range.width) (there s r)
+    ]
+    go (Some n) x = record {
+      bus = x.bus;
+      is = record { rank = x.is.rank; below = omega (arith, x.is.below); of_rank = x.is.of_rank };
+      cost_is = x.cost_is;
+      least = λ s is. elim (last_rank soc claim c weights place k s is) [
+        | inl l ↦ x.least s l
+        | inr r ↦
+            let here : f s ≡ f (range_slot (rank_range c weights k) r.of_range.width) = ap f r.of_range.slot_is in
+            omega (arith, here, less r.of_range.width, x.least (range_slot (rank_range c weights earlier) r.of_range.width) (there s r))
+      ];
+    }
 
 -- ---- the rest
 

@@ -25,6 +25,7 @@ pub mod CrowdSizes
 pub mod LeafSums
 pub mod LeafTests
 pub mod LeafSlots
+pub mod RanksTried
 pub mod LeafTotals
 pub mod LeafAnswers
 pub mod Marked

@@ -6,6 +6,7 @@ use Rattle.plan_model.specs.Certificates.{has_tam_at}
 use Rattle.bus_proofs.specs.declared.basis.Basis.{Basis}
 use Rattle.bus_proofs.specs.declared.leaf.LeafAnswer.{LeafAnswer}
 use Rattle.bus_proofs.specs.declared.leaf.LeafAnswer.TheVariants.{Broken, Holds, Shows}
+use Rattle.bus_proofs.specs.declared.leaf_slots.RanksTried.{RanksTried}
 use Rattle.bus_proofs.specs.declared.leaf_slots.WidthRange.{WidthRange}
 use Rattle.proof_model.specs.Proofs.{ListValue, WeightsValue}
 use Rattle.bus_proofs.specs.Cases.{Case, known_ranks, low_at, high_at}
@@ -92,9 +93,41 @@ lesser None o = o
 lesser (Some m) None = Some m
 lesser (Some m) (Some n) = Some (min m n)
 
+-- the lesser of a cost and the least one of these buses
+pub record IsLesserOf (f : Slot → ℕ) (Is : Slot → Type 0) (least lesser_is : Option ℕ) : Type 0 where
+  pub own : Option ℕ
+  pub own_is : IsLeastOf f Is own
+  pub is : lesser_is ≡ lesser least own
+
+-- the same of one bus
+pub record IsLesserOfOne (f : Slot → ℕ) (soc : SocValue) (claim place : ℕ) (s : Slot) (least lesser_is : Option ℕ) : Type 0 where
+  pub own : Option ℕ
+  pub own_is : IsCostOf f soc claim place s own
+  pub is : lesser_is ≡ lesser least own
+
+-- ---- ranks one by one
+
+-- no bus of the one range is wider than those of the other or costs less, but for lists that speak of a rank
+pub record IsNoBetter (range earlier : WidthRange) : Type 0 where
+  pub low : range.low ≡ earlier.low
+  pub high : range.high ≤ earlier.high
+  pub base : earlier.base ≤ range.base
+
 -- what the module at a place costs at these weights
 abbrev pub costs_at : Basis → WeightsValue → (place : ℕ) → Slot → ℕ
 costs_at g weights place = cost (chip_of g) (limits_of g) (lists_of g) weights place
+
+-- a range is that of a rank before `end` that the module may be on
+pub record IsTried (c : Case) (weights : WeightsValue) (place end : ℕ) (range : WidthRange) : Type 0 where
+  pub rank : ℕ
+  pub below : rank < end
+  pub may : c.may place rank ≡ true
+  pub range_is : range ≡ rank_range c weights rank
+
+-- what was found on the ranks before `end`
+pub record AreTried (g : Basis) (c : Case) (weights : WeightsValue) (place end : ℕ) (tried : RanksTried) : Type 0 where
+  pub least : IsLeastOf (costs_at g weights place) (IsOfRanks (chip_of g) (claim_of g) c weights place end) tried.least
+  pub last : (range : WidthRange) → tried.last ≡ Some range → IsTried c weights place end range
 
 -- the least cost of the module at a place
 abbrev pub least_at : Basis → Case → WeightsValue → (place : ℕ) → ℕ

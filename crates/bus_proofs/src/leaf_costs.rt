@@ -405,7 +405,7 @@ fn is_over(wires: bool, tam: bool) -> bool
 }
 
 /// What `cycles` cycles cost at a rate.
-fn rated(rate: u64, cycles: u64) -> u128
+pub(crate) fn rated(rate: u64, cycles: u64) -> u128
     requires rate { rate < 2 ^ 40 }
     requires cycles { cycles ≤ 10 ^ 18 }
     ensures rated { result ≡ rate * cycles }

@@ -1,5 +1,5 @@
 //! The least cost of a module over the buses that it may be on in a case.
-ghost use Rattle.std.specs.Prelude.{◌≡◌, ◌+◌, ◌-◌, ◌*◌, ◌^◌, ◌<◌, ◌≤◌, length, nat_lt, IfSome};
+ghost use Rattle.std.specs.Prelude.{◌≡◌, ℕ, ◌+◌, ◌-◌, ◌*◌, ◌^◌, ◌<◌, ◌≤◌, true, Some, [], length, nat_lt, IfSome};
 ghost use Rattle.packed_times.specs.Packed.{packed_tam_time, self_test_time};
 ghost use Rattle.proof_model.specs.declared.TheConstants.{WEIGHT_MOST};
 ghost use Rattle.proof_model.specs.Proofs.{WeightsValue, weights_value};
@@ -11,12 +11,13 @@ ghost use Rattle.bus_proofs.specs.Leaves.{rank_weight, rest_high};
 ghost use Rattle.bus_proofs.specs.Bases.{IsBasis, AllKept, chip_of, limits_of, claim_of};
 ghost use Rattle.bus_proofs.specs.LeafCosts.{IsWeighed, LEAF_COST_MOST};
 ghost use Rattle.bus_proofs.specs.LeafAnswers.{IsCaseFor};
-ghost use Rattle.bus_proofs.specs.LeafSlots.{IsCostOf, IsLeastOf, IsOfModule, IsOfRange, IsOfRank, IsOfRanks, IsOfRest, costs_at, lesser, range_slot, rank_range, rest_range};
+ghost use Rattle.bus_proofs.specs.declared.leaf_slots.WidthRange.{WidthRange as the_range};
+ghost use Rattle.bus_proofs.specs.LeafSlots.{AreTried, IsLeastOf, IsLesserOf, IsLesserOfOne, IsNoBetter, IsOfModule, IsOfRange, IsOfRanks, IsOfRest, costs_at, lesser, range_slot, rank_range, rest_range};
 
 use crate::basis::Basis;
 use crate::case::CaseRoom;
 use crate::laws::wider_slots_cost_no_less;
-use crate::leaf_costs::{Weighed, module_cost};
+use crate::leaf_costs::{Weighed, module_cost, rated};
 use crate::places::{Placing, may_be_on};
 use crate::ranks::is_left;
 use crate::widths::{interval_at, known_ranks, spare_wires};
@@ -36,7 +37,7 @@ pub(crate) struct WidthRange {
 }
 
 /// The lesser of two costs, where they are there.
-pub(crate) fn lesser(a: Option<u128>, b: Option<u128>) -> Option<u128>
+fn lesser(a: Option<u128>, b: Option<u128>) -> Option<u128>
     ensures { result ≡ lesser a b }
 {
     match a {
@@ -132,13 +133,25 @@ fn rate_of(range: WidthRange, width: u64) -> u64
     range.base + range.wire * width.saturating_sub(range.low)
 }
 
-/// What the module costs on the bus of the range at a width, where that counts.
-fn cost_at(
+/// Whether a cost is no less than the least one so far, where there is one.
+fn is_no_less(cost: u128, least: Option<u128>) -> bool
+    ensures { result ≡ true → (n : ℕ) × (least ≡ Some n) × (n ≤ cost) }
+{
+    match least {
+        None => false,
+        Some(n) => n <= cost,
+    }
+}
+
+/// The lesser of the least cost so far and what the module costs on the bus of the range at a width, where that counts. Its uses
+/// aren't added up where its time alone costs no less.
+fn lesser_at(
     basis: &Basis<'_>,
     weighed: &Weighed,
     place: usize,
     range: WidthRange,
     width: u64,
+    least: Option<u128>,
 ) -> Option<u128>
     requires basis { IsBasis basis.now }
     requires kept { AllKept basis.now }
@@ -148,24 +161,32 @@ fn cost_at(
     requires base { range.base ≤ WEIGHT_MOST }
     requires wire { range.wire ≤ WEIGHT_MOST }
     requires weighed { (weights : WeightsValue) × IsWeighed basis.now weights weighed.now }
+    requires few { IfSome least (λ n. n ≤ LEAF_COST_MOST) }
     ensures cost { (weights : WeightsValue) → IsWeighed basis.now weights weighed.now →
-        IsCostOf (costs_at basis.now weights place) (chip_of basis.now) (claim_of basis.now) place (range_slot range width) result }
+        IsLesserOfOne (costs_at basis.now weights place) (chip_of basis.now) (claim_of basis.now) place
+        (range_slot range width) least result }
     ensures small { IfSome result (λ n. n ≤ LEAF_COST_MOST) }
 {
     if !is_short(basis, place, width) {
-        return None;
+        return least;
     }
     let rate = rate_of(range, width);
-    Some(module_cost(basis, weighed, place, range.rank, width, rate))
+    let time = rated(rate, basis.times.tam_time(place, width));
+    if is_no_less(time, least) {
+        return least;
+    }
+    let cost = module_cost(basis, weighed, place, range.rank, width, rate);
+    lesser(least, Some(cost))
 }
 
-/// The least cost of a module on a range. Widths on which the tests take as long as on the width before aren't tried: they cost
-/// no less.
-fn least_in_range(
+/// The lesser of the least cost so far and that of a module on a range. Widths on which the tests take as long as on the width before
+/// aren't tried: they cost no less.
+fn lesser_in_range(
     basis: &Basis<'_>,
     weighed: &Weighed,
     place: usize,
     range: WidthRange,
+    least: Option<u128>,
 ) -> Option<u128>
     requires basis { IsBasis basis.now }
     requires kept { AllKept basis.now }
@@ -175,31 +196,67 @@ fn least_in_range(
     requires base { range.base ≤ WEIGHT_MOST }
     requires wire { range.wire ≤ WEIGHT_MOST }
     requires weighed { (weights : WeightsValue) × IsWeighed basis.now weights weighed.now }
+    requires few { IfSome least (λ n. n ≤ LEAF_COST_MOST) }
     ensures least { (weights : WeightsValue) → IsWeighed basis.now weights weighed.now →
-        IsLeastOf (costs_at basis.now weights place)
-        (IsOfRange (chip_of basis.now) (claim_of basis.now) place range (range.high + 1)) result }
+        IsLesserOf (costs_at basis.now weights place)
+        (IsOfRange (chip_of basis.now) (claim_of basis.now) place range (range.high + 1)) least result }
     ensures small { IfSome result (λ n. n ≤ LEAF_COST_MOST) }
 {
     wider_slots_cost_no_less();
-    let mut best = None;
+    let mut best = least;
     let mut width = range.first;
     while width <= range.high {
-        let here = cost_at(basis, weighed, place, range, width);
-        best = lesser(best, here);
+        best = lesser_at(basis, weighed, place, range, width, best);
         width = basis.times.next_width(place, width);
     }
     best
 }
 
-/// The least cost of a module on a known rank.
-fn least_on_rank(
+/// What was found on the first ranks.
+#[derive(Clone, Copy)]
+pub(crate) struct RanksTried {
+    /// The least cost, where there is a bus.
+    pub least: Option<u128>,
+    /// The range that was tried last.
+    pub last: Option<WidthRange>,
+}
+
+/// Whether a range has no bus that an earlier one hasn't for as little, but for lists that speak of a rank.
+fn is_no_better(range: WidthRange, earlier: WidthRange) -> bool
+    ensures { result ≡ true → IsNoBetter range earlier }
+{
+    if range.low != earlier.low {
+        return false;
+    }
+    if range.high > earlier.high {
+        return false;
+    }
+    range.base >= earlier.base
+}
+
+/// Whether the range is no better than the one that was tried last, and no list is weighed that speaks of a rank.
+fn is_passed(weighed: &Weighed, last: Option<WidthRange>, range: WidthRange) -> bool
+    ensures { result ≡ true → (weighed.now.beside.items ≡ []) × (earlier : the_range) × (last ≡ Some earlier) × IsNoBetter range earlier }
+{
+    if !weighed.beside.is_empty() {
+        return false;
+    }
+    match last {
+        None => false,
+        Some(earlier) => is_no_better(range, earlier),
+    }
+}
+
+/// What is found on one known rank more.
+fn with_rank(
     basis: &Basis<'_>,
     weighed: &Weighed,
     case: &CaseRoom,
     weights: &Weights,
     at: Placing,
     rank: usize,
-) -> Option<u128>
+    tried: RanksTried,
+) -> RanksTried
     requires basis { IsBasis basis.now }
     requires kept { AllKept basis.now }
     requires of { IsCaseFor basis.now case.now }
@@ -210,15 +267,22 @@ fn least_on_rank(
     requires modules { at.modules ≡ case.now.modules }
     requires known_are { at.known ≡ length case.now.widths.intervals.items }
     requires rank { rank < at.known }
-    ensures least { (c : Case) → IsCaseOf case.now c → IsLeastOf (costs_at basis.now (weights_value weights.now) at.place)
-        (IsOfRank (chip_of basis.now) (claim_of basis.now) c (weights_value weights.now) at.place rank) result }
-    ensures small { IfSome result (λ n. n ≤ LEAF_COST_MOST) }
+    requires tried { (c : Case) → IsCaseOf case.now c → AreTried basis.now c (weights_value weights.now) at.place rank tried }
+    requires few { IfSome tried.least (λ n. n ≤ LEAF_COST_MOST) }
+    ensures tried { (c : Case) → IsCaseOf case.now c → AreTried basis.now c (weights_value weights.now) at.place (rank + 1) result }
+    ensures small { IfSome result.least (λ n. n ≤ LEAF_COST_MOST) }
 {
     if !may_be_on(&case.ranks, at, rank) {
-        return None;
+        return tried;
     }
     let range = rank_range(case, weights, rank);
-    least_in_range(basis, weighed, at.place, range)
+    if is_passed(weighed, tried.last, range) {
+        return tried;
+    }
+    RanksTried {
+        least: lesser_in_range(basis, weighed, at.place, range, tried.least),
+        last: Some(range),
+    }
 }
 
 /// The least cost of a module on the known ranks.
@@ -247,21 +311,24 @@ fn least_on_ranks(
         modules: case.modules,
         known,
     };
-    let mut best = None;
+    let mut tried = RanksTried {
+        least: None,
+        last: None,
+    };
     for rank in 0..known {
-        let next = least_on_rank(basis, weighed, case, weights, at, rank);
-        best = lesser(best, next);
+        tried = with_rank(basis, weighed, case, weights, at, rank, tried);
     }
-    best
+    tried.least
 }
 
-/// The least cost of a module on the rest.
-fn least_on_rest(
+/// The lesser of the least cost so far and that of a module on the rest.
+fn lesser_on_rest(
     basis: &Basis<'_>,
     weighed: &Weighed,
     case: &CaseRoom,
     weights: &Weights,
     place: usize,
+    least: Option<u128>,
 ) -> Option<u128>
     requires basis { IsBasis basis.now }
     requires kept { AllKept basis.now }
@@ -271,15 +338,16 @@ fn least_on_rest(
     requires weights { AreWeights (weights_value weights.now) }
     requires weighed { IsWeighed basis.now (weights_value weights.now) weighed.now }
     requires place { place < length (chip_of basis.now).modules }
-    ensures least { (c : Case) → IsCaseOf case.now c → IsLeastOf (costs_at basis.now (weights_value weights.now) place)
-        (IsOfRest (chip_of basis.now) (limits_of basis.now).wires (claim_of basis.now) c (weights_value weights.now) place) result }
+    requires few { IfSome least (λ n. n ≤ LEAF_COST_MOST) }
+    ensures least { (c : Case) → IsCaseOf case.now c → IsLesserOf (costs_at basis.now (weights_value weights.now) place)
+        (IsOfRest (chip_of basis.now) (limits_of basis.now).wires (claim_of basis.now) c (weights_value weights.now) place) least result }
     ensures small { IfSome result (λ n. n ≤ LEAF_COST_MOST) }
 {
     if !is_left(&case.ranks, place) {
-        return None;
+        return least;
     }
     let range = rest_range(case, weights);
-    least_in_range(basis, weighed, place, range)
+    lesser_in_range(basis, weighed, place, range, least)
 }
 
 /// The least cost of a module over all buses that it may be on: the cost of one of them, and none costs less. `None` where
@@ -304,6 +372,5 @@ pub(crate) fn least_cost(
     ensures small { IfSome result (λ n. n ≤ LEAF_COST_MOST) }
 {
     let known = least_on_ranks(basis, weighed, case, weights, place);
-    let rest = least_on_rest(basis, weighed, case, weights, place);
-    lesser(known, rest)
+    lesser_on_rest(basis, weighed, case, weights, place, known)
 }

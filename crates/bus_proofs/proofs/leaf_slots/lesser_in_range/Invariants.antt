@@ -2,13 +2,13 @@ use Rattle.std.specs.Prelude.{◌+◌, ◌-◌, ◌≤◌, min, IfSome}
 use Rattle.proof_model.specs.Proofs.{WeightsValue}
 use Rattle.bus_proofs.specs.Bases.{chip_of, claim_of}
 use Rattle.bus_proofs.specs.LeafCosts.{IsWeighed, LEAF_COST_MOST}
-use Rattle.bus_proofs.specs.LeafSlots.{IsLeastOf, IsOfRange, costs_at}
-use Rattle.bus_proofs.proofs.leaf_slots.least_in_range.Given as goal
+use Rattle.bus_proofs.specs.LeafSlots.{IsLesserOf, IsOfRange, costs_at}
+use Rattle.bus_proofs.proofs.leaf_slots.lesser_in_range.Given as goal
 
 abbrev pub invariant-loop-width : goal.invariant-loop-width
 invariant-loop-width l = record {
   from : l.range.first ≤ l.width;
-  least : (weights : WeightsValue) → IsWeighed l.basis weights l.weighed → IsLeastOf (costs_at l.basis weights l.place) (IsOfRange (chip_of l.basis) (claim_of l.basis) l.place l.range (min l.width (l.range.high + 1))) l.best;
+  least : (weights : WeightsValue) → IsWeighed l.basis weights l.weighed → IsLesserOf (costs_at l.basis weights l.place) (IsOfRange (chip_of l.basis) (claim_of l.basis) l.place l.range (min l.width (l.range.high + 1))) l.fn.least l.best;
   small : IfSome l.best (λ n. n ≤ LEAF_COST_MOST);
 }
 
