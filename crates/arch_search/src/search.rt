@@ -75,7 +75,7 @@ impl<'a> Model for Search<'a> {
     ghost invariant = { λ s. IsSearch s.setting s.table s.room s.taken.items s.less.items s.best s.current s.next };
 }
 
-/// What a search found: its best state. The schedule is that of the last call of [`Search::finish`].
+/// What a search found: its best state. The schedule is that of the last call of [`Search::schedule_best`].
 #[derive(Drop)]
 pub struct Found<'s> {
     /// What the search went by.

@@ -47,7 +47,7 @@ whole buses wrappers starts cycles bound = record { buses = map bus_value buses;
 abbrev pub no_bound : BoundValue
 no_bound = record { cycles = 0; why = OfArea }
 
--- Buses and wrappers as they were made; `buses1` are the buses that the wrappers were made for.
+-- Buses as they were settled, and the wrappers that were made for them.
 pub record AreMadeParts (soc : SocValue) (limits : LimitsValue) (buses : List Bus) (wrappers : List Wrapper) : Type 0 where
   pub sound : IsSoundChip soc
   pub sound_limits : IsSoundLimits soc limits

@@ -16,7 +16,7 @@
 //! which each is needed, with all that draw more (`crowds`). Such lists become resources, and the game goes on. What the weights show
 //! is then found exactly (`values`).
 //!
-//! No clause promises anything of all this but that it is safe and ends. So tables are read by `item_or` and written by `put`, sums
+//! No clause promises anything of all this but that it is safe and ends. So tables are read by `item_or` and written by `put_item`, sums
 //! are cut off at the limits of their types, each search is over after a fixed number of steps, and all memory is taken as the
 //! search begins.
 #![tactic(auto)]
