@@ -1,11 +1,14 @@
 -- The least cost of a module: its buses by ranges of widths, and what the least cost over some buses is.
-use Rattle.std.specs.Prelude.{◌≡◌, ℕ, ◌+◌, ◌-◌, ◌*◌, ◌<◌, ◌≤◌, ◌⊎◌, true, false, max, min, Option, None, Some, List, [], slice_get, MatchOption}
+use Rattle.std.specs.Prelude.{◌≡◌, ◌≢◌, ℕ, ◌+◌, ◌-◌, ◌*◌, ◌<◌, ◌≤◌, ◌⊎◌, true, false, max, min, Option, None, Some, List, [], slice_get, MatchOption}
+use Rattle.std.specs.List.{All}
 use Rattle.soc_model.specs.Chips.{SocValue}
 use Rattle.plan_model.specs.Bounds.{sum_below}
 use Rattle.plan_model.specs.Certificates.{has_tam_at}
 use Rattle.bus_proofs.specs.declared.basis.Basis.{Basis}
 use Rattle.bus_proofs.specs.declared.leaf.LeafAnswer.{LeafAnswer}
 use Rattle.bus_proofs.specs.declared.leaf.LeafAnswer.TheVariants.{Broken, Holds, Shows}
+use Rattle.bus_proofs.specs.declared.leaf_costs.BesideUse.{BesideUse}
+use Rattle.bus_proofs.specs.declared.leaf_costs.Weighed.{Weighed}
 use Rattle.bus_proofs.specs.declared.leaf_slots.RanksTried.{RanksTried}
 use Rattle.bus_proofs.specs.declared.leaf_slots.WidthRange.{WidthRange}
 use Rattle.proof_model.specs.Proofs.{ListValue, WeightsValue}
@@ -107,7 +110,7 @@ pub record IsLesserOfOne (f : Slot → ℕ) (soc : SocValue) (claim place : ℕ)
 
 -- ---- ranks one by one
 
--- no bus of the one range is wider than those of the other or costs less, but for lists that speak of a rank
+-- no bus of the one range is wider than those of the other or costs less, but for lists that speak of the other's rank
 pub record IsNoBetter (range earlier : WidthRange) : Type 0 where
   pub low : range.low ≡ earlier.low
   pub high : range.high ≤ earlier.high
@@ -117,17 +120,18 @@ pub record IsNoBetter (range earlier : WidthRange) : Type 0 where
 abbrev pub costs_at : Basis → WeightsValue → (place : ℕ) → Slot → ℕ
 costs_at g weights place = cost (chip_of g) (limits_of g) (lists_of g) weights place
 
--- a range is that of a rank before `end` that the module may be on
-pub record IsTried (c : Case) (weights : WeightsValue) (place end : ℕ) (range : WidthRange) : Type 0 where
+-- a range is that of a rank before `end` that the module may be on, and of which no list speaks that is weighed
+pub record IsTried (c : Case) (weights : WeightsValue) (room : Weighed) (place end : ℕ) (range : WidthRange) : Type 0 where
   pub rank : ℕ
   pub below : rank < end
   pub may : c.may place rank ≡ true
+  pub no_list : All (λ (b : BesideUse). b.rank ≢ rank) room.beside.items
   pub range_is : range ≡ rank_range c weights rank
 
 -- what was found on the ranks before `end`
-pub record AreTried (g : Basis) (c : Case) (weights : WeightsValue) (place end : ℕ) (tried : RanksTried) : Type 0 where
+pub record AreTried (g : Basis) (c : Case) (weights : WeightsValue) (room : Weighed) (place end : ℕ) (tried : RanksTried) : Type 0 where
   pub least : IsLeastOf (costs_at g weights place) (IsOfRanks (chip_of g) (claim_of g) c weights place end) tried.least
-  pub last : (range : WidthRange) → tried.last ≡ Some range → IsTried c weights place end range
+  pub last : (range : WidthRange) → tried.last ≡ Some range → IsTried c weights room place end range
 
 -- the least cost of the module at a place
 abbrev pub least_at : Basis → Case → WeightsValue → (place : ℕ) → ℕ

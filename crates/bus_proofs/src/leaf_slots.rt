@@ -1,5 +1,6 @@
 //! The least cost of a module over the buses that it may be on in a case.
-ghost use Rattle.std.specs.Prelude.{◌≡◌, ℕ, ◌+◌, ◌-◌, ◌*◌, ◌^◌, ◌<◌, ◌≤◌, true, Some, [], length, nat_lt, IfSome};
+ghost use Rattle.std.specs.Prelude.{◌≡◌, ◌≢◌, ◌⊎◌, ℕ, ◌+◌, ◌-◌, ◌*◌, ◌^◌, ◌<◌, ◌≤◌, true, Some, length, nat_lt, IfSome};
+ghost use Rattle.std.specs.List.{All};
 ghost use Rattle.packed_times.specs.Packed.{packed_tam_time, self_test_time};
 ghost use Rattle.proof_model.specs.declared.TheConstants.{WEIGHT_MOST};
 ghost use Rattle.proof_model.specs.Proofs.{WeightsValue, weights_value};
@@ -17,7 +18,7 @@ ghost use Rattle.bus_proofs.specs.LeafSlots.{AreTried, IsLeastOf, IsLesserOf, Is
 use crate::basis::Basis;
 use crate::case::CaseRoom;
 use crate::laws::wider_slots_cost_no_less;
-use crate::leaf_costs::{Weighed, module_cost, rated};
+use crate::leaf_costs::{BesideUse, Weighed, module_cost, rated};
 use crate::places::{Placing, may_be_on};
 use crate::ranks::is_left;
 use crate::widths::{interval_at, known_ranks, spare_wires};
@@ -217,11 +218,11 @@ fn lesser_in_range(
 pub(crate) struct RanksTried {
     /// The least cost, where there is a bus.
     pub least: Option<u128>,
-    /// The range that was tried last.
+    /// The range that was tried last of a rank that no list speaks of which is weighed.
     pub last: Option<WidthRange>,
 }
 
-/// Whether a range has no bus that an earlier one hasn't for as little, but for lists that speak of a rank.
+/// Whether a range has no bus that an earlier one hasn't for as little, where no list speaks of the earlier one's rank.
 fn is_no_better(range: WidthRange, earlier: WidthRange) -> bool
     ensures { result ≡ true → IsNoBetter range earlier }
 {
@@ -234,17 +235,41 @@ fn is_no_better(range: WidthRange, earlier: WidthRange) -> bool
     range.base >= earlier.base
 }
 
-/// Whether the range is no better than the one that was tried last, and no list is weighed that speaks of a rank.
-fn is_passed(weighed: &Weighed, last: Option<WidthRange>, range: WidthRange) -> bool
-    ensures { result ≡ true → (weighed.now.beside.items ≡ []) × (earlier : the_range) × (last ≡ Some earlier) × IsNoBetter range earlier }
+/// Whether the range is no better than one that was tried.
+fn is_passed(tried: Option<WidthRange>, range: WidthRange) -> bool
+    ensures { result ≡ true → (earlier : the_range) × (tried ≡ Some earlier) × IsNoBetter range earlier }
 {
-    if !weighed.beside.is_empty() {
-        return false;
-    }
-    match last {
+    match tried {
         None => false,
         Some(earlier) => is_no_better(range, earlier),
     }
+}
+
+/// Whether no list that is weighed speaks of a rank.
+fn is_without_list(beside: &[BesideUse], rank: usize) -> bool
+    ensures { result ≡ true → All (λ b. b.rank ≢ rank) beside.now }
+{
+    for list in beside {
+        if list.rank == rank as u64 {
+            return false;
+        }
+    }
+    true
+}
+
+/// The range that later ones are compared with, where that of a further rank was tried: its own, if no list speaks of the rank.
+fn to_compare(
+    beside: &[BesideUse],
+    rank: usize,
+    range: WidthRange,
+    before: Option<WidthRange>,
+) -> Option<WidthRange>
+    ensures { (result ≡ before) ⊎ ((result ≡ Some range) × All (λ b. b.rank ≢ rank) beside.now) }
+{
+    if is_without_list(beside, rank) {
+        return Some(range);
+    }
+    before
 }
 
 /// What is found on one known rank more.
@@ -267,21 +292,23 @@ fn with_rank(
     requires modules { at.modules ≡ case.now.modules }
     requires known_are { at.known ≡ length case.now.widths.intervals.items }
     requires rank { rank < at.known }
-    requires tried { (c : Case) → IsCaseOf case.now c → AreTried basis.now c (weights_value weights.now) at.place rank tried }
+    requires tried { (c : Case) → IsCaseOf case.now c →
+        AreTried basis.now c (weights_value weights.now) weighed.now at.place rank tried }
     requires few { IfSome tried.least (λ n. n ≤ LEAF_COST_MOST) }
-    ensures tried { (c : Case) → IsCaseOf case.now c → AreTried basis.now c (weights_value weights.now) at.place (rank + 1) result }
+    ensures tried { (c : Case) → IsCaseOf case.now c →
+        AreTried basis.now c (weights_value weights.now) weighed.now at.place (rank + 1) result }
     ensures small { IfSome result.least (λ n. n ≤ LEAF_COST_MOST) }
 {
     if !may_be_on(&case.ranks, at, rank) {
         return tried;
     }
     let range = rank_range(case, weights, rank);
-    if is_passed(weighed, tried.last, range) {
+    if is_passed(tried.last, range) {
         return tried;
     }
     RanksTried {
         least: lesser_in_range(basis, weighed, at.place, range, tried.least),
-        last: Some(range),
+        last: to_compare(&weighed.beside, rank, range, tried.last),
     }
 }
 

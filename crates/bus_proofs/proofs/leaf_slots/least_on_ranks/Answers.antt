@@ -8,7 +8,7 @@ use Rattle.bus_proofs.proofs.leaf_slots.least_on_ranks.Goals as goal
 
 pub loop-rank-init : goal.loop-rank-init
 loop-rank-init c = record {
-  tried = λ k of. none_tried c.args.basis.now k (weights_value c.args.weights.now) c.args.place;
+  tried = λ k of. none_tried c.args.basis.now k (weights_value c.args.weights.now) c.args.weighed.now c.args.place;
   small = tt;
 }
 

@@ -8,6 +8,6 @@ use Rattle.bus_proofs.proofs.leaf_slots.least_on_ranks.Given as goal
 
 abbrev pub invariant-loop-rank : goal.invariant-loop-rank
 invariant-loop-rank l = record {
-  tried : (c : Case) → IsCaseOf l.case c → AreTried l.basis c (weights_value l.weights) l.place l.rank l.tried;
+  tried : (c : Case) → IsCaseOf l.case c → AreTried l.basis c (weights_value l.weights) l.weighed l.place l.rank l.tried;
   small : IfSome l.tried.least (λ n. n ≤ LEAF_COST_MOST);
 }
