@@ -1,0 +1,132 @@
+# How the program is built and installed. This file is taken in by `soctest` at the top of the repository, which has `say`, `give_up`,
+# `top`, `program` and what says whether the program is stale.
+# shellcheck shell=bash
+
+# ---- building
+
+# copies the crates of the program to a folder of their own, without the edits that the gate tries
+copy_crates() {
+    local name
+    mkdir "$1/crates"
+    while read -r name; do
+        cp -r "$top/crates/$name" "$1/crates/" && rm -rf "$1/crates/$name/out" "$1/crates/$name/must-fail" || return
+        grep "^$name:" "$top/crates.txt" >>"$1/crates.txt"
+    done < <(crates_below)
+    cp "$top/HANDLES" "$1/"
+}
+
+# tells how far the proofs in a folder are: how many crates are done, kept ones too, and which are at work
+tell_progress() {
+    local room=$1 log=$2 count done_now was='' begun=$SECONDS now name
+    count=$(ls "$room/crates" | wc -l)
+    while sleep 2; do
+        now=$(sed -nE 's/^rt: ([a-z_]+) (proved|is kept).*/\1/p' "$log" | sort -u)
+        done_now=$(grep -c . <<<"$now")
+        name=$(cd "$room/crates" && ls -d ./*/out 2>/dev/null | cut -d/ -f2 | grep -vxF "$now" | tr '\n' ' ')
+        [ "$done_now $name" = "$was" ] && continue
+        was="$done_now $name"
+        [ -n "$name" ] || ((done_now == count)) || continue
+        say "$done_now of $count crates are proved after $(((SECONDS - begun) / 60)) min $(((SECONDS - begun) % 60)) s; at work: ${name:-the run of the program}"
+    done
+}
+
+# How many crates are proved side by side: one a processor, if there are 3.5 GB of memory for each. Most proofs take less than 3 GB,
+# that of proof_search takes 5. Left to itself, the toolchain counts on more for a large crate, which then waits for all others.
+proofs_at_once() {
+    local count held
+    count=$(nproc 2>/dev/null) || count=1
+    held=$(awk '/^MemAvailable:/ { print int($2 / 3500000) }' /proc/meminfo 2>/dev/null)
+    [ -z "$held" ] || ((held >= count)) || count=$held
+    echo $((count > 1 ? count : 1))
+}
+
+# Proves the crates in a folder and builds their program, by the gate's own command, which begins with the crates that have the
+# longest chain of others behind them. Told how many crates to prove side by side, it has one processor for each. At first there
+# are just two to prove, for which all others wait. So each of these is also proved by a run of its own, which shares out all
+# processors. The main run takes what they prove: it waits where another run is at the same crate, and these are there before it,
+# since they have less to look through.
+prove_all() {
+    cd "$1" || return
+    if [ -z "${RT_JOBS-}" ]; then
+        rt ci outside >/dev/null 2>&1 &
+        rt ci plan_model >/dev/null 2>&1 &
+    fi
+    RT_JOBS=${RT_JOBS:-$(proofs_at_once)} rt ci
+    local status=$?
+    wait
+    return "$status"
+}
+
+# Proves the crates of the program in a copy, and builds it.
+build() {
+    local folder=$top/crates/soctest_main/out log room turn teller
+    { mkdir -p "$folder" && exec {turn}>"$folder/turn"; } || give_up "nothing can be written to $folder"
+    flock "$turn"
+    # (another run may have built it by now)
+    is_stale || return 0
+    room=$(mktemp -d) && mkdir "$room/.git" && log=$folder/proofs.log && copy_crates "$room" && : >"$log" || give_up "the sources can't be copied"
+    tell_progress "$room" "$log" &
+    teller=$!
+    (prove_all "$room") >"$log" 2>&1 </dev/null
+    kill "$teller" 2>/dev/null
+    wait "$teller" 2>/dev/null
+    if grep -qE '^[0-9]+ passed, 0 failed$' "$log" && mv "$room/crates/soctest_main/out/soctest_main" "$folder/built"; then
+        mv "$folder/built" "$program"
+    fi
+    rm -rf "$room"
+    exec {turn}>&-
+    is_stale || return 0
+    grep -E 'error|NOT PROVED' "$log" | head -n 20 >&2
+    give_up "the program was not built; all that was said is in $log"
+}
+
+# ---- installing
+
+# copies files to a folder; those that are there may be in use, so that they are replaced and not written over
+put() { mkdir -p -- "${@: -1}" && cp -r --remove-destination -- "$@"; }
+
+# text for a manual page, in which a backslash, a hyphen, quotes and a dot at the head of a line mean something else
+for_manual() { sed -e 's/\\/\\e/g' -e 's/-/\\-/g' -e "s/'/\\\\(aq/g" -e 's/`/\\(ga/g' -e 's/\^/\\(ha/g' -e 's/^\./\\\&./'; }
+
+# the manual page, from the help that the copy under a folder gives
+manual_page() {
+    local word file
+    printf '.TH SOCTEST 1 "" "soctest %s"\n.SH NAME\nsoctest \\- plans the test of a system chip over few wires\n' "$version"
+    printf '.SH SYNOPSIS\n.nf\n'
+    help_files | while read -r file; do echo "soctest $(head -n 1 "$file")"; done | for_manual
+    printf '.fi\n.SH DESCRIPTION\n.nf\n'
+    PATH=$1/bin:$PATH soctest help help | tail -n +5 | for_manual
+    for word in $(helped_words); do
+        [ "$word" != help ] || continue
+        printf '.fi\n.SS %s\n.nf\n' "$(head -n 1 "$(help_file "$word")" | for_manual)"
+        PATH=$1/bin:$PATH soctest help "$word" | tail -n +2 | for_manual
+    done
+    printf '.fi\n.SH FILES\n.nf\n'
+    printf '%s\n' "$1"/share/soctest/{FORMATS.md,REFUSALS.md,examples} | for_manual
+    printf '.fi\n'
+}
+
+# Puts the program, this script, help, examples, the forms of files, a manual page and a completion under a folder, so that they run
+# without toolchain and repository. The mark makes a copy of the script.
+install_under() {
+    local to shared folder
+    ! is_stale || give_up "the program isn't built, or a source is newer: $called build comes first"
+    to=$(readlink -m -- "$1") shared=$to/share/soctest
+    for folder in "$to/bin" "$shared"; do
+        [ ! -e "$folder/crates.txt" ] || give_up "$folder is a clone of the repository, in which no copy can be put"
+    done
+    # (what an earlier install has put there and this one doesn't)
+    [ ! -e "$shared/version" ] || rm -rf -- "$shared/help" "$shared/examples" "$shared/script"
+    put "$top/soctest" "$to/bin" &&
+        put "$help/." "$shared/help" &&
+        put "$top"/examples/[!R]* "$shared/examples" &&
+        put "$parts/explaining.bash" "$shared/script" &&
+        put "$refusals" "$top/docs/FORMATS.md" "$program" "$shared" &&
+        mv -f -- "$shared/soctest_main" "$shared/program" &&
+        show_version >"$shared/version" &&
+        echo "The soctest beside this file is an installed copy, whose other files are in $shared." >"$to/bin/.soctest-installed" &&
+        mkdir -p -- "$to/share/man/man1" "$to/share/bash-completion/completions" &&
+        manual_page "$to" >"$to/share/man/man1/soctest.1" &&
+        cp -- "$parts/completion.bash" "$to/share/bash-completion/completions/soctest" || give_up "not all could be written under $to"
+    say "installed: $to/bin/soctest"
+}
