@@ -2,6 +2,9 @@ pub mod AllFiles
 pub mod Completeness
 pub mod FileStages
 pub mod LineFacts
+pub mod LoadStages
+pub mod LoadedFiles
+pub mod LoadsWritten
 pub mod Judged
 pub mod Refusals
 pub mod OwnFiles

@@ -1,7 +1,9 @@
 -- How a call ends, and what is then written.
-use Rattle.std.specs.Prelude.{◌≡◌, ◌≢◌, ℕ, ◌⊎◌, Bool, List, Option, None, Some, IfSome, IsTrue}
+use Rattle.std.specs.Prelude.{◌≡◌, ◌≢◌, ℕ, ◌⊎◌, Bool, true, false, List, Option, None, Some, IfSome, IsTrue}
 use Rattle.std.specs.FinMap.{get}
 use Rattle.outside.specs.Held.{Files, Rose, Appended, AppendedFront}
+use Rattle.outside.specs.Puts.{Puts}
+use Rattle.outside.specs.declared.sink.Put.{Put}
 use Rattle.commands.specs.declared.FileKind.{FileKind}
 use Rattle.commands.specs.declared.Status.{Status}
 use Rattle.commands.specs.declared.Status.TheVariants.{Done, Refused, BadWords, ReadFault, TooLong, WriteFault, NoMemory}
@@ -40,6 +42,24 @@ abbrev pub WritesUnless : Option (List ℕ) → List ℕ → ℕ → ℕ → Opt
 WritesUnless None text before after old end new = ((end ≡ NoMemory) × (new ≡ old)) ⊎ IsWritten Done text before after old end new
 WritesUnless (Some line) text before after old end new =
     ((end ≡ NoMemory) × (new ≡ old)) ⊎ (IsTrue (is_line line) × IsWritten Refused line before after old end new)
+
+-- ---- which puts are made
+
+-- the last put failed exactly where the output failed in the place of the status
+abbrev pub PutsFor : {S : Type 0} → (S → List ℕ → Put → S → Type 0) → S → (status end : Status) → S → Type 0
+PutsFor is_put first status end last = ((end ≡ status) × Puts is_put first false last) ⊎ ((end ≡ WriteFault) × Puts is_put first true last)
+
+-- the puts of what is written of a verdict
+abbrev pub PutsVerdict : {S : Type 0} → (S → List ℕ → Put → S → Type 0) → Verdict → S → Status → S → Type 0
+PutsVerdict is_put (Answered status text) first end last = PutsFor is_put first status end last
+PutsVerdict is_put (CannotRead file) first end last = PutsFor is_put first ReadFault end last
+PutsVerdict is_put OutOfMemory first end last = (end ≡ NoMemory) × (last ≡ first)
+
+-- the puts of a call that ends so: none where memory runs out, and the last one failed exactly where the output did
+abbrev pub MakesPuts : {S : Type 0} → (S → List ℕ → Put → S → Type 0) → S → Status → S → Type 0
+MakesPuts is_put first NoMemory last = last ≡ first
+MakesPuts is_put first WriteFault last = Puts is_put first true last
+MakesPuts is_put first end last = Puts is_put first false last
 
 -- ---- what may be answered
 

@@ -2,6 +2,7 @@ pub mod Answers
 pub mod Commands
 pub mod Decides
 pub mod Ends
+pub mod Loads
 pub mod Procedures
 pub mod Progress
 pub mod Readings

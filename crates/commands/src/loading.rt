@@ -11,6 +11,7 @@ ghost use Rattle.commands.specs.declared.Status.TheVariants.{Refused, BadWords};
 ghost use Rattle.commands.specs.Texts.{bad_words_line};
 ghost use Rattle.commands.specs.Readings.{most_of as most_bytes};
 ghost use Rattle.commands.specs.Decides.{Gives, GivesText, LoadsBytes, LoadsChip, LoadsLimits, LoadsAccepted, LoadsBoth, LoadsAll, RefusesSoc, RefusesBounds, RefusesValue, AnswersCheck};
+ghost use Rattle.commands.specs.Loads.{LoadsFile, LoadsSoc, LoadsBounds, LoadsPlan, LoadsTwo, LoadsThree};
 
 use crate::lines::{
     chip_limit_line, chip_line, fault_line, limits_line, loop_line, plan_line, test_power_line,
@@ -133,6 +134,7 @@ pub fn load_file<H: Shelf>(
     ensures held_stays { H.held shelf.new ≡ H.held shelf.old }
     ensures faults_never_fall { H.faults shelf.old ≤ H.faults shelf.new }
     ensures loads { LoadsBytes file name.now (H.held shelf.old) (H.faults shelf.old) (H.faults shelf.new) result }
+    ensures by_loads { LoadsFile H.is_load file name.now shelf.old result shelf.new }
 {
     let mut bytes = Vec::new(alloc);
     match shelf.load(name, most_of(file), &mut bytes) {
@@ -149,6 +151,7 @@ pub fn load_chip<H: Shelf>(alloc: Global, name: &str, shelf: &mut H) -> Result<S
     ensures faults_never_fall { H.faults shelf.old ≤ H.faults shelf.new }
     ensures sound { IfOk result (λ soc. IsSoundChip (soc_value soc)) }
     ensures loads { LoadsChip name.now (H.held shelf.old) (H.faults shelf.old) (H.faults shelf.new) result }
+    ensures by_loads { LoadsSoc H.is_load name.now shelf.old result shelf.new }
 {
     let bytes = load_file(alloc, FileKind::Soc, name, shelf)?;
     match read_soc(alloc, bytes.as_slice()) {
@@ -185,6 +188,8 @@ pub fn load_limits<H: Shelf>(
     ensures sound { IfOk result (λ limits. IsSoundLimits (soc_value soc.now) (limits_value limits)) }
     ensures noted { IfSome live.new (λ tests. tests ≡ live_ids (soc_value soc.now)) }
     ensures loads { LoadsLimits (soc_value soc.now) name.now (H.held shelf.old) (H.faults shelf.old) (H.faults shelf.new) result }
+    ensures by_loads { LoadsBounds H.is_load (soc_value soc.now)
+        name.now shelf.old result shelf.new }
 {
     let bytes = load_file(alloc, FileKind::Limits, name, shelf)?;
     match read_limits_with(alloc, bytes.as_slice(), soc, live) {
@@ -232,6 +237,8 @@ pub fn load_accepted_plan<H: Shelf>(
     ensures accepted { IfOk result (λ plan. IsFaultless (soc_value soc.now) (limits_value limits.now) (plan_value plan)) }
     ensures loads { LoadsAccepted (soc_value soc.now) (limits_value limits.now) name.now (H.held shelf.old) (H.faults shelf.old)
         (H.faults shelf.new) result }
+    ensures by_loads { LoadsPlan H.is_load (soc_value soc.now) (limits_value limits.now)
+        name.now shelf.old result shelf.new }
 {
     let bytes = load_file(alloc, FileKind::Plan, name, shelf)?;
     match read_plan(alloc, bytes.as_slice()) {
@@ -253,6 +260,7 @@ pub fn load_both<H: Shelf>(
     ensures limits { IfOk result (λ both. IsSoundLimits (soc_value both.soc) (limits_value both.limits)) }
     ensures live { IfOk result (λ both. IfSome both.live (λ tests. tests ≡ live_ids (soc_value both.soc))) }
     ensures loads { LoadsBoth soc.now limits.now (H.held shelf.old) (H.faults shelf.old) (H.faults shelf.new) result }
+    ensures by_loads { LoadsTwo H.is_load soc.now limits.now shelf.old result shelf.new }
 {
     let soc = load_chip(alloc, soc, shelf)?;
     let mut live = None;
@@ -275,6 +283,7 @@ pub fn load_all<H: Shelf>(
     ensures live { IfOk result (λ all. IfSome all.live (λ tests. tests ≡ live_ids (soc_value all.soc))) }
     ensures accepted { IfOk result (λ all. IsFaultless (soc_value all.soc) (limits_value all.limits) (plan_value all.plan)) }
     ensures loads { LoadsAll soc.now limits.now plan.now (H.held shelf.old) (H.faults shelf.old) (H.faults shelf.new) result }
+    ensures by_loads { LoadsThree H.is_load soc.now limits.now plan.now shelf.old result shelf.new }
 {
     let both = load_both(alloc, soc, limits, shelf)?;
     let plan = load_accepted_plan(alloc, &both.soc, &both.limits, plan, shelf)?;

@@ -1,5 +1,6 @@
 //! How far a search is, reported line by line as it goes.
-ghost use Rattle.std.specs.Prelude.{◌≡◌, ◌≤◌, OnOk};
+ghost use Rattle.std.specs.Prelude.{◌≡◌, ◌≤◌, OnOk, Bool};
+ghost use Rattle.outside.specs.Puts.{Puts};
 ghost use Rattle.commands.specs.Progress.{MayAdd, reported_line};
 
 use outside::{NoMemory, Sink, WriteFault, extend, push_number, put_all};
@@ -47,6 +48,7 @@ pub fn report_line<T: Sink>(
     best: u64,
 )
     ensures faults { T.faults progress.old ≤ T.faults progress.new }
+    ensures puts { (failed : Bool) × Puts T.is_put progress.old failed progress.new }
     ensures reported { MayAdd (reported_line first.now done second.now best) (T.written progress.old) (T.written progress.new) }
 {
     match write_line(line, first, done, second, best) {

@@ -1,6 +1,6 @@
 //! The end of a call: what was decided is written, once.
 ghost use Rattle.std.specs.Prelude.{◌≤◌};
-ghost use Rattle.commands.specs.Ends.{IsWritten, Writes};
+ghost use Rattle.commands.specs.Ends.{IsWritten, Writes, PutsFor, PutsVerdict};
 
 use crate::lines::unread_line;
 use crate::{Status, Verdict};
@@ -10,6 +10,7 @@ use outside::{Sink, WriteFault, put_all};
 fn write_text<K: Sink>(status: Status, text: &[u8], out: &mut K) -> Status
     ensures faults_never_fall { K.faults out.old ≤ K.faults out.new }
     ensures written { IsWritten status text.now (K.faults out.old) (K.faults out.new) (K.written out.old) result (K.written out.new) }
+    ensures puts { PutsFor K.is_put out.old status result out.new }
 {
     match put_all(out, text) {
         Ok(()) => status,
@@ -24,6 +25,7 @@ fn write_text<K: Sink>(status: Status, text: &[u8], out: &mut K) -> Status
 pub fn write_verdict<K: Sink>(verdict: Verdict, out: &mut K) -> Status
     ensures faults_never_fall { K.faults out.old ≤ K.faults out.new }
     ensures written { Writes verdict (K.faults out.old) (K.faults out.new) (K.written out.old) result (K.written out.new) }
+    ensures puts { PutsVerdict K.is_put verdict out.old result out.new }
 {
     match verdict {
         Verdict::Answered { status, text } => write_text(status, text.as_slice(), out),

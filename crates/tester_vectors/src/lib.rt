@@ -5,12 +5,13 @@
 //! cycles times wires, and ends with what failed: memory before the first byte, or the output.
 #![tactic(auto)]
 
-ghost use Rattle.std.specs.Prelude.{◌≡◌, ℕ, ◌<◌, ◌≤◌};
+ghost use Rattle.std.specs.Prelude.{◌≡◌, ℕ, ◌<◌, ◌≤◌, true, false};
 ghost use Rattle.soc_model.specs.Chips.{soc_value};
 ghost use Rattle.soc_model.specs.SoundChips.{IsSoundChip};
 ghost use Rattle.plan_model.specs.Rules.{IsGoodAlone};
 ghost use Rattle.plan_model.specs.Views.{plan_value};
 ghost use Rattle.outside.specs.Held.{Rose, Appended, AppendedFront};
+ghost use Rattle.outside.specs.Puts.{Puts};
 ghost use Rattle.bit_machine.specs.Chips.{wires_of, made_content};
 ghost use Rattle.tester_vectors.specs.Marks.{MarksReads};
 ghost use Rattle.tester_vectors.specs.VectorText.{wire_cycles as cycles_by_wires, vector_text as whole_text};
@@ -74,6 +75,10 @@ pub fn write_vectors<K: Sink>(
     ensures only { (cells : ℕ) → result ≡ Outcome.RunTooLong cells → RUN_MOST < cycles_by_wires (plan_value plan.now) }
     ensures too_long_writes_nothing { (cells : ℕ) → result ≡ Outcome.RunTooLong cells → out.new ≡ out.old }
     ensures no_memory_writes_nothing { result ≡ Outcome.NoMemory → out.new ≡ out.old }
+
+    // No put fails but the last one, and none is empty.
+    ensures none_failed { result ≡ Outcome.Written → Puts K.is_put out.old false out.new }
+    ensures last_failed { result ≡ Outcome.WriteFault → Puts K.is_put out.old true out.new }
 
     ensures fault { result ≡ Outcome.WriteFault → Rose (K.faults out.old) (K.faults out.new) }
     ensures front { result ≡ Outcome.WriteFault → AppendedFront (K.written out.old)

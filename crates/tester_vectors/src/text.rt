@@ -1,8 +1,9 @@
 //! A run of vectors and its text.
-ghost use Rattle.std.specs.Prelude.{◌≡◌, ◌+◌, ◌*◌, ◌++◌, ◌<◌, ◌≤◌, length, max, nat_lt, take, IfOk, OnOk, OnErr};
+ghost use Rattle.std.specs.Prelude.{◌≡◌, ◌+◌, ◌*◌, ◌++◌, ◌<◌, ◌≤◌, length, max, nat_lt, take, IfOk, OnOk, OnErr, true, false};
 ghost use Rattle.soc_model.specs.Chips.{soc_value};
 ghost use Rattle.soc_model.specs.SoundChips.{IsSoundChip};
 ghost use Rattle.outside.specs.Held.{Rose, Appended, AppendedFront};
+ghost use Rattle.outside.specs.Puts.{Puts};
 ghost use Rattle.plan_model.specs.Rules.{IsGoodAlone};
 ghost use Rattle.plan_model.specs.Views.{plan_value};
 ghost use Rattle.bit_machine.specs.Chips.{wires_of};
@@ -158,6 +159,8 @@ impl<'a> Run<'a> {
         ensures front { OnErr result (AppendedFront (K.written out.old)
             (vector_text self.old.vectors.soc self.old.vectors.plan (vectors_content self.old.vectors)) (K.written out.new)) }
         ensures fault { OnErr result (Rose (K.faults out.old) (K.faults out.new)) }
+        ensures none_failed { OnOk result (Puts K.is_put out.old false out.new) }
+        ensures last_failed { OnErr result (Puts K.is_put out.old true out.new) }
     {
         put_all(out, &self.head)?;
         match self.write_lines(cycles, out) {
@@ -176,6 +179,8 @@ impl<'a> Run<'a> {
         ensures all { OnOk result (Appended (K.written out.old) (lines_of self.old.vectors 0 cycles) (K.written out.new)) }
         ensures front { OnErr result (AppendedFront (K.written out.old) (lines_of self.old.vectors 0 cycles) (K.written out.new)) }
         ensures fault { OnErr result (Rose (K.faults out.old) (K.faults out.new)) }
+        ensures none_failed { OnOk result (Puts K.is_put out.old false out.new) }
+        ensures last_failed { OnErr result (Puts K.is_put out.old true out.new) }
     {
         let mut done = 0;
         while done < cycles {

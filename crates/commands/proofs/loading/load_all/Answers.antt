@@ -1,6 +1,7 @@
 use Rattle.std.proofs.Common.{rules, ◌≡◌, ◌∙◌, ap, Err, refl}
 use Rattle.std.proofs.lemmas.Result.{err_from_is_err_and}
 use Rattle.commands.proofs.AllFiles.{all_read, without_both, without_plan}
+use Rattle.commands.proofs.LoadedFiles.{three_without_both, three_without_plan}
 use Rattle.commands.proofs.loading.load_all.Goals as goal
 
 pub returns-in_err-both-clause-loads : goal.returns-in_err-both-clause-loads
@@ -19,3 +20,17 @@ pub returns-clause-loads : goal.returns-clause-loads
 returns-clause-loads g c =
     let value = rw c.load_both.ensures.held_stays at c.in_ok-plan.ensures.loads in
     all_read _ _ _ _ c.in_ok-both.both _ refl refl c.in_ok-both.ensures.loads value
+
+pub returns-in_err-both-clause-by_loads : goal.returns-in_err-both-clause-by_loads
+returns-in_err-both-clause-by_loads g c =
+    let is : c.from_residual.result ≡ Err c.in_err-both.field-0.0 = search rules in
+    three_without_both g.H.Shelf.is_load _ _ _ _ _ c.in_err-both.field-0.0 _ c.in_err-both.ensures.by_loads is
+
+pub returns-in_err-plan-clause-by_loads : goal.returns-in_err-plan-clause-by_loads
+returns-in_err-plan-clause-by_loads g c =
+    let gives = err_from_is_err_and c.from_residual-in_err-plan.result c.from_residual-in_err-plan.ensures.1 in
+    let is : c.from_residual-in_err-plan.result ≡ Err c.in_err-plan.field-0.0 = gives.1 ∙ ap Err gives.2 in
+    three_without_plan g.H.Shelf.is_load _ _ _ _ _ _ c.load_both.new.shelf _ c.in_err-plan.field-0.0 _ c.in_ok-both.ensures.by_loads c.in_err-plan.ensures.by_loads is
+
+pub returns-clause-by_loads : goal.returns-clause-by_loads
+returns-clause-by_loads g c = record { mid = c.load_both.new.shelf; both = c.in_ok-both.ensures.by_loads; plan_is = c.in_ok-plan.ensures.by_loads }

@@ -1,6 +1,7 @@
-use Rattle.std.proofs.Common.{rules, ◌≡◌, ◌++◌, ◌∙◌, Err, [], ap, sym, subst, List, ℕ}
+use Rattle.std.proofs.Common.{rules, ◌≡◌, ◌++◌, ◌∙◌, Err, [], ap, sym, subst, List, ℕ, true, false}
 use Rattle.std.proofs.lemmas.List.{append-nil}
 use Rattle.outside.specs.Held.{AppendedFront}
+use Rattle.outside.proofs.PieceLemmas.{puts_then}
 use Rattle.bit_machine.specs.Chips.{wires_of}
 use Rattle.bit_machine.specs.Vectors.{vectors_content}
 use Rattle.tester_vectors.specs.Lines.{lines_of}
@@ -24,3 +25,9 @@ returns-in-Err-clause-front g c =
     front_after (g.K.Sink.written c.args.out.now) (g.K.Sink.written c.put_all.new.out) (g.K.Sink.written c.write_lines.new.out) c.deref.result.now (lines_of v 0 c.args.cycles) [] (vector_text v.soc v.plan (vectors_content v))
     (ap (λ (text : List ℕ). text ++ lines_of v 0 v.plan.cycles) (sym head) ∙ ap (λ (text : List ℕ). c.deref.result.now ++ text) (ap (lines_of v 0) (sym c.requires.cycles) ∙ sym (append-nil (lines_of v 0 c.args.cycles))))
     c.in_ok-put_all.ensures.all c.in-Err.ensures.front
+
+pub returns-in-Ok-clause-none_failed : goal.returns-in-Ok-clause-none_failed
+returns-in-Ok-clause-none_failed g c = puts_then g.K.Sink.is_put c.args.out.now c.put_all.new.out c.write_lines.new.out false c.in_ok-put_all.ensures.none_failed c.in-Ok.ensures.none_failed
+
+pub returns-in-Err-clause-last_failed : goal.returns-in-Err-clause-last_failed
+returns-in-Err-clause-last_failed g c = puts_then g.K.Sink.is_put c.args.out.now c.put_all.new.out c.write_lines.new.out true c.in_ok-put_all.ensures.none_failed c.in-Err.ensures.last_failed

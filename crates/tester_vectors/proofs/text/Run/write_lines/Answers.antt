@@ -1,6 +1,7 @@
-use Rattle.std.proofs.Common.{rules, ◌≡◌, ◌+◌, ◌-◌, ◌*◌, ◌∙◌, Err, ap, subst, sym, take, List, ℕ, arith}
+use Rattle.std.proofs.Common.{rules, ◌≡◌, ◌+◌, ◌-◌, ◌*◌, ◌∙◌, Err, ap, subst, sym, take, List, ℕ, arith, refl, true, false}
 use Rattle.outside.specs.Held.{Appended}
-use Rattle.outside.proofs.PieceLemmas.{Appended-then}
+use Rattle.outside.specs.Puts.{Puts}
+use Rattle.outside.proofs.PieceLemmas.{Appended-nil, Appended-then, puts_then}
 use Rattle.plan_model.specs.Rules.{IsGoodAlone}
 use Rattle.bit_machine.specs.Chips.{wires_of}
 use Rattle.bit_machine.specs.Vectors.{VectorsValue, vectors_content, vectors_tests}
@@ -24,6 +25,15 @@ returns-in_err-put_all-clause-front g c =
     (lines_rest (cycle_line (vectors_content v) (vectors_tests v) (wires_of v.plan)) c.loop-done.done c.next_block-count.result c.args.cycles (take (c.next_block-count.result * c.next_block-count.new.self.line) c.deref.result.now) c.next_block-count.ensures.within lines)
     c.loop-done.invariant.written c.in_err-put_all.ensures.front)
 
+pub returns-in_err-put_all-clause-last_failed : goal.returns-in_err-put_all-clause-last_failed
+returns-in_err-put_all-clause-last_failed g c =
+    let is : c.from_residual.result ≡ Err c.in_err-put_all.field-0.0 = search rules in
+    rw is (puts_then g.K.Sink.is_put c.args.out.now c.loop-done.out c.put_all.new.out true c.loop-done.invariant.puts c.in_err-put_all.ensures.last_failed)
+
+pub loop-done-init : goal.loop-done-init
+loop-done-init g c =
+    record { run = c.requires.run; vectors = refl; within = omega arith; written = Appended-nil (g.K.Sink.written c.args.out.now); faults = omega arith; puts = Puts.begins }
+
 pub loop-done-preserved : goal.loop-done-preserved
 loop-done-preserved g c =
     let v = c.args.self.now.vectors in
@@ -37,4 +47,5 @@ loop-done-preserved g c =
       written = subst (λ (text : List ℕ). Appended (g.K.Sink.written c.args.out.now) text (g.K.Sink.written c.put_all.new.out)) more
           (Appended-then (g.K.Sink.written c.args.out.now) (g.K.Sink.written c.loop-done.out) (g.K.Sink.written c.put_all.new.out) (lines_of v 0 c.loop-done.done) (take (c.next_block-count.result * c.next_block-count.new.self.line) c.deref.result.now) c.loop-done.invariant.written c.in_ok-put_all.ensures.all);
       faults = omega (arith, c.loop-done.invariant.faults, c.put_all.ensures.faults_never_fall);
+      puts = puts_then g.K.Sink.is_put c.args.out.now c.loop-done.out c.put_all.new.out false c.loop-done.invariant.puts c.in_ok-put_all.ensures.none_failed;
     }
