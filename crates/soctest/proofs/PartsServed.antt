@@ -20,7 +20,7 @@ use Rattle.soc_reader.specs.ChipForm.{SaysChip}
 use Rattle.soc_reader.proofs.ChipsSaid.{sound_chip}
 use Rattle.planner.specs.Plans.{IsPlanned}
 use Rattle.live_tests.proofs.LiveIds.{ids_differ}
-use Rattle.split_plan.specs.declared.PatternRun.{PatternRun}
+use Rattle.split_plan.specs.declared.Part.{Part}
 use Rattle.split_plan.specs.Laws.{IsInOnePart, IsPart}
 use Rattle.split_plan.specs.Parts.{split_chip, split_limits, split_parts, split_of}
 use Rattle.split_plan.proofs.Lists.{at_map}
@@ -97,7 +97,7 @@ live_is soc sound i j l k at there same =
     same_Some l k (sym at ∙ ap (slice_get (live_tests soc)) place ∙ there)
 
 -- capture `k` of a part is pattern `n` of its test
-loaded_and_read : (parts : SocValue) (limits : LimitsValue) (plan : PlanValue) (list : List PatternRun) (whole content : Content) → IsRight parts limits plan content → HasPatternsOf list whole content → (i : ℕ) (p : PatternRun) (t : PlannedTest) (id : TestId) (n k : ℕ) →
+loaded_and_read : (parts : SocValue) (limits : LimitsValue) (plan : PlanValue) (list : List Part) (whole content : Content) → IsRight parts limits plan content → HasPatternsOf list whole content → (i : ℕ) (p : Part) (t : PlannedTest) (id : TestId) (n k : ℕ) →
     slice_get list i ≡ Some p → IsAt (planned parts plan) i t → t.id ≡ p.part → p.whole ≡ id → p.first + k - 1 ≡ n → 1 ≤ k → k ≤ t.patterns → t.tam ≡ true → IsLoadedAndRead whole content (planned parts plan) i t id n k
 loaded_and_read parts limits plan list whole content right has i p t id n k there at named wholes number some within tam =
     let loads : Loads content (planned parts plan) i t k = right.loads i t k at tam some within in

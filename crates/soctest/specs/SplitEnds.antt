@@ -11,7 +11,7 @@ use Rattle.plan_model.specs.Plans.{LimitsValue, PlanValue, PlannedTest, planned}
 use Rattle.plan_model.specs.Runs.{Content, operation_at, state_at, bits_at, shown}
 use Rattle.plan_model.specs.Right.{IsAt, IsReadAt, TestsItself, IsRight}
 use Rattle.plan_model.specs.Rules.{IsBound}
-use Rattle.split_plan.specs.declared.PatternRun.{PatternRun}
+use Rattle.split_plan.specs.declared.Part.{Part}
 use Rattle.split_plan.specs.Laws.{HasPattern}
 pub use Rattle.split_plan.specs.Laws.{HasPatternsOf, EachContentInParts}
 use Rattle.split_plan.specs.Parts.{split_chip, split_limits, split_parts, split_of}
@@ -32,12 +32,12 @@ pub record IsLoadedAndRead (whole content : Content) (tests : List PlannedTest) 
       × ((c' w' : ℕ) → IsReadAt t k x c' w' → (c' ≡ c) × (w' ≡ w))
 
 -- Pattern `n` of a live test is in exactly one part, which loads and reads it; a self test runs for its cycles.
-pub record IsServedOnce (whole content : Content) (tests : List PlannedTest) (parts : List PatternRun) (l : LiveTest) (n : ℕ) : Type 0 where
+pub record IsServedOnce (whole content : Content) (tests : List PlannedTest) (parts : List Part) (l : LiveTest) (n : ℕ) : Type 0 where
   pub place : ℕ
-  pub part : PatternRun
+  pub part : Part
   pub there : slice_get parts place ≡ Some part
   pub has : HasPattern (id_of l) n part
-  pub only : (q : ℕ) (p : PatternRun) → slice_get parts q ≡ Some p → HasPattern (id_of l) n p → q ≡ place
+  pub only : (q : ℕ) (p : Part) → slice_get parts q ≡ Some p → HasPattern (id_of l) n p → q ≡ place
   pub test : PlannedTest
   pub test_at : IsAt tests place test
   pub test_is : test.id ≡ part.part

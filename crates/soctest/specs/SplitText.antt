@@ -11,15 +11,15 @@ use Rattle.soc_printer.specs.SocText.{soc_text}
 use Rattle.plan_model.specs.Plans.{LimitsValue, PlanValue}
 use Rattle.limits_text.specs.Texts.{limits_text}
 use Rattle.plan_text.specs.PlanLines.{plan_text}
-use Rattle.split_plan.specs.declared.PatternRun.{PatternRun}
+use Rattle.split_plan.specs.declared.Part.{Part}
 use Rattle.split_plan.specs.Parts.{SplitValue, split_chip}
 use Rattle.commands.specs.Texts.{limit_name, test_text, two_numbers}
 
 -- a part: its test, its first and its last pattern, and the test of the chip of parts that it is
-abbrev pub part_line : PatternRun → List ℕ
+abbrev pub part_line : Part → List ℕ
 part_line p = test_text p.whole ++ codes " " ++ two_numbers p.first p.last ++ codes " as " ++ test_text p.part ++ codes "\n"
 
-abbrev pub parts_text : List PatternRun → List ℕ
+abbrev pub parts_text : List Part → List ℕ
 parts_text parts = flat_map part_line parts
 
 -- a chip and limits for it

@@ -24,11 +24,11 @@ use plan_model::{Limits, Plan};
 use plan_text::print_plan;
 use soc_model::{Soc, SocLimit};
 use soc_printer::print_soc;
-use split_plan::{PatternRun, Split, SplitFault, split_soc};
+use split_plan::{Part, Split, SplitFault, split_soc};
 use std::alloc::Global;
 
 /// Appends the line of a part.
-fn push_part(text: &mut Vec<u8>, part: &PatternRun) -> Result<(), NoMemory>
+fn push_part(text: &mut Vec<u8>, part: &Part) -> Result<(), NoMemory>
     ensures { OnOk result (text.new.items ≡ text.old.items ++ part_line part.now) }
 {
     push_test(text, &part.whole)?;
@@ -40,7 +40,7 @@ fn push_part(text: &mut Vec<u8>, part: &PatternRun) -> Result<(), NoMemory>
 }
 
 /// Appends the lines of parts.
-fn push_parts(text: &mut Vec<u8>, parts: &[PatternRun]) -> Result<(), NoMemory>
+fn push_parts(text: &mut Vec<u8>, parts: &[Part]) -> Result<(), NoMemory>
     ensures { OnOk result (text.new.items ≡ text.old.items ++ parts_text parts.now) }
 {
     for part in parts {

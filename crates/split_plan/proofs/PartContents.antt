@@ -9,7 +9,7 @@ use Rattle.plan_model.specs.Plans.{LimitsValue, of_first}
 use Rattle.plan_model.proofs.CertificatesAreBounds.{same_test_is, is_same_test}
 use Rattle.plan_model.proofs.Lists.{from_map}
 use Rattle.plan_model.proofs.PlannedTests.{of_first_is}
-use Rattle.split_plan.specs.declared.PatternRun.{PatternRun}
+use Rattle.split_plan.specs.declared.Part.{Part}
 use Rattle.split_plan.specs.declared.cuts.Cut.{Cut}
 use Rattle.split_plan.specs.Cuts.{all_cuts, live_cuts, pieces, part_at}
 use Rattle.split_plan.specs.Laws.{EachContentInParts}
@@ -25,28 +25,28 @@ live_is_piece cuts i e at =
     record { at = a.0; there = a.1; within = q.within }
 
 -- two parts of one name are one
-part_unique : (limits : LimitsValue) (most : ℕ) (soc : SocValue) → IsSoundChip soc → (i j : ℕ) (p q : PatternRun) → slice_get (split_parts limits most soc) i ≡ Some p → slice_get (split_parts limits most soc) j ≡ Some q → p.part ≡ q.part → p ≡ q
+part_unique : (limits : LimitsValue) (most : ℕ) (soc : SocValue) → IsSoundChip soc → (i j : ℕ) (p q : Part) → slice_get (split_parts limits most soc) i ≡ Some p → slice_get (split_parts limits most soc) j ≡ Some q → p.part ≡ q.part → p ≡ q
 part_unique limits most soc sound i j p q at there same =
     let e = from_map part_at (pieces (live_cuts (all_cuts limits most soc))) i p at in
     let f = from_map part_at (pieces (live_cuts (all_cuts limits most soc))) j q there in
-    let names : name_of e.0 ≡ name_of f.0 = ap (λ (p : PatternRun). p.part) e.2 ∙ same ∙ sym (ap (λ (p : PatternRun). p.part) f.2) in
+    let names : name_of e.0 ≡ name_of f.0 = ap (λ (p : Part). p.part) e.2 ∙ same ∙ sym (ap (λ (p : Part). p.part) f.2) in
     let one : e.0 ≡ f.0 = piece_unique limits most soc sound e.0 f.0 (live_is_piece (all_cuts limits most soc) i e.0 e.1) (live_is_piece (all_cuts limits most soc) j f.0 f.1) names in
     sym e.2 ∙ ap part_at one ∙ f.2
 
 -- the part of that name
-abbrev is_named : TestId → PatternRun → Bool
+abbrev is_named : TestId → Part → Bool
 is_named id p = same_test p.part id
 
 -- the bits of the whole's patterns, by the names of the parts
-abbrev bit_of : (TestId → ℕ → Cell → Bool) → List PatternRun → TestId → ℕ → Cell → Bool
-bit_of bits parts id k x = of_first (is_named id) (λ (p : PatternRun). bits p.whole (p.first + k - 1) x) false parts
+abbrev bit_of : (TestId → ℕ → Cell → Bool) → List Part → TestId → ℕ → Cell → Bool
+bit_of bits parts id k x = of_first (is_named id) (λ (p : Part). bits p.whole (p.first + k - 1) x) false parts
 
-bit_is : (limits : LimitsValue) (most : ℕ) (soc : SocValue) → IsSoundChip soc → (bits : TestId → ℕ → Cell → Bool) (i : ℕ) (p : PatternRun) (k : ℕ) (x : Cell) → slice_get (split_parts limits most soc) i ≡ Some p →
+bit_is : (limits : LimitsValue) (most : ℕ) (soc : SocValue) → IsSoundChip soc → (bits : TestId → ℕ → Cell → Bool) (i : ℕ) (p : Part) (k : ℕ) (x : Cell) → slice_get (split_parts limits most soc) i ≡ Some p →
     bit_of bits (split_parts limits most soc) p.part k x ≡ bits p.whole (p.first + k - 1) x
 bit_is limits most soc sound bits i p k x at =
-    let f = of_first_is (is_named p.part) (λ (p : PatternRun). bits p.whole (p.first + k - 1) x) false (split_parts limits most soc) i p at (is_same_test p.part) in
+    let f = of_first_is (is_named p.part) (λ (p : Part). bits p.whole (p.first + k - 1) x) false (split_parts limits most soc) i p at (is_same_test p.part) in
     let same : f.1 ≡ p = part_unique limits most soc sound f.0 i f.1 p f.2 at (same_test_is (f.1).part p.part f.3) in
-    f.4 ∙ ap (λ (p : PatternRun). bits p.whole (p.first + k - 1) x) same
+    f.4 ∙ ap (λ (p : Part). bits p.whole (p.first + k - 1) x) same
 
 pub contents : (limits : LimitsValue) (most : ℕ) (soc : SocValue) → IsSoundChip soc → EachContentInParts (split_parts limits most soc)
 contents limits most soc sound whole = (

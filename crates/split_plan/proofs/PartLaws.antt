@@ -20,7 +20,7 @@ use Rattle.plan_model.proofs.Finding.{in_filter}
 use Rattle.plan_model.proofs.Lists.{from_map, from_filter, in_flat_map}
 use Rattle.plan_model.proofs.PlannedTests.{IsLive, live_at}
 use Rattle.live_tests.specs.Names.{AllDiffer}
-use Rattle.split_plan.specs.declared.PatternRun.{PatternRun}
+use Rattle.split_plan.specs.declared.Part.{Part}
 use Rattle.split_plan.specs.declared.cuts.Cut.{Cut}
 use Rattle.split_plan.specs.Cuts.{part_count, cut_of, cuts_from, cuts_in, all_cuts, live_cuts, pieces_of, pieces, patterns_of, part_test, part_at}
 use Rattle.split_plan.specs.Laws.{HasPattern, EachPatternOnce, IsPart, AreParts}
@@ -78,18 +78,18 @@ ends_before c k l less =
     omega (arith, le, split)
 
 -- of two parts of a test the earlier one has the earlier patterns
-pub in_order : (limits : LimitsValue) (most : ℕ) (soc : SocValue) → IsSoundChip soc → (i j : ℕ) (p q : PatternRun) → i < j → slice_get (split_parts limits most soc) i ≡ Some p → slice_get (split_parts limits most soc) j ≡ Some q → p.whole ≡ q.whole → p.last < q.first
+pub in_order : (limits : LimitsValue) (most : ℕ) (soc : SocValue) → IsSoundChip soc → (i j : ℕ) (p q : Part) → i < j → slice_get (split_parts limits most soc) i ≡ Some p → slice_get (split_parts limits most soc) j ≡ Some q → p.whole ≡ q.whole → p.last < q.first
 in_order limits most soc sound i j p q less at there same =
     let e = from_map part_at (pieces (live_cuts (all_cuts limits most soc))) i p at in
     let f = from_map part_at (pieces (live_cuts (all_cuts limits most soc))) j q there in
     let o = pieces_ordered (live_cuts (all_cuts limits most soc)) i j e.0 f.0 less e.1 f.1 in
-    let whole : (e.0).0.whole ≡ (f.0).0.whole = ap (λ (p : PatternRun). p.whole) e.2 ∙ same ∙ sym (ap (λ (p : PatternRun). p.whole) f.2) in
+    let whole : (e.0).0.whole ≡ (f.0).0.whole = ap (λ (p : Part). p.whole) e.2 ∙ same ∙ sym (ap (λ (p : Part). p.whole) f.2) in
     let place : o.first ≡ o.second = live_unique limits most soc sound o.first o.second (e.0).0 (f.0).0 o.first_at o.second_at whole in
     let cuts : (e.0).0 ≡ (f.0).0 = same_Some (e.0).0 (f.0).0 (sym o.first_at ∙ ap (slice_get (live_cuts (all_cuts limits most soc))) place ∙ o.second_at) in
     let later : (e.0).1 < (f.0).1 = elim o.order [ inl h ↦ absurd (omega (arith, h, place)) | inr h ↦ h.1 ] in
     let before = ends_before (e.0).0 (e.0).1 (f.0).1 later in
-    let first : p.last ≡ (e.0).1 * (e.0).0.size + patterns_of (e.0).0 (e.0).1 = ap (λ (p : PatternRun). p.last) (sym e.2) in
-    let second : q.first ≡ (f.0).1 * (f.0).0.size + 1 = ap (λ (p : PatternRun). p.first) (sym f.2) in
+    let first : p.last ≡ (e.0).1 * (e.0).0.size + patterns_of (e.0).0 (e.0).1 = ap (λ (p : Part). p.last) (sym e.2) in
+    let second : q.first ≡ (f.0).1 * (f.0).0.size + 1 = ap (λ (p : Part). p.first) (sym f.2) in
     let size : (f.0).1 * (f.0).0.size ≡ (f.0).1 * (e.0).0.size = ap (λ (c : Cut). (f.0).1 * c.size) (sym cuts) in
     omega (arith, before, first, second, size)
 
@@ -123,7 +123,7 @@ live_is_cut limits most soc i l at =
     (c.0, b.0, b.1, c.2, c.3)
 
 -- two parts of a test that share a pattern stand at one place
-one_place : (limits : LimitsValue) (most : ℕ) (soc : SocValue) → IsSoundChip soc → (id : TestId) (n i j : ℕ) (p q : PatternRun) → slice_get (split_parts limits most soc) i ≡ Some p → slice_get (split_parts limits most soc) j ≡ Some q → HasPattern id n p → HasPattern id n q → i ≡ j
+one_place : (limits : LimitsValue) (most : ℕ) (soc : SocValue) → IsSoundChip soc → (id : TestId) (n i j : ℕ) (p q : Part) → slice_get (split_parts limits most soc) i ≡ Some p → slice_get (split_parts limits most soc) j ≡ Some q → HasPattern id n p → HasPattern id n q → i ≡ j
 one_place limits most soc sound id n i j p q at there has has' = elim (cases_order i j) [
   | inl same ↦ same
   | inr apart ↦ elim apart [
@@ -294,7 +294,7 @@ same_place limits most soc sound i e t o =
     let place : v.up ≡ o.place = module-unique (IsKeyed-from_sound sound) v.up o.place m.0 o.core m.1 o.core_at number in
     omega (arith, v.place_is, place)
 
-each_part : (limits : LimitsValue) (most : ℕ) (soc : SocValue) → 1 ≤ most → IsSoundChip soc → (i : ℕ) (p : PatternRun) → slice_get (split_parts limits most soc) i ≡ Some p → IsPart soc (split_chip limits most soc) i p
+each_part : (limits : LimitsValue) (most : ℕ) (soc : SocValue) → 1 ≤ most → IsSoundChip soc → (i : ℕ) (p : Part) → slice_get (split_parts limits most soc) i ≡ Some p → IsPart soc (split_chip limits most soc) i p
 each_part limits most soc some sound i p at =
     let f = from_map part_at (pieces (live_cuts (all_cuts limits most soc))) i p at in
     subst (IsPart soc (split_chip limits most soc) i) f.2 (it f.0 f.1)

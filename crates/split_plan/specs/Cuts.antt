@@ -7,7 +7,7 @@ use Rattle.soc_model.specs.declared.TestId.{TestId}
 use Rattle.soc_model.specs.Chips.{ModuleValue, SocValue, is_live, same_test}
 use Rattle.soc_model.specs.Modes.{is_tam}
 use Rattle.plan_model.specs.Plans.{LimitsValue, ProfileValue, greatest, of_first}
-use Rattle.split_plan.specs.declared.PatternRun.{PatternRun}
+use Rattle.split_plan.specs.declared.Part.{Part}
 use Rattle.split_plan.specs.declared.cuts.Cut.{Cut}
 
 -- the parts of a test: of at most `most` patterns where it is live and goes over the wires, else one
@@ -82,7 +82,7 @@ part_test e =
     record { number = e.0.number + e.1; scan = e.0.test.scan; tam = e.0.test.tam; patterns = patterns_of e.0 e.1; power = e.0.power }
 
 -- the patterns of a part, from the first to the last, counted from 1
-abbrev pub part_at : Cut × ℕ → PatternRun
+abbrev pub part_at : Cut × ℕ → Part
 part_at e = record {
   whole = e.0.whole;
   first = e.1 * e.0.size + 1;

@@ -5,7 +5,7 @@ use Rattle.soc_model.specs.declared.TestId.{TestId}
 use Rattle.soc_model.specs.Chips.{ModuleValue, SocValue, is_live, soc_value}
 use Rattle.plan_model.specs.Plans.{LimitsValue, ProfileValue}
 use Rattle.plan_model.specs.Views.{limits_value}
-use Rattle.split_plan.specs.declared.PatternRun.{PatternRun}
+use Rattle.split_plan.specs.declared.Part.{Part}
 use Rattle.split_plan.specs.declared.Split.{Split}
 use Rattle.split_plan.specs.declared.cuts.Cut.{Cut}
 use Rattle.split_plan.specs.Cuts.{cuts_in, all_cuts, live_cuts, cut_named, pieces, part_id, part_test, part_at}
@@ -14,7 +14,7 @@ use Rattle.split_plan.specs.Cuts.{cuts_in, all_cuts, live_cuts, cut_named, piece
 pub record SplitValue : Type 0 where
   pub soc : SocValue
   pub limits : LimitsValue
-  pub parts : List PatternRun
+  pub parts : List Part
 
 abbrev pub split_value : Split → SplitValue
 split_value s = record { soc = soc_value s.soc; limits = limits_value s.limits; parts = s.parts.items }
@@ -31,7 +31,7 @@ split_chip limits most soc = record soc { modules = map (split_module limits mos
 -- ---- the list of parts
 
 -- the parts of live tests, in the order of the chip
-abbrev pub split_parts : LimitsValue → (most : ℕ) → SocValue → List PatternRun
+abbrev pub split_parts : LimitsValue → (most : ℕ) → SocValue → List Part
 split_parts limits most soc = map part_at (pieces (live_cuts (all_cuts limits most soc)))
 
 -- ---- the limits of the parts

@@ -30,7 +30,7 @@ use std::alloc::Global;
 
 /// A part of a live test: a run of its patterns.
 #[derive(Clone, Copy, PartialEq, Eq, Debug)]
-pub struct PatternRun {
+pub struct Part {
     /// The test, in the chip that is cut.
     pub whole: TestId,
     /// The first pattern of the part, counted from 1 in the test.
@@ -49,7 +49,7 @@ pub struct Split {
     /// The limits of the parts: the parts of a test stand one after another.
     pub limits: Limits,
     /// The parts of live tests, in the order of the chip.
-    pub parts: Vec<PatternRun>,
+    pub parts: Vec<Part>,
 }
 
 /// Why a chip isn't cut.

@@ -4,7 +4,7 @@ ghost use Rattle.std.specs.List.{All};
 ghost use Rattle.split_plan.specs.Cuts.{live_cuts, part_id as id_of_part, patterns_of as patterns_in, part_test as test_of_part, part_at as listed, pieces, pieces_of};
 ghost use Rattle.split_plan.specs.Steps.{HasRoom};
 
-use crate::PatternRun;
+use crate::Part;
 use crate::cuts::Cut;
 use outside::{NoMemory, push};
 use soc_model::{Test, TestId, live};
@@ -48,13 +48,13 @@ fn part_test(cut: &Cut, place: u64) -> Test
 }
 
 /// A part in the list of parts.
-fn part_at(cut: &Cut, place: u64) -> PatternRun
+fn part_at(cut: &Cut, place: u64) -> Part
     requires room { HasRoom cut.now }
     requires within { place < cut.now.count }
     ensures { result ≡ listed (cut.now, place) }
 {
     let before = place * cut.size;
-    PatternRun {
+    Part {
         whole: cut.whole,
         first: before + 1,
         last: before + patterns_of(cut, place),
@@ -74,7 +74,7 @@ pub(crate) fn push_tests(tests: &mut Vec<Test>, cut: &Cut) -> Result<(), NoMemor
 }
 
 /// Adds the parts of a test.
-fn push_parts(parts: &mut Vec<PatternRun>, cut: &Cut) -> Result<(), NoMemory>
+fn push_parts(parts: &mut Vec<Part>, cut: &Cut) -> Result<(), NoMemory>
     requires { HasRoom cut.now }
     ensures { OnOk result (parts.new.items ≡ parts.old.items ++ map listed (pieces_of cut.now)) }
 {
@@ -85,7 +85,7 @@ fn push_parts(parts: &mut Vec<PatternRun>, cut: &Cut) -> Result<(), NoMemory>
 }
 
 /// The parts of live tests.
-pub(crate) fn list_parts(alloc: Global, cuts: &[Cut]) -> Result<Vec<PatternRun>, NoMemory>
+pub(crate) fn list_parts(alloc: Global, cuts: &[Cut]) -> Result<Vec<Part>, NoMemory>
     requires { All HasRoom cuts.now }
     ensures { IfOk result (λ parts. parts.items ≡ map listed (pieces (live_cuts cuts.now))) }
 {
