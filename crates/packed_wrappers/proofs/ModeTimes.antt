@@ -1,8 +1,8 @@
 -- Sums of times over the tests of a mode, and the wrappers that are designed.
-use Rattle.std.proofs.Common.{◌≡◌, ℕ, zero, suc, ◌+◌, ◌-◌, ◌≤◌, ◌<◌, Bool, true, false, Some, List, [], ◌∷◌, length, drop, get_or, refl, sym, ap, subst, ◌∙◌, arith, inl, inr}
+use Rattle.std.proofs.Common.{◌≡◌, ℕ, zero, suc, ◌+◌, ◌-◌, ◌≤◌, ◌<◌, Bool, true, false, Some, List, ◌∷◌, length, drop, get_or, refl, sym, ap, subst, ◌∙◌, arith, inl, inr}
 use Rattle.std.specs.Prelude.{◌&&◌, slice_get, IfSome}
 use Rattle.std.specs.List.{sum_by, filter}
-use Rattle.std.proofs.lemmas.List.{drop_more, drop_all}
+use Rattle.std.proofs.lemmas.List.{drop_more}
 use Rattle.std.proofs.lemmas.List.Sums.{sum_by-cons}
 use Rattle.std.proofs.lemmas.Bool.{cases_lt, and_parts}
 use Rattle.soc_model.specs.declared.Test.{Test}
@@ -38,9 +38,6 @@ pub left_no : (p : Test → Bool) (f : Test → ℕ) (xs : List Test) (k : ℕ) 
 left_no p f xs k d less no' =
     let e : drop k xs ≡ get_or xs k d ∷ drop (k + 1) xs = drop_more xs k d less in
     ap (λ v. sum_by f (filter p v)) e ∙ rw no' refl
-
-pub left_none : (p : Test → Bool) (f : Test → ℕ) (xs : List Test) (k : ℕ) → length xs ≤ k → sum_by f (filter p (drop k xs)) ≡ 0
-left_none p f xs k h = let e : drop k xs ≡ [] = drop_all k xs h in ap (λ v. sum_by f (filter p v)) e
 
 -- ---- a test of a mode
 
