@@ -15,7 +15,7 @@ use crate::room::Room;
 use live_tests::Neighbours;
 use outside::NoMemory;
 use plan_model::START_MOST;
-use resource_table::{TableOf, earlier_than, list_schedules_are_short};
+use resource_table::{OwnTable, TableOf, earlier_than, list_schedules_are_short};
 use std::alloc::Global;
 
 /// A list of `count` zeros.
@@ -131,7 +131,7 @@ pub(crate) fn assign_buses(problem: &Problem, buses: &Buses, room: &mut Room) ->
 }
 
 /// Empties the table for the tests as they were sent.
-fn restart_table<J>(problem: &Problem, table: &mut TableOf<J>, room: &Room)
+fn restart_table<J>(problem: &Problem, table: &mut OwnTable<J>, room: &Room)
     requires problem { IsProblem table.old.job problem.now }
     requires sound { IsSoundTable table.old }
     requires room { HasRoomFor problem.now room.now }
@@ -250,7 +250,7 @@ fn place_all<J>(
 /// Places the tests of an order in the emptied table.
 pub(crate) fn place_order<J>(
     problem: &Problem,
-    table: &mut TableOf<J>,
+    table: &mut OwnTable<J>,
     order: &[usize],
     room: &mut Room,
     most: u64,
@@ -267,5 +267,5 @@ pub(crate) fn place_order<J>(
 {
     restart_table(problem, table, room);
     list_schedules_are_short();
-    place_all(table, &problem.before, order, room, most)
+    place_all(table.lend(), &problem.before, order, room, most)
 }

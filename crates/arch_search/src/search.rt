@@ -23,7 +23,7 @@ use outside::{NoMemory, both};
 use plan_model::Plan;
 use rand_core::SeedableRng;
 use rand_xoshiro::Xoshiro256PlusPlus;
-use resource_table::{Job, Table};
+use resource_table::{Job, OwnTable};
 use std::alloc::Global;
 use std::marker::Model;
 use std::mem;
@@ -43,7 +43,7 @@ pub struct Search<'a> {
     /// What it goes by.
     setting: SearchSetting<'a>,
     /// The table in which schedules are made.
-    table: Table<'a>,
+    table: OwnTable<&'a Job>,
     /// Room for schedules.
     room: Room,
     /// Room for the modules that are dealt again.
@@ -151,7 +151,7 @@ impl<'a> Search<'a> {
         let parts = both(Room::new(alloc, problem.tests.len()), lists);
         let base = both(
             SearchSetting::new(alloc, problem, job),
-            Table::new(alloc, job),
+            OwnTable::new(alloc, job),
         );
         let all = both(base, parts);
         let (((setting, table), (room, (taken, less))), (best, (current, next))) = both(

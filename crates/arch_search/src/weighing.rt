@@ -17,7 +17,7 @@ use crate::setting::SearchSetting;
 use crate::state::State;
 use plan_model::START_MOST;
 use rand_xoshiro::Xoshiro256PlusPlus;
-use resource_table::TableOf;
+use resource_table::OwnTable;
 use std::mem;
 
 /// The cycles that all tests take together, where nothing but the wires binds.
@@ -73,7 +73,7 @@ fn could_end(setting: &SearchSetting<'_>, order: &[usize], room: &mut Room, most
 /// the state from then on.
 fn place_by_chains<J>(
     problem: &Problem,
-    table: &mut TableOf<J>,
+    table: &mut OwnTable<J>,
     state: &mut State,
     room: &mut Room,
     most: u64,
@@ -102,7 +102,7 @@ fn place_by_chains<J>(
 /// with the first one that was refused at an earlier place. The order that serves is that of the state from then on.
 fn place_somehow<J>(
     problem: &Problem,
-    table: &mut TableOf<J>,
+    table: &mut OwnTable<J>,
     state: &mut State,
     room: &mut Room,
     most: u64,
@@ -134,7 +134,7 @@ fn place_somehow<J>(
 /// When the tests of a state end; None where that is after `most` cycles.
 pub(crate) fn weigh_state<J>(
     setting: &SearchSetting<'_>,
-    table: &mut TableOf<J>,
+    table: &mut OwnTable<J>,
     state: &mut State,
     room: &mut Room,
     most: u64,
@@ -165,7 +165,7 @@ pub(crate) fn weigh_state<J>(
 /// Makes the schedule of a state.
 pub(crate) fn schedule_state<J>(
     problem: &Problem,
-    table: &mut TableOf<J>,
+    table: &mut OwnTable<J>,
     state: &State,
     room: &mut Room,
 )

@@ -33,8 +33,8 @@ fn text_of(alloc: Global, soc: &Soc, plan: &Plan, seed: u64) -> Result<Vec<u8>, 
     requires narrow { wires_of (plan_value plan.now) ≤ 256 }
     ensures { IfOk result (λ text. text.items ≡ simulated_text (soc_value soc.now) (plan_value plan.now) seed) }
 {
-    let report = run_plan(alloc, soc, plan, seed)?;
-    counts_line(alloc, report)
+    let chip = run_plan(alloc, soc, plan, seed)?;
+    counts_line(alloc, chip.report())
 }
 
 /// The answer of a run, or the refusal of one that is too long.

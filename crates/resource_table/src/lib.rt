@@ -1,7 +1,7 @@
 //! A table of placed tests: which resources they take (buses, modules, power), and where one more test fits first. It
 //! serves the schedules of a chip's tests (after Iyengar, Chakrabarty and Marinissen 2002).
 //!
-//! Times are in cycles, and power is in the unit of the limits. Only [`Table::new`] takes memory.
+//! Times are in cycles, and power is in the unit of the limits. Only [`Table::new`] and [`OwnTable::new`] take memory.
 #![tactic(auto)]
 
 mod copies;
@@ -14,6 +14,7 @@ mod history;
 mod latest_ends;
 mod laws;
 mod marks;
+mod own;
 mod points;
 mod power;
 mod profile;
@@ -24,6 +25,7 @@ mod timelines;
 pub use earlier::{all_before, earlier_than};
 pub use frame::{Frame, FrameOf};
 pub use laws::{list_schedules_are_short, sound_tables_keep_the_rules, starts_only_rise};
+pub use own::OwnTable;
 use soc_model::TestId;
 pub use table::{Table, TableOf};
 

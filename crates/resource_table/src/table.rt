@@ -581,10 +581,9 @@ impl<J> TableOf<J> {
         }
     }
 
-    /// Takes all placements back, and lets each test go over the bus and take the cycles that stand at its place. Powers,
-    /// modules and precedences stay. It is then as a new table of that job, and takes no memory: the tests of the job and the
-    /// timelines are gone through once. There is room for as many buses as a chip may have.
-    pub fn restart(&mut self, buses: &[Option<usize>], lengths: &[u64])
+    /// Takes all placements back, and lets each test go over the bus and take the cycles that stand at its place, as
+    /// [`crate::OwnTable::restart`] has it. Who holds a table that a frame lends can't call it: the frame would have nothing to take back.
+    pub(crate) fn restart(&mut self, buses: &[Option<usize>], lengths: &[u64])
         requires buses { length buses.now ≡ length self.old.job.tests }
         requires lengths { length lengths.now ≡ length self.old.job.tests }
         requires room { All (λ bus. IfSome bus (λ k. k < WIRES_MOST)) buses.now }
