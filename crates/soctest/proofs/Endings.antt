@@ -5,6 +5,7 @@ use Rattle.std.specs.Global.{Vec}
 use Rattle.std.proofs.lemmas.Bool.{cases_lt, lt-ltb, le-ltb}
 use Rattle.outside.specs.declared.NoMemory.{NoMemory as MemoryFault}
 use Rattle.outside.specs.Held.{Files, Rose}
+use Rattle.outside.specs.declared.sink.Put.{Put}
 use Rattle.plan_model.specs.Plans.{PlanValue}
 use Rattle.plan_model.specs.Views.{plan_value}
 use Rattle.tester_vectors.specs.declared.Outcome.TheVariants.{RunTooLong}
@@ -14,13 +15,15 @@ use Rattle.commands.specs.declared.Status.{Status}
 use Rattle.commands.specs.declared.Status.TheVariants.{Done, Refused}
 use Rattle.commands.specs.declared.Verdict.{Verdict}
 use Rattle.commands.specs.Decides.{GivesText}
-use Rattle.commands.specs.Ends.{IsWritten, Writes, WritesUnless, MayAnswer, Ends, OneLine, EndsByWords, SaysBadWords}
+use Rattle.commands.specs.Ends.{IsWritten, Writes, WritesUnless, MayAnswer, Ends, OneLine, EndsByWords, SaysBadWords, MakesPuts}
+use Rattle.commands.specs.Loads.{LoadsOf, EndsByLoads}
 use Rattle.commands.specs.Procedures.{Procedure}
 use Rattle.commands.specs.Texts.{is_line, run_line, run_refusal}
 use Rattle.commands.proofs.FileStages.{line_refuses}
 use Rattle.commands.proofs.Written.{ends as decided_ends, one_line as decided_line, by_words as decided_words, says_bad_words as decided_bad}
+use Rattle.commands.proofs.LoadsWritten.{ends_by_loads as decided_by_loads, unless_by_loads, makes_puts as decided_puts}
 use Rattle.commands.proofs.UnlessRefused.{refusal_written, unless_ends, unless_one_line, unless_never_bad, command_words}
-use Rattle.soctest.specs.Endings.{Closes, WritesEnding}
+use Rattle.soctest.specs.Endings.{Closes, WritesEnding, LoadsEnding, PutsEnding}
 use Rattle.soctest.specs.declared.ending.Ending.{Ending}
 use Rattle.soctest.specs.declared.ending.Ending.TheVariants as ending
 
@@ -68,3 +71,13 @@ by_words steps held sb sa kb ka old new end (ending.Run all seed) d w = command_
 pub says_bad_words : (steps : Procedure) (held : Option Files) (sb sa kb ka : ℕ) (old new : Option (List ℕ)) (end : Status) (e : Ending) → Closes steps held sb sa e → WritesEnding e kb ka old end new → SaysBadWords old end new
 says_bad_words steps held sb sa kb ka old new end (ending.Decided verdict) d w = decided_bad steps held sb sa kb ka old new end verdict d w
 says_bad_words steps held sb sa kb ka old new end (ending.Run all seed) d w = λ bad. absurd (unless_never_bad kb ka old new end (run_refusal (too_many (plan_value all.plan))) _ w bad)
+
+-- ---- loads and puts
+
+pub ends_by_loads : {S : Type 0} (is_load : LoadsOf S) (steps : Procedure) (first last : S) (kb ka : ℕ) (old new : Option (List ℕ)) (end : Status) (e : Ending) → LoadsEnding is_load steps first e last → WritesEnding e kb ka old end new → EndsByLoads is_load steps first last kb ka old end new
+ends_by_loads is_load steps first last kb ka old new end (ending.Decided verdict) d w = decided_by_loads is_load steps first last kb ka old new end verdict d w
+ends_by_loads is_load steps first last kb ka old new end (ending.Run all seed) d w = unless_by_loads is_load steps first last kb ka old new end (run_refusal (too_many (plan_value all.plan))) _ d w
+
+pub makes_puts : {S : Type 0} (is_put : S → List ℕ → Put → S → Type 0) (first last : S) (steps : Procedure) (held : Option Files) (sb sa : ℕ) (end : Status) (e : Ending) → Closes steps held sb sa e → PutsEnding is_put e first end last → MakesPuts is_put first end last
+makes_puts is_put first last steps held sb sa end (ending.Decided verdict) d p = decided_puts is_put first last steps held sb sa end verdict d p
+makes_puts is_put first last steps held sb sa end (ending.Run all seed) d p = p

@@ -15,10 +15,11 @@ ghost use Rattle.planner.specs.Plans.{IsPlanned};
 ghost use Rattle.plan_model.specs.declared.TheConstants.{WIRES_MOST};
 ghost use Rattle.commands.specs.Commands.{Print, Widths, Plan as MakePlan, Check, Chart, Vectors, Sample, Locate, Tree, Split, Shift, IsInRange, command_of as asked_command};
 ghost use Rattle.commands.specs.Procedures.{asked};
-ghost use Rattle.soctest.specs.Endings.{Closes, IsRunnable};
+ghost use Rattle.soctest.specs.Endings.{Closes, IsRunnable, LoadsEnding};
 ghost use Rattle.soctest.specs.Procedures.{procedure_of};
 ghost use Rattle.commands.specs.Decides.{Follows};
 ghost use Rattle.commands.specs.Ends.{IsCommand};
+ghost use Rattle.commands.specs.Loads.{LoadsGive};
 
 use crate::ending::Ending;
 use crate::lines::accepted_line;
@@ -48,6 +49,8 @@ fn decide_print<H: Shelf>(alloc: Global, soc: &str, shelf: &mut H) -> Verdict
     ensures held_stays { H.held shelf.new ≡ H.held shelf.old }
     ensures faults_never_fall { H.faults shelf.old ≤ H.faults shelf.new }
     ensures follows { Follows (procedure_of (Print soc.now)) (H.held shelf.old) (H.faults shelf.old) (H.faults shelf.new) result }
+    ensures by_loads { LoadsGive H.is_load (procedure_of (Print soc.now))
+        shelf.old result shelf.new }
 {
     match load_chip(alloc, soc, shelf) {
         Ok(chip) => answered_with(Status::Done, print_soc(alloc, &chip)),
@@ -62,6 +65,8 @@ fn decide_widths<H: Shelf>(alloc: Global, soc: &str, wires: u64, shelf: &mut H) 
     ensures held_stays { H.held shelf.new ≡ H.held shelf.old }
     ensures faults_never_fall { H.faults shelf.old ≤ H.faults shelf.new }
     ensures follows { Follows (procedure_of (Widths soc.now wires)) (H.held shelf.old) (H.faults shelf.old) (H.faults shelf.new) result }
+    ensures by_loads { LoadsGive H.is_load (procedure_of (Widths soc.now wires))
+        shelf.old result shelf.new }
 {
     match load_chip(alloc, soc, shelf) {
         Ok(chip) => answered_with(Status::Done, widths_text(alloc, &chip, wires)),
@@ -116,6 +121,8 @@ fn decide_plan<H: Shelf>(alloc: Global, soc: &str, limits: &str, shelf: &mut H) 
     ensures faults_never_fall { H.faults shelf.old ≤ H.faults shelf.new }
     ensures follows { Follows (procedure_of (MakePlan soc.now limits.now)) (H.held shelf.old) (H.faults shelf.old)
         (H.faults shelf.new) result }
+    ensures by_loads { LoadsGive H.is_load (procedure_of (MakePlan soc.now limits.now))
+        shelf.old result shelf.new }
 {
     match load_both(alloc, soc, limits, shelf) {
         Ok(both) => {
@@ -138,6 +145,8 @@ fn decide_check<H: Shelf>(
     ensures faults_never_fall { H.faults shelf.old ≤ H.faults shelf.new }
     ensures follows { Follows (procedure_of (Check soc.now limits.now plan.now)) (H.held shelf.old) (H.faults shelf.old)
         (H.faults shelf.new) result }
+    ensures by_loads { LoadsGive H.is_load (procedure_of (Check soc.now limits.now plan.now))
+        shelf.old result shelf.new }
 {
     match load_all(alloc, soc, limits, plan, shelf) {
         Ok(all) => answered_with(Status::Done, accepted_line(alloc, &all.plan)),
@@ -173,6 +182,8 @@ fn decide_chart<H: Shelf>(
     ensures faults_never_fall { H.faults shelf.old ≤ H.faults shelf.new }
     ensures follows { Follows (procedure_of (Chart soc.now limits.now plan.now)) (H.held shelf.old) (H.faults shelf.old)
         (H.faults shelf.new) result }
+    ensures by_loads { LoadsGive H.is_load (procedure_of (Chart soc.now limits.now plan.now))
+        shelf.old result shelf.new }
 {
     match load_all(alloc, soc, limits, plan, shelf) {
         Ok(all) => {
@@ -202,6 +213,8 @@ fn decide_vectors<H: Shelf>(
     ensures faults_never_fall { H.faults shelf.old ≤ H.faults shelf.new }
     ensures closes { Closes (procedure_of (Vectors soc.now limits.now plan.now seed)) (H.held shelf.old) (H.faults shelf.old)
         (H.faults shelf.new) result }
+    ensures by_loads { LoadsEnding H.is_load
+        (procedure_of (Vectors soc.now limits.now plan.now seed)) shelf.old result shelf.new }
     ensures runnable { IsRunnable result }
 {
     match load_all(alloc, soc, limits, plan, shelf) {
@@ -222,6 +235,8 @@ fn decide_tree<H: Shelf>(
     ensures faults_never_fall { H.faults shelf.old ≤ H.faults shelf.new }
     ensures follows { Follows (procedure_of (Tree soc.now limits.now tree.now)) (H.held shelf.old) (H.faults shelf.old)
         (H.faults shelf.new) result }
+    ensures by_loads { LoadsGive H.is_load (procedure_of (Tree soc.now limits.now tree.now))
+        shelf.old result shelf.new }
 {
     match load_both(alloc, soc, limits, shelf) {
         Ok(both) => {
@@ -250,6 +265,8 @@ fn decide_locate<H: Shelf>(
     ensures faults_never_fall { H.faults shelf.old ≤ H.faults shelf.new }
     ensures follows { Follows (procedure_of (Locate soc.now limits.now plan.now log.now)) (H.held shelf.old) (H.faults shelf.old)
         (H.faults shelf.new) result }
+    ensures by_loads { LoadsGive H.is_load
+        (procedure_of (Locate soc.now limits.now plan.now log.now)) shelf.old result shelf.new }
 {
     match load_all(alloc, soc, limits, plan, shelf) {
         Ok(all) => {
@@ -279,6 +296,8 @@ fn decide_shift<H: Shelf>(
     ensures faults_never_fall { H.faults shelf.old ≤ H.faults shelf.new }
     ensures follows { Follows (procedure_of (Shift soc.now limits.now plan.now program.now)) (H.held shelf.old) (H.faults shelf.old)
         (H.faults shelf.new) result }
+    ensures by_loads { LoadsGive H.is_load
+        (procedure_of (Shift soc.now limits.now plan.now program.now)) shelf.old result shelf.new }
 {
     match load_all(alloc, soc, limits, plan, shelf) {
         Ok(all) => {
@@ -301,6 +320,9 @@ pub fn decide<H: Shelf>(alloc: Global, words: &[String], shelf: &mut H) -> Endin
     ensures faults_never_fall { H.faults shelf.old ≤ H.faults shelf.new }
     ensures closes { Closes (asked procedure_of (asked_command (map string_bytes words.now))) (H.held shelf.old) (H.faults shelf.old)
         (H.faults shelf.new) result }
+    ensures by_loads { LoadsEnding H.is_load
+        (asked procedure_of (asked_command (map string_bytes words.now)))
+        shelf.old result shelf.new }
     ensures runnable { IsRunnable result }
     ensures untouched { (IsCommand (asked procedure_of (asked_command (map string_bytes words.now))) → ⊥) → shelf.new ≡ shelf.old }
     ensures range { IfSome (asked_command (map string_bytes words.now)) IsInRange }

@@ -6,9 +6,9 @@ ghost use Rattle.plan_model.specs.Rules.{IsGoodAlone};
 ghost use Rattle.plan_model.specs.Views.{plan_value};
 ghost use Rattle.bit_machine.specs.Chips.{wires_of, made_content};
 ghost use Rattle.tester_vectors.specs.VectorText.{vector_text, too_many};
-ghost use Rattle.commands.specs.Ends.{WritesUnless};
+ghost use Rattle.commands.specs.Ends.{WritesUnless, MakesPuts};
 ghost use Rattle.commands.specs.Texts.{run_refusal};
-ghost use Rattle.soctest.specs.Endings.{IsRunnable, WritesEnding};
+ghost use Rattle.soctest.specs.Endings.{IsRunnable, WritesEnding, PutsEnding};
 
 use commands::{Accepted, Status, Verdict, refused_with, run_line, write_verdict};
 use outside::Sink;
@@ -36,6 +36,7 @@ fn write_run<K: Sink>(alloc: Global, soc: &Soc, plan: &Plan, seed: u64, out: &mu
     ensures written { WritesUnless (run_refusal (too_many (plan_value plan.now)))
         (vector_text (soc_value soc.now) (plan_value plan.now) (made_content (soc_value soc.now) seed)) (K.faults out.old)
         (K.faults out.new) (K.written out.old) result (K.written out.new) }
+    ensures puts { MakesPuts K.is_put out.old result out.new }
 {
     match write_vectors(alloc, soc, plan, seed, out) {
         Outcome::Written => Status::Done,
@@ -53,6 +54,7 @@ pub fn write_ending<K: Sink>(alloc: Global, ending: Ending, out: &mut K) -> Stat
     requires { IsRunnable ending }
     ensures faults_never_fall { K.faults out.old ≤ K.faults out.new }
     ensures written { WritesEnding ending (K.faults out.old) (K.faults out.new) (K.written out.old) result (K.written out.new) }
+    ensures puts { PutsEnding K.is_put ending out.old result out.new }
 {
     match ending {
         Ending::Decided(verdict) => write_verdict(verdict, out),

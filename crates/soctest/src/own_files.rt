@@ -1,6 +1,7 @@
 //! A file that one command alone has: it is loaded behind the others, and its bytes are answered, in one way for all commands.
 ghost use Rattle.std.specs.Prelude.{◌≡◌, ◌≤◌};
 ghost use Rattle.commands.specs.Decides.{Follows};
+ghost use Rattle.commands.specs.Loads.{LoadsGive};
 ghost use Rattle.soctest.specs.OwnFiles.{AnswersOwn, IsServed, kind_of as own_kind, with_own};
 
 use crate::logs::answer_log;
@@ -67,6 +68,8 @@ pub(crate) fn answer_own_file<H: Shelf>(
     ensures held_stays { H.held shelf.new ≡ H.held shelf.old }
     ensures faults_never_fall { H.faults shelf.old ≤ H.faults shelf.new }
     ensures follows { Follows (with_own own.entry name.now) (H.held shelf.old) (H.faults shelf.old) (H.faults shelf.new) result }
+    ensures by_loads { LoadsGive H.is_load (with_own own.entry name.now)
+        shelf.old result shelf.new }
 {
     match load_file(alloc, kind_of(own), name, shelf) {
         Ok(bytes) => answer_bytes(alloc, own, bytes.as_slice()),

@@ -9,6 +9,7 @@ ghost use Rattle.planner.specs.Plans.{IsPlanned};
 ghost use Rattle.split_plan.specs.Parts.{split_chip, split_limits, split_of as parts_of, split_value};
 ghost use Rattle.commands.specs.Commands.{Split as SplitTests};
 ghost use Rattle.commands.specs.Decides.{Follows, GivesAny};
+ghost use Rattle.commands.specs.Loads.{LoadsGive};
 ghost use Rattle.soctest.specs.Procedures.{procedure_of};
 ghost use Rattle.soctest.specs.SplitText.{part_line, parts_text, soc_and_limits, split_line as split_line_text, split_refusal, split_text as text_of_parts};
 ghost use Rattle.commands.specs.Texts.{is_line};
@@ -132,6 +133,8 @@ pub(crate) fn decide_split<H: Shelf>(
     ensures faults_never_fall { H.faults shelf.old ≤ H.faults shelf.new }
     ensures follows { Follows (procedure_of (SplitTests soc.now limits.now most)) (H.held shelf.old) (H.faults shelf.old)
         (H.faults shelf.new) result }
+    ensures by_loads { LoadsGive H.is_load (procedure_of (SplitTests soc.now limits.now most))
+        shelf.old result shelf.new }
 {
     match load_both(alloc, soc, limits, shelf) {
         Ok(both) => answer_split(alloc, &both.soc, &both.limits, most),

@@ -1,8 +1,10 @@
 use Rattle.soctest.specs.Texts.{accepted_line}
 use Rattle.commands.specs.Procedures.{done_with}
-use Rattle.plan_model.specs.Views.{plan_value}
+use Rattle.soc_model.specs.Chips.{soc_value}
+use Rattle.plan_model.specs.Views.{limits_value, plan_value}
 use Rattle.commands.proofs.FileStages.{done_of}
 use Rattle.commands.proofs.AllFiles.{not_all, after_all}
+use Rattle.commands.proofs.LoadStages.{after_three, stops_all, done_loaded}
 use Rattle.soctest.proofs.deciding.decide_check.Goals as goal
 
 pub returns-in-Ok-clause-follows : goal.returns-in-Ok-clause-follows
@@ -12,3 +14,11 @@ returns-in-Ok-clause-follows g c =
 
 pub returns-in-Err-clause-follows : goal.returns-in-Err-clause-follows
 returns-in-Err-clause-follows g c = not_all _ _ _ (λ chip bounds value. done_with (accepted_line value)) _ _ _ _ c.in-Err.ensures.loads
+
+pub returns-in-Ok-clause-by_loads : goal.returns-in-Ok-clause-by_loads
+returns-in-Ok-clause-by_loads g c =
+    after_three g.H.Shelf.is_load c.args.soc.now c.args.limits.now c.args.plan.now (λ chip bounds value. done_with (accepted_line value)) (soc_value c.in-Ok.all.soc) (limits_value c.in-Ok.all.limits) (plan_value c.in-Ok.all.plan) c.args.shelf.now c.load_all.new.shelf c.load_all.new.shelf c.answered_with.result c.in-Ok.ensures.by_loads
+    (done_loaded g.H.Shelf.is_load (accepted_line (plan_value c.in-Ok.all.plan)) c.accepted_line.result c.answered_with.result c.load_all.new.shelf c.accepted_line.ensures.text c.answered_with.ensures)
+
+pub returns-in-Err-clause-by_loads : goal.returns-in-Err-clause-by_loads
+returns-in-Err-clause-by_loads g c = stops_all g.H.Shelf.is_load c.args.soc.now c.args.limits.now c.args.plan.now (λ chip bounds value. done_with (accepted_line value)) c.args.shelf.now c.load_all.new.shelf c.in-Err.verdict c.in-Err.ensures.by_loads

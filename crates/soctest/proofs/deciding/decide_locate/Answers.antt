@@ -3,6 +3,7 @@ use Rattle.soc_model.specs.Chips.{soc_value}
 use Rattle.plan_model.specs.Views.{limits_value, plan_value}
 use Rattle.commands.proofs.AllFiles.{after_all, not_all}
 use Rattle.soctest.proofs.LogFiles.{after_plan}
+use Rattle.commands.proofs.LoadStages.{after_three, stops_all}
 use Rattle.soctest.proofs.deciding.decide_locate.Goals as goal
 
 pub returns-in-Ok-clause-follows : goal.returns-in-Ok-clause-follows
@@ -18,3 +19,10 @@ answer_own_file-verdict-requires g c = (c.in-Ok.ensures.sound, c.good_without_li
 
 pub returns-in-Ok-clause-held_stays : goal.returns-in-Ok-clause-held_stays
 returns-in-Ok-clause-held_stays g c = c.answer_own_file-verdict.ensures.held_stays ∙ c.load_all.ensures.held_stays
+
+pub returns-in-Ok-clause-by_loads : goal.returns-in-Ok-clause-by_loads
+returns-in-Ok-clause-by_loads g c =
+    after_three g.H.Shelf.is_load c.args.soc.now c.args.limits.now c.args.plan.now (after_plan c.args.log.now) (soc_value c.in-Ok.all.soc) (limits_value c.in-Ok.all.limits) (plan_value c.in-Ok.all.plan) c.args.shelf.now c.load_all.new.shelf c.answer_own_file-verdict.new.shelf c.answer_own_file-verdict.result c.in-Ok.ensures.by_loads c.answer_own_file-verdict.ensures.by_loads
+
+pub returns-in-Err-clause-by_loads : goal.returns-in-Err-clause-by_loads
+returns-in-Err-clause-by_loads g c = stops_all g.H.Shelf.is_load c.args.soc.now c.args.limits.now c.args.plan.now (after_plan c.args.log.now) c.args.shelf.now c.load_all.new.shelf c.in-Err.verdict c.in-Err.ensures.by_loads

@@ -3,6 +3,9 @@ use Rattle.commands.specs.Procedures.{done_with}
 use Rattle.soctest.specs.Procedures.{with_program}
 use Rattle.soctest.specs.ShiftPrograms.{accepted_program}
 use Rattle.commands.proofs.AllFiles.{not_all, after_all}
+use Rattle.soc_model.specs.Chips.{soc_value}
+use Rattle.plan_model.specs.Views.{limits_value, plan_value}
+use Rattle.commands.proofs.LoadStages.{after_three, stops_all}
 use Rattle.soctest.proofs.deciding.decide_shift.Goals as goal
 
 pub returns-in-Ok-clause-follows : goal.returns-in-Ok-clause-follows
@@ -15,3 +18,10 @@ returns-in-Err-clause-follows g c = not_all _ _ _ (λ chip bounds value. with_pr
 
 pub returns-in-Ok-clause-held_stays : goal.returns-in-Ok-clause-held_stays
 returns-in-Ok-clause-held_stays g c = c.answer_own_file-verdict.ensures.held_stays ∙ c.load_all.ensures.held_stays
+
+pub returns-in-Ok-clause-by_loads : goal.returns-in-Ok-clause-by_loads
+returns-in-Ok-clause-by_loads g c =
+    after_three g.H.Shelf.is_load c.args.soc.now c.args.limits.now c.args.plan.now (λ chip bounds value. with_program chip value c.args.program.now (λ shifts. done_with (accepted_program chip value shifts))) (soc_value c.in-Ok.all.soc) (limits_value c.in-Ok.all.limits) (plan_value c.in-Ok.all.plan) c.args.shelf.now c.load_all.new.shelf c.answer_own_file-verdict.new.shelf c.answer_own_file-verdict.result c.in-Ok.ensures.by_loads c.answer_own_file-verdict.ensures.by_loads
+
+pub returns-in-Err-clause-by_loads : goal.returns-in-Err-clause-by_loads
+returns-in-Err-clause-by_loads g c = stops_all g.H.Shelf.is_load c.args.soc.now c.args.limits.now c.args.plan.now (λ chip bounds value. with_program chip value c.args.program.now (λ shifts. done_with (accepted_program chip value shifts))) c.args.shelf.now c.load_all.new.shelf c.in-Err.verdict c.in-Err.ensures.by_loads

@@ -3,6 +3,7 @@ use Rattle.soc_model.specs.Chips.{soc_value}
 use Rattle.plan_model.specs.Views.{plan_value}
 use Rattle.bit_machine.specs.Chips.{made_content}
 use Rattle.tester_vectors.specs.VectorText.{wire_cycles, vector_text, too_many}
+use Rattle.commands.proofs.LoadsWritten.{puts_refused}
 use Rattle.commands.proofs.UnlessRefused.{nothing_written}
 use Rattle.commands.specs.Texts.{run_refusal}
 use Rattle.soctest.proofs.Endings.{run_written, long_written, same_cells}
@@ -28,3 +29,17 @@ returns-in-RunTooLong-clause-written g c =
     let put = rw kept at c.write_verdict.ensures.written in
     long_written (plan_value c.args.plan.now) (vector_text (soc_value c.args.soc.now) (plan_value c.args.plan.now) (made_content (soc_value c.args.soc.now) c.args.seed)) c.in-RunTooLong.cells c.run_line.result c.refused_with-verdict.result
     (g.K.Sink.faults c.args.out.now) (g.K.Sink.faults c.write_verdict.new.out) (g.K.Sink.written c.args.out.now) (g.K.Sink.written c.write_verdict.new.out) c.write_verdict.result long same c.run_line.ensures.text c.run_line.ensures.line c.refused_with-verdict.ensures put
+
+pub returns-in-Written-clause-puts : goal.returns-in-Written-clause-puts
+returns-in-Written-clause-puts g c = c.in-Written.ensures.none_failed refl
+
+pub returns-in-WriteFault-clause-puts : goal.returns-in-WriteFault-clause-puts
+returns-in-WriteFault-clause-puts g c = c.in-WriteFault.ensures.last_failed refl
+
+pub returns-in-NoMemory-clause-puts : goal.returns-in-NoMemory-clause-puts
+returns-in-NoMemory-clause-puts g c = c.in-NoMemory.ensures.no_memory_writes_nothing refl
+
+pub returns-in-RunTooLong-clause-puts : goal.returns-in-RunTooLong-clause-puts
+returns-in-RunTooLong-clause-puts g c =
+    let kept = c.in-RunTooLong.ensures.too_long_writes_nothing c.in-RunTooLong.cells refl in
+    puts_refused g.K.Sink.is_put c.args.out.now c.write_verdict.new.out c.run_line.result c.write_verdict.result c.refused_with-verdict.result c.refused_with-verdict.ensures (rw kept at c.write_verdict.ensures.puts)

@@ -1,8 +1,10 @@
-use Rattle.std.proofs.Common.{◌≤◌, length, subst}
+use Rattle.std.proofs.Common.{◌≤◌, Err, length, subst}
+use Rattle.outside.specs.declared.shelf.Loaded.TheVariants.{Whole}
+use Rattle.commands.specs.Loads.{LoadsFile}
 use Rattle.commands.specs.Readings.{most_of}
 use Rattle.commands.specs.Procedures.{with_bytes}
 use Rattle.commands.specs.Decides.{Follows}
-use Rattle.soctest.proofs.OwnFiles.{own_follows, own_unread}
+use Rattle.soctest.proofs.OwnFiles.{own_follows, own_unread, own_file_loaded, own_file_stops}
 use Rattle.soctest.proofs.own_files.answer_own_file.Goals as goal
 
 pub returns-in-Ok-clause-follows : goal.returns-in-Ok-clause-follows
@@ -13,3 +15,14 @@ returns-in-Ok-clause-follows g c =
 pub returns-in-Err-clause-follows : goal.returns-in-Err-clause-follows
 returns-in-Err-clause-follows g c =
     own_unread c.args.own c.args.name.now _ _ _ _ (subst (λ kind. Follows (with_bytes kind c.args.name.now) (g.H.Shelf.held c.args.shelf.now) (g.H.Shelf.faults c.args.shelf.now) (g.H.Shelf.faults c.load_file.new.shelf) c.in-Err.verdict) c.kind_of.ensures c.in-Err.ensures.loads)
+
+pub returns-in-Ok-clause-by_loads : goal.returns-in-Ok-clause-by_loads
+returns-in-Ok-clause-by_loads g c =
+    let answers = rw c.as_slice.ensures.value at c.answer_bytes.ensures in
+    own_file_loaded g.H.Shelf.is_load c.args.own c.args.name.now c.in-Ok.bytes.items c.args.shelf.now c.load_file.new.shelf c.answer_bytes.result
+    (subst (λ kind. g.H.Shelf.is_load c.args.shelf.now c.args.name.now (most_of kind) Whole c.in-Ok.bytes.items c.load_file.new.shelf) c.kind_of.ensures c.in-Ok.ensures.by_loads) answers
+
+pub returns-in-Err-clause-by_loads : goal.returns-in-Err-clause-by_loads
+returns-in-Err-clause-by_loads g c =
+    own_file_stops g.H.Shelf.is_load c.args.own c.args.name.now c.args.shelf.now c.load_file.new.shelf c.in-Err.verdict
+    (subst (λ kind. LoadsFile g.H.Shelf.is_load kind c.args.name.now c.args.shelf.now (Err c.in-Err.verdict) c.load_file.new.shelf) c.kind_of.ensures c.in-Err.ensures.by_loads)

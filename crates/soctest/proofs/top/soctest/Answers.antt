@@ -1,7 +1,7 @@
 use Rattle.std.proofs.Common.{map}
 use Rattle.std.specs.Prelude.{string_bytes}
 use Rattle.commands.specs.Procedures.{asked}
-use Rattle.soctest.proofs.Endings.{ends, one_line, by_words, says_bad_words}
+use Rattle.soctest.proofs.Endings.{ends, one_line, by_words, says_bad_words, ends_by_loads, makes_puts}
 use Rattle.commands.proofs.Completeness.{complete, finishes}
 use Rattle.commands.specs.Commands.{command_of}
 use Rattle.soctest.specs.Procedures.{procedure_of, fixes_text}
@@ -43,3 +43,11 @@ returns-clause-headline g c =
 pub returns-clause-headline_of_sample : goal.returns-clause-headline_of_sample
 returns-clause-headline_of_sample g c =
     sample_headline (record { right = c.good_plans_run_right.ensures; bound = c.certificates_are_bounds.ensures.accepted }) c.spots_are_reads.ensures (command_of (map string_bytes c.args.words.now)) c.decide-ending.ensures.range (g.H.Shelf.faults c.args.shelf.now) (g.H.Shelf.faults c.decide-ending.new.shelf) (g.K.Sink.faults c.args.out.now) (g.K.Sink.faults c.write_ending.new.out) (g.K.Sink.written c.args.out.now) (g.K.Sink.written c.write_ending.new.out) c.write_ending.result c.decide-ending.result c.decide-ending.ensures.sampled c.write_ending.ensures.written
+
+pub returns-clause-by_loads : goal.returns-clause-by_loads
+returns-clause-by_loads g c =
+    ends_by_loads g.H.Shelf.is_load (asked procedure_of (command_of (map string_bytes c.args.words.now))) c.args.shelf.now c.decide-ending.new.shelf (g.K.Sink.faults c.args.out.now) (g.K.Sink.faults c.write_ending.new.out) (g.K.Sink.written c.args.out.now) (g.K.Sink.written c.write_ending.new.out) c.write_ending.result c.decide-ending.result c.decide-ending.ensures.by_loads c.write_ending.ensures.written
+
+pub returns-clause-puts : goal.returns-clause-puts
+returns-clause-puts g c =
+    makes_puts g.K.Sink.is_put c.args.out.now c.write_ending.new.out (asked procedure_of (command_of (map string_bytes c.args.words.now))) (g.H.Shelf.held c.args.shelf.now) (g.H.Shelf.faults c.args.shelf.now) (g.H.Shelf.faults c.decide-ending.new.shelf) c.write_ending.result c.decide-ending.result c.decide-ending.ensures.closes c.write_ending.ensures.puts
