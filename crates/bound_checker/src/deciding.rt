@@ -10,6 +10,7 @@ ghost use Rattle.commands.specs.Commands.{Bound, command_of as asked_command};
 ghost use Rattle.commands.specs.Procedures.{asked};
 ghost use Rattle.commands.specs.Decides.{AnswersBytes, Decides, Follows};
 ghost use Rattle.commands.specs.Ends.{IsCommand};
+ghost use Rattle.commands.specs.Loads.{LoadsGive};
 ghost use Rattle.bound_checker.specs.Readings.{RefusesProof, SaysBound};
 ghost use Rattle.bound_checker.specs.Requests.{procedure_of, with_proof};
 ghost use Rattle.bound_checker.specs.Texts.{bound_line as bound_text};
@@ -56,30 +57,24 @@ fn answer_proof(
     }
 }
 
-/// Loads the proof of this name and answers its bytes, else how the command ends without them.
-fn answer_file<H: Shelf>(
-    alloc: Global,
-    soc: &Soc,
-    limits: &Limits,
-    resolved: &Resolved,
-    name: &str,
-    shelf: &mut H,
-) -> Verdict
-    requires chip { IsSoundChip (soc_value soc.now) }
-    requires limits { IsSoundLimits (soc_value soc.now) (limits_value limits.now) }
-    requires resolved { IsResolved (soc_value soc.now) limits.now resolved.now }
-    ensures held_stays { H.held shelf.new ≡ H.held shelf.old }
-    ensures faults_never_fall { H.faults shelf.old ≤ H.faults shelf.new }
-    ensures follows { Follows (with_proof name.now (soc_value soc.now) (limits_value limits.now)) (H.held shelf.old) (H.faults shelf.old)
-        (H.faults shelf.new) result }
+/// Resolves a chip and its limits, and answers a proof's bytes for them.
+fn answer_bytes(alloc: Global, both: Both, bytes: &[u8]) -> Verdict
+    requires chip { IsSoundChip (soc_value both.soc) }
+    requires limits { IsSoundLimits (soc_value both.soc) (limits_value both.limits) }
+    requires live { IfSome both.live (λ tests. tests ≡ live_ids (soc_value both.soc)) }
+    ensures { AnswersBytes (SaysBound (soc_value both.soc) (limits_value both.limits))
+        (RefusesProof (soc_value both.soc) (limits_value both.limits)) bound_text bytes.now result }
 {
-    match load_file(alloc, FileKind::Proof, name, shelf) {
-        Ok(bytes) => answer_proof(alloc, soc, limits, resolved, bytes.as_slice()),
-        Err(verdict) => verdict,
-    }
+    let Both { soc, limits, live } = both;
+    let Ok(resolved) = resolved_of(alloc, &soc, &limits, live) else {
+        return Verdict::NoMemory;
+    };
+    let verdict = answer_proof(alloc, &soc, &limits, &resolved, bytes);
+    drop(resolved);
+    verdict
 }
 
-/// Resolves a chip and its limits, and answers the proof of this name for them.
+/// Loads the proof of this name and answers its bytes for a chip and its limits, else how the command ends without them.
 fn answer_both<H: Shelf>(alloc: Global, both: Both, name: &str, shelf: &mut H) -> Verdict
     requires chip { IsSoundChip (soc_value both.soc) }
     requires limits { IsSoundLimits (soc_value both.soc) (limits_value both.limits) }
@@ -88,14 +83,18 @@ fn answer_both<H: Shelf>(alloc: Global, both: Both, name: &str, shelf: &mut H) -
     ensures faults_never_fall { H.faults shelf.old ≤ H.faults shelf.new }
     ensures follows { Follows (with_proof name.now (soc_value both.soc) (limits_value both.limits)) (H.held shelf.old)
         (H.faults shelf.old) (H.faults shelf.new) result }
+    ensures by_loads { LoadsGive H.is_load
+        (with_proof name.now (soc_value both.soc) (limits_value both.limits))
+        shelf.old result shelf.new }
 {
-    let Both { soc, limits, live } = both;
-    let Ok(resolved) = resolved_of(alloc, &soc, &limits, live) else {
-        return Verdict::NoMemory;
-    };
-    let verdict = answer_file(alloc, &soc, &limits, &resolved, name, shelf);
-    drop(resolved);
-    verdict
+    // loaded before any memory is taken for both, so that each call ends at a load or behind all of them
+    match load_file(alloc, FileKind::Proof, name, shelf) {
+        Ok(bytes) => answer_bytes(alloc, both, bytes.as_slice()),
+        Err(verdict) => {
+            both.free();
+            verdict
+        }
+    }
 }
 
 /// `bound SOC LIMITS PROOF`: the bound of a proof that is accepted.
@@ -110,6 +109,8 @@ fn decide_bound<H: Shelf>(
     ensures faults_never_fall { H.faults shelf.old ≤ H.faults shelf.new }
     ensures follows { Follows (procedure_of (Bound soc.now limits.now proof.now)) (H.held shelf.old) (H.faults shelf.old)
         (H.faults shelf.new) result }
+    ensures by_loads { LoadsGive H.is_load (procedure_of (Bound soc.now limits.now proof.now))
+        shelf.old result shelf.new }
 {
     match load_both(alloc, soc, limits, shelf) {
         Ok(both) => answer_both(alloc, both, proof, shelf),
@@ -123,6 +124,9 @@ pub(crate) fn decide<H: Shelf>(alloc: Global, words: &[String], shelf: &mut H) -
     ensures faults_never_fall { H.faults shelf.old ≤ H.faults shelf.new }
     ensures decides { Decides (asked procedure_of (asked_command (map string_bytes words.now))) (H.held shelf.old) (H.faults shelf.old)
         (H.faults shelf.new) result }
+    ensures by_loads { LoadsGive H.is_load
+        (asked procedure_of (asked_command (map string_bytes words.now)))
+        shelf.old result shelf.new }
     ensures untouched { (IsCommand (asked procedure_of (asked_command (map string_bytes words.now))) → ⊥) → shelf.new ≡ shelf.old }
 {
     match command_of(words) {

@@ -2,7 +2,8 @@
 ghost use Rattle.std.specs.Prelude.{◌≡◌, ◌≤◌, true, map, string_bytes};
 ghost use Rattle.outside.specs.Held.{Rose};
 ghost use Rattle.commands.specs.Procedures.{asked};
-ghost use Rattle.commands.specs.Ends.{IsCommand, MayAnswer, Ends, OneLine, EndsByWords, Complete, Finishes, SaysBadWords};
+ghost use Rattle.commands.specs.Ends.{IsCommand, MayAnswer, Ends, OneLine, EndsByWords, Complete, Finishes, SaysBadWords, MakesPuts};
+ghost use Rattle.commands.specs.Loads.{EndsByLoads};
 ghost use Rattle.commands.specs.Commands.{command_of};
 ghost use Rattle.bound_checker.specs.Requests.{procedure_of};
 ghost use Rattle.bound_checker.specs.Headlines.{Headline};
@@ -40,6 +41,13 @@ pub fn check_bound<H: Shelf, K: Sink>(
         (Rose (K.faults out.old) (K.faults out.new)) result }
     ensures bad_words { SaysBadWords (K.written out.old) result (K.written out.new) }
     ensures untouched { (IsCommand (asked procedure_of (command_of (map string_bytes words.now))) → ⊥) → shelf.new ≡ shelf.old }
+
+    // Each file is loaded once and in turn, and the last one decides, also where the shelf tells nothing.
+    ensures by_loads { EndsByLoads H.is_load (asked procedure_of (command_of (map string_bytes words.now)))
+        shelf.old shelf.new (K.faults out.old) (K.faults out.new) (K.written out.old) result (K.written out.new) }
+
+    // No put is empty, and none comes after one that failed.
+    ensures puts { MakesPuts K.is_put out.old result out.new }
 
     // Where the files give an answer and nothing fails, it comes, unless memory runs out.
     ensures complete { Complete true (asked procedure_of (command_of (map string_bytes words.now))) (H.held shelf.old)

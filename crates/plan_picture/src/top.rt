@@ -4,7 +4,8 @@ ghost use Rattle.outside.specs.Held.{Rose};
 ghost use Rattle.commands.specs.Commands.{Picture, command_of as asked_command};
 ghost use Rattle.commands.specs.Procedures.{asked};
 ghost use Rattle.commands.specs.Decides.{Decides, Follows};
-ghost use Rattle.commands.specs.Ends.{IsCommand, MayAnswer, Ends, OneLine, EndsByWords, Complete, Finishes, SaysBadWords};
+ghost use Rattle.commands.specs.Ends.{IsCommand, MayAnswer, Ends, OneLine, EndsByWords, Complete, Finishes, SaysBadWords, MakesPuts};
+ghost use Rattle.commands.specs.Loads.{EndsByLoads, LoadsGive};
 ghost use Rattle.plan_picture.specs.Pictures.{Headline, procedure_of};
 
 use commands::{
@@ -28,6 +29,8 @@ fn decide_picture<H: Shelf>(
     ensures faults_never_fall { H.faults shelf.old ≤ H.faults shelf.new }
     ensures follows { Follows (procedure_of (Picture soc.now limits.now plan.now)) (H.held shelf.old) (H.faults shelf.old)
         (H.faults shelf.new) result }
+    ensures by_loads { LoadsGive H.is_load (procedure_of (Picture soc.now limits.now plan.now))
+        shelf.old result shelf.new }
 {
     match load_all(alloc, soc, limits, plan, shelf) {
         Ok(all) => answered_with(
@@ -44,6 +47,9 @@ fn decide<H: Shelf>(alloc: Global, words: &[String], shelf: &mut H) -> Verdict
     ensures faults_never_fall { H.faults shelf.old ≤ H.faults shelf.new }
     ensures decides { Decides (asked procedure_of (asked_command (map string_bytes words.now))) (H.held shelf.old) (H.faults shelf.old)
         (H.faults shelf.new) result }
+    ensures by_loads { LoadsGive H.is_load
+        (asked procedure_of (asked_command (map string_bytes words.now)))
+        shelf.old result shelf.new }
     ensures untouched { (IsCommand (asked procedure_of (asked_command (map string_bytes words.now))) → ⊥) → shelf.new ≡ shelf.old }
 {
     match command_of(words) {
@@ -75,6 +81,13 @@ pub fn draw<H: Shelf, K: Sink>(
         (Rose (K.faults out.old) (K.faults out.new)) result }
     ensures bad_words { SaysBadWords (K.written out.old) result (K.written out.new) }
     ensures untouched { (IsCommand (asked procedure_of (asked_command (map string_bytes words.now))) → ⊥) → shelf.new ≡ shelf.old }
+
+    // Each file is loaded once and in turn, and the last one decides, also where the shelf tells nothing.
+    ensures by_loads { EndsByLoads H.is_load (asked procedure_of (asked_command (map string_bytes words.now)))
+        shelf.old shelf.new (K.faults out.old) (K.faults out.new) (K.written out.old) result (K.written out.new) }
+
+    // No put is empty, and none comes after one that failed.
+    ensures puts { MakesPuts K.is_put out.old result out.new }
 
     // Where the files give an answer and nothing fails, it comes, unless memory runs out.
     ensures complete { Complete true (asked procedure_of (asked_command (map string_bytes words.now))) (H.held shelf.old)

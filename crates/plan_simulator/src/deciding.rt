@@ -9,6 +9,7 @@ ghost use Rattle.commands.specs.Commands.{Simulate, command_of as asked_command}
 ghost use Rattle.commands.specs.Procedures.{asked};
 ghost use Rattle.commands.specs.Decides.{Follows, Decides, GivesAny};
 ghost use Rattle.commands.specs.Ends.{IsCommand};
+ghost use Rattle.commands.specs.Loads.{LoadsGive};
 ghost use Rattle.commands.specs.Texts.{run_refusal};
 ghost use Rattle.plan_simulator.specs.Runs.{simulated_text};
 ghost use Rattle.plan_simulator.specs.Requests.{procedure_of};
@@ -64,6 +65,8 @@ fn decide_simulate<H: Shelf>(
     ensures faults_never_fall { H.faults shelf.old ≤ H.faults shelf.new }
     ensures follows { Follows (procedure_of (Simulate soc.now limits.now plan.now seed)) (H.held shelf.old) (H.faults shelf.old)
         (H.faults shelf.new) result }
+    ensures by_loads { LoadsGive H.is_load (procedure_of (Simulate soc.now limits.now plan.now seed))
+        shelf.old result shelf.new }
 {
     match load_all(alloc, soc, limits, plan, shelf) {
         Ok(all) => {
@@ -82,6 +85,9 @@ pub(crate) fn decide<H: Shelf>(alloc: Global, words: &[String], shelf: &mut H) -
     ensures faults_never_fall { H.faults shelf.old ≤ H.faults shelf.new }
     ensures decides { Decides (asked procedure_of (asked_command (map string_bytes words.now))) (H.held shelf.old) (H.faults shelf.old)
         (H.faults shelf.new) result }
+    ensures by_loads { LoadsGive H.is_load
+        (asked procedure_of (asked_command (map string_bytes words.now)))
+        shelf.old result shelf.new }
     ensures untouched { (IsCommand (asked procedure_of (asked_command (map string_bytes words.now))) → ⊥) → shelf.new ≡ shelf.old }
 {
     match command_of(words) {

@@ -1,5 +1,8 @@
 use Rattle.std.proofs.Common.{◌∙◌}
+use Rattle.soc_model.specs.Chips.{soc_value}
+use Rattle.plan_model.specs.Views.{limits_value}
 use Rattle.commands.proofs.AllFiles.{after_both, not_both}
+use Rattle.commands.proofs.LoadStages.{after_two, stops_both}
 use Rattle.bound_checker.specs.Requests.{with_proof}
 use Rattle.bound_checker.proofs.deciding.decide_bound.Goals as goal
 
@@ -13,3 +16,10 @@ returns-in-Err-clause-follows g c = not_both _ _ (with_proof c.args.proof.now) _
 
 pub returns-in-Ok-clause-held_stays : goal.returns-in-Ok-clause-held_stays
 returns-in-Ok-clause-held_stays g c = c.answer_both.ensures.held_stays ∙ c.load_both.ensures.held_stays
+
+pub returns-in-Ok-clause-by_loads : goal.returns-in-Ok-clause-by_loads
+returns-in-Ok-clause-by_loads g c =
+    after_two g.H.Shelf.is_load c.args.soc.now c.args.limits.now (with_proof c.args.proof.now) (soc_value c.in-Ok.both.soc) (limits_value c.in-Ok.both.limits) c.args.shelf.now c.load_both.new.shelf c.answer_both.new.shelf c.answer_both.result c.in-Ok.ensures.by_loads c.answer_both.ensures.by_loads
+
+pub returns-in-Err-clause-by_loads : goal.returns-in-Err-clause-by_loads
+returns-in-Err-clause-by_loads g c = stops_both g.H.Shelf.is_load c.args.soc.now c.args.limits.now (with_proof c.args.proof.now) c.args.shelf.now c.load_both.new.shelf c.in-Err.verdict c.in-Err.ensures.by_loads

@@ -4,6 +4,7 @@ use Rattle.plan_model.specs.Views.{limits_value, plan_value}
 use Rattle.commands.specs.Procedures.{Unless, done_with}
 use Rattle.commands.proofs.FileStages.{unless_any}
 use Rattle.commands.proofs.AllFiles.{not_all, after_all}
+use Rattle.commands.proofs.LoadStages.{after_three, stops_all, any_loaded}
 use Rattle.commands.specs.Texts.{run_refusal}
 use Rattle.plan_simulator.specs.Runs.{simulated_text}
 use Rattle.plan_simulator.proofs.deciding.decide_simulate.Goals as goal
@@ -22,3 +23,11 @@ returns-in-Ok-clause-follows g c =
 
 pub returns-in-Err-clause-follows : goal.returns-in-Err-clause-follows
 returns-in-Err-clause-follows g c = not_all _ _ _ (λ chip bounds value. Unless (run_refusal (too_many value)) (done_with (simulated_text chip value c.args.seed))) _ _ _ _ c.in-Err.ensures.loads
+
+pub returns-in-Ok-clause-by_loads : goal.returns-in-Ok-clause-by_loads
+returns-in-Ok-clause-by_loads g c =
+    after_three g.H.Shelf.is_load c.args.soc.now c.args.limits.now c.args.plan.now (λ chip bounds value. Unless (run_refusal (too_many value)) (done_with (simulated_text chip value c.args.seed))) (soc_value c.in-Ok.all.soc) (limits_value c.in-Ok.all.limits) (plan_value c.in-Ok.all.plan) c.args.shelf.now c.load_all.new.shelf c.load_all.new.shelf c.simulated-verdict.result c.in-Ok.ensures.by_loads
+    (any_loaded g.H.Shelf.is_load (run_refusal (too_many (plan_value c.in-Ok.all.plan))) (λ (text : List ℕ). text ≡ simulated_text (soc_value c.in-Ok.all.soc) (plan_value c.in-Ok.all.plan) c.args.seed) c.simulated-verdict.result c.load_all.new.shelf c.simulated-verdict.ensures)
+
+pub returns-in-Err-clause-by_loads : goal.returns-in-Err-clause-by_loads
+returns-in-Err-clause-by_loads g c = stops_all g.H.Shelf.is_load c.args.soc.now c.args.limits.now c.args.plan.now (λ chip bounds value. Unless (run_refusal (too_many value)) (done_with (simulated_text chip value c.args.seed))) c.args.shelf.now c.load_all.new.shelf c.in-Err.verdict c.in-Err.ensures.by_loads
