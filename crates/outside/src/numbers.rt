@@ -69,51 +69,12 @@ pub fn push_number(to: &mut Vec<u8>, n: u128) -> Result<(), NoMemory>
     extend(to, buffer.format(n).as_bytes())
 }
 
-/// Appends a decimal digit. After `NoMemory` the text is as it was.
-fn push_digit(to: &mut Vec<u8>, digit: u64) -> Result<(), NoMemory>
-    requires { digit < 10 }
-    ensures ok { OnOk result (to.new.items ≡ to.old.items ++ (48 + digit) ∷ []) }
-    ensures err { OnErr result (to.new.items ≡ to.old.items) }
-{
-    push(to, b'0' + digit as u8)
-}
-
-/// Appends the decimal text of a number of one digit or two. After `NoMemory` one digit may stand behind the text.
-fn push_pair(to: &mut Vec<u8>, n: u64) -> Result<(), NoMemory>
-    requires { n < 100 }
-    ensures ok { OnOk result (to.new.items ≡ to.old.items ++ decimal n) }
-    ensures err { OnErr result (take (length to.old.items) to.new.items ≡ to.old.items) }
-{
-    if n < 10 {
-        return push_digit(to, n);
-    }
-    push_digit(to, n / 10)?;
-    push_digit(to, n % 10)
-}
-
-/// Appends the decimal text of a number of three digits at most. After `NoMemory` some digits may stand behind the text.
-fn push_short(to: &mut Vec<u8>, n: u64) -> Result<(), NoMemory>
-    requires { n < 1000 }
-    ensures ok { OnOk result (to.new.items ≡ to.old.items ++ decimal n) }
-    ensures err { OnErr result (take (length to.old.items) to.new.items ≡ to.old.items) }
-{
-    if n < 100 {
-        return push_pair(to, n);
-    }
-    push_pair(to, n / 10)?;
-    push_digit(to, n % 10)
-}
-
-/// Appends a space and the decimal text of a number, that of a short one digit by digit: most numbers of a text are short. After
-/// `NoMemory` a part may stand behind the text.
+/// Appends a space and the decimal text of a number. After `NoMemory` the space may stand behind the text.
 fn push_spaced_parts(to: &mut Vec<u8>, n: u64) -> Result<(), NoMemory>
     ensures ok { OnOk result (to.new.items ≡ to.old.items ++ spaced_number n) }
     ensures err { OnErr result (take (length to.old.items) to.new.items ≡ to.old.items) }
 {
     push(to, b' ')?;
-    if n < 1000 {
-        return push_short(to, n);
-    }
     let mut buffer = Buffer::new();
     extend(to, buffer.format(n).as_bytes())
 }

@@ -1,6 +1,6 @@
 //! The files of the system. No contract can say what they hold.
 ghost use Rattle.std.specs.Prelude.{◌≡◌, ◌≢◌, ◌≤◌, ◌⊎◌, [], None, vec_len};
-ghost use Rattle.outside.specs.Counts.{next_count};
+ghost use Rattle.outside.specs.Counts.{next_count, IsCountedLoad};
 ghost use Rattle.outside.specs.Held.{Rose, IsMissing, IsTooLong};
 
 use crate::shelf::{Loaded, Shelf};
@@ -38,10 +38,13 @@ impl<'a, R: Files> RealShelf<'a, R> {
 
 impl<'a, R: Files> Shelf for RealShelf<'a, R> {
     ghost use Rattle.std.specs.Prelude.{None};
+    ghost use Rattle.outside.specs.Counts.{IsCountedLoad};
 
     ghost held = { λ _. None };
 
     ghost faults = { λ s. s };
+
+    ghost is_load = { λ s name limit answer bytes after. IsCountedLoad s answer after };
 
     /// Reads at most `limit + 1` bytes of the file. Out of memory is `NoMemory` and no fault; every other error is
     /// `Failed` and one fault more, up to the last value of the count.
@@ -53,6 +56,7 @@ impl<'a, R: Files> Shelf for RealShelf<'a, R> {
             result ≢ Loaded.Failed → result ≢ Loaded.NoMemory → result ≡ Loaded.TooLong }
         ensures failed { result ≡ Loaded.Failed → Rose self.old self.new ⊎ IsMissing None name.now }
         ensures emptied { result ≢ Loaded.Whole → into.new.items ≡ [] }
+        ensures load { IsCountedLoad self.old result self.new }
 
         // What this one adds.
         ensures fault_counted { result ≡ Loaded.Failed → self.new ≡ next_count self.old }

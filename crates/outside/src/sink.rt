@@ -1,7 +1,7 @@
 //! Where output is written to.
-ghost use Rattle.std.specs.Prelude.{◌≡◌, ℕ, ◌<◌, ◌≤◌, List, [], Option, length, IsOk, OnOk, OnErr, take};
+ghost use Rattle.std.specs.Prelude.{◌≡◌, ℕ, ◌<◌, ◌≤◌, List, [], Option, length, IsOk, OnOk, OnErr, take, true, false};
 ghost use Rattle.outside.specs.Held.{Rose, Appended, AppendedFront, AppendedShorter};
-ghost use Rattle.outside.specs.Puts.{PutDownTo, PutUntilFailed};
+ghost use Rattle.outside.specs.Puts.{PutDownTo, PutUntilFailed, Puts};
 
 /// How a put ended.
 #[derive(Clone, Copy, PartialEq, Eq, Debug)]
@@ -63,6 +63,10 @@ pub fn put_all<K: Sink>(out: &mut K, bytes: &[u8]) -> Result<(), WriteFault>
     // Each put is of all that is left, which is not empty: the last one took the last byte, or failed.
     ensures puts { OnOk result (PutDownTo K.is_put out.old bytes.now out.new []) }
     ensures puts_until_failed { OnErr result (PutUntilFailed K.is_put out.old bytes.now out.new) }
+
+    // What a caller says of all its puts.
+    ensures none_failed { OnOk result (Puts K.is_put out.old false out.new) }
+    ensures last_failed { OnErr result (Puts K.is_put out.old true out.new) }
 {
     let mut at = 0usize;
     while at < bytes.len() {
