@@ -10,14 +10,17 @@ use crate::chips::run_of_chip;
 use crate::frames::answers_of_frames;
 use crate::held::{accepted_plan, chip_of, limits_of};
 use crate::lines::count_of;
+use crate::plans::best_bound_of;
 use crate::rig::Rig;
-use crate::searches::found_by;
+use crate::searches::{first_order_of, found_by};
 use crate::sessions::steps_of_session;
+use chart::print_chart;
 use limits_text::print_limits;
 use outside::{NoMemory, copied, extend};
 use plan_model::{Limits, Plan, good_without_limits, is_proper};
 use plan_text::{print_plan, read_plan};
 use soc_model::{Soc, module_at, place_of};
+use std::alloc::Global;
 use tester_vectors::{Outcome, write_vectors};
 
 /// `prints LIMITS` and `prints PLAN`: the limits of LIMITS for the chip of SOC, and the plan of PLAN, printed.
@@ -78,9 +81,20 @@ fn run_under(
     run_of_chip(rig.alloc(), soc, plan, seed)
 }
 
-/// `stream SEED`, `chip SEED`, `search now`, `search ready` and `frames TEST ..`: how the vectors of the plan of PLAN are written
-/// to an output of the rig, the run of the chip under that plan, what a search for an order of its tests finds, and what a table
-/// answers of them in nested frames.
+/// The chart of an accepted plan.
+fn chart_of(alloc: Global, soc: &Soc, limits: &Limits, plan: &Plan) -> Result<Vec<u8>, NoMemory>
+    requires sound { IsSoundChip (soc_value soc.now) }
+    requires limits { IsSoundLimits (soc_value soc.now) (limits_value limits.now) }
+    requires accepted { IsFaultless (soc_value soc.now) (limits_value limits.now) (plan_value plan.now) }
+{
+    good_without_limits();
+    print_chart(alloc, soc, plan)
+}
+
+/// `stream SEED`, `chip SEED`, `chart`, `best`, `order`, `search now`, `search ready` and `frames TEST ..`: how the vectors of the
+/// plan of PLAN are written to an output of the rig, the run of the chip under that plan, its chart, the planner's bound at its
+/// cycles, the first order of its tests, what a search for an order of them finds, and what a table answers of them in nested
+/// frames.
 pub fn under_the_plan(rig: &Rig, kind: &str, words: &str) -> Result<Vec<u8>, NoMemory> {
     let Some(soc) = chip_of(rig) else {
         return copied(rig.alloc(), b"no chip");
@@ -95,6 +109,9 @@ pub fn under_the_plan(rig: &Rig, kind: &str, words: &str) -> Result<Vec<u8>, NoM
     match kind {
         "frames" => answers_of_frames(rig.alloc(), &soc, &limits, &plan, word),
         "search" => found_by(rig.alloc(), &soc, &limits, &plan, word == "now"),
+        "order" => first_order_of(rig.alloc(), &soc, &limits, &plan),
+        "best" => best_bound_of(rig.alloc(), &soc, &limits, &plan),
+        "chart" => chart_of(rig.alloc(), &soc, &limits, &plan),
         "chip" => run_under(rig, &soc, &limits, &plan, count_of(word)),
         _ => written_of(rig, &soc, &limits, &plan, count_of(word)),
     }

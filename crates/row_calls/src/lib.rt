@@ -3,18 +3,25 @@
 #![tactic(auto)]
 
 mod archs;
+mod bus_cases;
 mod calls;
 mod chips;
 mod frames;
 mod held;
 mod lines;
+mod made_chips;
+mod plans;
 mod rig;
 mod searches;
 mod sessions;
 mod texts;
 
 pub use archs::cycles_of_steps;
+pub use bus_cases::answer_to_proof;
 pub use calls::{printed_again, session_of_plan, under_the_plan};
+pub use held::{chip_of, limits_of};
 pub use lines::{RowLine, count_of, line_of, part, word_of};
+pub use made_chips::text_of_made_chip;
+pub use plans::{text_of_lower_time, text_of_planned};
 pub use rig::Rig;
 pub use texts::is_text;

@@ -9,11 +9,11 @@ ghost use Rattle.plan_model.specs.Views.{limits_value, plan_value};
 ghost use Rattle.resource_table.specs.Jobs.{job_value, IsSoundJob};
 ghost use Rattle.schedule_search.specs.Estimates.{CanAsk, IsAtLeastReady, IsAtMostNow, IsEstimate};
 
-use outside::{NoMemory, extend, push, push_number};
+use outside::{NoMemory, copied, extend, push, push_number};
 use plan_model::{Limits, Plan};
 use planner::{JobSource, job_of};
 use resource_table::{Job, Table};
-use schedule_search::{Ahead, Found, Search};
+use schedule_search::{Ahead, Found, Search, first_order};
 use soc_model::Soc;
 use std::alloc::Global;
 
@@ -33,6 +33,15 @@ pub fn job_of_plan(alloc: Global, soc: &Soc, limits: &Limits, plan: &Plan) -> Re
     job_of(alloc, &parts)
 }
 
+/// Appends the places of tests, each behind a space.
+fn push_order(text: &mut Vec<u8>, order: &[usize]) -> Result<(), NoMemory> {
+    for test in order {
+        push(text, b' ')?;
+        push_number(text, *test as u128)?;
+    }
+    Ok(())
+}
+
 /// The cycles of what was found, whether no order takes fewer, and the order, by the places of the tests in the job.
 fn text_of_found(alloc: Global, found: &Found<'_>) -> Result<Vec<u8>, NoMemory> {
     let mut text = Vec::new(alloc);
@@ -43,10 +52,25 @@ fn text_of_found(alloc: Global, found: &Found<'_>) -> Result<Vec<u8>, NoMemory> 
         b" cut off :"
     };
     extend(&mut text, how)?;
-    for test in found.order {
-        push(&mut text, b' ')?;
-        push_number(&mut text, *test as u128)?;
-    }
+    push_order(&mut text, found.order)?;
+    Ok(text)
+}
+
+/// The order with which a search begins, by the places of the tests in the job.
+pub fn first_order_of(
+    alloc: Global,
+    soc: &Soc,
+    limits: &Limits,
+    plan: &Plan,
+) -> Result<Vec<u8>, NoMemory>
+    requires sound { IsSoundChip (soc_value soc.now) }
+    requires limits { IsSoundLimits (soc_value soc.now) (limits_value limits.now) }
+    requires accepted { IsFaultless (soc_value soc.now) (limits_value limits.now) (plan_value plan.now) }
+{
+    let job = job_of_plan(alloc, soc, limits, plan)?;
+    let order = first_order(alloc, &job)?;
+    let mut text = copied(alloc, b":")?;
+    push_order(&mut text, &order)?;
     Ok(text)
 }
 

@@ -5,6 +5,7 @@
 
 mod comparing;
 mod keeping;
+mod proving;
 mod real_files;
 mod report;
 mod rows;

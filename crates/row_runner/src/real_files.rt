@@ -1,5 +1,6 @@
-//! Files of the system: loads of them, and runs of the top calls over them with a file as the output.
-use crate::runs::{ended, run_top_call, words_of};
+//! Files of the system: loads of them, and runs of the commands over them with a file as the output.
+use crate::runs::{ended, words_of};
+use all_commands::run_command;
 use outside::{Loaded, MemSink, NoMemory, RealShelf, RealSink, Shelf, copied, push_number};
 use row_calls::{Rig, count_of, part};
 use std::fs;
@@ -36,7 +37,7 @@ pub fn run_of_real_files<R: Files + AllocGlobal>(rt: &R, words: &str) -> Result<
     let mut shelf = RealShelf::new(rt);
     let mut out = RealSink::new(file);
     let mut progress = MemSink::new(alloc, 0, 1)?;
-    let status = run_top_call(alloc, words.as_slice(), &mut shelf, &mut out, &mut progress);
+    let status = run_command(alloc, words.as_slice(), &mut shelf, &mut out, &mut progress);
     let mut written = Vec::new(alloc);
     match shelf.load("written", u64::MAX, &mut written) {
         Loaded::Whole => ended(alloc, status, &written),

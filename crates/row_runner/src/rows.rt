@@ -2,13 +2,14 @@
 
 use crate::comparing::{are_same, takes_fewer};
 use crate::keeping::keep_lines;
+use crate::proving::text_of_proved;
 use crate::real_files::{hold_data, run_of_real_files, what_a_load_answers};
 use crate::report::RowReport;
 use crate::runs::run_of_command;
 use outside::{Loaded, NoMemory, RealShelf, Shelf, copied};
 use row_calls::{
-    Rig, RowLine, cycles_of_steps, is_text, line_of, part, printed_again, session_of_plan,
-    under_the_plan,
+    Rig, RowLine, answer_to_proof, cycles_of_steps, is_text, line_of, part, printed_again,
+    session_of_plan, text_of_lower_time, text_of_made_chip, text_of_planned, under_the_plan,
 };
 use std::rt::Files;
 
@@ -30,9 +31,16 @@ fn answer_of<R: Files + AllocGlobal>(
         "real" => run_of_real_files(rt, words)?,
         "load" => what_a_load_answers(rt, words)?,
         "prints" => printed_again(rig, words)?,
-        "stream" | "chip" | "search" | "frames" => under_the_plan(rig, kind, words)?,
+        "stream" | "chip" | "chart" | "best" | "order" | "search" | "frames" => {
+            under_the_plan(rig, kind, words)?
+        }
         "session" => session_of_plan(rig, words)?,
         "buses" => cycles_of_steps(rig, words)?,
+        "plan" => text_of_planned(rig, words)?,
+        "lower" => text_of_lower_time(rig, words)?,
+        "made" => text_of_made_chip(rig, words)?,
+        "proof" => answer_to_proof(rig)?,
+        "proved" => text_of_proved(rig, words)?,
         _ => return Ok(None),
     };
     Ok(Some(answer))

@@ -1,13 +1,8 @@
-//! Runs of the top calls over files in memory.
-use bound_checker::check_bound;
-use bound_prover::prove_bound;
-use commands::{Status, TopCall, top_call};
-use outside::{NoMemory, Shelf, Sink, extend, push, push_number};
-use plan_improver::improve;
-use plan_picture::draw;
-use plan_simulator::simulate;
+//! Runs of the commands over files in memory.
+use all_commands::run_command;
+use commands::Status;
+use outside::{NoMemory, extend, push, push_number};
 use row_calls::{Rig, word_of};
-use soctest::soctest;
 use std::alloc::Global;
 
 /// The words of a text, as those of a command line: `""` is an empty one.
@@ -31,31 +26,13 @@ pub fn ended(alloc: Global, status: Status, written: &[u8]) -> Result<Vec<u8>, N
     Ok(answer)
 }
 
-/// Runs the command of these words by the top call that takes them.
-pub fn run_top_call<H: Shelf, K: Sink, T: Sink>(
-    alloc: Global,
-    words: &[String],
-    shelf: &mut H,
-    out: &mut K,
-    progress: &mut T,
-) -> Status {
-    match top_call(words) {
-        TopCall::Improve => improve(alloc, words, shelf, out, progress),
-        TopCall::Picture => draw(alloc, words, shelf, out),
-        TopCall::Simulate => simulate(alloc, words, shelf, out),
-        TopCall::Bound => check_bound(alloc, words, shelf, out),
-        TopCall::Prove => prove_bound(alloc, words, shelf, out, progress),
-        TopCall::Soctest => soctest(alloc, words, shelf, out),
-    }
-}
-
 /// `run WORDS`: the command of the words over the shelf of the rig.
 pub fn run_of_command(rig: &mut Rig, words: &str) -> Result<Vec<u8>, NoMemory> {
     let alloc = rig.alloc();
     let words = words_of(alloc, words)?;
     let mut out = rig.output()?;
     let mut progress = rig.second_output()?;
-    let status = run_top_call(
+    let status = run_command(
         alloc,
         words.as_slice(),
         &mut rig.shelf,

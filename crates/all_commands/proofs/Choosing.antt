@@ -1,0 +1,52 @@
+-- What holds of the top call that is chosen holds of the command.
+use Rattle.std.proofs.Common.{◌≡◌, ℕ, List, Option, None, Some, subst}
+use Rattle.outside.specs.Held.{Files}
+use Rattle.commands.specs.Commands.{CommandValue, Print, Widths, Plan, Check, Chart, Vectors, Sample, Locate, Tree, Split, Shift, Improve, Picture, Simulate, Bound, Prove}
+use Rattle.commands.specs.Procedures.{asked}
+use Rattle.commands.specs.TopCalls.{top_call_of}
+use Rattle.commands.specs.Ends.{MayAnswer, Ends, EndsByWords, Complete, Finishes}
+use Rattle.commands.specs.declared.Status.{Status}
+use Rattle.commands.specs.declared.top_calls.TopCall.{TopCall}
+use Rattle.all_commands.specs.Requests.{procedure_by, requested, fixes_text_by, fixes_text, EndsByCommand}
+
+pub ends_chosen : (by : TopCall) (command : Option CommandValue) → by ≡ top_call_of command → (held : Option Files) (loads_before loads_after puts_before puts_after : ℕ) (old : Option (List ℕ)) (end : Status) (new : Option (List ℕ)) →
+    Ends (MayAnswer (asked (procedure_by by) command) held loads_before loads_after) puts_before puts_after old end new →
+    Ends (MayAnswer (requested command) held loads_before loads_after) puts_before puts_after old end new
+ends_chosen by command same held loads_before loads_after puts_before puts_after old end new ends =
+    subst (λ (b : TopCall). Ends (MayAnswer (asked (procedure_by b) command) held loads_before loads_after) puts_before puts_after old end new) same ends
+
+pub complete_chosen : (by : TopCall) (command : Option CommandValue) → by ≡ top_call_of command → (held : Option Files) (shelf_failed sink_failed : Type 0) (old : Option (List ℕ)) (end : Status) (new : Option (List ℕ)) →
+    Complete (fixes_text_by by command) (asked (procedure_by by) command) held shelf_failed sink_failed old end new →
+    Complete (fixes_text command) (requested command) held shelf_failed sink_failed old end new
+complete_chosen by command same held shelf_failed sink_failed old end new complete =
+    subst (λ (b : TopCall). Complete (fixes_text_by b command) (asked (procedure_by b) command) held shelf_failed sink_failed old end new) same complete
+
+pub finishes_chosen : (by : TopCall) (command : Option CommandValue) → by ≡ top_call_of command → (held : Option Files) (shelf_failed sink_failed : Type 0) (end : Status) →
+    Finishes (asked (procedure_by by) command) held shelf_failed sink_failed end → Finishes (requested command) held shelf_failed sink_failed end
+finishes_chosen by command same held shelf_failed sink_failed end finishes =
+    subst (λ (b : TopCall). Finishes (asked (procedure_by b) command) held shelf_failed sink_failed end) same finishes
+
+-- each command is one of the top call that takes it
+ends_by_command : (command : Option CommandValue) (sink_failed : Type 0) (end : Status) → EndsByWords (requested command) sink_failed end → EndsByCommand command sink_failed end
+ends_by_command None sink_failed end by_words = by_words
+ends_by_command (Some (Print soc)) sink_failed end by_words = by_words
+ends_by_command (Some (Widths soc wires)) sink_failed end by_words = by_words
+ends_by_command (Some (Plan soc limits)) sink_failed end by_words = by_words
+ends_by_command (Some (Check soc limits plan)) sink_failed end by_words = by_words
+ends_by_command (Some (Chart soc limits plan)) sink_failed end by_words = by_words
+ends_by_command (Some (Vectors soc limits plan seed)) sink_failed end by_words = by_words
+ends_by_command (Some (Sample n seed)) sink_failed end by_words = by_words
+ends_by_command (Some (Locate soc limits plan log)) sink_failed end by_words = by_words
+ends_by_command (Some (Tree soc limits tree)) sink_failed end by_words = by_words
+ends_by_command (Some (Split soc limits most)) sink_failed end by_words = by_words
+ends_by_command (Some (Shift soc limits plan program)) sink_failed end by_words = by_words
+ends_by_command (Some (Improve soc limits plan tries seed)) sink_failed end by_words = by_words
+ends_by_command (Some (Picture soc limits plan)) sink_failed end by_words = by_words
+ends_by_command (Some (Simulate soc limits plan seed)) sink_failed end by_words = by_words
+ends_by_command (Some (Bound soc limits proof)) sink_failed end by_words = by_words
+ends_by_command (Some (Prove soc limits plan nodes)) sink_failed end by_words = by_words
+
+pub by_words_chosen : (by : TopCall) (command : Option CommandValue) → by ≡ top_call_of command → (sink_failed : Type 0) (end : Status) →
+    EndsByWords (asked (procedure_by by) command) sink_failed end → EndsByCommand command sink_failed end
+by_words_chosen by command same sink_failed end by_words =
+    ends_by_command command sink_failed end (subst (λ (b : TopCall). EndsByWords (asked (procedure_by b) command) sink_failed end) same by_words)

@@ -1,0 +1,91 @@
+use Rattle.std.proofs.Common.{◌∙◌, map, sym}
+use Rattle.std.specs.Prelude.{string_bytes}
+use Rattle.outside.specs.Held.{Rose}
+use Rattle.commands.specs.Commands.{command_of}
+use Rattle.commands.specs.declared.top_calls.TopCall.TheVariants as top_call
+use Rattle.all_commands.proofs.Choosing.{ends_chosen, complete_chosen, finishes_chosen, by_words_chosen}
+use Rattle.all_commands.proofs.run_command.Goals as goal
+
+pub returns-in-Improve-clause-ends : goal.returns-in-Improve-clause-ends
+returns-in-Improve-clause-ends g c =
+    ends_chosen top_call.Improve (command_of (map string_bytes c.args.words.now)) (sym c.in-Improve.is ∙ c.top_call.ensures) (g.H.Shelf.held c.args.shelf.now) (g.H.Shelf.faults c.args.shelf.now) (g.H.Shelf.faults c.improve.new.shelf) (g.K.Sink.faults c.args.out.now) (g.K.Sink.faults c.improve.new.out) (g.K.Sink.written c.args.out.now) c.improve.result (g.K.Sink.written c.improve.new.out) c.improve.ensures.ends
+
+pub returns-in-Improve-clause-by_words : goal.returns-in-Improve-clause-by_words
+returns-in-Improve-clause-by_words g c =
+    by_words_chosen top_call.Improve (command_of (map string_bytes c.args.words.now)) (sym c.in-Improve.is ∙ c.top_call.ensures) (Rose (g.K.Sink.faults c.args.out.now) (g.K.Sink.faults c.improve.new.out)) c.improve.result c.improve.ensures.by_words
+
+pub returns-in-Improve-clause-complete : goal.returns-in-Improve-clause-complete
+returns-in-Improve-clause-complete g c =
+    complete_chosen top_call.Improve (command_of (map string_bytes c.args.words.now)) (sym c.in-Improve.is ∙ c.top_call.ensures) (g.H.Shelf.held c.args.shelf.now) (Rose (g.H.Shelf.faults c.args.shelf.now) (g.H.Shelf.faults c.improve.new.shelf)) (Rose (g.K.Sink.faults c.args.out.now) (g.K.Sink.faults c.improve.new.out)) (g.K.Sink.written c.args.out.now) c.improve.result (g.K.Sink.written c.improve.new.out) c.improve.ensures.complete
+
+pub returns-in-Improve-clause-finishes : goal.returns-in-Improve-clause-finishes
+returns-in-Improve-clause-finishes g c =
+    finishes_chosen top_call.Improve (command_of (map string_bytes c.args.words.now)) (sym c.in-Improve.is ∙ c.top_call.ensures) (g.H.Shelf.held c.args.shelf.now) (Rose (g.H.Shelf.faults c.args.shelf.now) (g.H.Shelf.faults c.improve.new.shelf)) (Rose (g.K.Sink.faults c.args.out.now) (g.K.Sink.faults c.improve.new.out)) c.improve.result c.improve.ensures.finishes
+
+pub returns-in-Picture-clause-ends : goal.returns-in-Picture-clause-ends
+returns-in-Picture-clause-ends g c =
+    ends_chosen top_call.Picture (command_of (map string_bytes c.args.words.now)) (sym c.in-Picture.is ∙ c.top_call.ensures) (g.H.Shelf.held c.args.shelf.now) (g.H.Shelf.faults c.args.shelf.now) (g.H.Shelf.faults c.draw.new.shelf) (g.K.Sink.faults c.args.out.now) (g.K.Sink.faults c.draw.new.out) (g.K.Sink.written c.args.out.now) c.draw.result (g.K.Sink.written c.draw.new.out) c.draw.ensures.ends
+
+pub returns-in-Picture-clause-by_words : goal.returns-in-Picture-clause-by_words
+returns-in-Picture-clause-by_words g c =
+    by_words_chosen top_call.Picture (command_of (map string_bytes c.args.words.now)) (sym c.in-Picture.is ∙ c.top_call.ensures) (Rose (g.K.Sink.faults c.args.out.now) (g.K.Sink.faults c.draw.new.out)) c.draw.result c.draw.ensures.by_words
+
+pub returns-in-Picture-clause-complete : goal.returns-in-Picture-clause-complete
+returns-in-Picture-clause-complete g c =
+    complete_chosen top_call.Picture (command_of (map string_bytes c.args.words.now)) (sym c.in-Picture.is ∙ c.top_call.ensures) (g.H.Shelf.held c.args.shelf.now) (Rose (g.H.Shelf.faults c.args.shelf.now) (g.H.Shelf.faults c.draw.new.shelf)) (Rose (g.K.Sink.faults c.args.out.now) (g.K.Sink.faults c.draw.new.out)) (g.K.Sink.written c.args.out.now) c.draw.result (g.K.Sink.written c.draw.new.out) c.draw.ensures.complete
+
+pub returns-in-Picture-clause-finishes : goal.returns-in-Picture-clause-finishes
+returns-in-Picture-clause-finishes g c =
+    finishes_chosen top_call.Picture (command_of (map string_bytes c.args.words.now)) (sym c.in-Picture.is ∙ c.top_call.ensures) (g.H.Shelf.held c.args.shelf.now) (Rose (g.H.Shelf.faults c.args.shelf.now) (g.H.Shelf.faults c.draw.new.shelf)) (Rose (g.K.Sink.faults c.args.out.now) (g.K.Sink.faults c.draw.new.out)) c.draw.result c.draw.ensures.finishes
+
+pub returns-in-Simulate-clause-complete : goal.returns-in-Simulate-clause-complete
+returns-in-Simulate-clause-complete g c =
+    complete_chosen top_call.Simulate (command_of (map string_bytes c.args.words.now)) (sym c.in-Simulate.is ∙ c.top_call.ensures) (g.H.Shelf.held c.args.shelf.now) (Rose (g.H.Shelf.faults c.args.shelf.now) (g.H.Shelf.faults c.simulate.new.shelf)) (Rose (g.K.Sink.faults c.args.out.now) (g.K.Sink.faults c.simulate.new.out)) (g.K.Sink.written c.args.out.now) c.simulate.result (g.K.Sink.written c.simulate.new.out) c.simulate.ensures.complete
+
+pub returns-in-Bound-clause-ends : goal.returns-in-Bound-clause-ends
+returns-in-Bound-clause-ends g c =
+    ends_chosen top_call.Bound (command_of (map string_bytes c.args.words.now)) (sym c.in-Bound.is ∙ c.top_call.ensures) (g.H.Shelf.held c.args.shelf.now) (g.H.Shelf.faults c.args.shelf.now) (g.H.Shelf.faults c.check_bound.new.shelf) (g.K.Sink.faults c.args.out.now) (g.K.Sink.faults c.check_bound.new.out) (g.K.Sink.written c.args.out.now) c.check_bound.result (g.K.Sink.written c.check_bound.new.out) c.check_bound.ensures.ends
+
+pub returns-in-Bound-clause-by_words : goal.returns-in-Bound-clause-by_words
+returns-in-Bound-clause-by_words g c =
+    by_words_chosen top_call.Bound (command_of (map string_bytes c.args.words.now)) (sym c.in-Bound.is ∙ c.top_call.ensures) (Rose (g.K.Sink.faults c.args.out.now) (g.K.Sink.faults c.check_bound.new.out)) c.check_bound.result c.check_bound.ensures.by_words
+
+pub returns-in-Bound-clause-complete : goal.returns-in-Bound-clause-complete
+returns-in-Bound-clause-complete g c =
+    complete_chosen top_call.Bound (command_of (map string_bytes c.args.words.now)) (sym c.in-Bound.is ∙ c.top_call.ensures) (g.H.Shelf.held c.args.shelf.now) (Rose (g.H.Shelf.faults c.args.shelf.now) (g.H.Shelf.faults c.check_bound.new.shelf)) (Rose (g.K.Sink.faults c.args.out.now) (g.K.Sink.faults c.check_bound.new.out)) (g.K.Sink.written c.args.out.now) c.check_bound.result (g.K.Sink.written c.check_bound.new.out) c.check_bound.ensures.complete
+
+pub returns-in-Bound-clause-finishes : goal.returns-in-Bound-clause-finishes
+returns-in-Bound-clause-finishes g c =
+    finishes_chosen top_call.Bound (command_of (map string_bytes c.args.words.now)) (sym c.in-Bound.is ∙ c.top_call.ensures) (g.H.Shelf.held c.args.shelf.now) (Rose (g.H.Shelf.faults c.args.shelf.now) (g.H.Shelf.faults c.check_bound.new.shelf)) (Rose (g.K.Sink.faults c.args.out.now) (g.K.Sink.faults c.check_bound.new.out)) c.check_bound.result c.check_bound.ensures.finishes
+
+pub returns-in-Prove-clause-ends : goal.returns-in-Prove-clause-ends
+returns-in-Prove-clause-ends g c =
+    ends_chosen top_call.Prove (command_of (map string_bytes c.args.words.now)) (sym c.in-Prove.is ∙ c.top_call.ensures) (g.H.Shelf.held c.args.shelf.now) (g.H.Shelf.faults c.args.shelf.now) (g.H.Shelf.faults c.prove_bound.new.shelf) (g.K.Sink.faults c.args.out.now) (g.K.Sink.faults c.prove_bound.new.out) (g.K.Sink.written c.args.out.now) c.prove_bound.result (g.K.Sink.written c.prove_bound.new.out) c.prove_bound.ensures.ends
+
+pub returns-in-Prove-clause-by_words : goal.returns-in-Prove-clause-by_words
+returns-in-Prove-clause-by_words g c =
+    by_words_chosen top_call.Prove (command_of (map string_bytes c.args.words.now)) (sym c.in-Prove.is ∙ c.top_call.ensures) (Rose (g.K.Sink.faults c.args.out.now) (g.K.Sink.faults c.prove_bound.new.out)) c.prove_bound.result c.prove_bound.ensures.by_words
+
+pub returns-in-Prove-clause-complete : goal.returns-in-Prove-clause-complete
+returns-in-Prove-clause-complete g c =
+    complete_chosen top_call.Prove (command_of (map string_bytes c.args.words.now)) (sym c.in-Prove.is ∙ c.top_call.ensures) (g.H.Shelf.held c.args.shelf.now) (Rose (g.H.Shelf.faults c.args.shelf.now) (g.H.Shelf.faults c.prove_bound.new.shelf)) (Rose (g.K.Sink.faults c.args.out.now) (g.K.Sink.faults c.prove_bound.new.out)) (g.K.Sink.written c.args.out.now) c.prove_bound.result (g.K.Sink.written c.prove_bound.new.out) c.prove_bound.ensures.complete
+
+pub returns-in-Prove-clause-finishes : goal.returns-in-Prove-clause-finishes
+returns-in-Prove-clause-finishes g c =
+    finishes_chosen top_call.Prove (command_of (map string_bytes c.args.words.now)) (sym c.in-Prove.is ∙ c.top_call.ensures) (g.H.Shelf.held c.args.shelf.now) (Rose (g.H.Shelf.faults c.args.shelf.now) (g.H.Shelf.faults c.prove_bound.new.shelf)) (Rose (g.K.Sink.faults c.args.out.now) (g.K.Sink.faults c.prove_bound.new.out)) c.prove_bound.result c.prove_bound.ensures.finishes
+
+pub returns-in-Soctest-clause-ends : goal.returns-in-Soctest-clause-ends
+returns-in-Soctest-clause-ends g c =
+    ends_chosen top_call.Soctest (command_of (map string_bytes c.args.words.now)) (sym c.in-Soctest.is ∙ c.top_call.ensures) (g.H.Shelf.held c.args.shelf.now) (g.H.Shelf.faults c.args.shelf.now) (g.H.Shelf.faults c.soctest.new.shelf) (g.K.Sink.faults c.args.out.now) (g.K.Sink.faults c.soctest.new.out) (g.K.Sink.written c.args.out.now) c.soctest.result (g.K.Sink.written c.soctest.new.out) c.soctest.ensures.ends
+
+pub returns-in-Soctest-clause-by_words : goal.returns-in-Soctest-clause-by_words
+returns-in-Soctest-clause-by_words g c =
+    by_words_chosen top_call.Soctest (command_of (map string_bytes c.args.words.now)) (sym c.in-Soctest.is ∙ c.top_call.ensures) (Rose (g.K.Sink.faults c.args.out.now) (g.K.Sink.faults c.soctest.new.out)) c.soctest.result c.soctest.ensures.by_words
+
+pub returns-in-Soctest-clause-complete : goal.returns-in-Soctest-clause-complete
+returns-in-Soctest-clause-complete g c =
+    complete_chosen top_call.Soctest (command_of (map string_bytes c.args.words.now)) (sym c.in-Soctest.is ∙ c.top_call.ensures) (g.H.Shelf.held c.args.shelf.now) (Rose (g.H.Shelf.faults c.args.shelf.now) (g.H.Shelf.faults c.soctest.new.shelf)) (Rose (g.K.Sink.faults c.args.out.now) (g.K.Sink.faults c.soctest.new.out)) (g.K.Sink.written c.args.out.now) c.soctest.result (g.K.Sink.written c.soctest.new.out) c.soctest.ensures.complete
+
+pub returns-in-Soctest-clause-finishes : goal.returns-in-Soctest-clause-finishes
+returns-in-Soctest-clause-finishes g c =
+    finishes_chosen top_call.Soctest (command_of (map string_bytes c.args.words.now)) (sym c.in-Soctest.is ∙ c.top_call.ensures) (g.H.Shelf.held c.args.shelf.now) (Rose (g.H.Shelf.faults c.args.shelf.now) (g.H.Shelf.faults c.soctest.new.shelf)) (Rose (g.K.Sink.faults c.args.out.now) (g.K.Sink.faults c.soctest.new.out)) c.soctest.result c.soctest.ensures.finishes
