@@ -9,6 +9,7 @@ ghost use Rattle.commands.specs.Commands.{Prove, command_of as asked_command};
 ghost use Rattle.commands.specs.Procedures.{asked};
 ghost use Rattle.commands.specs.Decides.{Follows, Decides};
 ghost use Rattle.commands.specs.Ends.{IsCommand};
+ghost use Rattle.commands.specs.Loads.{LoadsGive};
 ghost use Rattle.bound_prover.specs.declared.progress.TheConstants.{REPORTED_FROM};
 ghost use Rattle.bound_prover.specs.Proved.{IsProofText};
 ghost use Rattle.bound_prover.specs.Requests.{procedure_of, IsQuiet};
@@ -67,6 +68,8 @@ fn decide_prove<H: Shelf, T: Sink>(
     ensures progress_faults_never_fall { T.faults progress.old ≤ T.faults progress.new }
     ensures follows { Follows (procedure_of (Prove soc.now limits.now plan.now nodes)) (H.held shelf.old) (H.faults shelf.old)
         (H.faults shelf.new) result }
+    ensures by_loads { LoadsGive H.is_load (procedure_of (Prove soc.now limits.now plan.now nodes))
+        shelf.old result shelf.new }
     ensures quiet { nodes < REPORTED_FROM → progress.new ≡ progress.old }
     ensures reported { MayReport nodes (T.written progress.old) (T.written progress.new) }
 {
@@ -88,6 +91,9 @@ pub(crate) fn decide<H: Shelf, T: Sink>(
     ensures progress_faults_never_fall { T.faults progress.old ≤ T.faults progress.new }
     ensures decides { Decides (asked procedure_of (asked_command (map string_bytes words.now))) (H.held shelf.old) (H.faults shelf.old)
         (H.faults shelf.new) result }
+    ensures by_loads { LoadsGive H.is_load
+        (asked procedure_of (asked_command (map string_bytes words.now)))
+        shelf.old result shelf.new }
     ensures untouched { (IsCommand (asked procedure_of (asked_command (map string_bytes words.now))) → ⊥) → shelf.new ≡ shelf.old }
     ensures quiet { IsQuiet (asked_command (map string_bytes words.now)) → progress.new ≡ progress.old }
     ensures reported { MayReportOf (asked_command (map string_bytes words.now)) (T.written progress.old) (T.written progress.new) }
