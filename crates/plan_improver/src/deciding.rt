@@ -12,6 +12,7 @@ ghost use Rattle.commands.specs.Commands.{Improve, command_of as asked_command};
 ghost use Rattle.commands.specs.Procedures.{asked};
 ghost use Rattle.commands.specs.Decides.{Follows, Decides};
 ghost use Rattle.commands.specs.Ends.{IsCommand};
+ghost use Rattle.commands.specs.Loads.{LoadsGive};
 ghost use Rattle.plan_improver.specs.declared.progress.TheConstants.{REPORTED_FROM};
 ghost use Rattle.plan_improver.specs.Improved.{IsImproved};
 ghost use Rattle.plan_improver.specs.Requests.{procedure_of, IsQuiet};
@@ -82,6 +83,8 @@ fn decide_improve<H: Shelf, T: Sink>(
     ensures progress_faults_never_fall { T.faults progress.old ≤ T.faults progress.new }
     ensures follows { Follows (procedure_of (Improve soc.now limits.now plan.now by.tries by.seed)) (H.held shelf.old) (H.faults shelf.old)
         (H.faults shelf.new) result }
+    ensures by_loads { LoadsGive H.is_load (procedure_of (Improve soc.now limits.now plan.now by.tries by.seed))
+        shelf.old result shelf.new }
     ensures quiet { by.tries < REPORTED_FROM → progress.new ≡ progress.old }
     ensures reported { MayReport by.tries (T.written progress.old) (T.written progress.new) }
 {
@@ -106,6 +109,9 @@ pub(crate) fn decide<H: Shelf, T: Sink>(
     ensures progress_faults_never_fall { T.faults progress.old ≤ T.faults progress.new }
     ensures decides { Decides (asked procedure_of (asked_command (map string_bytes words.now))) (H.held shelf.old) (H.faults shelf.old)
         (H.faults shelf.new) result }
+    ensures by_loads { LoadsGive H.is_load
+        (asked procedure_of (asked_command (map string_bytes words.now)))
+        shelf.old result shelf.new }
     ensures untouched { (IsCommand (asked procedure_of (asked_command (map string_bytes words.now))) → ⊥) → shelf.new ≡ shelf.old }
     ensures quiet { IsQuiet (asked_command (map string_bytes words.now)) → progress.new ≡ progress.old }
     ensures reported { MayReportOf (asked_command (map string_bytes words.now)) (T.written progress.old) (T.written progress.new) }

@@ -2,7 +2,8 @@
 ghost use Rattle.std.specs.Prelude.{◌≡◌, ◌≤◌, false, map, string_bytes};
 ghost use Rattle.outside.specs.Held.{Rose};
 ghost use Rattle.commands.specs.Procedures.{asked};
-ghost use Rattle.commands.specs.Ends.{IsCommand, MayAnswer, Ends, OneLine, EndsByWords, Complete, Finishes, SaysBadWords};
+ghost use Rattle.commands.specs.Ends.{IsCommand, MayAnswer, Ends, OneLine, EndsByWords, Complete, Finishes, SaysBadWords, MakesPuts};
+ghost use Rattle.commands.specs.Loads.{EndsByLoads};
 ghost use Rattle.commands.specs.Commands.{command_of};
 ghost use Rattle.plan_improver.specs.Requests.{procedure_of, IsQuiet};
 ghost use Rattle.plan_improver.specs.Headlines.{Headline};
@@ -41,6 +42,13 @@ pub fn improve<H: Shelf, K: Sink, T: Sink>(
     ensures untouched { (IsCommand (asked procedure_of (command_of (map string_bytes words.now))) → ⊥) → shelf.new ≡ shelf.old }
     ensures quiet { IsQuiet (command_of (map string_bytes words.now)) → progress.new ≡ progress.old }
     ensures reported { MayReportOf (command_of (map string_bytes words.now)) (T.written progress.old) (T.written progress.new) }
+
+    // Each file is loaded once and in turn, and the last one decides, also where the shelf tells nothing.
+    ensures by_loads { EndsByLoads H.is_load (asked procedure_of (command_of (map string_bytes words.now)))
+        shelf.old shelf.new (K.faults out.old) (K.faults out.new) (K.written out.old) result (K.written out.new) }
+
+    // No put is empty, and none comes after one that failed.
+    ensures puts { MakesPuts K.is_put out.old result out.new }
 
     // Where the files give an answer and nothing fails, one comes, unless memory runs out. The plan is any improved one.
     ensures complete { Complete false (asked procedure_of (command_of (map string_bytes words.now))) (H.held shelf.old)

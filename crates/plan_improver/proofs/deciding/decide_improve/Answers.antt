@@ -1,11 +1,12 @@
-use Rattle.std.proofs.Common.{◌≡◌, refl}
+use Rattle.std.proofs.Common.{◌≡◌, ℕ, List, None, refl}
 use Rattle.std.proofs.lemmas.Result.{IfOk-weaker}
 use Rattle.soc_model.specs.Chips.{soc_value}
 use Rattle.plan_model.specs.Views.{limits_value, plan_value}
 use Rattle.commands.specs.declared.Status.TheVariants.{Done}
 use Rattle.commands.specs.Procedures.{done_with_any}
-use Rattle.commands.proofs.FileStages.{may_be_done}
+use Rattle.commands.proofs.FileStages.{may_be_done, gives_text}
 use Rattle.commands.proofs.AllFiles.{not_all, after_all}
+use Rattle.commands.proofs.LoadStages.{after_three, stops_all, any_loaded}
 use Rattle.plan_improver.proofs.Answering.{Improved}
 use Rattle.plan_improver.proofs.deciding.decide_improve.Goals as goal
 
@@ -17,3 +18,12 @@ returns-in-Ok-clause-follows g c =
 
 pub returns-in-Err-clause-follows : goal.returns-in-Err-clause-follows
 returns-in-Err-clause-follows g c = not_all _ _ _ (λ chip bounds given. done_with_any (Improved c.args.by.tries chip bounds given)) _ _ _ _ c.in-Err.ensures.loads
+
+pub returns-in-Ok-clause-by_loads : goal.returns-in-Ok-clause-by_loads
+returns-in-Ok-clause-by_loads g c =
+    after_three g.H.Shelf.is_load c.args.soc.now c.args.limits.now c.args.plan.now (λ chip bounds given. done_with_any (Improved c.args.by.tries chip bounds given)) (soc_value c.in-Ok.all.soc) (limits_value c.in-Ok.all.limits) (plan_value c.in-Ok.all.plan) c.args.shelf.now c.load_all.new.shelf c.load_all.new.shelf c.answered_with.result c.in-Ok.ensures.by_loads
+    (any_loaded g.H.Shelf.is_load None (λ (text : List ℕ). Improved c.args.by.tries (soc_value c.in-Ok.all.soc) (limits_value c.in-Ok.all.limits) (plan_value c.in-Ok.all.plan) text) c.answered_with.result c.load_all.new.shelf
+    (gives_text None (λ (text : List ℕ). Improved c.args.by.tries (soc_value c.in-Ok.all.soc) (limits_value c.in-Ok.all.limits) (plan_value c.in-Ok.all.plan) text) c.text_of.result c.answered_with.result refl c.text_of.ensures.text c.answered_with.ensures))
+
+pub returns-in-Err-clause-by_loads : goal.returns-in-Err-clause-by_loads
+returns-in-Err-clause-by_loads g c = stops_all g.H.Shelf.is_load c.args.soc.now c.args.limits.now c.args.plan.now (λ chip bounds given. done_with_any (Improved c.args.by.tries chip bounds given)) c.args.shelf.now c.load_all.new.shelf c.in-Err.verdict c.in-Err.ensures.by_loads
