@@ -9,11 +9,11 @@ use Rattle.arch_search.proofs.search.Search.with_states.Goals as goal
 
 pub invariant_of-search : goal.invariant_of-search
 invariant_of-search c =
-    let all = at_ok c.both-all.result _ _ c.both-all.ensures c.in_ok-setting.ensures.0 in
-    let base = at_ok c.both-base.result _ _ c.both-base.ensures all.0 in
-    let parts = at_ok c.both-parts.result _ _ c.both-parts.ensures all.1 in
-    let lists = at_ok c.both-lists.result _ _ c.both-lists.ensures parts.1 in
-    let states = at_ok (Ok (c.args.best, (c.args.current, c.args.next))) _ (λ (s : State × (State × State)). IsStateOf c.args.problem.now s.0 × (IsStateOf c.args.problem.now s.1.0 × IsStateOf c.args.problem.now s.1.1)) (c.requires.best, (c.requires.current, c.requires.next)) c.in_ok-setting.ensures.1 in
+    let all = at_ok c.both-all.result _ _ c.both-all.ensures.made c.in_ok-setting.ensures.made.0 in
+    let base = at_ok c.both-base.result _ _ c.both-base.ensures.made all.0 in
+    let parts = at_ok c.both-parts.result _ _ c.both-parts.ensures.made all.1 in
+    let lists = at_ok c.both-lists.result _ _ c.both-lists.ensures.made parts.1 in
+    let states = at_ok (Ok (c.args.best, (c.args.current, c.args.next))) _ (λ (s : State × (State × State)). IsStateOf c.args.problem.now s.0 × (IsStateOf c.args.problem.now s.1.0 × IsStateOf c.args.problem.now s.1.1)) (c.requires.best, (c.requires.current, c.requires.next)) c.in_ok-setting.ensures.made.1 in
     is_search c.in_ok-setting.setting c.args.problem.now _ c.in_ok-setting.room c.in_ok-setting.taken.items c.in_ok-setting.less.items c.in_ok-setting.best c.in_ok-setting.current c.in_ok-setting.next
     (at_ok c.new-2.result c.in_ok-setting.setting _ c.new-2.ensures.problem base.0)
     (at_ok c.new-2.result c.in_ok-setting.setting _ c.new-2.ensures.setting base.0)
