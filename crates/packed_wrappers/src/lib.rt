@@ -2,8 +2,8 @@
 //!
 //! A test is shorter where its wrapper's longest part, the scan chains of one wrapper chain, is shorter. `width_table` deals scan chains
 //! longest first. Here they are dealt so, and in equal counts, each followed by exchanges between the longest part and another
-//! one (`dealing`, `exchanges`), within some work for the whole chip. Where that can't help, because an even share of all cells is longer or
-//! the parts are as short as they can be, it isn't tried (`cells`). As in `width_table` the times never grow with the width: at each width a
+//! one (`dealing`, `exchanges`), within some work for the whole chip. Where that can't help, since an even share of all cells is longer or
+//! the parts are as short as they can be, it isn't tried (`cells`). As in `width_table` times never grow with the width: at each width a
 //! wrapper of at most as many chains is taken, the narrower one where it is no longer (`choices`).
 //!
 //! No dealing is kept. A wrapper is dealt again when it is asked for, with the work that was left then, so that it has the lengths
