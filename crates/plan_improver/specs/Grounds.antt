@@ -8,7 +8,7 @@ use Rattle.plan_improver.specs.declared.improving.Grounds.{Grounds}
 -- the wrappers of a chip's modules, and a job of its live tests with their cycles
 pub record AreGrounds (soc : SocValue) (wires : ℕ) (g : Grounds) : Type 0 where
   pub chip : g.packed.soc ≡ soc
-  pub wires : g.packed.wires ≡ wires
+  pub as_wide : g.packed.wires ≡ wires
   pub job : IsSoundJob (job_value g.job)
   pub tests : length (job_value g.job).tests ≡ length (live_tests soc)
   pub problem : IsProblem (job_value g.job) g.problem

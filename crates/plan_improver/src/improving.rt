@@ -194,6 +194,37 @@ fn searched_on<T: Sink>(
     plan
 }
 
+/// A good plan of fewer cycles than the given one, where `tries` tries of a search over a width table of the chip find one.
+fn searched_over<T: Sink>(
+    alloc: Global,
+    known: &Known<'_>,
+    table: &WidthTable<'_>,
+    given: &Plan,
+    tries: u64,
+    seed: u64,
+    progress: &mut T,
+) -> Result<Option<Plan>, NoMemory>
+    requires sound { IsSoundChip (soc_value known.now.soc.now) }
+    requires limits { IsSoundLimits (soc_value known.now.soc.now) (limits_value known.now.limits.now) }
+    requires resolved { IsResolved (soc_value known.now.soc.now) known.now.limits.now known.now.resolved.now }
+    requires chip { table.now.soc ≡ soc_value known.now.soc.now }
+    requires wires { table.now.wires ≡ known.now.limits.now.wires }
+    requires given { IsGood (soc_value known.now.soc.now) (limits_value known.now.limits.now) (plan_value given.now) }
+    ensures good { IfOk result (λ plan. IfSome plan (λ p. IsGood (soc_value known.now.soc.now) (limits_value known.now.limits.now)
+        (plan_value p))) }
+    ensures small_starts { IfOk result (λ plan. IfSome plan (λ p. AreSmallStarts (plan_value p).starts)) }
+    ensures fewer { IfOk result (λ plan. IfSome plan (λ p. p.cycles < given.now.cycles)) }
+    ensures faults_never_fall { T.faults progress.old ≤ T.faults progress.new }
+    ensures quiet { tries < REPORTED_FROM → progress.new ≡ progress.old }
+    ensures reported { MayReport tries (T.written progress.old) (T.written progress.new) }
+{
+    let grounds = grounds_of(alloc, known, table, given)?;
+    let plan = searched_on(alloc, known, &grounds, given, tries, seed, progress);
+    // dropped by a call: the end of the scope would drop each of its parts, and be proved for each
+    drop(grounds);
+    plan
+}
+
 /// A good plan of fewer cycles than the given one, where `tries` tries find one.
 fn searched<T: Sink>(
     alloc: Global,
@@ -220,10 +251,7 @@ fn searched<T: Sink>(
         return Ok(None);
     }
     let table = WidthTable::new(alloc, known.soc, known.limits.wires)?;
-    let grounds = grounds_of(alloc, known, &table, given)?;
-    let plan = searched_on(alloc, known, &grounds, given, tries, seed, progress);
-    // dropped by calls: the end of the scope would drop each of their parts, and be proved for each
-    drop(grounds);
+    let plan = searched_over(alloc, known, &table, given, tries, seed, progress);
     drop(table);
     plan
 }
