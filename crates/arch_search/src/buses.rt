@@ -220,7 +220,7 @@ impl Buses {
         self.loads[slot].saturating_add(times.on(module, width))
     }
 
-    /// Half of the wires of two slots together.
+    /// Half of the wires of two slots together, rounded up.
     pub(crate) fn half_of(&self, one: usize, other: usize) -> u64
         requires buses { AreBuses self.now }
         requires one { one < length self.now.widths.items }
@@ -229,6 +229,6 @@ impl Buses {
     {
         let width = self.width_of(one);
         let other_width = self.width_of(other);
-        width.saturating_add(other_width) / 2
+        width.saturating_add(other_width).div_ceil(2)
     }
 }

@@ -5,24 +5,22 @@ ghost use Rattle.arch_search.specs.States.{AreBuses, AreAlike, AreTimesOn, IsTak
 
 use crate::buses::Buses;
 use crate::dealing::{Taken, deal_modules};
-use crate::draws::{below, coin};
+use crate::draws::Draws;
 use crate::kinds::{ChangeKind, drawn_kind};
 use crate::moves::{merge_buses, move_module};
 use crate::pairs::deal_buses;
 use crate::splits::split_bus;
 use crate::times::Times;
-use rand_xoshiro::Xoshiro256PlusPlus;
 
-/// The first module of a change: any, or by even chance the next one on the late bus, where there is one.
-fn first_module(buses: &Buses, late: Option<usize>, rng: &mut Xoshiro256PlusPlus) -> usize
-    requires { 1 ≤ length buses.now.slots.items }
+/// The first module of a change: a given one, or by even chance the next one on the late bus, where there is one.
+fn first_module(buses: &Buses, any: usize, late: Option<usize>, draws: &mut Draws) -> usize
+    requires { any < length buses.now.slots.items }
     ensures { result < length buses.now.slots.items }
 {
-    let any = below(rng, buses.slots.len());
     let Some(slot) = late else {
         return any;
     };
-    if coin(rng) {
+    if draws.coin() {
         return buses.next_on(any, slot);
     }
     any
@@ -35,7 +33,7 @@ pub(crate) fn change_buses(
     buses: &mut Buses,
     taken: &mut Vec<Taken>,
     late: Option<usize>,
-    rng: &mut Xoshiro256PlusPlus,
+    draws: &mut Draws,
 ) -> bool
     requires buses { AreBuses buses.old }
     requires times { AreTimesOn buses.old times.now }
@@ -48,16 +46,17 @@ pub(crate) fn change_buses(
     if modules == 0 {
         return false;
     }
-    let kind = drawn_kind(rng);
-    let one = first_module(buses, late, rng);
-    let other = below(rng, modules);
+    let kind = drawn_kind(draws);
+    let any = draws.below(modules);
+    let other = draws.below(modules);
+    let one = first_module(buses, any, late, draws);
     let from = buses.slot_of(one);
     let to = buses.slot_of(other);
     match kind {
         ChangeKind::Move => move_module(times, buses, one, to),
         ChangeKind::Merge => merge_buses(times, buses, from, to),
-        ChangeKind::Split => split_bus(times, buses, one, rng),
-        ChangeKind::DealModules => deal_modules(times, buses, taken, one, rng),
-        ChangeKind::DealBuses => deal_buses(times, buses, from, to, rng),
+        ChangeKind::Split => split_bus(times, buses, one, draws),
+        ChangeKind::DealModules => deal_modules(times, buses, taken, one, draws),
+        ChangeKind::DealBuses => deal_buses(times, buses, from, to, draws),
     }
 }

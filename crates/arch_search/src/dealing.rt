@@ -4,9 +4,8 @@ ghost use Rattle.std.specs.List.{All};
 ghost use Rattle.arch_search.specs.States.{AreBuses, AreAlike, AreTimesOn, IsTaken};
 
 use crate::buses::Buses;
-use crate::draws::{below, often};
+use crate::draws::Draws;
 use crate::times::Times;
-use rand_xoshiro::Xoshiro256PlusPlus;
 
 /// The most modules that are dealt again at once.
 pub(crate) const DEALT_MOST: usize = 4;
@@ -66,7 +65,7 @@ fn take_all(
     taken: &mut Vec<Taken>,
     count: usize,
     first: usize,
-    rng: &mut Xoshiro256PlusPlus,
+    draws: &mut Draws,
 )
     requires buses { AreBuses buses.old }
     requires times { AreTimesOn buses.old times.now }
@@ -83,13 +82,13 @@ fn take_all(
     for place in 0..count {
         let module = next_free(&taken[..place], any, modules);
         taken[place] = take_off(times, buses, module);
-        any = below(rng, modules);
+        any = draws.below(modules);
     }
 }
 
 /// A slot with wires for a module: the first one, or a later one in its place where that would end earlier, three times in
 /// four.
-fn chosen_slot(times: &Times, buses: &Buses, module: usize, rng: &mut Xoshiro256PlusPlus) -> usize
+fn chosen_slot(times: &Times, buses: &Buses, module: usize, draws: &mut Draws) -> usize
     requires buses { AreBuses buses.now }
     requires times { AreTimesOn buses.now times.now }
     requires there { «module» < length buses.now.slots.items }
@@ -100,7 +99,7 @@ fn chosen_slot(times: &Times, buses: &Buses, module: usize, rng: &mut Xoshiro256
     for slot in 0..buses.widths.len() {
         if buses.widths[slot] > 0 {
             let end = buses.end_with(times, module, slot);
-            if end < least && (least == u64::MAX || often(rng)) {
+            if end < least && (least == u64::MAX || draws.often()) {
                 chosen = slot;
                 least = end;
             }
@@ -110,14 +109,14 @@ fn chosen_slot(times: &Times, buses: &Buses, module: usize, rng: &mut Xoshiro256
 }
 
 /// Deals a module that was taken off. Whether it is on another bus than before.
-fn deal_again(times: &Times, buses: &mut Buses, one: Taken, rng: &mut Xoshiro256PlusPlus) -> bool
+fn deal_again(times: &Times, buses: &mut Buses, one: Taken, draws: &mut Draws) -> bool
     requires buses { AreBuses buses.old }
     requires times { AreTimesOn buses.old times.now }
     requires taken { IsTaken (length buses.old.widths.items) (length buses.old.slots.items) one }
     ensures buses { AreBuses buses.new }
     ensures alike { AreAlike buses.old buses.new }
 {
-    let slot = chosen_slot(times, buses, one.module, rng);
+    let slot = chosen_slot(times, buses, one.module, draws);
     let end = buses.end_with(times, one.module, slot);
     buses.put(one.module, slot);
     buses.set_load(slot, end);
@@ -130,7 +129,7 @@ fn deal_all(
     buses: &mut Buses,
     taken: &[Taken],
     count: usize,
-    rng: &mut Xoshiro256PlusPlus,
+    draws: &mut Draws,
 ) -> bool
     requires buses { AreBuses buses.old }
     requires times { AreTimesOn buses.old times.now }
@@ -141,16 +140,15 @@ fn deal_all(
 {
     let mut changed = false;
     for place in 0..count {
-        if deal_again(times, buses, taken[place], rng) {
+        if deal_again(times, buses, taken[place], draws) {
             changed = true;
         }
     }
     changed
 }
 
-/// Makes the loads those of the modules on the buses again, and hands the wires of slots that are left without modules on to
-/// the slot of the greatest load.
-fn settle_loads(times: &Times, buses: &mut Buses, taken: &[Taken], count: usize)
+/// Hands the wires of slots that are left without modules on to the slot of the greatest load.
+fn release_left(times: &Times, buses: &mut Buses, taken: &[Taken], count: usize)
     requires buses { AreBuses buses.old }
     requires times { AreTimesOn buses.old times.now }
     requires count { count ≤ length taken.now }
@@ -158,11 +156,6 @@ fn settle_loads(times: &Times, buses: &mut Buses, taken: &[Taken], count: usize)
     ensures buses { AreBuses buses.new }
     ensures alike { AreAlike buses.old buses.new }
 {
-    for place in 0..count {
-        let slot = buses.slot_of(taken[place].module);
-        buses.reload(times, taken[place].from);
-        buses.reload(times, slot);
-    }
     for place in 0..count {
         if let Some(fullest) = buses.fullest() {
             buses.release(times, taken[place].from, fullest);
@@ -177,7 +170,7 @@ pub(crate) fn deal_modules(
     buses: &mut Buses,
     taken: &mut Vec<Taken>,
     first: usize,
-    rng: &mut Xoshiro256PlusPlus,
+    draws: &mut Draws,
 ) -> bool
     requires buses { AreBuses buses.old }
     requires times { AreTimesOn buses.old times.now }
@@ -187,9 +180,11 @@ pub(crate) fn deal_modules(
     ensures alike { AreAlike buses.old buses.new }
     ensures taken { All (IsTaken (length buses.old.widths.items) (length buses.old.slots.items)) taken.new.items }
 {
-    let count = (2 + below(rng, DEALT_MOST - 1)).min(taken.len());
-    take_all(times, buses, taken, count, first, rng);
-    let changed = deal_all(times, buses, taken, count, rng);
-    settle_loads(times, buses, taken, count);
-    changed
+    let count = (2 + draws.below(DEALT_MOST - 1)).min(taken.len());
+    take_all(times, buses, taken, count, first, draws);
+    if !deal_all(times, buses, taken, count, draws) {
+        return false;
+    }
+    release_left(times, buses, taken, count);
+    true
 }

@@ -2,8 +2,7 @@
 ghost use Rattle.std.specs.Prelude.{◌≤◌};
 ghost use Rattle.arch_search.specs.Kinds.{HasEachKind};
 
-use crate::draws::below;
-use rand_xoshiro::Xoshiro256PlusPlus;
+use crate::draws::Draws;
 
 /// What is changed. Two modules are drawn for it, a first one and a second one.
 #[derive(Clone, Copy)]
@@ -69,9 +68,9 @@ fn all_weights(kinds: &[Weighted]) -> usize
 }
 
 /// A kind that is drawn, each by its weight.
-pub(crate) fn drawn_kind(rng: &mut Xoshiro256PlusPlus) -> ChangeKind {
+pub(crate) fn drawn_kind(draws: &mut Draws) -> ChangeKind {
     let kinds = table();
-    let mut left = below(rng, all_weights(&kinds));
+    let mut left = draws.below(all_weights(&kinds));
     for one in kinds {
         if left < one.weight {
             return one.kind;

@@ -1,6 +1,6 @@
 //! Searches for an architecture of fixed buses whose scheduled tests end early: buses, and an order of the tests, are
-//! changed at random, and each change is weighed by the schedule that comes of it. The cycles of a test come from the width
-//! table.
+//! changed at random, and each change is weighed by the schedule that comes of it. The cycles of a test are those
+//! in packed wrappers.
 //!
 //! The search owes nothing of what it finds: whoever makes a plan of it checks that plan. Times are in cycles, widths in
 //! wires; modules, tests and buses go by their places.
@@ -13,12 +13,12 @@ mod dealing;
 mod draws;
 mod kinds;
 mod moves;
-mod opening;
 mod order;
 mod pairs;
 mod problem;
 mod repair;
 mod room;
+mod rounds;
 mod scheduling;
 mod search;
 mod setting;

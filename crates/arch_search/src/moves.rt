@@ -26,7 +26,7 @@ pub(crate) fn move_module(times: &Times, buses: &mut Buses, module: usize, to: u
 }
 
 /// Puts all modules of one slot on the bus of another.
-fn put_all(buses: &mut Buses, from: usize, to: usize)
+pub(crate) fn put_all(buses: &mut Buses, from: usize, to: usize)
     requires buses { AreBuses buses.old }
     requires to { to < length buses.old.widths.items }
     ensures buses { AreBuses buses.new }

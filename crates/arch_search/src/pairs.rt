@@ -3,9 +3,8 @@ ghost use Rattle.std.specs.Prelude.{◌<◌, length};
 ghost use Rattle.arch_search.specs.States.{AreBuses, AreAlike, AreTimesOn};
 
 use crate::buses::Buses;
-use crate::draws::{below, coin, often};
+use crate::draws::Draws;
 use crate::times::Times;
-use rand_xoshiro::Xoshiro256PlusPlus;
 
 /// How many modules are on two buses.
 fn count_on(buses: &Buses, one: usize, other: usize) -> usize {
@@ -16,8 +15,22 @@ fn count_on(buses: &Buses, one: usize, other: usize) -> usize {
         .count()
 }
 
-/// Deals the wires of two buses again, so that each has one at least.
-fn deal_wires(buses: &mut Buses, one: usize, other: usize, rng: &mut Xoshiro256PlusPlus)
+/// The wires that the first of two buses gets: by even chance those that it has, else any number that leaves one to each.
+fn drawn_width(buses: &Buses, one: usize, other: usize, draws: &mut Draws) -> u64
+    requires buses { AreBuses buses.now }
+    requires one { one < length buses.now.widths.items }
+    requires other { other < length buses.now.widths.items }
+{
+    let width = buses.width_of(one);
+    let both = width.saturating_add(buses.width_of(other));
+    if draws.coin() || both < 2 {
+        return width;
+    }
+    1 + draws.below(both as usize - 1) as u64
+}
+
+/// Gives the first of two buses so many of their wires, and the other one the rest.
+fn share_wires(buses: &mut Buses, one: usize, other: usize, width: u64)
     requires buses { AreBuses buses.old }
     requires one { one < length buses.old.widths.items }
     requires other { other < length buses.old.widths.items }
@@ -26,11 +39,9 @@ fn deal_wires(buses: &mut Buses, one: usize, other: usize, rng: &mut Xoshiro256P
 {
     buses.hand_on(other, one);
     let both = buses.widths[one];
-    if both < 2 {
-        return;
+    if width < both {
+        buses.move_wires(one, other, both - width);
     }
-    let wires = 1 + below(rng, both as usize - 1) as u64;
-    buses.move_wires(one, other, wires);
 }
 
 /// Deals a module of two buses: it goes to the one that would end earlier with it, three times in four, else to the other.
@@ -40,7 +51,7 @@ fn deal_module(
     module: usize,
     one: usize,
     other: usize,
-    rng: &mut Xoshiro256PlusPlus,
+    draws: &mut Draws,
 )
     requires buses { AreBuses buses.old }
     requires times { AreTimesOn buses.old times.now }
@@ -52,7 +63,7 @@ fn deal_module(
 {
     let end = buses.end_with(times, module, one);
     let other_end = buses.end_with(times, module, other);
-    if (end <= other_end) == often(rng) {
+    if (end <= other_end) == draws.often() {
         buses.put(module, one);
         buses.set_load(one, end);
     } else {
@@ -62,13 +73,7 @@ fn deal_module(
 }
 
 /// Deals the modules of two buses again, those of the most cycles first.
-fn deal_modules_of(
-    times: &Times,
-    buses: &mut Buses,
-    one: usize,
-    other: usize,
-    rng: &mut Xoshiro256PlusPlus,
-)
+fn deal_modules_of(times: &Times, buses: &mut Buses, one: usize, other: usize, draws: &mut Draws)
     requires buses { AreBuses buses.old }
     requires times { AreTimesOn buses.old times.now }
     requires one { one < length buses.old.widths.items }
@@ -82,7 +87,7 @@ fn deal_modules_of(
     for module in times.ranked(half) {
         let slot = buses.slot_of(*module);
         if slot == one || slot == other {
-            deal_module(times, buses, *module, one, other, rng);
+            deal_module(times, buses, *module, one, other, draws);
         }
     }
 }
@@ -94,7 +99,7 @@ pub(crate) fn deal_buses(
     buses: &mut Buses,
     one: usize,
     other: usize,
-    rng: &mut Xoshiro256PlusPlus,
+    draws: &mut Draws,
 ) -> bool
     requires buses { AreBuses buses.old }
     requires times { AreTimesOn buses.old times.now }
@@ -103,13 +108,15 @@ pub(crate) fn deal_buses(
     ensures buses { AreBuses buses.new }
     ensures alike { AreAlike buses.old buses.new }
 {
-    if one == other || count_on(buses, one, other) < 3 {
+    if one == other {
         return false;
     }
-    if coin(rng) {
-        deal_wires(buses, one, other, rng);
+    let width = drawn_width(buses, one, other, draws);
+    if count_on(buses, one, other) < 3 {
+        return false;
     }
-    deal_modules_of(times, buses, one, other, rng);
+    share_wires(buses, one, other, width);
+    deal_modules_of(times, buses, one, other, draws);
     buses.release(times, one, other);
     buses.release(times, other, one);
     true

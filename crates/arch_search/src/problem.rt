@@ -1,17 +1,18 @@
 //! What a search goes by: which module each test is of, its cycles on each width, and what precedes it.
-ghost use Rattle.std.specs.Prelude.{◌≡◌, ℕ, ◌+◌, ◌<◌, ◌≤◌, length, slice_get, Some, true, IsTrue, IfOk, OnOk, IfSome, if◌then◌else◌};
+ghost use Rattle.std.specs.Prelude.{◌≡◌, ℕ, ◌+◌, ◌<◌, ◌≤◌, length, IfOk, OnOk, IfSome, if◌then◌else◌};
 ghost use Rattle.std.specs.List.{All, filter};
-ghost use Rattle.soc_model.specs.Chips.{soc_value, module_value, is_live, live_tests};
+ghost use Rattle.plan_model.specs.declared.TheConstants.{WIRES_MOST};
+ghost use Rattle.soc_model.specs.Chips.{soc_value, is_live, live_tests};
 ghost use Rattle.resource_table.specs.Jobs.{job_value, IsSoundJob};
 ghost use Rattle.arch_search.specs.Problems.{IsTimed, IsProblem};
 
 use crate::scheduling::zeros;
 use live_tests::Neighbours;
 use outside::{NoMemory, push};
+use packed_wrappers::PackedWrappers;
 use resource_table::{Job, all_before};
-use soc_model::{Module, Soc, Test, TestId, live, module_at};
+use soc_model::{Module, Soc, Test, TestId, has_tam_test, live, module_at};
 use std::alloc::Global;
-use width_table::WidthTable;
 
 /// A live test.
 #[derive(Drop)]
@@ -45,54 +46,68 @@ fn own_cycles(alloc: Global, test: &Test, wires: u64) -> Result<Vec<u64>, NoMemo
     Ok(vec![in alloc; test.patterns; wires as usize + 1]?)
 }
 
-/// The cycles of a live test over the wires on each width, in the wrapper that the width table gives there.
+/// The cycles of a test of `patterns` patterns over the wires, where the longest paths of its wrapper have these lengths.
+fn cycles_of(setup: u64, lengths: (u64, u64), patterns: u64) -> u64 {
+    let longer = lengths.0.max(lengths.1);
+    let shorter = lengths.0.min(lengths.1);
+    let shifts = longer.saturating_add(1).saturating_mul(patterns);
+    setup.saturating_add(shifts).saturating_add(shorter)
+}
+
+/// The cycles of a test over the wires on each width, in the wrapper that is taken there.
 fn wire_cycles(
     alloc: Global,
-    table: &WidthTable,
+    packed: &PackedWrappers,
+    wires: u64,
     place: usize,
+    module: &Module,
     test: &Test,
 ) -> Result<Vec<u64>, NoMemory>
-    requires place { place < length table.now.soc.modules }
-    requires there { IfSome (slice_get table.now.soc.modules place) (λ m. (k : ℕ) × (slice_get m.tests k ≡ Some test.now)) }
-    requires is_live { is_live test.now ≡ true }
-    requires tam { IsTrue test.now.tam }
-    ensures { IfOk result (λ row. length row.items ≡ table.now.wires + 1) }
+    requires { wires ≤ 256 }
+    ensures { IfOk result (λ row. length row.items ≡ wires + 1) }
 {
-    let wires = table.wires();
     let mut row = zeros(alloc, wires as usize + 1)?;
     for width in 1..wires + 1 {
-        row[width as usize] = table.cycles(place, test, width);
+        let lengths = packed.lengths(place, test.scan, width);
+        row[width as usize] = cycles_of(module.setup, lengths, test.patterns);
     }
     Ok(row)
 }
 
-/// A live test of the module at a place of the chip, and among those with tests over the wires.
+/// The places of a module.
+#[derive(Clone, Copy, Drop)]
+struct Standing {
+    /// Its place in the chip.
+    place: usize,
+    /// Its place among the modules with tests over the wires; None where it has none.
+    number: Option<usize>,
+}
+
+/// A live test of a module.
 fn times_of(
     alloc: Global,
-    table: &WidthTable,
-    place: usize,
-    number: Option<usize>,
+    packed: &PackedWrappers,
+    wires: u64,
+    stands: Standing,
     module: &Module,
     test: &Test,
 ) -> Result<TestTimes, NoMemory>
-    requires module_there { slice_get table.now.soc.modules place ≡ Some (module_value «module».now) }
-    requires test_there { (k : ℕ) × (slice_get «module».now.tests.items k ≡ Some test.now) }
-    requires is_live { is_live test.now ≡ true }
-    ensures { (modules : ℕ) → IfSome number (λ m. m < modules) → IfOk result (IsTimed table.now.wires modules) }
+    requires { wires ≤ 256 }
+    ensures { (modules : ℕ) → IfSome stands.number (λ m. m < modules) → IfOk result (IsTimed wires modules) }
 {
     let id = TestId {
         module: module.number,
         test: test.number,
     };
     if test.tam {
-        let cycles = wire_cycles(alloc, table, place, test)?;
+        let cycles = wire_cycles(alloc, packed, wires, stands.place, module, test)?;
         return Ok(TestTimes {
             id,
-            module: number,
+            module: stands.number,
             cycles,
         });
     }
-    let cycles = own_cycles(alloc, test, table.wires())?;
+    let cycles = own_cycles(alloc, test, wires)?;
     Ok(TestTimes {
         id,
         module: None,
@@ -100,61 +115,54 @@ fn times_of(
     })
 }
 
-/// Adds a test of the module at a place, where it is live.
+/// Adds a test of a module, where it is live.
 fn push_test(
     alloc: Global,
     tests: &mut Vec<TestTimes>,
-    table: &WidthTable,
-    place: usize,
-    number: Option<usize>,
+    packed: &PackedWrappers,
+    wires: u64,
+    stands: Standing,
     module: &Module,
     test: &Test,
 ) -> Result<(), NoMemory>
-    requires module_there { slice_get table.now.soc.modules place ≡ Some (module_value «module».now) }
-    requires test_there { (k : ℕ) × (slice_get «module».now.tests.items k ≡ Some test.now) }
-    ensures timed { (modules : ℕ) → IfSome number (λ m. m < modules) → All (IsTimed table.now.wires modules) tests.old.items →
-        OnOk result (All (IsTimed table.now.wires modules) tests.new.items) }
+    requires { wires ≤ 256 }
+    ensures timed { (modules : ℕ) → IfSome stands.number (λ m. m < modules) → All (IsTimed wires modules) tests.old.items →
+        OnOk result (All (IsTimed wires modules) tests.new.items) }
     ensures count { OnOk result (length tests.new.items ≡ length tests.old.items + (if is_live test.now then 1 else 0)) }
 {
     if !live(test) {
         return Ok(());
     }
-    let times = times_of(alloc, table, place, number, module, test)?;
+    let times = times_of(alloc, packed, wires, stands, module, test)?;
     push(tests, times)
 }
 
-/// Adds the live tests of the module at a place.
+/// Adds the live tests of a module.
 fn push_tests(
     alloc: Global,
     tests: &mut Vec<TestTimes>,
-    table: &WidthTable,
-    place: usize,
-    number: Option<usize>,
+    packed: &PackedWrappers,
+    wires: u64,
+    stands: Standing,
     module: &Module,
 ) -> Result<(), NoMemory>
-    requires module_there { slice_get table.now.soc.modules place ≡ Some (module_value «module».now) }
-    ensures timed { (modules : ℕ) → IfSome number (λ m. m < modules) → All (IsTimed table.now.wires modules) tests.old.items →
-        OnOk result (All (IsTimed table.now.wires modules) tests.new.items) }
+    requires { wires ≤ 256 }
+    ensures timed { (modules : ℕ) → IfSome stands.number (λ m. m < modules) → All (IsTimed wires modules) tests.old.items →
+        OnOk result (All (IsTimed wires modules) tests.new.items) }
     ensures count { OnOk result (length tests.new.items ≡ length tests.old.items + length (filter is_live «module».now.tests.items)) }
 {
     for test in &module.tests {
-        push_test(alloc, tests, table, place, number, module, test)?;
+        push_test(alloc, tests, packed, wires, stands, module, test)?;
     }
     Ok(())
 }
 
-/// Adds the module at a place, where it has tests over the wires, and answers its place among those.
-fn push_module(
-    modules: &mut Vec<u64>,
-    table: &WidthTable,
-    place: usize,
-    module: &Module,
-) -> Result<Option<usize>, NoMemory>
-    requires { place < length table.now.soc.modules }
+/// Adds a module, where it has tests over the wires, and answers its place among those.
+fn push_module(modules: &mut Vec<u64>, module: &Module) -> Result<Option<usize>, NoMemory>
     ensures number { IfOk result (λ number. IfSome number (λ m. m < length modules.new.items)) }
     ensures more { OnOk result (length modules.old.items ≤ length modules.new.items) }
 {
-    if !table.has_tam_test(place) {
+    if !has_tam_test(module) {
         return Ok(None);
     }
     let number = modules.len();
@@ -163,24 +171,32 @@ fn push_module(
 }
 
 impl Problem {
-    /// What a search for the tests of a job goes by, which are the live tests of the chip of a width table. `NoMemory` where
-    /// there is none.
-    pub fn new(alloc: Global, soc: &Soc, table: &WidthTable, job: &Job) -> Result<Problem, NoMemory>
-        requires chip { table.now.soc ≡ soc_value soc.now }
+    /// What a search for the tests of a job goes by, which are the live tests of a chip, on up to `wires` wires in packed wrappers.
+    /// `NoMemory` where there is none.
+    pub fn new(
+        alloc: Global,
+        soc: &Soc,
+        packed: &PackedWrappers,
+        wires: u64,
+        job: &Job,
+    ) -> Result<Problem, NoMemory>
+        requires some { 1 ≤ wires }
+        requires few { wires ≤ WIRES_MOST }
         requires job { IsSoundJob (job_value job.now) }
         requires tests { length (job_value job.now).tests ≡ length (live_tests (soc_value soc.now)) }
         ensures { IfOk result (IsProblem (job_value job.now)) }
     {
         let mut modules = Vec::new(alloc);
         let mut tests = Vec::new(alloc);
-        for place in 0..table.places() {
+        for place in 0..soc.modules.len() {
             let module = module_at(soc, place);
-            let number = push_module(&mut modules, table, place, module)?;
-            push_tests(alloc, &mut tests, table, place, number, module)?;
+            let number = push_module(&mut modules, module)?;
+            let stands = Standing { place, number };
+            push_tests(alloc, &mut tests, packed, wires, stands, module)?;
         }
         let before = all_before(alloc, job.tests.len(), &job.before)?;
         Ok(Problem {
-            wires: table.wires() as usize,
+            wires: wires as usize,
             modules,
             tests,
             before,

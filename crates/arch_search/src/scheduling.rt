@@ -25,50 +25,6 @@ pub(crate) fn zeros(alloc: Global, count: usize) -> Result<Vec<u64>, NoMemory>
     Ok(vec![in alloc; 0; count]?)
 }
 
-/// When a schedule ends.
-#[derive(Clone, Copy, Drop)]
-pub(crate) struct Ends {
-    /// The end of the test that ends last.
-    pub(crate) cycles: u64,
-    /// The slot of the first test over the wires that ends last.
-    pub(crate) late: Option<usize>,
-    /// Where that test ends.
-    late_end: u64,
-}
-
-impl Ends {
-    /// Without tests.
-    fn none() -> Ends {
-        Ends {
-            cycles: 0,
-            late: None,
-            late_end: 0,
-        }
-    }
-
-    /// All tests end by a cycle, those over the bus of a slot last.
-    pub(crate) fn at(cycles: u64, late: Option<usize>) -> Ends {
-        Ends {
-            cycles,
-            late,
-            late_end: cycles,
-        }
-    }
-
-    /// With one more test, over the bus of a slot or a self test.
-    fn with(self, end: u64, slot: Option<usize>) -> Ends {
-        let cycles = self.cycles.max(end);
-        if slot.is_some() && self.late_end < end {
-            return Ends {
-                cycles,
-                late: slot,
-                late_end: end,
-            };
-        }
-        Ends { cycles, ..self }
-    }
-}
-
 /// The slot of a test's bus; None for a self test.
 fn slot_for(test: &TestTimes, buses: &Buses) -> Option<usize>
     requires buses { AreBuses buses.now }
@@ -212,16 +168,16 @@ fn place_next<J>(
     Some(start)
 }
 
-/// Places the tests of an order, each at the least start at which it fits, and answers when they end. Else the place in the order of
-/// the first one that comes before a test that precedes it, or with which a chain of precedences begins that ends after `most`
-/// cycles.
+/// Places the tests of an order, each at the least start at which it fits, and answers where the last one ends. Else the place in
+/// the order of the first one that comes before a test that precedes it, or with which a chain of precedences begins that ends after
+/// `most` cycles.
 fn place_all<J>(
     table: &mut TableOf<J>,
     before: &[Neighbours],
     order: &[usize],
     room: &mut Room,
     most: u64,
-) -> Result<Ends, usize>
+) -> Result<u64, usize>
     requires order { All (λ test. test < length table.old.job.tests) order.now }
     requires before { AreListed table.old.job (map listed before.now) }
     requires list { IsListSchedule table.old.job table.old.placed }
@@ -233,7 +189,7 @@ fn place_all<J>(
     ensures room { HasRoom (length table.old.job.tests) room.new }
     ensures cycles { room.new.cycles ≡ room.old.cycles }
 {
-    let mut ends = Ends::none();
+    let mut end: u64 = 0;
     for place in 0..order.len() {
         let test = order[place];
         let cycles = room.cycles[test];
@@ -242,9 +198,23 @@ fn place_all<J>(
             return Err(place);
         };
         room.starts[test] = start;
-        ends = ends.with(start + cycles, room.slots[test]);
+        end = end.max(start + cycles);
     }
-    Ok(ends)
+    Ok(end)
+}
+
+/// The slot of the late bus: that of the first test over the wires that ends at a cycle. None where there is no such test.
+pub(crate) fn late_bus(problem: &Problem, room: &Room, end: u64) -> Option<usize>
+    requires { HasRoomFor problem.now room.now }
+{
+    for test in 0..problem.tests.len() {
+        if room.slots[test].is_some()
+            && room.starts[test].saturating_add(room.cycles[test]) == end
+        {
+            return room.slots[test];
+        }
+    }
+    None
 }
 
 /// Places the tests of an order in the emptied table.
@@ -254,7 +224,7 @@ pub(crate) fn place_order<J>(
     order: &[usize],
     room: &mut Room,
     most: u64,
-) -> Result<Ends, usize>
+) -> Result<u64, usize>
     requires problem { IsProblem table.old.job problem.now }
     requires sound { IsSoundTable table.old }
     requires order { All (λ test. test < length problem.now.tests.items) order.now }

@@ -8,12 +8,12 @@ ghost use Rattle.arch_search.specs.States.{IsTaken};
 
 use crate::changes::change_buses;
 use crate::dealing::{DEALT_MOST, Taken};
-use crate::draws::coin;
-use crate::opening::{deal_to_equal, opening_count};
-use crate::order::change_order;
+use crate::draws::Draws;
+use crate::order::{change_order, reorder_tests};
 use crate::problem::Problem;
 use crate::repair::fits;
 use crate::room::Room;
+use crate::rounds::{NextTry, Rounds, drawn_most};
 use crate::scheduling::zeros;
 use crate::setting::SearchSetting;
 use crate::state::{State, first_state};
@@ -21,20 +21,18 @@ use crate::weighing::{schedule_state, weigh_state};
 use live_tests::LiveTests;
 use outside::{NoMemory, both};
 use plan_model::Plan;
-use rand_core::SeedableRng;
-use rand_xoshiro::Xoshiro256PlusPlus;
 use resource_table::{Job, OwnTable};
 use std::alloc::Global;
 use std::marker::Model;
 use std::mem;
 
-/// After this many tries without a new best state the search goes on from another one.
-const PATIENCE: u64 = 1_000;
-/// How many changes are made at once then.
+/// How many changes a kick makes.
 const KICK: usize = 4;
 /// They are made from the current state, where that takes at most one part in `NEAR` more cycles than the best one, else from
 /// the best one.
 const NEAR: u64 = 64;
+/// In a round, of a hundred changes this many are of the order of the tests alone, where that tells.
+const ORDER: usize = 12;
 
 /// A search for an architecture of fixed buses, and an order of the tests, whose schedule ends early. Its model is the cycles
 /// of the best state so far, which never rise.
@@ -51,17 +49,15 @@ pub struct Search<'a> {
     /// Room for the loads on one wire less.
     less: Vec<u64>,
     /// Where the draws come from.
-    rng: Xoshiro256PlusPlus,
+    draws: Draws,
     /// The state of the fewest cycles so far.
     best: State,
     /// The state that the next one comes from.
     current: State,
     /// Room for the next one.
     next: State,
-    /// The tries since the best state was found, or since the last kick.
-    since: u64,
-    /// The buses of the opening; none where there is none, or it is over.
-    opening: usize,
+    /// How far it is.
+    rounds: Rounds,
 }
 
 impl<'a> Model for Search<'a> {
@@ -158,19 +154,17 @@ impl<'a> Search<'a> {
             all,
             Ok((best, (current, next))),
         )?;
-        let opening = opening_count(problem.wires, problem.modules.len());
         let mut search = Search {
             setting,
             table,
             room,
             taken,
             less,
-            rng: Xoshiro256PlusPlus::seed_from_u64(seed),
+            draws: Draws::new(seed),
             best,
             current,
             next,
-            since: 0,
-            opening,
+            rounds: Rounds::new(problem.tests.len()),
         };
         search.begin();
         Ok(search)
@@ -181,55 +175,94 @@ impl<'a> Search<'a> {
         ensures { self.new ≤ self.old }
     {
         self.next.buses.reload_all(&self.setting.times);
-        self.weigh_next(u64::MAX);
+        self.weigh_next(u64::MAX, true);
     }
 
-    /// Makes one change of the next state, of its buses where there are others, else of its order. Whether anything changed.
-    fn change_next(&mut self, late: Option<usize>) -> bool
+    /// Makes one change of the buses of the next state. Whether anything changed.
+    fn change_next_buses(&mut self, late: Option<usize>) -> bool
         ensures { self.new ≡ self.old }
     {
-        if self.setting.has_other_buses() {
-            return change_buses(
-                &self.setting.times,
-                &mut self.next.buses,
-                &mut self.taken,
-                late,
-                &mut self.rng,
-            );
-        }
-        change_order(
-            &self.setting.problem.before,
-            &mut self.next.order,
-            &mut self.rng,
+        change_buses(
+            &self.setting.times,
+            &mut self.next.buses,
+            &mut self.taken,
+            late,
+            &mut self.draws,
         )
     }
 
-    /// Makes the next state from the current one by one change. Whether its buses take no more cycles than the current state.
-    fn step(&mut self) -> bool
+    /// Makes the next state from the current one by one change of the buses. Whether they take at most `most` cycles.
+    fn change_current_buses(&mut self, most: u64) -> bool
         ensures { self.new ≡ self.old }
     {
-        self.next.become_as(self.setting.problem, &self.current);
-        if !self.change_next(self.current.late) {
+        self.next.take_buses(self.setting.problem, &self.current);
+        if !self.change_next_buses(self.current.late) {
             return false;
         }
         fits(
             &self.setting.times,
             &mut self.next.buses,
             &mut self.less,
-            self.current.cycles,
+            most,
         )
     }
 
-    /// Changes the order of the next state by even chance, where it tells.
-    fn change_next_order(&mut self)
+    /// Gives the next state the order of the current one, where orders tell, and by even chance lets two tests change places in it.
+    fn take_current_order(&mut self)
         ensures { self.new ≡ self.old }
     {
-        if !self.setting.wires_alone && self.setting.has_other_buses() && coin(&mut self.rng) {
+        if self.setting.wires_alone {
+            return;
+        }
+        self.next.take_order(self.setting.problem, &self.current);
+        if self.draws.coin() {
             let _changed = change_order(
                 &self.setting.problem.before,
                 &mut self.next.order,
-                &mut self.rng,
+                &mut self.draws,
             );
+        }
+    }
+
+    /// Makes the next state from the current one by a change of the order. Whether anything changed.
+    fn reorder_current(&mut self) -> bool
+        ensures { self.new ≡ self.old }
+    {
+        self.next.become_as(self.setting.problem, &self.current);
+        reorder_tests(
+            &self.setting.problem.before,
+            &mut self.next.order,
+            &mut self.draws,
+        )
+    }
+
+    /// Whether a change is of the order alone: always where there are no other buses, else so many times in a hundred, where orders tell.
+    fn is_of_order(&mut self, percent: usize) -> bool
+        ensures { self.new ≡ self.old }
+    {
+        if !self.setting.has_other_buses() {
+            return true;
+        }
+        if self.setting.wires_alone || percent == 0 {
+            return false;
+        }
+        self.draws.below(100) < percent
+    }
+
+    /// Tries one change of the current state. What comes of it is taken on where it takes at most `most` cycles. So many changes in a
+    /// hundred are of the order alone.
+    fn step(&mut self, most: u64, percent: usize)
+        ensures { self.new ≤ self.old }
+    {
+        if self.is_of_order(percent) {
+            if !self.setting.wires_alone && self.reorder_current() {
+                self.weigh_next(most, false);
+            }
+            return;
+        }
+        if self.change_current_buses(most) {
+            self.take_current_order();
+            self.weigh_next(most, true);
         }
     }
 
@@ -250,19 +283,30 @@ impl<'a> Search<'a> {
         }
     }
 
-    /// Makes the next state by several changes. Whether anything changed.
-    fn kick(&mut self) -> bool
+    /// Makes several changes of the next state. Whether anything changed.
+    fn change_often(&mut self) -> bool
         ensures { self.new ≡ self.old }
     {
-        self.return_near();
-        self.since = 0;
         let mut changed = false;
         for _change in 0..KICK {
-            if self.change_next(None) {
+            if self.change_next_buses(None) {
                 changed = true;
             }
         }
         changed
+    }
+
+    /// Takes on what comes of several changes of a good state, where there are other buses.
+    fn kick(&mut self)
+        ensures { self.new ≤ self.old }
+    {
+        if !self.setting.has_other_buses() {
+            return;
+        }
+        self.return_near();
+        if self.change_often() {
+            self.weigh_next(u64::MAX, true);
+        }
     }
 
     /// Takes the current state as the best one, where it has fewer cycles.
@@ -271,12 +315,13 @@ impl<'a> Search<'a> {
     {
         if self.current.cycles < self.best.cycles {
             self.best.become_as(self.setting.problem, &self.current);
-            self.since = 0;
+            self.rounds.note_gain();
         }
     }
 
-    /// Takes the next state as the current one, where its tests end by `most` cycles.
-    fn weigh_next(&mut self, most: u64)
+    /// Takes the next state as the current one, where its tests end by `most` cycles. Where its order is refused, others are tried if
+    /// `again` says so.
+    fn weigh_next(&mut self, most: u64, again: bool)
         ensures { self.new ≤ self.old }
     {
         let ends = weigh_state(
@@ -285,7 +330,8 @@ impl<'a> Search<'a> {
             &mut self.next,
             &mut self.room,
             most,
-            &mut self.rng,
+            again,
+            &mut self.draws,
         );
         let Some(ends) = ends else {
             return;
@@ -296,44 +342,22 @@ impl<'a> Search<'a> {
         self.note_best();
     }
 
-    /// Makes the next state from the current one by dealing all modules to equal buses, the opening. Whether its buses take no
-    /// more cycles than the current state.
-    fn open(&mut self) -> bool
-        ensures { self.new ≡ self.old }
+    /// Tries a change that may make the current state somewhat worse.
+    fn anneal(&mut self, heat: u64)
+        ensures { self.new ≤ self.old }
     {
-        let count = self.opening;
-        self.opening = 0;
-        self.next.become_as(self.setting.problem, &self.current);
-        deal_to_equal(&self.setting.times, &mut self.next.buses, count);
-        fits(
-            &self.setting.times,
-            &mut self.next.buses,
-            &mut self.less,
-            self.current.cycles,
-        )
+        let most = drawn_most(self.current.cycles, heat, &mut self.draws);
+        self.step(most, ORDER);
     }
 
-    /// Tries an opening, then one change, or from time to time, where none has helped for long, several changes of a good state. What
-    /// comes of them is taken on where it takes no more cycles than now, and after several changes always.
+    /// Makes the next try.
     fn try_once(&mut self)
         ensures { self.new ≤ self.old }
     {
-        if self.opening > 0 {
-            if self.open() {
-                self.weigh_next(self.current.cycles);
-            }
-            return;
-        }
-        if self.since >= PATIENCE {
-            if self.kick() {
-                self.weigh_next(u64::MAX);
-            }
-            return;
-        }
-        self.since += 1;
-        if self.step() {
-            self.change_next_order();
-            self.weigh_next(self.current.cycles);
+        match self.rounds.next_try() {
+            NextTry::Kick => self.kick(),
+            NextTry::Descent => self.step(self.current.cycles, 0),
+            NextTry::Annealing { heat } => self.anneal(heat),
         }
     }
 

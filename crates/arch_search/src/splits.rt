@@ -3,59 +3,33 @@ ghost use Rattle.std.specs.Prelude.{◌<◌, length};
 ghost use Rattle.arch_search.specs.States.{AreBuses, AreAlike, AreTimesOn};
 
 use crate::buses::Buses;
-use crate::draws::{below, coin};
+use crate::draws::Draws;
+use crate::moves::put_all;
 use crate::times::Times;
-use rand_xoshiro::Xoshiro256PlusPlus;
 
-/// Whether a module is the only one on its bus.
-fn is_alone(buses: &Buses, module: usize) -> bool
-    requires { «module» < length buses.now.slots.items }
-{
-    let own = buses.slots[module];
-    for other in 0..buses.slots.len() {
-        if other != module && buses.slots[other] == own {
-            return false;
-        }
-    }
-    true
-}
-
-/// Moves a module from the bus of one slot to that of another, and each other module of that bus by even chance; one at
-/// least stays, where there is another.
-fn part(buses: &mut Buses, rng: &mut Xoshiro256PlusPlus, module: usize, from: usize, to: usize)
+/// Moves a module from the bus of one slot to that of another, and each other module of that bus by even chance. Whether one stays.
+fn part(buses: &mut Buses, module: usize, from: usize, to: usize, draws: &mut Draws) -> bool
     requires buses { AreBuses buses.old }
-    requires there { «module» < length buses.old.slots.items }
-    requires from { from < length buses.old.widths.items }
     requires to { to < length buses.old.widths.items }
     ensures buses { AreBuses buses.new }
     ensures alike { AreAlike buses.old buses.new }
 {
-    let mut last = module;
     let mut stays = false;
     for other in 0..buses.slots.len() {
-        if other != module && buses.slots[other] == from {
-            if coin(rng) {
+        if buses.slots[other] == from {
+            if other == module || draws.coin() {
                 buses.put(other, to);
-                last = other;
             } else {
                 stays = true;
             }
         }
     }
-    buses.put(module, to);
-    if !stays {
-        buses.put(last, from);
-    }
+    stays
 }
 
-/// Splits the bus of a module that has two modules and two wires at least: some of its wires go to an unused slot,
-/// with the module and each other one by even chance, of which one at least stays. Whether anything changed.
-pub(crate) fn split_bus(
-    times: &Times,
-    buses: &mut Buses,
-    module: usize,
-    rng: &mut Xoshiro256PlusPlus,
-) -> bool
+/// Splits the bus of a module that has two wires at least: some of them go to an unused slot, with the module and each other one
+/// by even chance, where one stays. Whether anything changed.
+pub(crate) fn split_bus(times: &Times, buses: &mut Buses, module: usize, draws: &mut Draws) -> bool
     requires buses { AreBuses buses.old }
     requires times { AreTimesOn buses.old times.now }
     requires there { «module» < length buses.old.slots.items }
@@ -64,15 +38,19 @@ pub(crate) fn split_bus(
 {
     let from = buses.slot_of(module);
     let width = buses.widths[from];
-    if width < 2 || is_alone(buses, module) {
+    if width < 2 {
         return false;
     }
+    let wires = 1 + draws.below(width as usize - 1) as u64;
     let Some(to) = buses.unused() else {
         return false;
     };
-    let wires = 1 + below(rng, width as usize - 1) as u64;
     buses.move_wires(from, to, wires);
-    part(buses, rng, module, from, to);
+    if !part(buses, module, from, to, draws) {
+        put_all(buses, to, from);
+        buses.hand_on(to, from);
+        return false;
+    }
     buses.reload(times, from);
     buses.reload(times, to);
     true

@@ -57,18 +57,37 @@ impl State {
         })
     }
 
-    /// Becomes as another state of the same problem. It takes no memory.
+    /// Takes the buses of another state of the same problem. It takes no memory.
+    pub(crate) fn take_buses(&mut self, problem: &Problem, other: &State)
+        requires own { IsStateOf problem.now self.old }
+        requires other { IsStateOf problem.now other.now }
+        ensures state { IsStateOf problem.now self.new }
+    {
+        let _wires = problem.wires;
+        write_over(&mut self.buses.widths, &other.buses.widths);
+        write_over(&mut self.buses.slots, &other.buses.slots);
+        write_over(&mut self.buses.loads, &other.buses.loads);
+    }
+
+    /// Takes the order of another state of the same problem. It takes no memory.
+    pub(crate) fn take_order(&mut self, problem: &Problem, other: &State)
+        requires own { IsStateOf problem.now self.old }
+        requires other { IsStateOf problem.now other.now }
+        ensures state { IsStateOf problem.now self.new }
+    {
+        let _wires = problem.wires;
+        write_over(&mut self.order, &other.order);
+    }
+
+    /// Becomes as another state of the same problem.
     pub(crate) fn become_as(&mut self, problem: &Problem, other: &State)
         requires own { IsStateOf problem.now self.old }
         requires other { IsStateOf problem.now other.now }
         ensures state { IsStateOf problem.now self.new }
         ensures cycles { self.new.cycles ≡ other.now.cycles }
     {
-        let _wires = problem.wires;
-        write_over(&mut self.buses.widths, &other.buses.widths);
-        write_over(&mut self.buses.slots, &other.buses.slots);
-        write_over(&mut self.buses.loads, &other.buses.loads);
-        write_over(&mut self.order, &other.order);
+        self.take_buses(problem, other);
+        self.take_order(problem, other);
         self.cycles = other.cycles;
         self.late = other.late;
     }

@@ -9,16 +9,28 @@ ghost use Rattle.arch_search.specs.Settings.{IsSetting};
 
 use crate::buses::Buses;
 use crate::chains::{draw_too_much, set_chains};
+use crate::draws::Draws;
 use crate::order::advance_drawn;
 use crate::problem::Problem;
 use crate::room::Room;
-use crate::scheduling::{Ends, assign_buses, place_order};
+use crate::scheduling::{assign_buses, late_bus, place_order};
 use crate::setting::SearchSetting;
 use crate::state::State;
 use plan_model::START_MOST;
-use rand_xoshiro::Xoshiro256PlusPlus;
 use resource_table::OwnTable;
 use std::mem;
+
+/// How often a test that is refused is tried at an earlier place.
+const EARLIER: usize = 2;
+
+/// When a schedule ends.
+#[derive(Clone, Copy, Drop)]
+pub(crate) struct Ends {
+    /// The end of the test that ends last.
+    pub(crate) cycles: u64,
+    /// The slot of the late bus.
+    pub(crate) late: Option<usize>,
+}
 
 /// The cycles that all tests take together, where nothing but the wires binds.
 fn all_cycles(setting: &SearchSetting<'_>, buses: &Buses) -> u64 {
@@ -43,7 +55,7 @@ fn load_ends(setting: &SearchSetting<'_>, buses: &Buses, most: u64) -> Option<En
     if cycles > most || all_cycles(setting, buses) > START_MOST {
         return None;
     }
-    Some(Ends::at(cycles, late))
+    Some(Ends { cycles, late })
 }
 
 /// Whether the tests, as they were sent, could end within `most` cycles, by their chains of precedences and by their power.
@@ -77,7 +89,7 @@ fn place_by_chains<J>(
     state: &mut State,
     room: &mut Room,
     most: u64,
-) -> Option<Ends>
+) -> Option<u64>
     requires problem { IsProblem table.old.job problem.now }
     requires sound { IsSoundTable table.old }
     requires state { IsStateOf problem.now state.old }
@@ -91,23 +103,59 @@ fn place_by_chains<J>(
 {
     room.order_by_chains();
     mem::swap(&mut state.order, &mut room.second);
-    if let Ok(ends) = place_order(problem, table, &state.order, room, most) {
-        return Some(ends);
+    if let Ok(end) = place_order(problem, table, &state.order, room, most) {
+        return Some(end);
     }
     mem::swap(&mut state.order, &mut room.second);
     None
 }
 
-/// Places the tests in the order of a state; where they don't end within `most` cycles, by their chains; and where they still don't,
-/// with the first one that was refused at an earlier place. The order that serves is that of the state from then on.
+/// Places the tests with the one at a place, which was refused, at an earlier one that is drawn; and once more so with the one that is
+/// refused then.
+fn place_earlier<J>(
+    problem: &Problem,
+    table: &mut OwnTable<J>,
+    state: &mut State,
+    room: &mut Room,
+    most: u64,
+    refused: usize,
+    draws: &mut Draws,
+) -> Option<u64>
+    requires problem { IsProblem table.old.job problem.now }
+    requires sound { IsSoundTable table.old }
+    requires state { IsStateOf problem.now state.old }
+    requires room { HasRoomFor problem.now room.old }
+    requires short { AreShort room.old.cycles.items }
+    ensures problem { IsProblem table.new.job problem.now }
+    ensures sound { IsSoundTable table.new }
+    ensures state { IsStateOf problem.now state.new }
+    ensures room { HasRoomFor problem.now room.new }
+{
+    let mut place = refused;
+    for _time in 0..EARLIER {
+        if !advance_drawn(&problem.before, &mut state.order, place, draws) {
+            return None;
+        }
+        match place_order(problem, table, &state.order, room, most) {
+            Ok(end) => return Some(end),
+            Err(again) => place = again,
+        }
+    }
+    None
+}
+
+/// Places the tests in the order of a state. Where they don't end within `most` cycles, and `again` says so, places them by their
+/// chains, and where they still don't, with the first one that was refused at an earlier place. The order that serves is that of the state
+/// from then on.
 fn place_somehow<J>(
     problem: &Problem,
     table: &mut OwnTable<J>,
     state: &mut State,
     room: &mut Room,
     most: u64,
-    rng: &mut Xoshiro256PlusPlus,
-) -> Option<Ends>
+    again: bool,
+    draws: &mut Draws,
+) -> Option<u64>
     requires problem { IsProblem table.old.job problem.now }
     requires sound { IsSoundTable table.old }
     requires state { IsStateOf problem.now state.old }
@@ -119,26 +167,27 @@ fn place_somehow<J>(
     ensures room { HasRoomFor problem.now room.new }
 {
     let refused = match place_order(problem, table, &state.order, room, most) {
-        Ok(ends) => return Some(ends),
+        Ok(end) => return Some(end),
         Err(place) => place,
     };
-    if let Some(ends) = place_by_chains(problem, table, state, room, most) {
-        return Some(ends);
-    }
-    if !advance_drawn(&problem.before, &mut state.order, refused, rng) {
+    if !again {
         return None;
     }
-    place_order(problem, table, &state.order, room, most).ok()
+    if let Some(end) = place_by_chains(problem, table, state, room, most) {
+        return Some(end);
+    }
+    place_earlier(problem, table, state, room, most, refused, draws)
 }
 
-/// When the tests of a state end; None where that is after `most` cycles.
+/// When the tests of a state end; None where that is after `most` cycles. Where its order is refused, others are tried if `again` says so.
 pub(crate) fn weigh_state<J>(
     setting: &SearchSetting<'_>,
     table: &mut OwnTable<J>,
     state: &mut State,
     room: &mut Room,
     most: u64,
-    rng: &mut Xoshiro256PlusPlus,
+    again: bool,
+    draws: &mut Draws,
 ) -> Option<Ends>
     requires setting { IsSetting setting.now }
     requires problem { IsProblem table.old.job setting.now.problem.now }
@@ -159,7 +208,9 @@ pub(crate) fn weigh_state<J>(
     if !could_end(setting, &state.order, room, most) {
         return None;
     }
-    place_somehow(setting.problem, table, state, room, most, rng)
+    let cycles = place_somehow(setting.problem, table, state, room, most, again, draws)?;
+    let late = late_bus(setting.problem, room, cycles);
+    Some(Ends { cycles, late })
 }
 
 /// Makes the schedule of a state.

@@ -1,23 +1,21 @@
 //! A plan from what a search found. It is checked before it is answered.
-ghost use Rattle.std.specs.Prelude.{◌≡◌, ◌+◌, ◌<◌, true, length, map, IfOk, IfSome};
+ghost use Rattle.std.specs.Prelude.{◌≡◌, ◌<◌, ◌≤◌, true, length, IfOk, IfSome};
 ghost use Rattle.soc_model.specs.Chips.{soc_value};
 ghost use Rattle.soc_model.specs.SoundChips.{IsSoundChip};
 ghost use Rattle.plan_model.specs.SoundLimits.{IsSoundLimits};
 ghost use Rattle.plan_model.specs.Rules.{IsGood};
-ghost use Rattle.plan_model.specs.Views.{bus_value, limits_value, plan_value};
+ghost use Rattle.plan_model.specs.Views.{limits_value, plan_value};
 ghost use Rattle.plan_text.specs.Grammar.{AreSmallStarts};
-ghost use Rattle.planner.specs.Wrapping.{HaveWidths};
 ghost use Rattle.arch_search.specs.Searches.{IsLent};
-ghost use Rattle.plan_improver.specs.Widths.{HaveWidthsBelow};
 
 use arch_search::Found;
 use outside::{NoMemory, push};
+use packed_wrappers::PackedWrappers;
 use plan_checker::first_fault;
-use plan_model::{Bound, Bus, Limits, Plan, Why};
-use planner::{table_wrappers, width_of};
-use soc_model::{Soc, TestId, module_at};
+use plan_model::{Bound, Bus, Limits, Plan, Why, Wrapper};
+use planner::width_of;
+use soc_model::{Module, Soc, TestId, has_tam_test, module_at, uses_mode};
 use std::alloc::Global;
-use width_table::WidthTable;
 
 /// The numbers of the modules on the bus of a slot.
 fn modules_on(alloc: Global, found: &Found<'_>, slot: usize) -> Result<Vec<u64>, NoMemory>
@@ -60,39 +58,55 @@ fn starts_of(alloc: Global, found: &Found<'_>) -> Result<Vec<(TestId, u64)>, NoM
     Ok(starts)
 }
 
-/// Whether the module at a place, where it has a live test over the wires, is on a bus that is no wider than the wires.
-fn has_width(soc: &Soc, table: &WidthTable, buses: &[Bus], place: usize) -> bool
-    requires chip { table.now.soc ≡ soc_value soc.now }
-    requires there { place < length (soc_value soc.now).modules }
-    ensures { result ≡ true → HaveWidthsBelow table.now (map bus_value buses.now) place →
-        HaveWidthsBelow table.now (map bus_value buses.now) (place + 1) }
+/// Adds the wrapper for a mode of the module at a place, where it is used, on a bus of a width.
+fn push_wrapper(
+    alloc: Global,
+    packed: &PackedWrappers,
+    module: &Module,
+    place: usize,
+    scan: bool,
+    width: u64,
+    wrappers: &mut Vec<Wrapper>,
+) -> Result<(), NoMemory>
+    requires place { place < length packed.now.soc.modules }
+    requires some { 1 ≤ width }
+    requires within { width ≤ packed.now.wires }
 {
-    if !table.has_tam_test(place) {
-        return true;
+    if !uses_mode(module, scan) {
+        return Ok(());
     }
-    let module = module_at(soc, place);
-    let width = width_of(buses, module.number);
-    let wires = table.wires();
-    if width < 1 {
-        return false;
-    }
-    if width > wires {
-        return false;
-    }
-    true
+    let wrapper = packed.wrapper(alloc, place, scan, width)?;
+    push(wrappers, wrapper)
 }
 
-/// Whether each module with a live test over the wires is on a bus that is no wider than the wires.
-fn have_widths(soc: &Soc, table: &WidthTable, buses: &[Bus]) -> bool
-    requires { table.now.soc ≡ soc_value soc.now }
-    ensures { result ≡ true → HaveWidths table.now (map bus_value buses.now) }
+/// The wrappers for the modes that are used, in the order of the chip and scan before terminals. None where a module with a test over the
+/// wires is on no bus of up to `wires` wires.
+fn wrappers_of(
+    alloc: Global,
+    soc: &Soc,
+    packed: &PackedWrappers,
+    wires: u64,
+    buses: &[Bus],
+) -> Result<Option<Vec<Wrapper>>, NoMemory>
+    requires chip { packed.now.soc ≡ soc_value soc.now }
+    requires wires { packed.now.wires ≡ wires }
 {
-    for place in 0..table.places() {
-        if !has_width(soc, table, buses, place) {
-            return false;
+    let mut wrappers = Vec::new(alloc);
+    for place in 0..soc.modules.len() {
+        let module = module_at(soc, place);
+        if has_tam_test(module) {
+            let width = width_of(buses, module.number);
+            if width < 1 {
+                return Ok(None);
+            }
+            if width > wires {
+                return Ok(None);
+            }
+            push_wrapper(alloc, packed, module, place, true, width, &mut wrappers)?;
+            push_wrapper(alloc, packed, module, place, false, width, &mut wrappers)?;
         }
     }
-    true
+    Ok(Some(wrappers))
 }
 
 /// The bound that every plan keeps.
@@ -103,23 +117,23 @@ pub(crate) fn no_bound() -> Bound {
     }
 }
 
-/// The plan of what was found: its buses, the wrappers of the width table at their widths, and the starts. None where a
-/// module has no bus.
+/// The plan of what was found: its buses, the packed wrappers at their widths, and the starts. None where a module has no bus.
 fn plan_of(
     alloc: Global,
     soc: &Soc,
-    table: &WidthTable,
+    packed: &PackedWrappers,
+    wires: u64,
     found: &Found<'_>,
 ) -> Result<Option<Plan>, NoMemory>
-    requires chip { table.now.soc ≡ soc_value soc.now }
+    requires chip { packed.now.soc ≡ soc_value soc.now }
+    requires wires { packed.now.wires ≡ wires }
     requires lent { IsLent found.now }
     ensures { IfOk result (λ plan. IfSome plan (λ p. AreSmallStarts (plan_value p).starts)) }
 {
     let buses = buses_of(alloc, found)?;
-    if !have_widths(soc, table, &buses) {
+    let Some(wrappers) = wrappers_of(alloc, soc, packed, wires, &buses)? else {
         return Ok(None);
-    }
-    let wrappers = table_wrappers(alloc, soc, table, &buses)?;
+    };
     let starts = starts_of(alloc, found)?;
     Ok(Some(Plan {
         buses,
@@ -148,19 +162,20 @@ pub(crate) fn better_plan(
     alloc: Global,
     soc: &Soc,
     limits: &Limits,
-    table: &WidthTable,
+    packed: &PackedWrappers,
     found: &Found<'_>,
     cycles: u64,
 ) -> Result<Option<Plan>, NoMemory>
     requires sound { IsSoundChip (soc_value soc.now) }
     requires limits { IsSoundLimits (soc_value soc.now) (limits_value limits.now) }
-    requires chip { table.now.soc ≡ soc_value soc.now }
+    requires chip { packed.now.soc ≡ soc_value soc.now }
+    requires wires { packed.now.wires ≡ limits.now.wires }
     requires lent { IsLent found.now }
     ensures good { IfOk result (λ plan. IfSome plan (λ p. IsGood (soc_value soc.now) (limits_value limits.now) (plan_value p))) }
     ensures small_starts { IfOk result (λ plan. IfSome plan (λ p. AreSmallStarts (plan_value p).starts)) }
     ensures fewer { IfOk result (λ plan. IfSome plan (λ p. p.cycles < cycles)) }
 {
-    let Some(plan) = plan_of(alloc, soc, table, found)? else {
+    let Some(plan) = plan_of(alloc, soc, packed, limits.wires, found)? else {
         return Ok(None);
     };
     if plan.cycles >= cycles {

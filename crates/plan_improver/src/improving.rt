@@ -25,6 +25,7 @@ use bound_certificate::best_bound_with;
 use commands::line_room;
 use live_tests::Resolved;
 use outside::{NoMemory, Sink};
+use packed_wrappers::PackedWrappers;
 use plan_model::{Bound, Limits, Plan, good_plans_run_right};
 use planner::{JobSource, job_with};
 use resource_table::Job;
@@ -120,8 +121,8 @@ fn job_of_plan(alloc: Global, known: &Known<'_>, given: &Plan) -> Result<Job, No
 /// What a search for a better plan goes by.
 #[derive(Drop)]
 struct Grounds<'a> {
-    /// The times of the modules.
-    table: WidthTable<'a>,
+    /// The wrappers of the modules on each width.
+    packed: PackedWrappers<'a>,
     /// The job of the given plan's tests.
     job: Job,
     /// Those tests, with their cycles on each width.
@@ -129,18 +130,26 @@ struct Grounds<'a> {
 }
 
 /// What a search that begins at a plan goes by.
-fn grounds_of<'a>(alloc: Global, known: &Known<'a>, given: &Plan) -> Result<Grounds<'a>, NoMemory>
+fn grounds_of<'a>(
+    alloc: Global,
+    known: &Known<'a>,
+    table: &'a WidthTable<'a>,
+    given: &Plan,
+) -> Result<Grounds<'a>, NoMemory>
     requires sound { IsSoundChip (soc_value known.now.soc.now) }
     requires limits { IsSoundLimits (soc_value known.now.soc.now) (limits_value known.now.limits.now) }
     requires resolved { IsResolved (soc_value known.now.soc.now) known.now.limits.now known.now.resolved.now }
+    requires chip { table.now.soc ≡ soc_value known.now.soc.now }
+    requires wires { table.now.wires ≡ known.now.limits.now.wires }
     requires given { IsGood (soc_value known.now.soc.now) (limits_value known.now.limits.now) (plan_value given.now) }
-    ensures { IfOk result (AreGrounds (soc_value known.now.soc.now)) }
+    ensures { IfOk result (AreGrounds (soc_value known.now.soc.now) known.now.limits.now.wires) }
 {
-    let table = WidthTable::new(alloc, known.soc, known.limits.wires)?;
+    let wires = known.limits.wires;
+    let packed = PackedWrappers::new(alloc, known.soc, table, wires)?;
     let job = job_of_plan(alloc, known, given)?;
-    let problem = Problem::new(alloc, known.soc, &table, &job)?;
+    let problem = Problem::new(alloc, known.soc, &packed, wires, &job)?;
     Ok(Grounds {
-        table,
+        packed,
         job,
         problem,
     })
@@ -159,7 +168,7 @@ fn searched_on<T: Sink>(
     requires sound { IsSoundChip (soc_value known.now.soc.now) }
     requires limits { IsSoundLimits (soc_value known.now.soc.now) (limits_value known.now.limits.now) }
     requires resolved { IsResolved (soc_value known.now.soc.now) known.now.limits.now known.now.resolved.now }
-    requires grounds { AreGrounds (soc_value known.now.soc.now) grounds.now }
+    requires grounds { AreGrounds (soc_value known.now.soc.now) known.now.limits.now.wires grounds.now }
     ensures good { IfOk result (λ plan. IfSome plan (λ p. IsGood (soc_value known.now.soc.now) (limits_value known.now.limits.now)
         (plan_value p))) }
     ensures small_starts { IfOk result (λ plan. IfSome plan (λ p. AreSmallStarts (plan_value p).starts)) }
@@ -177,11 +186,42 @@ fn searched_on<T: Sink>(
         alloc,
         known.soc,
         known.limits,
-        &grounds.table,
+        &grounds.packed,
         &search.found(),
         given.cycles,
     );
     search.free();
+    plan
+}
+
+/// A good plan of fewer cycles than the given one, where `tries` tries of a search over a width table of the chip find one.
+fn searched_over<T: Sink>(
+    alloc: Global,
+    known: &Known<'_>,
+    table: &WidthTable<'_>,
+    given: &Plan,
+    tries: u64,
+    seed: u64,
+    progress: &mut T,
+) -> Result<Option<Plan>, NoMemory>
+    requires sound { IsSoundChip (soc_value known.now.soc.now) }
+    requires limits { IsSoundLimits (soc_value known.now.soc.now) (limits_value known.now.limits.now) }
+    requires resolved { IsResolved (soc_value known.now.soc.now) known.now.limits.now known.now.resolved.now }
+    requires chip { table.now.soc ≡ soc_value known.now.soc.now }
+    requires wires { table.now.wires ≡ known.now.limits.now.wires }
+    requires given { IsGood (soc_value known.now.soc.now) (limits_value known.now.limits.now) (plan_value given.now) }
+    ensures good { IfOk result (λ plan. IfSome plan (λ p. IsGood (soc_value known.now.soc.now) (limits_value known.now.limits.now)
+        (plan_value p))) }
+    ensures small_starts { IfOk result (λ plan. IfSome plan (λ p. AreSmallStarts (plan_value p).starts)) }
+    ensures fewer { IfOk result (λ plan. IfSome plan (λ p. p.cycles < given.now.cycles)) }
+    ensures faults_never_fall { T.faults progress.old ≤ T.faults progress.new }
+    ensures quiet { tries < REPORTED_FROM → progress.new ≡ progress.old }
+    ensures reported { MayReport tries (T.written progress.old) (T.written progress.new) }
+{
+    let grounds = grounds_of(alloc, known, table, given)?;
+    let plan = searched_on(alloc, known, &grounds, given, tries, seed, progress);
+    // dropped by a call: the end of the scope would drop each of its parts, and be proved for each
+    drop(grounds);
     plan
 }
 
@@ -210,10 +250,9 @@ fn searched<T: Sink>(
     if tries == 0 {
         return Ok(None);
     }
-    let grounds = grounds_of(alloc, known, given)?;
-    let plan = searched_on(alloc, known, &grounds, given, tries, seed, progress);
-    // dropped by a call: the end of the scope would drop each of its parts, and be proved for each
-    drop(grounds);
+    let table = WidthTable::new(alloc, known.soc, known.limits.wires)?;
+    let plan = searched_over(alloc, known, &table, given, tries, seed, progress);
+    drop(table);
     plan
 }
 

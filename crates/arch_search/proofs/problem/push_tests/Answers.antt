@@ -1,8 +1,6 @@
-use Rattle.std.proofs.Common.{◌≡◌, ◌∙◌, ◌+◌, ◌<◌, ◌≤◌, ℕ, Some, List, length, get_or, ap, subst}
-use Rattle.std.specs.Prelude.{slice_get}
+use Rattle.std.proofs.Common.{◌∙◌, ◌+◌, ◌≤◌, List, length, ap, subst}
 use Rattle.std.specs.List.{filter}
 use Rattle.std.proofs.lemmas.List.{take_all}
-use Rattle.std.proofs.lemmas.Option.{slice_get-get_or}
 use Rattle.soc_model.specs.declared.Test.{Test}
 use Rattle.soc_model.specs.Chips.{is_live}
 use Rattle.arch_search.proofs.Listing.{live_more}
@@ -13,12 +11,6 @@ loop-test-preserved c = record {
   timed = λ modules number all. c.in_ok-push_test.ensures.timed modules number (c.loop-test.invariant.timed modules number all);
   count = live_more c.args.«module».now.tests.items c.deref-test-items.result.now c.loop-test.test-index _ (length c.loop-test.tests.items) (length c.push_test.new.tests.items) (length c.args.tests.now.items) c.deref-test-items.ensures.value c.loop-test-test.true c.loop-test.invariant.count c.in_ok-push_test.ensures.count;
 }
-
-stands : (tests items : List Test) (i : ℕ) (d : Test) → items ≡ tests → i < length items → slice_get tests i ≡ Some (get_or items i d)
-stands tests items i d same within = subst (λ (l : List Test). slice_get l i ≡ Some (get_or items i d)) same (slice_get-get_or items i d within)
-
-pub push_test-requires-clause-test_there : goal.push_test-requires-clause-test_there
-push_test-requires-clause-test_there c = (c.loop-test.test-index, stands c.args.«module».now.tests.items c.deref-test-items.result.now c.loop-test.test-index _ c.deref-test-items.ensures.value c.loop-test-test.true)
 
 pub returns-clause-count : goal.returns-clause-count
 returns-clause-count c =

@@ -7,6 +7,6 @@ use Rattle.arch_search.proofs.problem.push_tests.Given as goal
 
 abbrev pub invariant-loop-test : goal.invariant-loop-test
 invariant-loop-test l = record {
-  timed : (modules : ℕ) → IfSome l.number (λ m. m < modules) → All (IsTimed l.table.wires modules) l.initial.tests.items → All (IsTimed l.table.wires modules) l.tests.items;
+  timed : (modules : ℕ) → IfSome l.stands.number (λ m. m < modules) → All (IsTimed l.wires modules) l.initial.tests.items → All (IsTimed l.wires modules) l.tests.items;
   count : length l.tests.items ≡ length l.initial.tests.items + length (filter is_live (take l.test-index l.«module».tests.items));
 }

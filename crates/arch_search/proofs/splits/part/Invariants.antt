@@ -1,4 +1,3 @@
-use Rattle.std.proofs.Common.{◌<◌, length}
 use Rattle.arch_search.specs.States.{AreBuses, AreAlike}
 use Rattle.arch_search.proofs.splits.part.Given as goal
 
@@ -6,5 +5,4 @@ abbrev pub invariant-loop-other : goal.invariant-loop-other
 invariant-loop-other l = record {
   buses : AreBuses l.buses;
   alike : AreAlike l.initial.buses l.buses;
-  last : l.last < length l.buses.slots.items;
 }

@@ -1,10 +1,10 @@
-use Rattle.std.proofs.Common.{◌≡◌, ◌∙◌, ◌<◌, ◌≤◌, ℕ, List, length, map, sym, ap, subst, arith}
+use Rattle.std.proofs.Common.{◌≡◌, ◌∙◌, ◌<◌, ℕ, List, length, map, sym, ap, subst, arith}
 use Rattle.std.specs.List.{All}
 use Rattle.std.proofs.lemmas.List.{length-map}
-use Rattle.soc_model.specs.Chips.{SocValue, soc_value, module_value}
+use Rattle.soc_model.specs.declared.Module.{Module}
+use Rattle.soc_model.specs.Chips.{soc_value, module_value}
 use Rattle.resource_table.specs.Befores.{listed, tests_before}
 use Rattle.resource_table.specs.Jobs.{test_value}
-use Rattle.arch_search.specs.Problems.{IsTimed}
 use Rattle.arch_search.proofs.Listing.{timed_more, fewer_left, none_left}
 use Rattle.arch_search.proofs.problem.Problem.new.Goals as goal
 
@@ -13,19 +13,19 @@ loop-place-preserved c =
     let fewer = fewer_left (soc_value c.args.soc.now).modules c.loop-place.place (module_value c.module_at-module.result.now) c.module_at-module.ensures in
     record {
       timed = c.in_ok-push_tests.ensures.timed (length c.push_module.new.modules.items) c.in_ok-number.ensures.number
-          (timed_more c.args.table.now.wires (length c.loop-place.modules.items) (length c.push_module.new.modules.items) c.loop-place.tests.items c.in_ok-number.ensures.more c.loop-place.invariant.timed);
+          (timed_more c.args.wires (length c.loop-place.modules.items) (length c.push_module.new.modules.items) c.loop-place.tests.items c.in_ok-number.ensures.more c.loop-place.invariant.timed);
       count = omega (arith, fewer, c.in_ok-push_tests.ensures.count, c.loop-place.invariant.count);
     }
 
 pub returns : goal.returns
 returns c =
-    let none = none_left (soc_value c.args.soc.now).modules c.loop-place.place (omega (arith, c.loop-place-test.false, c.places-place-end.ensures.value, ap (λ (s : SocValue). length s.modules) c.requires.chip)) in
+    let none = none_left (soc_value c.args.soc.now).modules c.loop-place.place (omega (arith, length-map c.args.soc.now.modules.entries (λ (e : ℕ × Module). module_value e.1), c.len-place-end.ensures.len, c.loop-place-test.false)) in
     let own : c.len.result ≡ length (map test_value c.args.job.now.tests.items) = omega (arith, length-map c.args.job.now.tests.items test_value, c.len.ensures) in
     record {
-      some_wires = subst (λ (w : ℕ). 1 ≤ w) (sym c.wires.ensures.value) c.wires.ensures.table.some_wires;
-      few_wires = subst (λ (w : ℕ). w ≤ 256) (sym c.wires.ensures.value) c.wires.ensures.table.few_wires;
+      some_wires = c.requires.some;
+      few_wires = c.requires.few;
       tests = omega (arith, none, c.loop-place.invariant.count, c.requires.tests);
-      timed = subst (λ (w : ℕ). All (IsTimed w (length c.loop-place.modules.items)) c.loop-place.tests.items) (sym c.wires.ensures.value) c.loop-place.invariant.timed;
+      timed = c.loop-place.invariant.timed;
       before = record {
         long = length-map c.in_ok-before.before.items listed ∙ c.in_ok-before.ensures.long ∙ own;
         are = λ test within. c.in_ok-before.ensures.lists test (subst (λ (n : ℕ). test < n) (sym own) within) ∙ ap (tests_before test) c.deref.ensures.value;

@@ -6,6 +6,6 @@ use Rattle.arch_search.proofs.problem.Problem.new.Given as goal
 
 abbrev pub invariant-loop-place : goal.invariant-loop-place
 invariant-loop-place l = record {
-  timed : All (IsTimed l.table.wires (length l.modules.items)) l.tests.items;
+  timed : All (IsTimed l.wires (length l.modules.items)) l.tests.items;
   count : length l.tests.items + length (live_from l.place (drop l.place (soc_value l.soc).modules)) ≡ length (live_tests (soc_value l.soc));
 }

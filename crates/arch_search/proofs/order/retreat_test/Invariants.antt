@@ -1,0 +1,9 @@
+use Rattle.std.proofs.Common.{◌≡◌, ◌<◌, ℕ, length}
+use Rattle.std.specs.List.{All}
+use Rattle.arch_search.proofs.order.retreat_test.Given as goal
+
+abbrev pub invariant-loop-next : goal.invariant-loop-next
+invariant-loop-next l = record {
+  long : length l.order.items ≡ length l.initial.order.items;
+  order : (n : ℕ) → All (λ test. test < n) l.initial.order.items → All (λ test. test < n) l.order.items;
+}
