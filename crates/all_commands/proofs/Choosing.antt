@@ -1,33 +1,38 @@
 -- What holds of the top call that is chosen holds of the command.
-use Rattle.std.proofs.Common.{◌≡◌, ℕ, List, Option, None, Some, subst}
+use Rattle.std.proofs.Common.{◌≡◌, ℕ, List, Option, None, Some, subst, sym}
 use Rattle.outside.specs.Held.{Files}
 use Rattle.commands.specs.Commands.{CommandValue, Print, Widths, Plan, Check, Chart, Vectors, Sample, Locate, Tree, Split, Shift, Improve, Picture, Simulate, Bound, Prove}
-use Rattle.commands.specs.Procedures.{asked}
+use Rattle.commands.specs.Procedures.{Procedure, asked}
 use Rattle.commands.specs.TopCalls.{top_call_of}
-use Rattle.commands.specs.Ends.{MayAnswer, Ends, EndsByWords, Complete, Finishes}
+use Rattle.commands.specs.Ends.{IsCommand, MayAnswer, Ends, EndsByWords, Complete, Finishes}
 use Rattle.commands.specs.declared.Status.{Status}
 use Rattle.commands.specs.declared.top_calls.TopCall.{TopCall}
+use Rattle.all_commands.specs.Promises.{HeadlineBy, Headline, IsQuietBy, IsQuiet, MayReportBy, MayReport}
 use Rattle.all_commands.specs.Requests.{procedure_by, requested, fixes_text_by, fixes_text, EndsByCommand}
 
 pub ends_chosen : (by : TopCall) (command : Option CommandValue) → by ≡ top_call_of command → (held : Option Files) (loads_before loads_after puts_before puts_after : ℕ) (old : Option (List ℕ)) (end : Status) (new : Option (List ℕ)) →
     Ends (MayAnswer (asked (procedure_by by) command) held loads_before loads_after) puts_before puts_after old end new →
     Ends (MayAnswer (requested command) held loads_before loads_after) puts_before puts_after old end new
+unfolding requested
 ends_chosen by command same held loads_before loads_after puts_before puts_after old end new ends =
     subst (λ (b : TopCall). Ends (MayAnswer (asked (procedure_by b) command) held loads_before loads_after) puts_before puts_after old end new) same ends
 
 pub complete_chosen : (by : TopCall) (command : Option CommandValue) → by ≡ top_call_of command → (held : Option Files) (shelf_failed sink_failed : Type 0) (old : Option (List ℕ)) (end : Status) (new : Option (List ℕ)) →
     Complete (fixes_text_by by command) (asked (procedure_by by) command) held shelf_failed sink_failed old end new →
     Complete (fixes_text command) (requested command) held shelf_failed sink_failed old end new
+unfolding fixes_text requested
 complete_chosen by command same held shelf_failed sink_failed old end new complete =
     subst (λ (b : TopCall). Complete (fixes_text_by b command) (asked (procedure_by b) command) held shelf_failed sink_failed old end new) same complete
 
 pub finishes_chosen : (by : TopCall) (command : Option CommandValue) → by ≡ top_call_of command → (held : Option Files) (shelf_failed sink_failed : Type 0) (end : Status) →
     Finishes (asked (procedure_by by) command) held shelf_failed sink_failed end → Finishes (requested command) held shelf_failed sink_failed end
+unfolding requested
 finishes_chosen by command same held shelf_failed sink_failed end finishes =
     subst (λ (b : TopCall). Finishes (asked (procedure_by b) command) held shelf_failed sink_failed end) same finishes
 
 -- each command is one of the top call that takes it
 ends_by_command : (command : Option CommandValue) (sink_failed : Type 0) (end : Status) → EndsByWords (requested command) sink_failed end → EndsByCommand command sink_failed end
+unfolding requested EndsByCommand
 ends_by_command None sink_failed end by_words = by_words
 ends_by_command (Some (Print soc)) sink_failed end by_words = by_words
 ends_by_command (Some (Widths soc wires)) sink_failed end by_words = by_words
@@ -48,5 +53,25 @@ ends_by_command (Some (Prove soc limits plan nodes)) sink_failed end by_words = 
 
 pub by_words_chosen : (by : TopCall) (command : Option CommandValue) → by ≡ top_call_of command → (sink_failed : Type 0) (end : Status) →
     EndsByWords (asked (procedure_by by) command) sink_failed end → EndsByCommand command sink_failed end
+unfolding requested
 by_words_chosen by command same sink_failed end by_words =
     ends_by_command command sink_failed end (subst (λ (b : TopCall). EndsByWords (asked (procedure_by b) command) sink_failed end) same by_words)
+
+pub headline_chosen : (by : TopCall) (command : Option CommandValue) → by ≡ top_call_of command → (held : Option Files) (old : Option (List ℕ)) (end : Status) (new : Option (List ℕ)) →
+    HeadlineBy by command held old end new → Headline command held old end new
+unfolding Headline
+headline_chosen by command same held old end new headline = subst (λ (b : TopCall). HeadlineBy b command held old end new) same headline
+
+pub quiet_chosen : (by : TopCall) (command : Option CommandValue) → by ≡ top_call_of command → (Unchanged : Type 0) →
+    (IsQuietBy by command → Unchanged) → IsQuiet command → Unchanged
+unfolding IsQuiet
+quiet_chosen by command same Unchanged quiet = subst (λ (b : TopCall). IsQuietBy b command → Unchanged) same quiet
+
+pub reported_chosen : (by : TopCall) (command : Option CommandValue) → by ≡ top_call_of command → (old new : Option (List ℕ)) →
+    MayReportBy by command old new → MayReport command old new
+unfolding MayReport
+reported_chosen by command same old new reported = subst (λ (b : TopCall). MayReportBy b command old new) same reported
+
+-- words that are no command ask for no procedure
+pub asks_nothing : (procedure_of : CommandValue → Procedure) (command : Option CommandValue) → command ≡ None → IsCommand (asked procedure_of command) → ⊥
+asks_nothing procedure_of command none = subst (λ (c : Option CommandValue). IsCommand (asked procedure_of c) → ⊥) (sym none) (λ (z : ⊥). z)

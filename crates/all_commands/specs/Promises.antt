@@ -29,7 +29,7 @@ HeadlineBy top_call.Bound command held old end new = HeadlineOfBound command hel
 HeadlineBy top_call.Prove command held old end new = HeadlineOfProve command held old end new
 
 -- the headline of each command is that of the top call that takes it
-abbrev pub Headline : Option CommandValue → Option Files → Option (List ℕ) → Status →
+unfoldable pub Headline : Option CommandValue → Option Files → Option (List ℕ) → Status →
     Option (List ℕ) → Type 0
 Headline command held old end new = HeadlineBy (top_call_of command) command held old end new
 
@@ -39,7 +39,7 @@ IsQuietBy top_call.Improve command = IsQuietImprove command
 IsQuietBy top_call.Prove command = IsQuietProve command
 IsQuietBy other command = Unit {0}
 
-abbrev pub IsQuiet : Option CommandValue → Type 0
+unfoldable pub IsQuiet : Option CommandValue → Type 0
 IsQuiet command = IsQuietBy (top_call_of command) command
 
 -- what a top call may report for a command
@@ -48,5 +48,5 @@ MayReportBy top_call.Improve command old new = MayReportOfImprove command old ne
 MayReportBy top_call.Prove command old new = MayReportOfProve command old new
 MayReportBy other command old new = new ≡ old
 
-abbrev pub MayReport : Option CommandValue → (old new : Option (List ℕ)) → Type 0
+unfoldable pub MayReport : Option CommandValue → (old new : Option (List ℕ)) → Type 0
 MayReport command old new = MayReportBy (top_call_of command) command old new

@@ -24,7 +24,7 @@ procedure_by top_call.Bound = of_bound
 procedure_by top_call.Prove = of_prove
 
 -- what words ask for: the procedure that the top call of their command has for it
-abbrev pub requested : Option CommandValue → Procedure
+unfoldable pub requested : Option CommandValue → Procedure
 requested command = asked (procedure_by (top_call_of command)) command
 
 -- whether the files fix the text of an answer; what a search finds is any of several
@@ -36,11 +36,11 @@ fixes_text_by top_call.Simulate command = true
 fixes_text_by top_call.Bound command = true
 fixes_text_by top_call.Prove command = false
 
-abbrev pub fixes_text : Option CommandValue → Bool
+unfoldable pub fixes_text : Option CommandValue → Bool
 fixes_text command = fixes_text_by (top_call_of command) command
 
 -- BadWords comes exactly where the words are no command, unless memory runs out or the output fails
-abbrev pub EndsByCommand : Option CommandValue → Type 0 → Status → Type 0
+unfoldable pub EndsByCommand : Option CommandValue → Type 0 → Status → Type 0
 EndsByCommand None sink_failed end =
     (end ≡ BadWords) ⊎ (end ≡ NoMemory) ⊎ ((end ≡ WriteFault) × sink_failed)
 EndsByCommand (Some command) sink_failed end = end ≢ BadWords
