@@ -9,7 +9,7 @@ use Rattle.std.proofs.lemmas.Option.{slice_get-get_or, slice_get_within}
 use Rattle.std.proofs.lemmas.List.Sums.{sum_by-cons}
 use Rattle.std.proofs.Math.Nat.{mul-le-mul_left, mul-le-mul_right}
 use Rattle.plan_model.specs.Plans.{smallest}
-use Rattle.plan_model.specs.Bounds.{sum_below, least_from_one}
+use Rattle.plan_model.specs.Bounds.{sum_below, quotient_up, least_from_one}
 use Rattle.plan_model.proofs.LowerTimes.{quotient_up-le}
 use Rattle.plan_model.proofs.Sums.{one_if}
 use Rattle.plan_model.proofs.SumsOverCycles.{sum_below-sum_by, sum_below-same}
@@ -217,6 +217,15 @@ shared-boxed lengths w k most in_boxes more =
           no_more = c.few;
           holds = omega (arith, least', weighs, busy-holds f (λ b. held b in_boxes.ps) k most c.m in_boxes.holds);
         }
+
+-- ---- shares on more chains
+
+pub quotient_up-falls : (a v w : ℕ) → 1 ≤ v → v ≤ w → quotient_up a w ≤ quotient_up a v
+quotient_up-falls a v w some less =
+    let up = div_ceil_times a v some in
+    let enough : a ≤ quotient_up a v * v = omega (arith, up.0) in
+    let wide : quotient_up a v * v ≤ quotient_up a v * w = mul-le-mul_left (quotient_up a v) less in
+    quotient_up-le a (quotient_up a v) w (omega arith) (omega arith)
 
 -- ---- the least of some numbers
 

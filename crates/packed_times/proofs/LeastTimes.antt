@@ -3,7 +3,6 @@ use Rattle.std.proofs.Common.{◌≡◌, ℕ, ◌+◌, ◌-◌, ◌*◌, ◌≤�
 use Rattle.std.specs.Prelude.{slice_get, if◌then◌else◌}
 use Rattle.std.specs.List.{sum, sum_by, count_by}
 use Rattle.std.proofs.lemmas.Bool.{cases_Bool, eq-eqb, eqb-true}
-use Rattle.std.proofs.lemmas.Grind.{div_ceil_times}
 use Rattle.std.proofs.lemmas.List.{map-id}
 use Rattle.std.proofs.lemmas.Option.{slice_get_within}
 use Rattle.std.proofs.lemmas.List.Sums.{sum_by-cons}
@@ -23,7 +22,7 @@ use Rattle.plan_model.proofs.OperationCounts.{ops_length}
 use Rattle.packed_times.specs.Packed.{rising, crowd, counting, packed, packed_length, packed_time}
 use Rattle.packed_times.proofs.Rising.{Rises, rising-rises, length-rising, sum_by-rising}
 use Rattle.packed_times.proofs.Counting.{crowd_at-le, counting-falls, counting-le-sum}
-use Rattle.packed_times.proofs.Averages.{averaging-falls, averaging-le-sum}
+use Rattle.packed_times.proofs.Averages.{quotient_up-falls, averaging-falls, averaging-le-sum}
 use Rattle.packed_times.proofs.Beside.{beside-falls, beside-le-sum}
 use Rattle.packed_times.proofs.WrapperChains.{packed-le}
 
@@ -51,13 +50,6 @@ packed_self_test m t w self = rw self refl
 packed-falls : (lengths : List ℕ) (v w : ℕ) → 1 ≤ v → v ≤ w → packed lengths w ≤ packed lengths v
 unfolding packed
 packed-falls lengths v w some less = omega (arith, counting-falls lengths v w some less, averaging-falls lengths v w some less, beside-falls lengths v w some less)
-
-quotient_up-falls : (a v w : ℕ) → 1 ≤ v → v ≤ w → quotient_up a w ≤ quotient_up a v
-quotient_up-falls a v w some less =
-    let up = div_ceil_times a v some in
-    let enough : a ≤ quotient_up a v * v = omega (arith, up.0) in
-    let wide : quotient_up a v * v ≤ quotient_up a v * w = mul-le-mul_left (quotient_up a v) less in
-    quotient_up-le a (quotient_up a v) w (omega arith) (omega arith)
 
 pub packed_length-falls : (m : ModuleValue) (t : Test) (ends v w : ℕ) → 1 ≤ v → v ≤ w → packed_length m t ends w ≤ packed_length m t ends v
 packed_length-falls m t ends v w some less =

@@ -30,12 +30,12 @@ crowd_within lengths w k = if nat_lt (k * w) (length lengths) then crowd lengths
 unfoldable pub counting : List ℕ → ℕ → ℕ
 counting lengths w = greatest (map (crowd_within lengths w) (range_with_len 0 (length lengths)))
 
--- what more than k scan chains on each of w chains are, at least
+-- how many scan chains there are beside k on each of w chains
 abbrev pub excess : List ℕ → (w k : ℕ) → ℕ
 excess lengths w k = length lengths - k * w
 
--- Where q chains have more than k scan chains each and the others at most k, these q hold k * q and the excess, at least. The longest of
--- them is as long as the even share of so many shortest lengths, at least.
+-- Where q chains have more than k scan chains each and the others at most k, these q hold k * q and the excess, at least. So the longest
+-- of them is at least as long as the even share of so many of the shortest scan chains.
 abbrev pub share : List ℕ → (w k q : ℕ) → ℕ
 share lengths w k q = quotient_up (sum (take (k * q + excess lengths w k) (rising lengths))) q
 
@@ -48,7 +48,7 @@ least_share lengths w k = least_from_one (share lengths w k) (min w (excess leng
 abbrev pub share_within : List ℕ → (w k : ℕ) → ℕ
 share_within lengths w k = if nat_lt (k * w) (length lengths) then least_share lengths w k else 0
 
--- Averaging: one of w chains is at least as long as the longest of those with more than k scan chains.
+-- Averaging: for each k the longest of w chains is at least as long as those with more than k scan chains are in the mean.
 unfoldable pub averaging : List ℕ → ℕ → ℕ
 averaging lengths w = greatest (map (share_within lengths w) (range_with_len 0 (length lengths)))
 
