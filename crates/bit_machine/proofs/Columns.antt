@@ -1,14 +1,11 @@
 -- Bytes in the columns of lines.
-use Rattle.std.proofs.Common.{◌≡◌, ◌≢◌, ℕ, zero, suc, ◌+◌, ◌-◌, ◌*◌, ◌%◌, ◌≤◌, ◌<◌, ◌⊎◌, Bool, Some, List, length, set, refl, ap, sym, subst, ◌∙◌, arith, inl, inr}
+use Rattle.std.proofs.Common.{◌≡◌, ◌≢◌, ℕ, zero, suc, ◌+◌, ◌-◌, ◌*◌, ◌%◌, ◌≤◌, ◌<◌, ◌⊎◌, Some, List, length, set, refl, ap, sym, subst, ◌∙◌, arith, inl, inr}
 use Rattle.std.specs.Prelude.{slice_get, slice_index}
 use Rattle.std.proofs.Math.Nat.{mul-le-mul_right}
 use Rattle.std.proofs.lemmas.List.{length-set}
 use Rattle.std.proofs.lemmas.Nat.{mod-mul-add}
-use Rattle.std.proofs.lemmas.Bool.{cases_eq, lt-ltb}
-use Rattle.bit_machine.specs.Numbers.{bit_at_place, line_bit}
-use Rattle.bit_machine.specs.Packed.{is_set}
-use Rattle.bit_machine.specs.declared.made.Line.{Line}
-use Rattle.bit_machine.specs.Vectors.{digit, byte_at, ArePutAcross, ArePutDown, AreOtherRowsKept, IsBlank, IsElsewhere}
+use Rattle.std.proofs.lemmas.Bool.{cases_eq}
+use Rattle.bit_machine.specs.Vectors.{byte_at, ArePutAcross, ArePutDown, AreOtherRowsKept, IsBlank, IsElsewhere}
 use Rattle.bit_machine.proofs.Assigning.{set_here, set_elsewhere}
 
 -- ---- places
@@ -85,13 +82,6 @@ down_more wires row n column b f old now new h is before one = record {
     sooner r c (inr (inl above)) = inr (inl above)
     sooner r c (inr (inr under)) = inr (inr (omega (arith, under)))
 
--- a bit of a word in reverse
-pub reversed_bit : (line : Line) (numbers : List ℕ) (word last count below b : ℕ) (bit : Bool) → below < count → count ≤ last + 1 → bit ≡ is_set word (count - 1 - below) → b ≡ digit bit →
-    ((i : ℕ) → i < count → is_set word i ≡ bit_at_place line numbers (last - (count - 1) + i)) → b ≡ digit (bit_at_place line numbers (last - below))
-reversed_bit line numbers word last count below b bit h back is made bits =
-    let place : last - (count - 1) + (count - 1 - below) ≡ last - below = omega arith in
-    made ∙ ap digit (is ∙ bits (count - 1 - below) (omega arith) ∙ ap (bit_at_place line numbers) place)
-
 -- one line more above those that were put
 pub up_more : (wires row n column b : ℕ) (f g : ℕ → ℕ) (old now new : List ℕ) → column < 2 * wires + 2 → b ≡ g 0 → ((i : ℕ) → i < n → f i ≡ g (i + 1)) → ArePutDown wires (row + 1) n column f old now →
     ArePutDown wires row 1 column (λ i. b) now new → ArePutDown wires row (n + 1) column g old new
@@ -120,19 +110,11 @@ up_more wires row n column b f g old now new h is same before one = record {
     rest r c (inr (inl above)) = inr (inl (omega (arith, above)))
     rest r c (inr (inr under)) = inr (inr (omega (arith, under)))
 
--- the same bytes below one another, said another way
-pub same_down : (wires row row' n column : ℕ) (f g : ℕ → ℕ) (old new : List ℕ) → row ≡ row' → ((i : ℕ) → i < n → f i ≡ g i) → ArePutDown wires row n column f old new → ArePutDown wires row' n column g old new
-same_down wires row row' n column f g old new at same put =
-    subst (λ (r : ℕ). ArePutDown wires r n column g old new) at
-    (record { long = put.long; put = λ i h. put.put i h ∙ ap Some (same i h); others = λ r c h e. put.others r c h e })
-
--- a bit of a walk that is put `place` lines above the last line
-pub walked_bit : (line : Line) (numbers : List ℕ) (last count place b : ℕ) (bit : Bool) → place < count → count ≤ last + 1 → last < length numbers → b ≡ digit bit →
-    bit ≡ line_bit line (slice_index numbers (last - (count - 1) + place)) → b ≡ digit (bit_at_place line numbers (last - (count - (place + 1) + 0)))
-walked_bit line numbers last count place b bit h back within made is =
+-- a byte of a walk that is put `place` lines above the last line
+pub walked_byte : (byte : ℕ → ℕ) (numbers : List ℕ) (last count place b : ℕ) → place < count → count ≤ last + 1 → b ≡ byte (slice_index numbers (last - (count - 1) + place)) → b ≡ byte (slice_index numbers (last - (count - (place + 1) + 0)))
+walked_byte byte numbers last count place b h back is =
     let there : last - (count - 1) + place ≡ last - (count - (place + 1) + 0) = omega arith in
-    let inside : last - (count - (place + 1) + 0) < length numbers = omega arith in
-    made ∙ ap digit (is ∙ ap (λ n. line_bit line (slice_index numbers n)) there ∙ rw (lt-ltb (last - (count - (place + 1) + 0)) (length numbers) inside) refl)
+    is ∙ ap (λ n. byte (slice_index numbers n)) there
 
 -- ---- beside one another
 

@@ -78,13 +78,13 @@ wanted_bit content t s cycle j n k tam is pages now ahead h =
     let low : n % 64 < 64 = omega arith in
     let there : n - n % 64 + n % 64 ≡ n = omega arith in
     let word = pages.each (record { pattern = k; first = n - n % 64 }) (now.page n k ahead) j p.0 p.1 (n % 64) low in
-    word ∙ ap (loaded_bit s.lane.base k (p.0).loads) there ∙ by p.0 path (cases_lt n (in_length (chain_at t j)))
+    word ∙ ap (loaded_bit s.lane.key k (p.0).loads) there ∙ by p.0 path (cases_lt n (in_length (chain_at t j)))
     ∙ sym (wanted_now content t s cycle j tam is now ∙ ap (wanted_by (content.stimulus t.id) (chain_at t j)) ahead ∙ ap (λ f. wanted_by f (chain_at t j) (Some (n, k))) w.stimulus)
   where
     by : (p : Path) → IsPath (is.wired tam).inputs (is.wired tam).lengths (chain_at t j) p → (n < in_length (chain_at t j)) ⊎ (in_length (chain_at t j) ≤ n) →
-        loaded_bit s.lane.base k p.loads n ≡ wanted_by (path_stimulus s.lane.base (is.wired tam).inputs (is.wired tam).lengths) (chain_at t j) (Some (n, k))
+        loaded_bit s.lane.key k p.loads n ≡ wanted_by (path_stimulus s.lane.key (is.wired tam).inputs (is.wired tam).lengths) (chain_at t j) (Some (n, k))
     by p path (inl less) =
-        rw (lt-ltb n (length p.loads) (omega (arith, path.loads_long, less)), lt-ltb n (in_length (chain_at t j)) less) (ap (λ i. made_from s.lane.base k i 0) (path.load n less))
+        rw (lt-ltb n (length p.loads) (omega (arith, path.loads_long, less)), lt-ltb n (in_length (chain_at t j)) less) (ap (λ i. made_from s.lane.key k i 0) (path.load n less))
     by p path (inr past) = rw (le-ltb n (length p.loads) (omega (arith, path.loads_long, past)), le-ltb n (in_length (chain_at t j)) past) refl
 
 -- ---- what is read
@@ -117,7 +117,7 @@ pub PathHolds : Content → PlannedTest → SteppedLane → ℕ → ℕ → Bool
 PathHolds content t s k j b = chain_holds (content.stimulus t.id k) (chain_at t j) (get_or (lane_bits s) j []) ≡ b
 
 pub path_holds_in : (content : Content) (t : PlannedTest) (s : SteppedLane) (k j : ℕ) (p : Path) (bits : List Bool) (b : Bool) → t.tam ≡ true → IsLane content t s.lane → AreRings s → slice_get s.lane.paths.items j ≡ Some p → bits ≡ get_or s.rings.items j bits →
-    ((inputs : ℕ) (lengths : List ℕ) (cells : List Cell) → IsPath inputs lengths cells p → length bits ≡ p.cells → b ≡ chain_holds (path_stimulus s.lane.base inputs lengths k) cells bits) → PathHolds content t s k j b
+    ((inputs : ℕ) (lengths : List ℕ) (cells : List Cell) → IsPath inputs lengths cells p → length bits ≡ p.cells → b ≡ chain_holds (path_stimulus s.lane.key inputs lengths k) cells bits) → PathHolds content t s k j b
 unfolding PathHolds
 path_holds_in content t s k j p bits b tam is rings at there held =
     let w : IsWired content t s.lane = is.wired tam in
@@ -174,7 +174,7 @@ ring_stepped s j p old new can at is long = record {
 }
 
 pub lane_bits_stepped : (content : Content) (t : PlannedTest) (s : SteppedLane) (cycle j : ℕ) (p : Path) (old new : List Bool) (drive : Bool) → t.tam ≡ true → IsLane content t s.lane → AreRings s → IsNow s cycle → slice_get s.lane.paths.items j ≡ Some p → old ≡ get_or s.rings.items j old →
-    ((inputs : ℕ) (lengths : List ℕ) (cells : List Cell) → IsPath inputs lengths cells p → length old ≡ p.cells → new ≡ next_bits (path_response s.lane.base lengths) cells (Some (moment_operation s.moment)) drive old) →
+    ((inputs : ℕ) (lengths : List ℕ) (cells : List Cell) → IsPath inputs lengths cells p → length old ≡ p.cells → new ≡ next_bits (path_response s.lane.key lengths) cells (Some (moment_operation s.moment)) drive old) →
     lane_bits (with_ring s j new) ≡ set (lane_bits s) j (next_bits (content.response t.id) (chain_at t j) (slice_get t.operations (cycle - t.start)) drive (get_or (lane_bits s) j []))
 lane_bits_stepped content t s cycle j p old new drive tam is rings now at there bits =
     let w : IsWired content t s.lane = is.wired tam in

@@ -22,6 +22,7 @@ pub mod WholeChip
 pub mod Numbering
 pub mod PlacedLanes
 pub mod PlacedTests
+pub mod MadeLanes
 pub mod NewChips
 pub mod Stimuli
 pub mod HeldStimuli

@@ -1,5 +1,5 @@
 -- A chip before its first cycle.
-use Rattle.std.proofs.Common.{◌≡◌, ℕ, zero, suc, ◌+◌, ◌-◌, ◌^◌, ◌≤◌, ◌<◌, true, Some, List, [], ◌∷◌, length, get_or, map, refl, ap, sym, subst, ◌∙◌, arith, inl, inr}
+use Rattle.std.proofs.Common.{◌≡◌, ℕ, zero, suc, ◌+◌, ◌-◌, ◌^◌, ◌≤◌, ◌<◌, Bool, true, Some, List, [], ◌∷◌, length, get_or, map, refl, ap, sym, subst, ◌∙◌, arith, inl, inr}
 use Rattle.std.specs.Prelude.{slice_get}
 use Rattle.std.specs.List.{sum_by}
 use Rattle.std.proofs.lemmas.List.{length-map, get_or-map}
@@ -19,17 +19,21 @@ use Rattle.plan_model.specs.declared.Bus.{Bus}
 use Rattle.live_tests.specs.Wires.{AreFirstWires}
 use Rattle.live_tests.proofs.FirstWires.{all_at}
 use Rattle.bit_machine.specs.Chips.{made_content, wires_of, at_first}
-use Rattle.bit_machine.specs.Lanes.{lane_bits, AreAtRest, IsAtRest, IsLane, IsWired}
+use Rattle.bit_machine.specs.Lanes.{lane_bits, AreAtRest, IsAtRest, IsFilled, IsLane, IsWired}
 use Rattle.bit_machine.specs.Machines.{lanes_state, AreLanes, AreOnWires, AreSomeLanes, AreSomeStepped, AreStepped, IsMachine}
-use Rattle.bit_machine.specs.Vectors.{VectorsValue, AreVectors, IsLineOf, vectors_content, vectors_tests}
+use Rattle.bit_machine.specs.Marks.{Keys, Marks}
+use Rattle.bit_machine.specs.Placed.{IsPlacedLane, StandFor}
+use Rattle.bit_machine.specs.Vectors.{AreVectors, IsLineOf}
 use Rattle.bit_machine.specs.WholeChips.{to_come, IsChip}
 use Rattle.bit_machine.specs.declared.lane.Lane.{Lane}
 use Rattle.bit_machine.specs.declared.machine.Machine.{Machine}
 use Rattle.bit_machine.specs.declared.path.Path.{Path}
 use Rattle.bit_machine.specs.declared.stepped.SteppedLane.{SteppedLane}
+use Rattle.bit_machine.specs.declared.vectors.Vectors.{Vectors}
 use Rattle.bit_machine.proofs.GoodWires.{good_wires}
 use Rattle.bit_machine.proofs.LaneSteps.{rest_bits, rest_steppable}
 use Rattle.bit_machine.proofs.Layouts.{zeros}
+use Rattle.bit_machine.proofs.PlacedLanes.{filled_lane, keyed_lane}
 use Rattle.bit_machine.proofs.WireSteps.{state_is, lanes_width}
 use Rattle.bit_machine.proofs.WholeChip.{chip_view}
 
@@ -66,7 +70,7 @@ some_test (t ∷ ts) zero h = (t, refl)
 some_test (t ∷ ts) (suc i) h = some_test ts i (omega arith)
 
 -- the lanes of tests, before any cycle
-rest_stepped : (content : Content) (tests : List PlannedTest) (lanes : List Lane) (stepped : List SteppedLane) → AreLanes content tests lanes → AreAtRest lanes stepped → AreStepped content tests stepped
+rest_stepped : (content : Content) (tests : List PlannedTest) (lanes : List Lane) (stepped : List SteppedLane) → AreLanes (IsLane content) tests lanes → AreAtRest lanes stepped → AreStepped content tests stepped
 rest_stepped content tests lanes stepped are rest = record {
   long = rest.long ∙ are.long;
   lane = λ i t s at there.
@@ -79,7 +83,7 @@ rest_stepped content tests lanes stepped are rest = record {
       rest_steppable l.0 s (are.lane i t.0 l.0 t.1 l.1).ready (rest.each i l.0 s l.1 there);
 }
 
-pub new_some : (soc : SocValue) (plan : PlanValue) (seed n : ℕ) (lanes : List Lane) (stepped : List SteppedLane) → IsGoodAlone soc plan → n ≡ wires_of plan → AreLanes (made_content soc seed) (planned soc plan) lanes → AreAtRest lanes stepped → AreSomeStepped stepped n
+pub new_some : (soc : SocValue) (plan : PlanValue) (seed n : ℕ) (lanes : List Lane) (stepped : List SteppedLane) → IsGoodAlone soc plan → n ≡ wires_of plan → AreLanes (IsLane (made_content soc seed)) (planned soc plan) lanes → AreAtRest lanes stepped → AreSomeStepped stepped n
 new_some soc plan seed n lanes stepped good wide are rest = record {
   content = made_content soc seed;
   tests = planned soc plan;
@@ -87,7 +91,7 @@ new_some soc plan seed n lanes stepped good wide are rest = record {
   on = subst (AreOnWires (planned soc plan)) (sym wide) (good_wires soc (bare_limits plan) plan good (made_content soc seed));
 }
 
-pub new_chip : (soc : SocValue) (plan : PlanValue) (seed n : ℕ) (lanes : List Lane) (stepped : List SteppedLane) (m : Machine) → IsSoundChip soc → IsGoodAlone soc plan → n ≡ wires_of plan → AreLanes (made_content soc seed) (planned soc plan) lanes → AreAtRest lanes stepped →
+pub new_chip : (soc : SocValue) (plan : PlanValue) (seed n : ℕ) (lanes : List Lane) (stepped : List SteppedLane) (m : Machine) → IsSoundChip soc → IsGoodAlone soc plan → n ≡ wires_of plan → AreLanes (IsLane (made_content soc seed)) (planned soc plan) lanes → AreAtRest lanes stepped →
     m.cycle ≡ 0 → length m.users.items ≡ n → ((content : Content) (tests : List PlannedTest) → AreStepped content tests stepped → AreOnWires tests n → IsMachine content tests m) → IsChip soc plan seed m 0 0
 new_chip soc plan seed n lanes stepped m sound good wide are rest start users machine = record {
   sound = sound;
@@ -99,29 +103,26 @@ new_chip soc plan seed n lanes stepped m sound good wide are rest start users ma
 }
 
 -- what is kept of the vectors of a plan
-pub new_vectors : (soc : SocValue) (plan : PlanValue) (seed n : ℕ) (lanes : List Lane) → IsGoodAlone soc plan → n ≡ wires_of plan → AreLanes (made_content soc seed) (planned soc plan) lanes → AreVectors soc plan seed n lanes
-new_vectors soc plan seed n lanes good wide are = record {
+pub new_vectors : (keys : Keys) (soc : SocValue) (plan : PlanValue) (v : Vectors) → IsGoodAlone soc plan → v.wires ≡ wires_of plan → AreLanes (IsPlacedLane keys soc plan) (planned soc plan) v.lanes.items → AreVectors keys soc plan v
+new_vectors keys soc plan v good wide are = record {
   are = are;
-  on = subst (AreOnWires (planned soc plan)) (sym wide) (good_wires soc (bare_limits plan) plan good (made_content soc seed));
+  on = subst (AreOnWires (planned soc plan)) (sym wide) (good_wires soc (bare_limits plan) plan good (made_content soc 0));
   all = wide;
 }
 
--- the vectors by their value
-abbrev pub vectors_view : SocValue → PlanValue → ℕ → VectorsValue
-vectors_view s p seed = record { soc = s; plan = p; seed = seed }
+pub vectors_some : (keys : Keys) (soc : SocValue) (plan : PlanValue) (v : Vectors) → AreVectors keys soc plan v → AreSomeLanes keys v.lanes.items v.wires
+vectors_some keys soc plan v is = record {
+  tests = planned soc plan;
+  are = record { long = is.are.long; lane = λ i t l at there. keyed_lane keys soc plan t l (is.are.lane i t l at there) };
+  on = is.on;
+}
 
-pub vectors_some : (s : SocValue) (p : PlanValue) (seed n : ℕ) (lanes : List Lane) → AreVectors s p seed n lanes → AreSomeLanes lanes n
-vectors_some s p seed n lanes is = record { content = made_content s seed; tests = planned s p; are = is.are; on = is.on }
-
--- the number of wires is that of the value's plan
-pub vectors_wide : (v : VectorsValue) (s : SocValue) (p : PlanValue) (seed n : ℕ) (lanes : List Lane) → vectors_view s p seed ≡ v → AreVectors s p seed n lanes → n ≡ wires_of v.plan
-vectors_wide v s p seed n lanes same is = is.all ∙ ap (λ (v : VectorsValue). wires_of v.plan) same
-
-pub vectors_lines : (v : VectorsValue) (s : SocValue) (p : PlanValue) (seed n : ℕ) (lanes : List Lane) (from count : ℕ) (text : List ℕ) → vectors_view s p seed ≡ v → AreVectors s p seed n lanes →
-    ((content : Content) (tests : List PlannedTest) → AreLanes content tests lanes → AreOnWires tests n → (r : ℕ) → r < count → IsLineOf content tests n (from + r) r text) → (r : ℕ) → r < count → IsLineOf (vectors_content v) (vectors_tests v) (wires_of v.plan) (from + r) r text
-vectors_lines v s p seed n lanes from count text same is lines r h =
-    subst (λ (v : VectorsValue). IsLineOf (vectors_content v) (vectors_tests v) (wires_of v.plan) (from + r) r text) same
-    (subst (λ n. IsLineOf (made_content s seed) (planned s p) n (from + r) r text) is.all (lines (made_content s seed) (planned s p) is.are is.on r h))
+pub vectors_lines : (keys : Keys) (drive : ℕ → ℕ → ℕ → Bool) (mark : ℕ → ℕ → ℕ → ℕ) (soc : SocValue) (plan : PlanValue) (content : Content) (marks : Marks) (v : Vectors) (from count : ℕ) (text : List ℕ) → AreVectors keys soc plan v → StandFor keys drive mark soc content marks →
+    ((content : Content) (marks : Marks) (tests : List PlannedTest) → AreLanes (IsFilled drive mark content marks) tests v.lanes.items → AreOnWires tests v.wires → (r : ℕ) → r < count → IsLineOf content marks tests v.wires (from + r) r text) →
+    (r : ℕ) → r < count → IsLineOf content marks (planned soc plan) (wires_of plan) (from + r) r text
+vectors_lines keys drive mark soc plan content marks v from count text is stand lines r h =
+    subst (λ n. IsLineOf content marks (planned soc plan) n (from + r) r text) is.all
+    (lines content marks (planned soc plan) (record { long = is.are.long; lane = λ i t l at there. filled_lane keys drive mark soc plan content marks t l stand (is.are.lane i t l at there) }) is.on r h)
 
 some_stepped : (ls : List SteppedLane) (i : ℕ) → i < length ls → (l : SteppedLane) × (slice_get ls i ≡ Some l)
 some_stepped [] i h = absurd (omega arith)
@@ -148,7 +149,7 @@ rest_chain soc seed t l s j is rest h =
     let p = some_path l.paths.items j (omega (arith, w.chains, h)) in
     rest_bits l s j p.0 rest p.1 ∙ sym (zeros (chain_at t j) (p.0).cells (sym (w.path j p.0 p.1).long))
 
-pub new_state : (soc : SocValue) (seed : ℕ) (tests : List PlannedTest) (lanes : List Lane) (stepped : List SteppedLane) (m : Machine) → IsMachine (made_content soc seed) tests m → lanes_state m.lanes.items ≡ lanes_state stepped → AreLanes (made_content soc seed) tests lanes → AreAtRest lanes stepped → lanes_state m.lanes.items ≡ first_state (made_content soc seed) tests
+pub new_state : (soc : SocValue) (seed : ℕ) (tests : List PlannedTest) (lanes : List Lane) (stepped : List SteppedLane) (m : Machine) → IsMachine (made_content soc seed) tests m → lanes_state m.lanes.items ≡ lanes_state stepped → AreLanes (IsLane (made_content soc seed)) tests lanes → AreAtRest lanes stepped → lanes_state m.lanes.items ≡ first_state (made_content soc seed) tests
 unfolding first_state
 new_state soc seed tests lanes stepped m is same are rest =
     let content = made_content soc seed in

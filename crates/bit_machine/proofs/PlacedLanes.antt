@@ -1,5 +1,5 @@
 -- The lane of a live test is that of its planned test.
-use Rattle.std.proofs.Common.{◌≡◌, ◌≢◌, ℕ, zero, suc, ◌+◌, ◌*◌, ◌%◌, ◌^◌, ◌≤◌, ◌<◌, ◌⊎◌, Bool, true, false, true≢false, max, min, None, Some, List, [], ◌∷◌, length, get_or, map, option_map, take, refl, ap, sym, subst, ◌∙◌, arith, inl, inr}
+use Rattle.std.proofs.Common.{◌≡◌, ◌≢◌, ℕ, zero, suc, ◌+◌, ◌*◌, ◌^◌, ◌≤◌, ◌<◌, ◌⊎◌, Bool, true, false, true≢false, max, min, None, Some, List, [], ◌∷◌, length, get_or, map, option_map, take, refl, ap, sym, subst, ◌∙◌, arith, inl, inr}
 use Rattle.std.specs.Prelude.{slice_get, slice_index, nat_eq}
 use Rattle.std.specs.List.{sum, sum_by, position_or_len}
 use Rattle.std.proofs.Math.Path.{fun_ext}
@@ -24,7 +24,6 @@ use Rattle.plan_model.proofs.CellOrder.{length-dealt}
 use Rattle.plan_model.proofs.ProperByCounts.{IsCounted, proper_is_counted}
 use Rattle.bit_machine.specs.Layouts.{layout_cells}
 use Rattle.bit_machine.specs.declared.layout.Layout.{Layout}
-use Rattle.std.proofs.lemmas.Nat.{mod_below}
 use Rattle.plan_model.proofs.OperationCounts.{ops_length}
 use Rattle.plan_model.proofs.Greatest.{le-greatest}
 use Rattle.plan_model.proofs.Finding.{in_filter}
@@ -39,16 +38,16 @@ use Rattle.live_tests.specs.Wrapped.{IsModeWrapper}
 use Rattle.plan_model.specs.declared.Wrapper.{Wrapper}
 use Rattle.live_tests.proofs.BusWidths.{widths_are}
 use Rattle.live_tests.proofs.Placing.{the_live, in_live}
-use Rattle.bit_machine.specs.Chips.{made_content, made_stimulus, made_response, of_live}
-use Rattle.bit_machine.specs.Paths.{path_stimulus, path_response, IsPath}
+use Rattle.bit_machine.specs.Chips.{of_live, test_place}
+use Rattle.bit_machine.specs.Paths.{IsPath}
 use Rattle.plan_model.specs.Moments.{ArePhases, phase_ops}
-use Rattle.bit_machine.specs.Lanes.{IsLane, IsWired}
+use Rattle.bit_machine.specs.Lanes.{IsFilled, IsKeyed, IsRouted}
+use Rattle.bit_machine.specs.Marks.{Keys, Marks}
 use Rattle.bit_machine.specs.Building.{ArePaths}
-use Rattle.bit_machine.specs.Placed.{IsSelfLane}
+use Rattle.bit_machine.specs.Placed.{inputs_of, lengths_of, IsPlacedLane, IsSelfLane, StandFor}
 use Rattle.bit_machine.specs.declared.lane.Lane.{Lane}
 use Rattle.bit_machine.specs.declared.path.Path.{Path}
-use Rattle.bit_machine.proofs.MadeBits.{made_from_is}
-use Rattle.bit_machine.proofs.LaneSteps.{slice_at, sound_path}
+use Rattle.bit_machine.proofs.LaneSteps.{slice_at}
 
 -- ---- the live test of a name
 
@@ -106,21 +105,13 @@ of_the_live soc sound p q m t at there live f =
     let r = of_first_is (λ (l : LiveTest). same_test (id_of l) (id_of (the_live p m t))) f false (live_tests soc) i.0 (the_live p m t) here (itself (id_of (the_live p m t))) in
     r.4 ∙ ap f (one_live soc sound p q m t at there r.0 r.1 r.2 r.3)
 
--- ---- the made contents of a test
-
-made_stimulus_is : (soc : SocValue) (sound : IsSoundChip soc) (seed p q : ℕ) (m : ModuleValue) (t : Test) → slice_get soc.modules p ≡ Some m → slice_get m.tests q ≡ Some t → is_live t ≡ true →
-    (made_content soc seed).stimulus (id_of (the_live p m t)) ≡ path_stimulus ((seed + 31 * p + 17 * q) % 997) (m.inputs + m.bidirs) (scan_lengths m t.scan)
-unfolding made_content
-made_stimulus_is soc sound seed p q m t at there live = fun_ext (λ k. fun_ext (λ x.
-    of_the_live soc sound p q m t at there live (λ l. made_stimulus seed l k x)
-    ∙ rw (first_place m.tests q t (sound_module soc sound p m at).tests_differ there) (sym (made_from_is seed p q k _ 0))))
-
-made_response_is : (soc : SocValue) (sound : IsSoundChip soc) (seed p q : ℕ) (m : ModuleValue) (t : Test) → slice_get soc.modules p ≡ Some m → slice_get m.tests q ≡ Some t → is_live t ≡ true →
-    (made_content soc seed).response (id_of (the_live p m t)) ≡ path_response ((seed + 31 * p + 17 * q) % 997) (scan_lengths m t.scan)
-unfolding made_content
-made_response_is soc sound seed p q m t at there live = fun_ext (λ k. fun_ext (λ x.
-    of_the_live soc sound p q m t at there live (λ l. made_response seed l k x)
-    ∙ rw (first_place m.tests q t (sound_module soc sound p m at).tests_differ there) (sym (made_from_is seed p q k _ 1))))
+-- what the live tests say of the name of one of them
+pub live_content : (soc : SocValue) → IsSoundChip soc → (i : ℕ) (l : LiveTest) → slice_get (live_tests soc) i ≡ Some l → (f : LiveTest → Bool) → of_live soc (id_of l) f ≡ f l
+live_content soc sound i l at f =
+    let o : IsLive soc.modules 0 l = live_at soc.modules 0 i l at in
+    let g = from_filter is_live l.core.tests o.n l.test o.test_at in
+    let same : l ≡ the_live o.up l.core l.test = same_live l o.up l.core l.test (let e : l.place ≡ 0 + o.up = o.place_is in omega arith) refl refl in
+    of_the_live soc sound o.up g.0 l.core l.test o.module_at g.1 g.2 f ∙ ap f (sym same)
 
 -- ---- the fields of a planned test
 
@@ -151,29 +142,34 @@ over_some false bus over e = absurd cc
 none_some : {X : Type 0} {x : X} → None ≡ Some x → ⊥
 none_some e = cc
 
-self_new : (content : Content) (plan : PlanValue) (p : ℕ) (m : ModuleValue) (t : Test) (u : PlannedTest) (placed : PlacedTest) (l : Lane) → PlannedIs plan p m t u → placed ≡ placed_of u → placed.bus ≡ None → IsSelfLane placed l → IsLane content u l
-self_new content plan p m t u placed l is same none lane =
+self_new : (keys : Keys) (soc : SocValue) (plan : PlanValue) (i : ℕ) (live : LiveTest) (u : PlannedTest) (placed : PlacedTest) (l : Lane) → slice_get (live_tests soc) i ≡ Some live → u ≡ planned_test plan live.place live.core live.test → PlannedIs plan live.place live.core live.test u →
+    placed ≡ placed_of u → placed.bus ≡ None → IsSelfLane placed l → IsPlacedLane keys soc plan u l
+self_new keys soc plan i live u placed l there planned is same none lane =
     let self' : u.tam ≡ false = over_none u.tam u.bus (ap (λ (q : PlacedTest). q.bus) (sym same) ∙ none) in
-    let self : t.tam ≡ false = sym is.tam ∙ self' in
+    let self : live.test.tam ≡ false = sym is.tam ∙ self' in
     record {
-      ready = record {
-        base = rw lane.base (omega arith);
+      place = i;
+      live = live;
+      there = there;
+      planned = planned;
+      key = λ tam. absurd (true≢false (sym tam ∙ self'));
+      none = λ _. lane.key;
+      fitted = record {
         phases = lane.phases;
-        paths = λ j q at. absurd (let within = slice_get_within l.paths.items j q at in let none = lane.none in omega arith);
+        tam = lane.tam ∙ sym self';
+        start = lane.start_is ∙ ap (λ (q : PlacedTest). q.start) same;
+        ends = lane.ends ∙ ap (λ (q : PlacedTest). q.end) same;
+        wired = λ tam. absurd (true≢false (sym tam ∙ self'));
+        alone = λ none. (lane.none, ap length is.chains ∙ rw self refl);
       };
-      tam = lane.tam ∙ sym self';
-      start = lane.start_is ∙ ap (λ (q : PlacedTest). q.start) same;
-      ends = lane.ends ∙ ap (λ (q : PlacedTest). q.end) same;
-      wired = λ tam. absurd (true≢false (sym tam ∙ self'));
-      alone = λ none. (lane.none, ap length is.chains ∙ rw self refl);
     }
 
 -- ---- tests over the wires
 
 -- the lane of a test over the wires of a bus; `at` is its place in its module
-pub record IsWiredLane (plan : PlanValue) (seed place bus at : ℕ) (placed : PlacedTest) (m : ModuleValue) (test : Test) (l : Lane) : Type 0 where
+pub record IsWiredLane (keys : Keys) (plan : PlanValue) (place bus at : ℕ) (placed : PlacedTest) (m : ModuleValue) (test : Test) (l : Lane) : Type 0 where
   pub tam : l.tam ≡ true
-  pub base : l.base ≡ (seed + 31 * place + 17 * at) % 997
+  pub key : l.key ≡ keys place at (id_of (the_live place m test))
   pub start_is : l.start ≡ placed.start
   pub ends : l.end ≡ placed.end
   pub setup : l.phases.setup ≡ m.setup
@@ -188,19 +184,23 @@ long_ops : (setup si so p n : ℕ) → 1 ≤ p → setup + (1 + max si so) * p +
 long_ops setup si so zero n some h = absurd (omega arith)
 long_ops setup si so (suc p) n some h = (omega arith, omega arith)
 
-wired_new : (soc : SocValue) (sound : IsSoundChip soc) (plan : PlanValue) (seed p q : ℕ) (m : ModuleValue) (t : Test) (u : PlannedTest) (placed : PlacedTest) (over : ℕ) (l : Lane) → slice_get soc.modules p ≡ Some m → slice_get m.tests q ≡ Some t → is_live t ≡ true
-    → length (operations_of m t (chains_of plan m t)) ≤ 10 ^ 18 → PlannedIs plan p m t u → placed ≡ placed_of u → placed.bus ≡ Some over → IsWiredLane plan seed p over q placed m t l → IsLane (made_content soc seed) u l
-wired_new soc sound plan seed p q m t u placed over l at there live fits is same on lane = record {
-  ready = record {
-    base = rw lane.base (mod_below (seed + 31 * p + 17 * q) 997 (omega arith));
+wired_new : (keys : Keys) (soc : SocValue) (sound : IsSoundChip soc) (plan : PlanValue) (p q i : ℕ) (m : ModuleValue) (t : Test) (u : PlannedTest) (placed : PlacedTest) (over : ℕ) (l : Lane) → slice_get soc.modules p ≡ Some m → slice_get m.tests q ≡ Some t → is_live t ≡ true
+    → slice_get (live_tests soc) i ≡ Some (the_live p m t) → length (operations_of m t (chains_of plan m t)) ≤ 10 ^ 18 → u ≡ planned_test plan p m t → PlannedIs plan p m t u → placed ≡ placed_of u → placed.bus ≡ Some over → IsWiredLane keys plan p over q placed m t l → IsPlacedLane keys soc plan u l
+wired_new keys soc sound plan p q i m t u placed over l at there live here fits planned is same on lane = record {
+  place = i;
+  live = the_live p m t;
+  there = here;
+  planned = planned;
+  key = λ _. lane.key ∙ ap (λ n. keys p n (id_of (the_live p m t))) (sym (first_place m.tests q t (sound_module soc sound p m at).tests_differ there));
+  none = λ none. absurd (true≢false (sym (is.tam ∙ tam) ∙ none));
+  fitted = record {
     phases = phases;
-    paths = λ j r at'. sound_path (m.inputs + m.bidirs) (scan_lengths m t.scan) (get_or (chains_of plan m t) j []) r (lane.paths.each j r at');
+    tam = lane.tam ∙ sym (is.tam ∙ tam);
+    start = lane.start_is ∙ ap (λ (q : PlacedTest). q.start) same;
+    ends = lane.ends ∙ ap (λ (q : PlacedTest). q.end) same;
+    wired = λ _. wired;
+    alone = λ none. absurd (true≢false (sym (is.tam ∙ tam) ∙ none));
   };
-  tam = lane.tam ∙ sym (is.tam ∙ tam);
-  start = lane.start_is ∙ ap (λ (q : PlacedTest). q.start) same;
-  ends = lane.ends ∙ ap (λ (q : PlacedTest). q.end) same;
-  wired = λ _. wired;
-  alone = λ none. absurd (true≢false (sym (is.tam ∙ tam) ∙ none));
 }
   where
     over_it : (u.tam ≡ true) × (u.bus ≡ over)
@@ -237,17 +237,13 @@ wired_new soc sound plan seed p q m t u placed over l at there live fits is same
     chain : (j : ℕ) → chain_at u j ≡ get_or (chains_of plan m t) j []
     chain j = ap (λ (c : List (List Cell)). get_or c j []) is.chains
 
-    wired : IsWired (made_content soc seed) u l
+    wired : IsRouted (m.inputs + m.bidirs) (scan_lengths m t.scan) u l
     wired = record {
       operations = is.operations ∙ of_test ∙ ops;
       out_fits = λ j. rw (chain j, lane.so) (le-greatest out_length [] refl (chains_of plan m t) j);
       first_wire = lane.first_wire ∙ ap (λ b. sum (take b (widths plan))) bus ∙ sym is.first_wire;
       width = lane.width ∙ ap (slice_index (widths plan)) bus ∙ sym is.width;
       chains = lane.paths.long ∙ sym (ap length is.chains);
-      inputs = m.inputs + m.bidirs;
-      lengths = scan_lengths m t.scan;
-      stimulus = rw (is.id, lane.base) (made_stimulus_is soc sound seed p q m t at there live);
-      response = rw (is.id, lane.base) (made_response_is soc sound seed p q m t at there live);
       path = λ j r at'. rw (chain j) (lane.paths.each j r at');
     }
 
@@ -303,29 +299,37 @@ over_wires plan p m t placed over same on =
     let is : PlannedIs plan p m t u = planned_is plan p m t in
     (sym is.tam ∙ o.0, sym o.1 ∙ is.bus)
 
-pub self_placed : (content : Content) (plan : PlanValue) (p : ℕ) (m : ModuleValue) (t : Test) (placed : PlacedTest) (l : Lane) → placed ≡ placed_of (planned_test plan p m t) → placed.bus ≡ None → IsSelfLane placed l → IsLane content (planned_test plan p m t) l
-self_placed content plan p m t placed l same none lane = self_new content plan p m t (planned_test plan p m t) placed l (planned_is plan p m t) same none lane
-
--- a live test is planned
-planned_there : (soc : SocValue) (plan : PlanValue) (p q : ℕ) (m : ModuleValue) (t : Test) → slice_get soc.modules p ≡ Some m → slice_get m.tests q ≡ Some t → is_live t ≡ true → (i : ℕ) × IsAt (planned soc plan) i (planned_test plan p m t)
-unfolding planned
-planned_there soc plan p q m t at there live =
+-- a live test is one of the chip's, and is planned
+live_there : (soc : SocValue) (p q : ℕ) (m : ModuleValue) (t : Test) → slice_get soc.modules p ≡ Some m → slice_get m.tests q ≡ Some t → is_live t ≡ true → (i : ℕ) × (slice_get (live_tests soc) i ≡ Some (the_live p m t))
+live_there soc p q m t at there live =
     let n = in_filter is_live m.tests q t there live in
     let i = in_live soc.modules 0 p n.0 p m t (omega arith) at n.1 in
-    (i.0, slice_get-map (λ (l : LiveTest). planned_test plan l.place l.core l.test) (live_tests soc) i.0 ∙ ap (option_map (λ (l : LiveTest). planned_test plan l.place l.core l.test)) i.1)
+    (i.0, i.1)
 
-pub wired_placed : (soc : SocValue) (sound : IsSoundChip soc) (limits : LimitsValue) (plan : PlanValue) → IsGood soc limits plan → (seed p q : ℕ) (m : ModuleValue) (t : Test) (placed : PlacedTest) (over : ℕ) (l : Lane) → slice_get soc.modules p ≡ Some m → slice_get m.tests q ≡ Some t → is_live t ≡ true → placed ≡ placed_of (planned_test plan p m t) → placed.bus ≡ Some over
-    → IsWiredLane plan seed p over q placed m t l → IsLane (made_content soc seed) (planned_test plan p m t) l
-wired_placed soc sound limits plan good seed p q m t placed over l at there live same on lane =
-    wired_new soc sound plan seed p q m t (planned_test plan p m t) placed over l at there live short is same on lane
+planned_there : (soc : SocValue) (plan : PlanValue) (p : ℕ) (m : ModuleValue) (t : Test) (i : ℕ) → slice_get (live_tests soc) i ≡ Some (the_live p m t) → IsAt (planned soc plan) i (planned_test plan p m t)
+unfolding planned
+planned_there soc plan p m t i at =
+    slice_get-map (λ (l : LiveTest). planned_test plan l.place l.core l.test) (live_tests soc) i ∙ ap (option_map (λ (l : LiveTest). planned_test plan l.place l.core l.test)) at
+
+pub self_placed : (keys : Keys) (soc : SocValue) (plan : PlanValue) (p q : ℕ) (m : ModuleValue) (t : Test) (placed : PlacedTest) (l : Lane) → slice_get soc.modules p ≡ Some m → slice_get m.tests q ≡ Some t → is_live t ≡ true → placed ≡ placed_of (planned_test plan p m t) → placed.bus ≡ None → IsSelfLane placed l →
+    IsPlacedLane keys soc plan (planned_test plan p m t) l
+self_placed keys soc plan p q m t placed l at there live same none lane =
+    let i = live_there soc p q m t at there live in
+    self_new keys soc plan i.0 (the_live p m t) (planned_test plan p m t) placed l i.1 refl (planned_is plan p m t) same none lane
+
+pub wired_placed : (keys : Keys) (soc : SocValue) (sound : IsSoundChip soc) (limits : LimitsValue) (plan : PlanValue) → IsGood soc limits plan → (p q : ℕ) (m : ModuleValue) (t : Test) (placed : PlacedTest) (over : ℕ) (l : Lane) → slice_get soc.modules p ≡ Some m → slice_get m.tests q ≡ Some t → is_live t ≡ true → placed ≡ placed_of (planned_test plan p m t) → placed.bus ≡ Some over
+    → IsWiredLane keys plan p over q placed m t l → IsPlacedLane keys soc plan (planned_test plan p m t) l
+wired_placed keys soc sound limits plan good p q m t placed over l at there live same on lane =
+    wired_new keys soc sound plan p q i.0 m t (planned_test plan p m t) placed over l at there live i.1 short refl is same on lane
   where
     is : PlannedIs plan p m t (planned_test plan p m t)
     is = planned_is plan p m t
 
+    i : (i : ℕ) × (slice_get (live_tests soc) i ≡ Some (the_live p m t))
+    i = live_there soc p q m t at there live
+
     short : length (operations_of m t (chains_of plan m t)) ≤ 10 ^ 18
-    short =
-        let i = planned_there soc plan p q m t at there live in
-        omega (arith, ap length is.operations, short_planned soc limits plan i.0 (planned_test plan p m t) sound.size good i.1)
+    short = omega (arith, ap length is.operations, short_planned soc limits plan i.0 (planned_test plan p m t) sound.size good (planned_there soc plan p m t i.0 i.1))
 
 -- the bus of a test over the wires is one of the plan's
 pub bus_there : (soc : SocValue) (limits : LimitsValue) (plan : PlanValue) → IsGood soc limits plan → (p q : ℕ) (m : ModuleValue) (t : Test) → slice_get soc.modules p ≡ Some m → slice_get m.tests q ≡ Some t → is_live t ≡ true → t.tam ≡ true → bus_place m.number 0 plan.buses < length plan.buses
@@ -346,3 +350,32 @@ bus_there soc limits plan good p q m t at there live tam =
 
 pub width_is : (buses : List Bus) (bus : ℕ) (b : Bus) → b ≡ get_or buses bus b → bus < length buses → b.width ≡ slice_index (map (λ (b : BusValue). b.width) (map bus_value buses)) bus
 width_is buses bus b at within = ap (λ (b : Bus). b.width) at ∙ sym (get_or-map (λ (b : Bus). b.width) buses bus b 0 within) ∙ rw (widths_are buses) refl
+
+-- ---- lanes with contents
+
+-- the name of the test of a lane
+pub placed_id : (keys : Keys) (soc : SocValue) (plan : PlanValue) (t : PlannedTest) (l : Lane) → (is : IsPlacedLane keys soc plan t l) → t.id ≡ id_of is.live
+placed_id keys soc plan t l is = (subst (PlannedIs plan is.live.place is.live.core is.live.test) (sym is.planned) (planned_is plan is.live.place is.live.core is.live.test)).id
+
+-- what a lane is filled with by contents that stand for the tests of the chip
+filled : (keys : Keys) (drive : ℕ → ℕ → ℕ → Bool) (mark : ℕ → ℕ → ℕ → ℕ) (soc : SocValue) (plan : PlanValue) (content : Content) (marks : Marks) (t : PlannedTest) (l : Lane) → StandFor keys drive mark soc content marks → (is : IsPlacedLane keys soc plan t l) → PlannedIs plan is.live.place is.live.core is.live.test t → IsFilled drive mark content marks t l
+filled keys drive mark soc plan content marks t l stand is planned = record {
+  inputs = inputs_of is.live;
+  lengths = lengths_of is.live;
+  fitted = is.fitted;
+  stimulus = λ tam. rw (planned.id, is.key tam) (fun_ext (λ k. fun_ext (λ x. stand.stimulus is.place is.live is.there (sym planned.tam ∙ tam) k x)));
+  answers = λ tam. rw (planned.id, is.key tam) (fun_ext (λ k. fun_ext (λ x. stand.answers is.place is.live is.there (sym planned.tam ∙ tam) k x)));
+}
+
+pub filled_lane : (keys : Keys) (drive : ℕ → ℕ → ℕ → Bool) (mark : ℕ → ℕ → ℕ → ℕ) (soc : SocValue) (plan : PlanValue) (content : Content) (marks : Marks) (t : PlannedTest) (l : Lane) → StandFor keys drive mark soc content marks → IsPlacedLane keys soc plan t l → IsFilled drive mark content marks t l
+filled_lane keys drive mark soc plan content marks t l stand is =
+    filled keys drive mark soc plan content marks t l stand is (subst (PlannedIs plan is.live.place is.live.core is.live.test) (sym is.planned) (planned_is plan is.live.place is.live.core is.live.test))
+
+-- its test is known by its key
+pub keyed_lane : (keys : Keys) (soc : SocValue) (plan : PlanValue) (t : PlannedTest) (l : Lane) → IsPlacedLane keys soc plan t l → IsKeyed keys t l
+keyed_lane keys soc plan t l is = record {
+  inputs = inputs_of is.live;
+  lengths = lengths_of is.live;
+  fitted = is.fitted;
+  key = λ tam. record { place = is.live.place; at = test_place is.live; id = id_of is.live; is = is.key (sym is.fitted.tam ∙ tam) };
+}

@@ -16,10 +16,8 @@ use Rattle.plan_model.specs.declared.moments.Moment.TheVariants as moment
 use Rattle.plan_model.proofs.ByDivision.{shift_moment}
 use Rattle.plan_model.proofs.ChainShifts.{at_head}
 use Rattle.plan_model.proofs.OperationBlocks.{capture_found, capture_place, IsCaptured}
-use Rattle.bit_machine.specs.Numbers.{line_bit, bit_at_place}
-use Rattle.bit_machine.specs.Paths.{made_from, path_stimulus, path_response, is_answered, IsPath}
+use Rattle.bit_machine.specs.Paths.{is_answered, numbered_marks, numbered_stimulus, IsPath}
 use Rattle.bit_machine.specs.Vectors.{digit, byte_at, earlier, later, AreShifts, ArePutDown, IsDriven, IsElsewhere, IsKeptElsewhere, IsRead, IsApart, AreChainsPut}
-use Rattle.bit_machine.specs.declared.made.Line.{Line}
 use Rattle.bit_machine.specs.declared.path.Path.{Path}
 
 -- ---- what lies ahead, from what is wanted
@@ -216,43 +214,58 @@ one_shift p n ahead behind m i h =
 
 -- ---- the bits of a chain
 
-pub load_bit : (line : Line) (base k inputs : ℕ) (lengths : List ℕ) (cells : List Cell) (p : Path) (s : ℕ) → IsPath inputs lengths cells p → ((n : ℕ) → line_bit line n ≡ made_from base k n 0) →
-    bit_at_place line p.loads s ≡ wanted_by (path_stimulus base inputs lengths) cells (Some (s, k))
-load_bit line base k inputs lengths cells p s is bits = go (cases_lt s (in_length cells)) where
-  go : (s < in_length cells) ⊎ (in_length cells ≤ s) → bit_at_place line p.loads s ≡ wanted_by (path_stimulus base inputs lengths) cells (Some (s, k))
-  go (inl less) =
-      let long : length p.loads ≡ in_length cells = is.loads_long in
-      rw (lt-ltb s (length p.loads) (omega (arith, long, less)), lt-ltb s (in_length cells) less) (bits (slice_index p.loads s) ∙ ap (λ n. made_from base k n 0) (is.load s less))
-  go (inr past) =
-      let long : length p.loads ≡ in_length cells = is.loads_long in
-      rw (le-ltb s (length p.loads) (omega (arith, long, past)), le-ltb s (in_length cells) past) refl
+-- a bit that is loaded, by its number
+load_bit : (bits : ℕ → ℕ → Bool) (k inputs : ℕ) (lengths : List ℕ) (cells : List Cell) (p : Path) (s : ℕ) → IsPath inputs lengths cells p → s < length p.loads → bits k (slice_index p.loads s) ≡ wanted_by (numbered_stimulus bits inputs lengths) cells (Some (s, k))
+load_bit bits k inputs lengths cells p s is less =
+    let long : length p.loads ≡ in_length cells = is.loads_long in
+    let less' : s < in_length cells = omega (arith, long, less) in
+    rw (lt-ltb s (in_length cells) less') (ap (bits k) (is.load s less'))
 
-pub answer_bit : (line : Line) (base k inputs : ℕ) (lengths : List ℕ) (cells : List Cell) (p : Path) (s q : ℕ) → IsPath inputs lengths cells p → ((n : ℕ) → line_bit line n ≡ made_from base k n 1) → q + s + 1 ≡ length p.answers →
-    bit_at_place line p.answers q ≡ path_response base lengths k (from_end cells s)
-answer_bit line base k inputs lengths cells p s q is bits at =
+-- no bit is loaded past the last one
+no_bit : (bits : ℕ → ℕ → Bool) (k inputs : ℕ) (lengths : List ℕ) (cells : List Cell) (p : Path) (s : ℕ) → IsPath inputs lengths cells p → length p.loads ≤ s → wanted_by (numbered_stimulus bits inputs lengths) cells (Some (s, k)) ≡ false
+no_bit bits k inputs lengths cells p s is past =
+    let long : length p.loads ≡ in_length cells = is.loads_long in
+    rw (le-ltb s (in_length cells) (omega (arith, long, past))) refl
+
+-- the mark of what is read, by its number
+answer_mark : (marks : ℕ → ℕ → ℕ) (k inputs : ℕ) (lengths : List ℕ) (cells : List Cell) (p : Path) (s q : ℕ) → IsPath inputs lengths cells p → q + s + 1 ≡ length p.answers → marks k (slice_index p.answers q) ≡ numbered_marks marks lengths k (from_end cells s)
+answer_mark marks k inputs lengths cells p s q is at =
     let long : length p.answers ≡ out_length cells = is.answers_long in
     let fit : out_length cells ≤ length cells = is.chain.out_fit in
-    rw (lt-ltb q (length p.answers) (omega (arith, at))) (bits (slice_index p.answers q) ∙ ap (λ n. made_from base k n 1) (is.answer (length cells - 1 - s) q (omega arith) (omega arith)))
+    ap (marks k) (is.answer (length cells - 1 - s) q (omega arith) (omega arith))
 
--- what was put down for a chain
-pub load_put : (line : Line) (base wires row count column : ℕ) (p : Path) (ahead : Option Turn) (t : Turn) (last : ℕ) (old new : List ℕ) → ahead ≡ Some t → last ≡ t.shifts → ((n : ℕ) → line_bit line n ≡ made_from base t.pattern n 0) →
-    ArePutDown wires row count column (λ i. digit (bit_at_place line p.loads (last - i))) old new → IsDriven base p wires row count column ahead old new
-load_put line base wires row count column p ahead t last old new is at bits down inputs lengths cells path i h blank =
-    down.put i h ∙ rw at (ap (λ b. Some (digit b)) (load_bit line base t.pattern inputs lengths cells p (t.shifts - i) path bits ∙ ap (λ o. wanted_by (path_stimulus base inputs lengths) cells (option_map turn_value (earlier i o))) (sym is)))
+-- what was put down for a chain; `idle` Shifts carry nothing of it
+pub load_put : (bits : ℕ → ℕ → Bool) (byte : ℕ → ℕ) (wires row count column idle : ℕ) (p : Path) (ahead : Option Turn) (t : Turn) (last : ℕ) (old new : List ℕ) → ahead ≡ Some t → last ≡ t.shifts → column < 2 * wires + 2 → ((n : ℕ) → byte n ≡ digit (bits t.pattern n)) →
+    idle ≤ count → count ≤ last + 1 → ((i : ℕ) → i < idle → length p.loads + i ≤ last) → (idle < count → last < length p.loads + idle) →
+    ArePutDown wires (row + idle) (count - idle) column (λ i. byte (slice_index p.loads (last - idle - i))) old new → IsDriven bits p wires row count column ahead old new
+load_put bits byte wires row count column idle p ahead t last old new is at narrow made few back empty rest down inputs lengths cells path i h blank =
+    go (cases_lt i idle) ∙ ap (λ o. Some (digit (wanted_by (numbered_stimulus bits inputs lengths) cells (option_map turn_value (earlier i o))))) (sym is)
+  where
+    go : (i < idle) ⊎ (idle ≤ i) → byte_at new wires (row + i) column ≡ Some (digit (wanted_by (numbered_stimulus bits inputs lengths) cells (Some (t.shifts - i, t.pattern))))
+    go (inl early) =
+        let past : length p.loads + i ≤ last = empty i early in
+        down.others (row + i) column narrow (inr (inl (omega (arith, early)))) ∙ blank ∙ ap (λ b. Some (digit b)) (sym (no_bit bits t.pattern inputs lengths cells p (t.shifts - i) path (omega (arith, past, at))))
+    go (inr later') =
+        let place : row + idle + (i - idle) ≡ row + i = omega (arith, later') in
+        let number : last - idle - (i - idle) ≡ t.shifts - i = omega (arith, later', at) in
+        let within : last < length p.loads + idle = rest (omega (arith, h, later')) in
+        let put : byte_at new wires (row + idle + (i - idle)) column ≡ Some (byte (slice_index p.loads (last - idle - (i - idle)))) = down.put (i - idle) (omega (arith, h, later')) in
+        let put' : byte_at new wires (row + i) column ≡ Some (byte (slice_index p.loads (t.shifts - i))) = subst (λ (r : ℕ). byte_at new wires r column ≡ Some (byte (slice_index p.loads (t.shifts - i)))) place (subst (λ (n : ℕ). byte_at new wires (row + idle + (i - idle)) column ≡ Some (byte (slice_index p.loads n))) number put) in
+        put' ∙ ap Some (made (slice_index p.loads (t.shifts - i))) ∙ ap (λ b. Some (digit b)) (load_bit bits t.pattern inputs lengths cells p (t.shifts - i) path (omega (arith, within, at, back, h, later')))
 
-pub no_load : (base wires row count column : ℕ) (p : Path) (ahead : Option Turn) (old : List ℕ) → ahead ≡ None → IsDriven base p wires row count column ahead old old
-no_load base wires row count column p ahead old is inputs lengths cells path i h blank = blank ∙ ap (λ o. Some (digit (wanted_by (path_stimulus base inputs lengths) cells (option_map turn_value (earlier i o))))) (sym is)
+pub no_load : (bits : ℕ → ℕ → Bool) (wires row count column : ℕ) (p : Path) (ahead : Option Turn) (old : List ℕ) → ahead ≡ None → IsDriven bits p wires row count column ahead old old
+no_load bits wires row count column p ahead old is inputs lengths cells path i h blank = blank ∙ ap (λ o. Some (digit (wanted_by (numbered_stimulus bits inputs lengths) cells (option_map turn_value (earlier i o))))) (sym is)
 
-pub answer_put : (line : Line) (base wires row count column m left : ℕ) (p : Path) (behind : Option Turn) (t : Turn) (last : ℕ) (old new : List ℕ) → behind ≡ Some t → t.shifts + left ≡ length p.answers → 1 ≤ left → last ≡ left - 1 → m ≡ min count left → column < 2 * wires + 2 →
-    ((n : ℕ) → line_bit line n ≡ made_from base t.pattern n 1) → ArePutDown wires row m column (λ i. digit (bit_at_place line p.answers (last - i))) old new → IsRead base p wires row count column behind old new
-answer_put line base wires row count column m left p behind t last old new is all some at few narrow bits down =
-    subst (λ (o : Option Turn). IsRead base p wires row count column o old new) (sym is) (record {
+pub answer_put : (marks : ℕ → ℕ → ℕ) (byte : ℕ → ℕ) (wires row count column m left : ℕ) (p : Path) (behind : Option Turn) (t : Turn) (last : ℕ) (old new : List ℕ) → behind ≡ Some t → t.shifts + left ≡ length p.answers → 1 ≤ left → last ≡ left - 1 → m ≡ min count left → column < 2 * wires + 2 →
+    ((n : ℕ) → byte n ≡ marks t.pattern n) → ArePutDown wires row m column (λ i. byte (slice_index p.answers (last - i))) old new → IsRead marks p wires row count column behind old new
+answer_put marks byte wires row count column m left p behind t last old new is all some at few narrow made down =
+    subst (λ (o : Option Turn). IsRead marks p wires row count column o old new) (sym is) (record {
       read = λ inputs lengths cells path i s k h e within.
           let same = same_pair (t.shifts + i, t.pattern) (s, k) e in
           let long : length p.answers ≡ out_length cells = path.answers_long in
           let k' : t.pattern ≡ k = same.1 in
           let less : i < m = omega (arith, h, few, all, long, within, same.0) in
-          down.put i less ∙ ap (λ b. Some (digit b)) (answer_bit line base t.pattern inputs lengths cells p s (last - i) path bits (omega (arith, at, all, same.0, less, few)) ∙ ap (λ k. path_response base lengths k (from_end cells s)) k');
+          down.put i less ∙ ap Some (made (slice_index p.answers (last - i)) ∙ answer_mark marks t.pattern inputs lengths cells p s (last - i) path (omega (arith, at, all, same.0, less, few)) ∙ ap (λ k. numbered_marks marks lengths k (from_end cells s)) k');
       unread = λ inputs lengths cells path i h none. down.others (row + i) column narrow (past inputs lengths cells path i h none (cases_lt i m));
     })
   where
@@ -268,8 +281,8 @@ pub same_turn : (o : Option Turn) (t u : Turn) → o ≡ Some t → o ≡ Some u
 same_turn o t u e f = ap (λ (t : Turn). t.shifts) (same_Some t u (sym e ∙ f))
 
 -- a chain that shows nothing more
-pub no_answer : (base wires row count column : ℕ) (p : Path) (behind : Option Turn) (old : List ℕ) → ((t : Turn) → behind ≡ Some t → length p.answers ≤ t.shifts) → IsRead base p wires row count column behind old old
-no_answer base wires row count column p behind old past = record {
+pub no_answer : (marks : ℕ → ℕ → ℕ) (wires row count column : ℕ) (p : Path) (behind : Option Turn) (old : List ℕ) → ((t : Turn) → behind ≡ Some t → length p.answers ≤ t.shifts) → IsRead marks p wires row count column behind old old
+no_answer marks wires row count column p behind old past = record {
   read = λ inputs lengths cells path i s k h e within. absurd (none inputs lengths cells path i s k behind past e within);
   unread = λ inputs lengths cells path i h none. refl;
 }
@@ -291,8 +304,8 @@ fewer_rows wires row m count column old new few kept r c h e = kept r c h (go e)
 
 -- ---- chain by chain
 
-pub no_chains : (base : ℕ) (paths : List Path) (wires row count first : ℕ) (ahead behind : Option Turn) (old : List ℕ) → AreChainsPut base paths 0 wires row count first ahead behind old old
-no_chains base paths wires row count first ahead behind old = record {
+pub no_chains : (bits : ℕ → ℕ → Bool) (marks : ℕ → ℕ → ℕ) (paths : List Path) (wires row count first : ℕ) (ahead behind : Option Turn) (old : List ℕ) → AreChainsPut bits marks paths 0 wires row count first ahead behind old old
+no_chains bits marks paths wires row count first ahead behind old = record {
   long = refl;
   driven = λ j p h at. absurd (omega arith);
   read = λ j p h at. absurd (omega arith);
@@ -300,21 +313,21 @@ no_chains base paths wires row count first ahead behind old = record {
 }
 
 -- what was driven into a column from a text that has the same there, and stays
-driven_kept : (base : ℕ) (p : Path) (wires row count column : ℕ) (ahead : Option Turn) (old now mid new : List ℕ) → ((r : ℕ) → byte_at now wires r column ≡ byte_at old wires r column) → ((r : ℕ) → byte_at new wires r column ≡ byte_at mid wires r column) →
-    IsDriven base p wires row count column ahead now mid → IsDriven base p wires row count column ahead old new
-driven_kept base p wires row count column ahead old now mid new before after is inputs lengths cells path i h blank = after (row + i) ∙ is inputs lengths cells path i h (before (row + i) ∙ blank)
+driven_kept : (bits : ℕ → ℕ → Bool) (p : Path) (wires row count column : ℕ) (ahead : Option Turn) (old now mid new : List ℕ) → ((r : ℕ) → byte_at now wires r column ≡ byte_at old wires r column) → ((r : ℕ) → byte_at new wires r column ≡ byte_at mid wires r column) →
+    IsDriven bits p wires row count column ahead now mid → IsDriven bits p wires row count column ahead old new
+driven_kept bits p wires row count column ahead old now mid new before after is inputs lengths cells path i h blank = after (row + i) ∙ is inputs lengths cells path i h (before (row + i) ∙ blank)
 
-read_kept : (base : ℕ) (p : Path) (wires row count column : ℕ) (behind : Option Turn) (old now mid new : List ℕ) → ((r : ℕ) → byte_at now wires r column ≡ byte_at old wires r column) → ((r : ℕ) → byte_at new wires r column ≡ byte_at mid wires r column) →
-    IsRead base p wires row count column behind now mid → IsRead base p wires row count column behind old new
-read_kept base p wires row count column behind old now mid new before after is = record {
+read_kept : (marks : ℕ → ℕ → ℕ) (p : Path) (wires row count column : ℕ) (behind : Option Turn) (old now mid new : List ℕ) → ((r : ℕ) → byte_at now wires r column ≡ byte_at old wires r column) → ((r : ℕ) → byte_at new wires r column ≡ byte_at mid wires r column) →
+    IsRead marks p wires row count column behind now mid → IsRead marks p wires row count column behind old new
+read_kept marks p wires row count column behind old now mid new before after is = record {
   read = λ inputs lengths cells path i s k h e within. after (row + i) ∙ is.read inputs lengths cells path i s k h e within;
   unread = λ inputs lengths cells path i h none. after (row + i) ∙ is.unread inputs lengths cells path i h none ∙ before (row + i);
 }
 
-pub chain_more : (base : ℕ) (paths : List Path) (n wires row count first : ℕ) (ahead behind : Option Turn) (p : Path) (old now mid new : List ℕ) → slice_get paths n ≡ Some p → first + n < wires → AreChainsPut base paths n wires row count first ahead behind old now →
-    length mid ≡ length now → IsDriven base p wires row count (first + n) ahead now mid → IsKeptElsewhere wires row count (first + n) now mid →
-    length new ≡ length mid → IsRead base p wires row count (wires + 1 + (first + n)) behind mid new → IsKeptElsewhere wires row count (wires + 1 + (first + n)) mid new → AreChainsPut base paths (n + 1) wires row count first ahead behind old new
-chain_more base paths n wires row count first ahead behind p old now mid new at narrow before long driven kept long' read kept' = record {
+pub chain_more : (bits : ℕ → ℕ → Bool) (marks : ℕ → ℕ → ℕ) (paths : List Path) (n wires row count first : ℕ) (ahead behind : Option Turn) (p : Path) (old now mid new : List ℕ) → slice_get paths n ≡ Some p → first + n < wires → AreChainsPut bits marks paths n wires row count first ahead behind old now →
+    length mid ≡ length now → IsDriven bits p wires row count (first + n) ahead now mid → IsKeptElsewhere wires row count (first + n) now mid →
+    length new ≡ length mid → IsRead marks p wires row count (wires + 1 + (first + n)) behind mid new → IsKeptElsewhere wires row count (wires + 1 + (first + n)) mid new → AreChainsPut bits marks paths (n + 1) wires row count first ahead behind old new
+chain_more bits marks paths n wires row count first ahead behind p old now mid new at narrow before long driven kept long' read kept' = record {
   long = long' ∙ long ∙ before.long;
   driven = λ j q h at'. drive j q h at' (cases_eq j n);
   read = λ j q h at'. mark j q h at' (cases_eq j n);
@@ -347,25 +360,25 @@ chain_more base paths n wires row count first ahead behind p old now mid new at 
       differ (inr b) e = omega (arith, b, e)
 
     -- the columns of an earlier chain stay
-    drive : (j : ℕ) (q : Path) → j < n + 1 → slice_get paths j ≡ Some q → (j ≡ n) ⊎ (j ≢ n) → IsDriven base q wires row count (first + j) ahead old new
+    drive : (j : ℕ) (q : Path) → j < n + 1 → slice_get paths j ≡ Some q → (j ≡ n) ⊎ (j ≢ n) → IsDriven bits q wires row count (first + j) ahead old new
     drive j q h at' (inl same) =
         let q' : p ≡ q = same_Some p q (sym at ∙ subst (λ j. slice_get paths j ≡ Some q) same at') in
-        subst (λ j. IsDriven base q wires row count (first + j) ahead old new) (sym same)
-        (subst (λ (q : Path). IsDriven base q wires row count (first + n) ahead old new) q'
-        (driven_kept base p wires row count (first + n) ahead old now mid new (λ r. before.others r (first + n) (omega (arith, narrow)) (inl (inr (omega arith), inl (omega (arith, narrow))))) (λ r. kept' r (first + n) (omega (arith, narrow)) (inl (λ e. omega (arith, e)))) driven))
+        subst (λ j. IsDriven bits q wires row count (first + j) ahead old new) (sym same)
+        (subst (λ (q : Path). IsDriven bits q wires row count (first + n) ahead old new) q'
+        (driven_kept bits p wires row count (first + n) ahead old now mid new (λ r. before.others r (first + n) (omega (arith, narrow)) (inl (inr (omega arith), inl (omega (arith, narrow))))) (λ r. kept' r (first + n) (omega (arith, narrow)) (inl (λ e. omega (arith, e)))) driven))
     drive j q h at' (inr other) =
-        driven_kept base q wires row count (first + j) ahead old old now new (λ r. refl)
+        driven_kept bits q wires row count (first + j) ahead old old now new (λ r. refl)
         (λ r. kept' r (first + j) (omega (arith, narrow, h)) (inl (λ e. omega (arith, e, narrow, h))) ∙ kept r (first + j) (omega (arith, narrow, h)) (inl (λ e. other (omega (arith, e)))))
         (before.driven j q (omega (arith, h, other)) at')
 
-    mark : (j : ℕ) (q : Path) → j < n + 1 → slice_get paths j ≡ Some q → (j ≡ n) ⊎ (j ≢ n) → IsRead base q wires row count (wires + 1 + (first + j)) behind old new
+    mark : (j : ℕ) (q : Path) → j < n + 1 → slice_get paths j ≡ Some q → (j ≡ n) ⊎ (j ≢ n) → IsRead marks q wires row count (wires + 1 + (first + j)) behind old new
     mark j q h at' (inl same) =
         let q' : p ≡ q = same_Some p q (sym at ∙ subst (λ j. slice_get paths j ≡ Some q) same at') in
-        subst (λ j. IsRead base q wires row count (wires + 1 + (first + j)) behind old new) (sym same)
-        (subst (λ (q : Path). IsRead base q wires row count (wires + 1 + (first + n)) behind old new) q'
-        (read_kept base p wires row count (wires + 1 + (first + n)) behind old mid new new
+        subst (λ j. IsRead marks q wires row count (wires + 1 + (first + j)) behind old new) (sym same)
+        (subst (λ (q : Path). IsRead marks q wires row count (wires + 1 + (first + n)) behind old new) q'
+        (read_kept marks p wires row count (wires + 1 + (first + n)) behind old mid new new
         (λ r. kept r (wires + 1 + (first + n)) (omega (arith, narrow)) (inl (λ e. omega (arith, e))) ∙ before.others r (wires + 1 + (first + n)) (omega (arith, narrow)) (inl (inr (omega (arith, narrow)), inr (omega arith)))) (λ r. refl) read))
     mark j q h at' (inr other) =
-        read_kept base q wires row count (wires + 1 + (first + j)) behind old old now new (λ r. refl)
+        read_kept marks q wires row count (wires + 1 + (first + j)) behind old old now new (λ r. refl)
         (λ r. kept' r (wires + 1 + (first + j)) (omega (arith, narrow, h)) (inl (λ e. other (omega (arith, e)))) ∙ kept r (wires + 1 + (first + j)) (omega (arith, narrow, h)) (inl (λ e. omega (arith, e, narrow, h))))
         (before.read j q (omega (arith, h, other)) at')

@@ -1,5 +1,5 @@
 -- Walks over the numbers of a chain's bits.
-use Rattle.std.proofs.Common.{◌≡◌, ℕ, zero, suc, ◌+◌, ◌-◌, ◌*◌, ◌/◌, ◌%◌, ◌≤◌, ◌<◌, ◌⊎◌, ◌≢◌, Bool, false, nat_eq, min, List, [], ◌∷◌, ◌++◌, length, get_or, drop, take, refl, ap, sym, subst, ◌∙◌, arith, inl, inr}
+use Rattle.std.proofs.Common.{◌≡◌, ℕ, zero, suc, ◌+◌, ◌-◌, ◌*◌, ◌/◌, ◌%◌, ◌^◌, ◌≤◌, ◌<◌, ◌⊎◌, ◌≢◌, Bool, false, nat_eq, min, List, [], ◌∷◌, ◌++◌, length, get_or, drop, take, refl, ap, sym, subst, ◌∙◌, arith, inl, inr}
 use Rattle.std.specs.Prelude.{slice_index}
 use Rattle.std.specs.List.{All, range_with_len}
 use Rattle.std.proofs.Math.Nat.{mod-add-mod}
@@ -11,6 +11,7 @@ use Rattle.std.proofs.lemmas.List.FromFn.{length-range_with_len}
 use Rattle.std.proofs.lemmas.Nat.Bits.{bit_at-zero}
 use Rattle.std.proofs.lemmas.Bool.{cases_lt, cases_eq, lt-ltb, le-ltb}
 use Rattle.bit_machine.specs.Chips.{has_odd_square}
+use Rattle.bit_machine.specs.Marks.{IsValue}
 use Rattle.bit_machine.specs.Packed.{is_set}
 use Rattle.bit_machine.specs.Paths.{made_from}
 use Rattle.bit_machine.specs.Numbers.{run_numbers, all_numbers, line_value, line_bit, bit_at_place, IsFull, IsWalk, HasNext, IsLineWord}
@@ -46,13 +47,14 @@ value_of first step n =
     by : (n a u : ℕ) → n ≡ a + 997 * u → first + step * n ≡ (first + step * a) + 997 * (step * u)
     by n a u e = rw e (omega arith)
 
-value_next : (l : Line) (n v w : ℕ) → v ≡ line_value l n → w ≡ (v + l.step) % 997 → w ≡ line_value l (n + 1)
+pub value_next : (l : Line) (n v w : ℕ) → v ≡ line_value l n → w ≡ (v + l.step) % 997 → w ≡ line_value l (n + 1)
 value_next l n v w at next =
     let whole : l.first + l.step * n + l.step ≡ l.first + l.step * (n + 1) = omega arith in
     next ∙ ap (λ v. (v + l.step) % 997) at ∙ mod-add-mod (l.first + l.step * n) 997 l.step ∙ ap (λ v. v % 997) whole
 
-pub value_small : (l : Line) (n v : ℕ) → v ≡ line_value l n → v < 997
-value_small l n v at = omega (arith, at)
+-- a value is a rest
+pub value_small : (l : Line) (v : ℕ) → IsValue (line_value l) v → v < 997
+value_small l v is = let at : v ≡ line_value l is.number = is.is in omega (arith, at)
 
 -- ---- walks
 
@@ -102,19 +104,21 @@ reached_past runs place run before past is =
     let less = rw none at is.within in
     absurd (omega (arith, less))
 
-pub walk_begun : (runs : List NumberRun) (line : Line) (place run before v : ℕ) (r : NumberRun) → run < length runs → r ≡ get_or runs run r → before < r.count → v ≡ line_value line (r.from + before) → IsReached runs place run before →
-    IsWalk runs line (record { run = run + 1; left = r.count - before; value = v }) (drop place (all_numbers runs))
-walk_begun runs line place run before v r h at less value is =
+pub walk_begun : (runs : List NumberRun) (values : ℕ → ℕ) (place run before v : ℕ) (r : NumberRun) → All IsFull runs → run < length runs → r ≡ get_or runs run r → before < r.count → v ≡ values (r.from + before) → IsReached runs place run before →
+    IsWalk runs values (record { run = run + 1; left = r.count - before; value = v }) (drop place (all_numbers runs))
+walk_begun runs values place run before v r full h at less value is =
     let long : length (run_numbers r) ≡ r.count = length-range_with_len r.from r.count in
+    let whole : IsFull r = full_at runs run r full h at in
     record {
       number = r.from + before;
       value = value;
+      fits = let fits = whole.fits in omega (arith, fits, less);
       rest_is = sym is.rest ∙ ap (drop before) (next_run runs run r h at) ∙ drop-append-le before (run_numbers r) (all_numbers (drop (run + 1) runs)) (omega (arith, long, less)) ∙ ap (λ v. v ++ all_numbers (drop (run + 1) runs)) (drop_range before r.from r.count (omega arith));
     }
 
 -- a walk at the end of its run is at the next one
-pub run_there : (runs : List NumberRun) (line : Line) (w : Walk) → w.left ≡ 0 → HasNext runs line w → w.run < length runs
-run_there runs line w none next = go (cases_lt w.run (length runs)) where
+pub run_there : (runs : List NumberRun) (values : ℕ → ℕ) (w : Walk) → w.left ≡ 0 → HasNext runs values w → w.run < length runs
+run_there runs values w none next = go (cases_lt w.run (length runs)) where
   go : (w.run < length runs) ⊎ (length runs ≤ w.run) → w.run < length runs
   go (inl less) = less
   go (inr past) =
@@ -123,10 +127,12 @@ run_there runs line w none next = go (cases_lt w.run (length runs)) where
       let e' = rw (none, over) at e in
       absurd cc
 
-pub walk_refilled : (runs : List NumberRun) (line : Line) (w : Walk) (r : NumberRun) (v : ℕ) → w.left ≡ 0 → w.run < length runs → r ≡ get_or runs w.run r → v ≡ line_value line r.from → (rest : List ℕ) → IsWalk runs line w rest → IsWalk runs line (record { run = w.run + 1; left = r.count; value = v }) rest
-walk_refilled runs line w r v none h at value rest is = record {
+pub walk_refilled : (runs : List NumberRun) (values : ℕ → ℕ) (w : Walk) (r : NumberRun) (v : ℕ) → All IsFull runs → w.left ≡ 0 → w.run < length runs → r ≡ get_or runs w.run r → v ≡ values r.from → (rest : List ℕ) → IsWalk runs values w rest →
+    IsWalk runs values (record { run = w.run + 1; left = r.count; value = v }) rest
+walk_refilled runs values w r v full none h at value rest is = record {
   number = r.from;
   value = value;
+  fits = (full_at runs w.run r full h at).fits;
   rest_is = is.rest_is ∙ ap (λ n. range_with_len is.number n ++ all_numbers (drop w.run runs)) none ∙ next_run runs w.run r h at;
 }
 
@@ -139,23 +145,28 @@ first_of number (suc left) n tail more h e = let one : suc left - 1 ≡ left = o
   tail_is : n ∷ more ≡ number ∷ (range_with_len (number + 1) left ++ tail) → more ≡ range_with_len (number + 1) left ++ tail
   tail_is e = cc
 
-pub walk_value : (runs : List NumberRun) (line : Line) (w : Walk) (n : ℕ) (more : List ℕ) → 1 ≤ w.left → IsWalk runs line w (n ∷ more) → w.value ≡ line_value line n
-walk_value runs line w n more some is =
+pub walk_value : (runs : List NumberRun) (values : ℕ → ℕ) (w : Walk) (n : ℕ) (more : List ℕ) → 1 ≤ w.left → IsWalk runs values w (n ∷ more) → w.value ≡ values n
+walk_value runs values w n more some is =
     let f = first_of is.number w.left n (all_numbers (drop w.run runs)) more some is.rest_is in
-    is.value ∙ ap (line_value line) (sym f.0)
+    is.value ∙ ap values (sym f.0)
 
-pub walk_next : (runs : List NumberRun) (line : Line) (w : Walk) (n v : ℕ) (more : List ℕ) → 1 ≤ w.left → IsWalk runs line w (n ∷ more) → v ≡ (w.value + line.step) % 997 → IsWalk runs line (record { run = w.run; left = w.left - 1; value = v }) more
-walk_next runs line w n v more some is next =
+pub walk_known : (runs : List NumberRun) (values : ℕ → ℕ) (w : Walk) (rest : List ℕ) → 1 ≤ w.left → IsWalk runs values w rest → IsValue values w.value
+walk_known runs values w rest some is = record { number = is.number; is = is.value; fits = let fits = is.fits in omega (arith, fits, some) }
+
+pub walk_next : (runs : List NumberRun) (values : ℕ → ℕ) (w : Walk) (n v : ℕ) (more : List ℕ) → 1 ≤ w.left → IsWalk runs values w (n ∷ more) → ((m : ℕ) → w.value ≡ values m → m + 1 < 2 ^ 64 → v ≡ values (m + 1)) →
+    IsWalk runs values (record { run = w.run; left = w.left - 1; value = v }) more
+walk_next runs values w n v more some is next =
     let f = first_of is.number w.left n (all_numbers (drop w.run runs)) more some is.rest_is in
-    record { number = is.number + 1; value = value_next line is.number w.value v is.value next; rest_is = f.1 }
+    let fits = is.fits in
+    record { number = is.number + 1; value = next is.number is.value (omega (arith, fits, some)); fits = omega (arith, fits, some); rest_is = f.1 }
 
 -- ---- a word
 
-pub has_next : (runs : List NumberRun) (line : Line) (w : Walk) (place : ℕ) → place < length (all_numbers runs) → IsWalk runs line w (drop place (all_numbers runs)) → HasNext runs line w
-has_next runs line w place h is = record {
+pub has_next : (runs : List NumberRun) (values : ℕ → ℕ) (w : Walk) (place : ℕ) → place < length (all_numbers runs) → IsWalk runs values w (drop place (all_numbers runs)) → HasNext runs values w
+has_next runs values w place h is = record {
   next = get_or (all_numbers runs) place 0;
   more = drop (place + 1) (all_numbers runs);
-  is = subst (IsWalk runs line w) (drop_more (all_numbers runs) place 0 h) is;
+  is = subst (IsWalk runs values w) (drop_more (all_numbers runs) place 0 h) is;
 }
 
 -- the bits of a word below a place

@@ -143,8 +143,8 @@ at_end cells s h =
     let few : out_length cells ≤ length cells = count_by-le-length is_read cells in
     slice_get-get_or (reverse cells) s (In 0) (rw (length-reverse cells) (omega arith)) ∙ ap Some (get_or-reverse cells s (In 0) (omega arith))
 
-pub read_there : (content : Content) (t : PlannedTest) (l : Lane) (c n w j s k : ℕ) (m : Moment) → IsWired content t l → t.start ≤ c → c - t.start ≡ n → w ≡ t.first_wire + j → IsMoment l.phases n m → moment_behind m ≡ Some (s, k) → s < out_length (chain_at t j) → IsReadAt t k (from_end (chain_at t j) s) c w
-read_there content t l c n w j s k m wired begun at wire now behind few =
+pub read_there : (t : PlannedTest) (l : Lane) (c n w j s k : ℕ) (m : Moment) → t.operations ≡ phase_ops l.phases → t.start ≤ c → c - t.start ≡ n → w ≡ t.first_wire + j → IsMoment l.phases n m → moment_behind m ≡ Some (s, k) → s < out_length (chain_at t j) → IsReadAt t k (from_end (chain_at t j) s) c w
+read_there t l c n w j s k m operations begun at wire now behind few =
     let q = now.behind s k behind in
     record {
       chain = j;
@@ -154,7 +154,7 @@ read_there content t l c n w j s k m wired begun at wire now behind few =
       within = few;
       cell = at_end (chain_at t j) s few;
       capture = t.start + q.0;
-      captures = at_start_plus t q.0 (Capture k) (subst (λ (ops : List Operation). slice_get ops q.0 ≡ Some (Capture k)) (sym wired.operations) q.1);
+      captures = at_start_plus t q.0 (Capture k) (subst (λ (ops : List Operation). slice_get ops q.0 ≡ Some (Capture k)) (sym operations) q.1);
       cycle = omega (arith, q.2, at, begun);
       wire = wire;
     }
@@ -182,5 +182,5 @@ answer_compared content tests m w i l u b low answers some =
       pattern = f.1;
       cell = from_end (chain_at u.t (w - l.lane.first_wire)) f.0;
       at = u.at;
-      read = read_there content u.t l.lane m.cycle (m.cycle - l.lane.start) w (w - l.lane.first_wire) f.0 f.1 l.moment wired begun (ap (λ n. m.cycle - n) (sym start)) (omega (arith, first, low)) u.now.is f.2 f.3;
+      read = read_there u.t l.lane m.cycle (m.cycle - l.lane.start) w (w - l.lane.first_wire) f.0 f.1 l.moment wired.operations begun (ap (λ n. m.cycle - n) (sym start)) (omega (arith, first, low)) u.now.is f.2 f.3;
     }

@@ -10,7 +10,8 @@ use Rattle.bit_machine.specs.declared.stepped.Page.{Page}
 use Rattle.bit_machine.specs.declared.stepped.SteppedLane.{SteppedLane}
 use Rattle.bit_machine.specs.Chips.{holds}
 use Rattle.bit_machine.specs.Packed.{is_set}
-use Rattle.bit_machine.specs.Paths.{made_from, path_stimulus, path_response, IsPath}
+use Rattle.bit_machine.specs.Marks.{IsKey, Keys, Marks}
+use Rattle.bit_machine.specs.Paths.{made_from, numbered_marks, numbered_stimulus, path_stimulus, path_response, IsPath}
 use Rattle.plan_model.specs.Moments.{phase_ops, moment_ahead, ArePhases, IsMoment}
 
 -- the bits of the chains
@@ -38,7 +39,7 @@ IsPageWord base page loads word = (i : ℕ) → i < 64 → is_set word i ≡ loa
 pub record ArePages (s : SteppedLane) : Type 0 where
   pub many : length s.pages.items ≡ length s.lane.paths.items
   pub each : (page : Page) → s.page ≡ Some page → (j : ℕ) (p : Path) → slice_get s.lane.paths.items j ≡ Some p →
-      IsPageWord s.lane.base page p.loads (slice_index s.pages.items j)
+      IsPageWord s.lane.key page p.loads (slice_index s.pages.items j)
 
 -- there are the bits of each chain, one for each cell
 pub record AreRings (s : SteppedLane) : Type 0 where
@@ -48,7 +49,7 @@ pub record AreRings (s : SteppedLane) : Type 0 where
 
 -- what is counted of a live test fits
 pub record IsReady (lane : Lane) : Type 0 where
-  pub base : lane.base < 997
+  pub base : lane.key < 997
   pub phases : ArePhases lane.phases
   pub paths : (j : ℕ) (p : Path) → slice_get lane.paths.items j ≡ Some p → IsSound p
 
@@ -63,6 +64,40 @@ pub record IsBusy (lane : Lane) (cycle : ℕ) : Type 0 where
   pub begun : lane.start ≤ cycle
   pub going : cycle - lane.start < length (phase_ops lane.phases)
 
+-- a test over the wires: its operations, its wires, and its chains; `inputs` and `lengths` say what the places of its bits are counted by
+pub record IsRouted (inputs : ℕ) (lengths : List ℕ) (t : PlannedTest) (lane : Lane) : Type 0 where
+  pub operations : t.operations ≡ phase_ops lane.phases
+  pub out_fits : (j : ℕ) → out_length (chain_at t j) ≤ lane.phases.so
+  pub first_wire : lane.first_wire ≡ t.first_wire
+  pub width : lane.width ≡ t.width
+  pub chains : length lane.paths.items ≡ length t.chains
+  pub path : (j : ℕ) (p : Path) → slice_get lane.paths.items j ≡ Some p → IsPath inputs lengths (chain_at t j) p
+
+-- the lane of a live test of the plan, whatever its contents; a self test has no chains
+pub record IsFitted (inputs : ℕ) (lengths : List ℕ) (t : PlannedTest) (lane : Lane) : Type 0 where
+  pub phases : ArePhases lane.phases
+  pub tam : lane.tam ≡ t.tam
+  pub start : lane.start ≡ t.start
+  pub ends : lane.end ≡ end_of t
+  pub wired : t.tam ≡ true → IsRouted inputs lengths t lane
+  pub alone : t.tam ≡ false → (length lane.paths.items ≡ 0) × (length t.chains ≡ 0)
+
+-- a lane with contents: by its key and by the numbers of its bits, `drive` has what its test loads, and `mark` what stands where it answers
+pub record IsFilled (drive : ℕ → ℕ → ℕ → Bool) (mark : ℕ → ℕ → ℕ → ℕ) (content : Content) (marks : Marks) (t : PlannedTest)
+    (lane : Lane) : Type 0 where
+  pub inputs : ℕ
+  pub lengths : List ℕ
+  pub fitted : IsFitted inputs lengths t lane
+  pub stimulus : t.tam ≡ true → content.stimulus t.id ≡ numbered_stimulus (drive lane.key) inputs lengths
+  pub answers : t.tam ≡ true → marks t.id ≡ numbered_marks (mark lane.key) lengths
+
+-- a lane whose test is known by its key
+pub record IsKeyed (keys : Keys) (t : PlannedTest) (lane : Lane) : Type 0 where
+  pub inputs : ℕ
+  pub lengths : List ℕ
+  pub fitted : IsFitted inputs lengths t lane
+  pub key : lane.tam ≡ true → IsKey keys lane.key
+
 -- a test over the wires: its operations, its wires, and its chains with the made contents
 pub record IsWired (content : Content) (t : PlannedTest) (lane : Lane) : Type 0 where
   pub operations : t.operations ≡ phase_ops lane.phases
@@ -72,8 +107,8 @@ pub record IsWired (content : Content) (t : PlannedTest) (lane : Lane) : Type 0 
   pub chains : length lane.paths.items ≡ length t.chains
   pub inputs : ℕ
   pub lengths : List ℕ
-  pub stimulus : content.stimulus t.id ≡ path_stimulus lane.base inputs lengths
-  pub response : content.response t.id ≡ path_response lane.base lengths
+  pub stimulus : content.stimulus t.id ≡ path_stimulus lane.key inputs lengths
+  pub response : content.response t.id ≡ path_response lane.key lengths
   pub path : (j : ℕ) (p : Path) → slice_get lane.paths.items j ≡ Some p → IsPath inputs lengths (chain_at t j) p
 
 -- the lane of a live test of the plan; a self test has no chains

@@ -10,4 +10,5 @@ pub mod Machines
 pub mod WholeChips
 pub mod Building
 pub mod Placed
+pub mod Marks
 pub mod Vectors

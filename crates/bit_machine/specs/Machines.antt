@@ -9,16 +9,17 @@ use Rattle.bit_machine.specs.declared.lane.Lane.{Lane}
 use Rattle.bit_machine.specs.declared.stepped.SteppedLane.{SteppedLane}
 use Rattle.bit_machine.specs.declared.machine.Machine.{Machine}
 use Rattle.bit_machine.specs.Chips.{is_capture, loads_right, IsCompared}
-use Rattle.bit_machine.specs.Lanes.{lane_bits, lane_on, ArePages, IsNow, IsLane, IsSameTest, IsSteppable}
+use Rattle.bit_machine.specs.Lanes.{lane_bits, lane_on, ArePages, IsKeyed, IsNow, IsLane, IsSameTest, IsSteppable}
+use Rattle.bit_machine.specs.Marks.{Keys}
 
 -- the bits of the chains of each test
 abbrev pub lanes_state : List SteppedLane → State
 lanes_state lanes = map lane_bits lanes
 
--- the lanes of the tests, in their order
-pub record AreLanes (content : Content) (tests : List PlannedTest) (lanes : List Lane) : Type 0 where
+-- the lanes of the tests, in their order: `Is` holds of each test and its lane
+pub record AreLanes (Is : PlannedTest → Lane → Type 0) (tests : List PlannedTest) (lanes : List Lane) : Type 0 where
   pub long : length lanes ≡ length tests
-  pub lane : (i : ℕ) (t : PlannedTest) (l : Lane) → IsAt tests i t → slice_get lanes i ≡ Some l → IsLane content t l
+  pub lane : (i : ℕ) (t : PlannedTest) (l : Lane) → IsAt tests i t → slice_get lanes i ≡ Some l → Is t l
 
 -- the same, stepped
 pub record AreStepped (content : Content) (tests : List PlannedTest) (lanes : List SteppedLane) : Type 0 where
@@ -64,10 +65,9 @@ pub record IsMachine (content : Content) (tests : List PlannedTest) (m : Machine
   pub now : AreNow m.lanes.items m.cycle
 
 -- of some tests
-pub record AreSomeLanes (lanes : List Lane) (wires : ℕ) : Type 0 where
-  pub content : Content
+pub record AreSomeLanes (keys : Keys) (lanes : List Lane) (wires : ℕ) : Type 0 where
   pub tests : List PlannedTest
-  pub are : AreLanes content tests lanes
+  pub are : AreLanes (IsKeyed keys) tests lanes
   pub on : AreOnWires tests wires
 
 pub record AreSomeStepped (lanes : List SteppedLane) (wires : ℕ) : Type 0 where

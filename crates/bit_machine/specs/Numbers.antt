@@ -1,4 +1,4 @@
--- Numbers of bits as runs of numbers one after another, and the made bits of one pattern by their numbers.
+-- Numbers of bits as runs of numbers one after another, walks over them, and the made bits of one pattern by their numbers.
 use Rattle.std.specs.Prelude.{◌≡◌, ℕ, ◌+◌, ◌*◌, ◌%◌, ◌^◌, ◌<◌, ◌≤◌, Bool, false, List, ◌∷◌, ◌++◌, drop, length, nat_lt, slice_index, if◌then◌else◌}
 use Rattle.std.specs.List.{flat_map, range_with_len}
 use Rattle.bit_machine.specs.Chips.{has_odd_square}
@@ -26,17 +26,18 @@ line_value l n = (l.first + l.step * n) % 997
 abbrev pub line_bit : Line → ℕ → Bool
 line_bit l n = has_odd_square (line_value l n)
 
--- the walk has these numbers before it
-pub record IsWalk (runs : List NumberRun) (line : Line) (w : Walk) (rest : List ℕ) : Type 0 where
+-- the walk has these numbers before it, and the value of the first one
+pub record IsWalk (runs : List NumberRun) (values : ℕ → ℕ) (w : Walk) (rest : List ℕ) : Type 0 where
   pub number : ℕ
-  pub value : w.value ≡ line_value line number
+  pub value : w.value ≡ values number
+  pub fits : number + w.left < 2 ^ 64
   pub rest_is : rest ≡ range_with_len number w.left ++ all_numbers (drop w.run runs)
 
 -- there is a number before it
-pub record HasNext (runs : List NumberRun) (line : Line) (w : Walk) : Type 0 where
+pub record HasNext (runs : List NumberRun) (values : ℕ → ℕ) (w : Walk) : Type 0 where
   pub next : ℕ
   pub more : List ℕ
-  pub is : IsWalk runs line w (next ∷ more)
+  pub is : IsWalk runs values w (next ∷ more)
 
 -- the bit of the number at a place, 0 past the last one
 abbrev pub bit_at_place : Line → List ℕ → ℕ → Bool

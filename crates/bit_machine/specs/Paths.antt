@@ -1,6 +1,7 @@
 -- How the machine of a whole chip keeps what it steps: made bits, and chains.
 use Rattle.std.specs.Prelude.{◌≡◌, ℕ, ◌+◌, ◌*◌, ◌%◌, ◌<◌, ◌≤◌, Bool, true, false, Option, Some, None, List, length, get_or, slice_index, nat_lt}
 use Rattle.plan_model.specs.Cells.{Cell, In, is_loaded, is_read, in_length, out_length}
+use Rattle.bit_machine.specs.Marks.{digit, Keys}
 use Rattle.bit_machine.specs.Sessions.{response_place}
 use Rattle.bit_machine.specs.Chips.{has_odd_square, stimulus_place}
 use Rattle.bit_machine.specs.declared.path.Path.{Path}
@@ -8,6 +9,16 @@ use Rattle.bit_machine.specs.declared.path.Path.{Path}
 -- a made bit, where `base` stands for the seed and the places of the module and of the test
 unfoldable pub made_from : (base k n s : ℕ) → Bool
 made_from base k n s = has_odd_square ((base + 101 * k + 7 * n + 3 * (n * k) + s) % 997)
+
+-- the key by which the made contents of a seed know a test, and what they have by the numbers of the bits
+abbrev pub made_keys : (seed : ℕ) → Keys
+made_keys seed place at id = (seed + 31 * place + 17 * at) % 997
+
+abbrev pub made_drive : (key k n : ℕ) → Bool
+made_drive key k n = made_from key k n 0
+
+abbrev pub made_mark : (key k n : ℕ) → ℕ
+made_mark key k n = digit (made_from key k n 1)
 
 -- ---- chains
 
@@ -29,6 +40,14 @@ pub record IsPath (inputs : ℕ) (lengths : List ℕ) (cells : List Cell) (p : P
   pub answers_long : length p.answers ≡ out_length cells
   pub answer : (r q : ℕ) → r + out_length cells ≡ length cells + q → r < length cells →
       slice_index p.answers q ≡ response_place lengths (get_or cells r (In 0))
+
+-- what a path loads, by bits that are known by their numbers
+abbrev pub numbered_stimulus : (bits : ℕ → ℕ → Bool) (inputs : ℕ) (lengths : List ℕ) → ℕ → Cell → Bool
+numbered_stimulus bits inputs lengths k x = bits k (stimulus_place inputs lengths x)
+
+-- what stands where it answers, by marks that are known by their numbers
+abbrev pub numbered_marks : (marks : ℕ → ℕ → ℕ) (lengths : List ℕ) → ℕ → Cell → ℕ
+numbered_marks marks lengths k x = marks k (response_place lengths x)
 
 -- what a path loads and answers by made bits
 abbrev pub path_stimulus : (base inputs : ℕ) (lengths : List ℕ) → ℕ → Cell → Bool

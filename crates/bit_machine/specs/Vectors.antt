@@ -1,5 +1,5 @@
 -- What a tester drives and compares on the wires of a plan, in lines of text.
-use Rattle.std.specs.Prelude.{◌≡◌, ◌≢◌, ℕ, ◌+◌, ◌-◌, ◌*◌, ◌<◌, ◌≤◌, ◌⊎◌, Bool, true, false, Option, Some, List, length, drop, option_map, slice_get, if◌then◌else◌}
+use Rattle.std.specs.Prelude.{◌≡◌, ◌≢◌, ℕ, ◌+◌, ◌-◌, ◌*◌, ◌<◌, ◌≤◌, ◌⊎◌, Bool, true, false, Option, Some, List, length, drop, option_map, slice_get}
 use Rattle.soc_model.specs.Chips.{SocValue}
 use Rattle.plan_model.specs.Cells.{Cell, out_length}
 use Rattle.plan_model.specs.OneTest.{from_end}
@@ -10,16 +10,15 @@ use Rattle.plan_model.specs.Moments.{turn_value, wanted_by, IsMoment}
 use Rattle.plan_model.specs.declared.moments.Turn.{Turn}
 use Rattle.plan_model.specs.declared.moments.Phases.{Phases}
 use Rattle.plan_model.specs.declared.moments.Moment.TheVariants as moment
-use Rattle.bit_machine.specs.Chips.{made_content, wires_of, IsCompared}
-use Rattle.bit_machine.specs.Lanes.{IsLane}
+use Rattle.bit_machine.specs.Chips.{wires_of, IsCompared}
+use Rattle.bit_machine.specs.Lanes.{IsKeyed}
+pub use Rattle.bit_machine.specs.Marks.{digit, Keys, Marks, response_digits}
 use Rattle.bit_machine.specs.Machines.{AreLanes, AreOnWires}
-use Rattle.bit_machine.specs.Paths.{path_stimulus, path_response, is_answered, IsPath}
+use Rattle.bit_machine.specs.Paths.{is_answered, numbered_marks, numbered_stimulus, IsPath}
+use Rattle.bit_machine.specs.Placed.{IsPlacedLane}
 use Rattle.bit_machine.specs.declared.lane.Lane.{Lane}
 use Rattle.bit_machine.specs.declared.path.Path.{Path}
-
--- `0` or `1`
-abbrev pub digit : Bool → ℕ
-digit bit = if bit then 49 else 48
+use Rattle.bit_machine.specs.declared.vectors.Vectors.{Vectors}
 
 -- ---- lines
 
@@ -27,34 +26,29 @@ digit bit = if bit then 49 else 48
 abbrev pub byte_at : (text : List ℕ) (wires row column : ℕ) → Option ℕ
 byte_at text wires row column = slice_get text (row * (2 * wires + 2) + column)
 
--- The line of a cycle: the bits that the wires carry, a space, and for each wire the response bit that is read there, `-`
--- where none is.
-pub record IsLineOf (content : Content) (tests : List PlannedTest) (wires cycle row : ℕ) (text : List ℕ) : Type 0 where
+-- The line of a cycle: the bits that the wires carry, a space, and for each wire the mark of the response bit that is read there,
+-- `-` where none is.
+pub record IsLineOf (content : Content) (marks : Marks) (tests : List PlannedTest) (wires cycle row : ℕ) (text : List ℕ) : Type 0 where
   pub driven : (w : ℕ) → w < wires → byte_at text wires row w ≡ Some (digit (carried content tests cycle w))
   pub space : byte_at text wires row wires ≡ Some 32
   pub reads : (i k w : ℕ) (t : PlannedTest) (x : Cell) → IsAt tests i t → IsReadAt t k x cycle w →
-      byte_at text wires row (wires + 1 + w) ≡ Some (digit (content.response t.id k x))
+      byte_at text wires row (wires + 1 + w) ≡ Some (marks t.id k x)
   pub rest : (w : ℕ) → w < wires → (IsCompared tests cycle w → ⊥) → byte_at text wires row (wires + 1 + w) ≡ Some 45
   pub feed : byte_at text wires row (wires + 1 + wires) ≡ Some 10
 
--- a chip, its plan, and the seed of its contents
-pub record VectorsValue : Type 0 where
+-- the vectors of a plan of a chip, where the contents know the live tests by these keys
+pub record AreVectors (keys : Keys) (soc : SocValue) (plan : PlanValue) (v : Vectors) : Type 0 where
+  pub are : AreLanes (IsPlacedLane keys soc plan) (planned soc plan) v.lanes.items
+  pub on : AreOnWires (planned soc plan) v.wires
+  pub all : v.wires ≡ wires_of plan
+
+-- they are those of some plan, and `count` lines have room in a text
+pub record HaveRoom (keys : Keys) (v : Vectors) (count : ℕ) (text : List ℕ) : Type 0 where
   pub soc : SocValue
   pub plan : PlanValue
-  pub seed : ℕ
-
--- the live tests as they are planned, and what they load and answer
-abbrev pub vectors_tests : VectorsValue → List PlannedTest
-vectors_tests v = planned v.soc v.plan
-
-abbrev pub vectors_content : VectorsValue → Content
-vectors_content v = made_content v.soc v.seed
-
--- what is kept of them
-pub record AreVectors (soc : SocValue) (plan : PlanValue) (seed wires : ℕ) (lanes : List Lane) : Type 0 where
-  pub are : AreLanes (made_content soc seed) (planned soc plan) lanes
-  pub on : AreOnWires (planned soc plan) wires
-  pub all : wires ≡ wires_of plan
+  pub are : AreVectors keys soc plan v
+  pub narrow : wires_of plan ≤ 256
+  pub rows : count * (2 * wires_of plan + 2) ≤ length text
 
 -- ---- bytes that are put
 
@@ -100,17 +94,17 @@ abbrev pub AreShifts : Phases → (n : ℕ) (ahead behind : Option Turn) (count 
 AreShifts p n ahead behind count = (i : ℕ) → i < count → IsMoment p (n + i) (moment.Shift (earlier i ahead) (later i behind))
 
 -- the bits that a chain loads in a stretch are driven in a column where nothing was driven
-abbrev pub IsDriven : (base : ℕ) (p : Path) (wires row count column : ℕ) (ahead : Option Turn) (old new : List ℕ) → Type 0
-IsDriven base p wires row count column ahead old new = (inputs : ℕ) (lengths : List ℕ) (cells : List Cell) → IsPath inputs lengths cells p →
+abbrev pub IsDriven : (bits : ℕ → ℕ → Bool) (p : Path) (wires row count column : ℕ) (ahead : Option Turn) (old new : List ℕ) → Type 0
+IsDriven bits p wires row count column ahead old new = (inputs : ℕ) (lengths : List ℕ) (cells : List Cell) → IsPath inputs lengths cells p →
     (i : ℕ) → i < count → byte_at old wires (row + i) column ≡ Some 48 →
-    byte_at new wires (row + i) column ≡ Some (digit (wanted_by (path_stimulus base inputs lengths) cells
+    byte_at new wires (row + i) column ≡ Some (digit (wanted_by (numbered_stimulus bits inputs lengths) cells
     (option_map turn_value (earlier i ahead))))
 
 -- the bits that are read of it stand in a column, and where none is read nothing was put
-pub record IsRead (base : ℕ) (p : Path) (wires row count column : ℕ) (behind : Option Turn) (old new : List ℕ) : Type 0 where
+pub record IsRead (marks : ℕ → ℕ → ℕ) (p : Path) (wires row count column : ℕ) (behind : Option Turn) (old new : List ℕ) : Type 0 where
   pub read : (inputs : ℕ) (lengths : List ℕ) (cells : List Cell) → IsPath inputs lengths cells p → (i s k : ℕ) → i < count →
       option_map turn_value (later i behind) ≡ Some (s, k) → s < out_length cells →
-      byte_at new wires (row + i) column ≡ Some (digit (path_response base lengths k (from_end cells s)))
+      byte_at new wires (row + i) column ≡ Some (numbered_marks marks lengths k (from_end cells s))
   pub unread : (inputs : ℕ) (lengths : List ℕ) (cells : List Cell) → IsPath inputs lengths cells p → (i : ℕ) → i < count →
       is_answered cells (option_map turn_value (later i behind)) ≡ false →
       byte_at new wires (row + i) column ≡ byte_at old wires (row + i) column
@@ -126,60 +120,59 @@ IsApart wires row count first many r c =
     (((c < first) ⊎ (first + many ≤ c)) × ((c < wires + 1 + first) ⊎ (wires + 1 + (first + many) ≤ c))) ⊎ ((r < row) ⊎ (row + count ≤ r))
 
 -- the first chains of a test were put
-pub record AreChainsPut (base : ℕ) (paths : List Path) (many wires row count first : ℕ) (ahead behind : Option Turn)
-    (old new : List ℕ) : Type 0 where
+pub record AreChainsPut (bits : ℕ → ℕ → Bool) (marks : ℕ → ℕ → ℕ) (paths : List Path) (many wires row count first : ℕ)
+    (ahead behind : Option Turn) (old new : List ℕ) : Type 0 where
   pub long : length new ≡ length old
-  pub driven : (j : ℕ) (p : Path) → j < many → slice_get paths j ≡ Some p → IsDriven base p wires row count (first + j) ahead old new
+  pub driven : (j : ℕ) (p : Path) → j < many → slice_get paths j ≡ Some p → IsDriven bits p wires row count (first + j) ahead old new
   pub read : (j : ℕ) (p : Path) → j < many → slice_get paths j ≡ Some p →
-      IsRead base p wires row count (wires + 1 + (first + j)) behind old new
+      IsRead marks p wires row count (wires + 1 + (first + j)) behind old new
   pub others : (r c : ℕ) → c < 2 * wires + 2 → IsApart wires row count first many r c → byte_at new wires r c ≡ byte_at old wires r c
 
 -- ---- one live test
 
 -- a lane of a test among tests on `wires` wires
-pub record HasLane (content : Content) (tests : List PlannedTest) (wires i : ℕ) (t : PlannedTest) (lane : Lane) : Type 0 where
+pub record HasLane (Is : PlannedTest → Lane → Type 0) (tests : List PlannedTest) (wires i : ℕ) (t : PlannedTest) (lane : Lane) : Type 0 where
   pub at : IsAt tests i t
   pub on : AreOnWires tests wires
-  pub is : IsLane content t lane
+  pub is : Is t lane
 
 -- of some test
-pub record HasSomeLane (wires : ℕ) (lane : Lane) : Type 0 where
-  pub content : Content
+pub record HasSomeLane (keys : Keys) (wires : ℕ) (lane : Lane) : Type 0 where
   pub tests : List PlannedTest
   pub place : ℕ
   pub test : PlannedTest
-  pub has : HasLane content tests wires place test lane
+  pub has : HasLane (IsKeyed keys) tests wires place test lane
 
 -- what the test drives and compares at a cycle was put into a line
-pub record IsPlayed (content : Content) (t : PlannedTest) (wires cycle row : ℕ) (old new : List ℕ) : Type 0 where
+pub record IsPlayed (content : Content) (marks : Marks) (t : PlannedTest) (wires cycle row : ℕ) (old new : List ℕ) : Type 0 where
   pub driven : (w : ℕ) → uses cycle w t ≡ true → byte_at old wires row w ≡ Some 48 →
       byte_at new wires row w ≡ Some (digit (wanted (content.stimulus t.id) (chain_at t (w - t.first_wire))
       (drop (cycle - t.start) t.operations)))
   pub idle : (w : ℕ) → w < wires → uses cycle w t ≡ false → byte_at new wires row w ≡ byte_at old wires row w
   pub reads : (k w : ℕ) (x : Cell) → IsReadAt t k x cycle w →
-      byte_at new wires row (wires + 1 + w) ≡ Some (digit (content.response t.id k x))
+      byte_at new wires row (wires + 1 + w) ≡ Some (marks t.id k x)
   pub rest : (w : ℕ) → w < wires → (byte_at new wires row (wires + 1 + w) ≡ byte_at old wires row (wires + 1 + w))
       ⊎ ((k : ℕ) × (x : Cell) × IsReadAt t k x cycle w)
   pub space : byte_at new wires row wires ≡ byte_at old wires row wires
   pub feed : byte_at new wires row (wires + 1 + wires) ≡ byte_at old wires row (wires + 1 + wires)
 
 -- the cycles from one on up to another were, in lines that begin with a row
-pub record ArePlayed (content : Content) (t : PlannedTest) (wires from until row : ℕ) (old new : List ℕ) : Type 0 where
+pub record ArePlayed (content : Content) (marks : Marks) (t : PlannedTest) (wires from until row : ℕ) (old new : List ℕ) : Type 0 where
   pub long : length new ≡ length old
-  pub each : (c : ℕ) → from ≤ c → c < until → IsPlayed content t wires c (row + (c - from)) old new
+  pub each : (c : ℕ) → from ≤ c → c < until → IsPlayed content marks t wires c (row + (c - from)) old new
   pub others : (r c : ℕ) → c < 2 * wires + 2 → (r < row) ⊎ (row + (until - from) ≤ r) → byte_at new wires r c ≡ byte_at old wires r c
 
 -- ---- all live tests
 
 -- the line of a cycle has what the tests below a place drive and compare
-pub record IsLineBelow (content : Content) (tests : List PlannedTest) (n wires cycle row : ℕ) (text : List ℕ) : Type 0 where
+pub record IsLineBelow (content : Content) (marks : Marks) (tests : List PlannedTest) (n wires cycle row : ℕ) (text : List ℕ) : Type 0 where
   pub driven : (i w : ℕ) (t : PlannedTest) → i < n → IsAt tests i t → uses cycle w t ≡ true →
       byte_at text wires row w ≡ Some (digit (wanted (content.stimulus t.id) (chain_at t (w - t.first_wire))
       (drop (cycle - t.start) t.operations)))
   pub free : (w : ℕ) → w < wires → ((i : ℕ) (t : PlannedTest) → i < n → IsAt tests i t → uses cycle w t ≡ true → ⊥) →
       byte_at text wires row w ≡ Some 48
   pub reads : (i k w : ℕ) (t : PlannedTest) (x : Cell) → i < n → IsAt tests i t → IsReadAt t k x cycle w →
-      byte_at text wires row (wires + 1 + w) ≡ Some (digit (content.response t.id k x))
+      byte_at text wires row (wires + 1 + w) ≡ Some (marks t.id k x)
   pub rest : (w : ℕ) → w < wires → (byte_at text wires row (wires + 1 + w) ≡ Some 45) ⊎ IsCompared tests cycle w
   pub space : byte_at text wires row wires ≡ Some 32
   pub feed : byte_at text wires row (wires + 1 + wires) ≡ Some 10

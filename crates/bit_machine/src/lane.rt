@@ -10,8 +10,8 @@ use plan_model::Phases;
 pub struct Lane {
     /// Whether the test goes over the wires.
     pub tam: bool,
-    /// What the made contents are counted from.
-    pub base: u64,
+    /// By what the contents know the test; 0 at a self test.
+    pub key: u64,
     /// The first cycle of the test.
     pub start: u64,
     /// The first cycle after it.

@@ -1,12 +1,16 @@
 //! The laws over the definitions. Each is the contract of a function that does nothing: a caller learns it by the call.
 ghost use Rattle.std.specs.Prelude.{◌≡◌, ℕ, ◌+◌, Bool, true, List, [], get_or, length, sum_by};
-ghost use Rattle.soc_model.specs.Chips.{ModuleValue};
+ghost use Rattle.soc_model.specs.Chips.{ModuleValue, SocValue};
+ghost use Rattle.soc_model.specs.SoundChips.{IsSoundChip};
 ghost use Rattle.plan_model.specs.Cells.{Cell, ChainValue, IsProper, IsResponseBit, IsStimulusBit, chain_cells, out_length, response_cells};
 ghost use Rattle.soc_model.specs.Modes.{scan_lengths};
 ghost use Rattle.plan_model.specs.Plans.{PlannedTest};
 ghost use Rattle.plan_model.specs.Right.{HoldsStimulus, IsAt};
 ghost use Rattle.plan_model.specs.Runs.{Content, State};
-ghost use Rattle.bit_machine.specs.Chips.{HasAllBits, holds, stimulus_place};
+ghost use Rattle.bit_machine.specs.Chips.{HasAllBits, holds, made_content, stimulus_place};
+ghost use Rattle.bit_machine.specs.Marks.{response_digits};
+ghost use Rattle.bit_machine.specs.Paths.{made_drive, made_keys, made_mark};
+ghost use Rattle.bit_machine.specs.Placed.{StandFor};
 ghost use Rattle.bit_machine.specs.Sessions.{response_place};
 
 /// The bits of a response stand in a capture as they are numbered: those of the scan chains' cells by scan chain and
@@ -34,4 +38,10 @@ pub fn held_stimuli_stand()
         HasAllBits tests state → holds (content.stimulus t.id k) t.chains (get_or state i []) ≡ true → HoldsStimulus content state i t k }
     ensures held { (content : Content) (tests : List PlannedTest) (state : State) (i : ℕ) (t : PlannedTest) (k : ℕ) → IsAt tests i t →
         HasAllBits tests state → HoldsStimulus content state i t k → holds (content.stimulus t.id k) t.chains (get_or state i []) ≡ true }
+{}
+
+/// The made contents of a seed stand for the made bits of a sound chip, and for their digits where they are read.
+pub fn made_contents_stand()
+    ensures { (soc : SocValue) (seed : ℕ) → IsSoundChip soc →
+        StandFor (made_keys seed) made_drive made_mark soc (made_content soc seed) (response_digits (made_content soc seed)) }
 {}

@@ -14,6 +14,7 @@
 mod bits;
 mod building;
 mod chip;
+mod contents;
 mod lane;
 mod laws;
 mod layout;
@@ -30,8 +31,11 @@ mod stretches;
 mod vectors;
 
 pub use chip::{Chip, Report};
+pub use contents::{Contents, PatternBits};
 pub use laws::{
-    held_stimuli_stand, responses_are_numbered, responses_have_lengths, stimuli_are_numbered,
+    held_stimuli_stand, made_contents_stand, responses_are_numbered, responses_have_lengths,
+    stimuli_are_numbered,
 };
+pub use made::Made;
 pub use session::Session;
 pub use vectors::Vectors;

@@ -1,11 +1,6 @@
 //! Lines of text in columns: for each wire a digit and a mark, a space between them, and a line feed.
-ghost use Rattle.std.specs.Prelude.{◌≡◌, ℕ, ◌+◌, ◌-◌, ◌*◌, ◌<◌, ◌≤◌, length};
-ghost use Rattle.bit_machine.specs.Numbers.{bit_at_place};
+ghost use Rattle.std.specs.Prelude.{◌≡◌, ℕ, ◌+◌, ◌*◌, ◌<◌, ◌≤◌, length};
 ghost use Rattle.bit_machine.specs.Vectors.{digit as bit_digit, AreOtherRowsKept, ArePutAcross, ArePutDown, IsBlank};
-
-use crate::bits::is_set;
-use crate::made::Line;
-use crate::numbers::Numbers;
 
 /// A column of a line, in lines for `wires` wires.
 #[derive(Clone, Copy, Drop)]
@@ -68,37 +63,5 @@ pub fn put_blanks(text: &mut [u8], wires: usize, count: usize)
 {
     for row in 0..count {
         put_blank(text, wires, row);
-    }
-}
-
-/// Writes made bits into a column, one a line: that of the number at a place, and then those of the numbers before it. Where there is no
-/// number at a place, its bit is 0.
-pub fn put_bits(
-    text: &mut [u8],
-    at: Place,
-    numbers: &Numbers,
-    line: &Line,
-    last: usize,
-    count: usize,
-)
-    requires narrow { at.wires ≤ 256 }
-    requires first { line.now.first < 997 }
-    requires step { line.now.step < 997 }
-    requires few { count ≤ 64 }
-    requires back { count ≤ last + 1 }
-    requires column { at.column < 2 * at.wires + 2 }
-    requires rows { (at.row + count) * (2 * at.wires + 2) ≤ length text.old }
-    ensures { ArePutDown at.wires at.row count at.column (λ i. bit_digit (bit_at_place line.now numbers.now (last - i))) text.old text.new }
-{
-    if count == 0 {
-        return;
-    }
-    if last < numbers.len() {
-        numbers.put_back(line, last, count, text, at);
-        return;
-    }
-    let word = numbers.bits(line, last - (count - 1), count);
-    for below in 0..count {
-        put_byte(text, at, below, digit(is_set(word, count - 1 - below)));
     }
 }

@@ -4,13 +4,16 @@ ghost use Rattle.bit_machine.specs.Chips.{has_odd_square};
 ghost use Rattle.bit_machine.specs.Paths.{made_from};
 ghost use Rattle.bit_machine.specs.Numbers.{line_bit, line_value};
 
+use crate::contents::{Contents, PatternBits};
+use crate::lines::digit;
+use soc_model::TestId;
+
 /// What made contents are counted by.
 const MODULUS: u64 = 997;
 
 /// What the seed, the place of a module in its chip and the place of a test in its module give to each made bit.
-pub fn base_of(seed: u64, module: usize, test: usize) -> u64
-    ensures base { result ≡ (seed + 31 * «module» + 17 * test) % 997 }
-    ensures small { result < 997 }
+fn base_of(seed: u64, module: usize, test: usize) -> u64
+    ensures { result ≡ (seed + 31 * «module» + 17 * test) % 997 }
 {
     let (module, test) = (module as u64 % MODULUS, test as u64 % MODULUS);
     (seed % MODULUS + 31 * module + 17 * test) % MODULUS
@@ -38,25 +41,6 @@ impl Line {
             step: (7 + 3 * k) % MODULUS,
         }
     }
-
-    /// What the bit of a number is made from.
-    pub fn value(&self, number: u64) -> u64
-        requires first { self.now.first < 997 }
-        requires step { self.now.step < 997 }
-        ensures { result ≡ line_value self.now number }
-    {
-        (self.first + self.step * (number % MODULUS)) % MODULUS
-    }
-
-    /// What the bit of the next number is made from.
-    pub fn next(&self, value: u64) -> u64
-        requires step { self.now.step < 997 }
-        requires value { value < 997 }
-        ensures { result ≡ (value + self.now.step) % 997 }
-    {
-        let sum = value + self.step;
-        if sum < MODULUS { sum } else { sum - MODULUS }
-    }
 }
 
 /// The bit that is made from a value.
@@ -65,4 +49,61 @@ pub fn bit_of(value: u64) -> bool
     ensures { result ≡ has_odd_square value }
 {
     value * value % MODULUS % 2 == 1
+}
+
+impl PatternBits for Line {
+    ghost use Rattle.std.specs.Prelude.{ℕ, ◌<◌};
+    ghost use Rattle.bit_machine.specs.Marks.{digit};
+    ghost use Rattle.bit_machine.specs.Numbers.{line_bit, line_value};
+
+    ghost is_sound = { λ l. (l.first < 997) × (l.step < 997) };
+
+    ghost value_of = { λ l n. line_value l n };
+
+    ghost byte_of = { λ l n. digit (line_bit l n) };
+
+    fn value(&self, number: u64) -> u64 {
+        (self.first + self.step * (number % MODULUS)) % MODULUS
+    }
+
+    fn next(&self, value: u64) -> u64 {
+        let sum = value + self.step;
+        if sum < MODULUS { sum } else { sum - MODULUS }
+    }
+
+    fn byte(&self, value: u64) -> u8 {
+        digit(bit_of(value))
+    }
+}
+
+/// The made contents of a seed: each bit is fixed by the seed, the place of its module in the chip, the place of its test in the module,
+/// its pattern and its number. A test is known by what the seed and its places give to its bits.
+#[derive(Clone, Copy)]
+pub struct Made {
+    /// The seed.
+    pub seed: u64,
+}
+
+impl Contents for Made {
+    type Bits = Line;
+
+    ghost use Rattle.bit_machine.specs.Paths.{made_drive, made_keys, made_mark};
+
+    ghost keys = { λ made. made_keys made.seed };
+
+    ghost drive = { λ made. made_drive };
+
+    ghost mark = { λ made. made_mark };
+
+    fn key(&self, place: usize, at: usize, _id: TestId) -> u64 {
+        base_of(self.seed, place, at)
+    }
+
+    fn stimulus(&self, key: u64, pattern: u64) -> Line {
+        Line::of(key, pattern, 0)
+    }
+
+    fn response(&self, key: u64, pattern: u64) -> Line {
+        Line::of(key, pattern, 1)
+    }
 }

@@ -1,12 +1,14 @@
 //! The numbers of the bits that the cells of a chain load or answer, as stretches of numbers one after another.
 ghost use Rattle.std.specs.Prelude.{◌≡◌, ℕ, ◌+◌, ◌-◌, ◌*◌, ◌^◌, ◌<◌, ◌≤◌, ◌∷◌, List, false, drop, length, slice_index};
 ghost use Rattle.std.specs.List.{All};
-ghost use Rattle.bit_machine.specs.Numbers.{all_numbers, bit_at_place, line_bit, IsWalk, HasNext, IsFull, IsLineWord};
+ghost use Rattle.bit_machine.specs.Marks.{IsValue};
+ghost use Rattle.bit_machine.specs.Numbers.{all_numbers, line_bit, IsWalk, HasNext, IsFull, IsLineWord};
 ghost use Rattle.bit_machine.specs.Packed.{is_set};
-ghost use Rattle.bit_machine.specs.Vectors.{digit as bit_digit, ArePutDown};
+ghost use Rattle.bit_machine.specs.Vectors.{ArePutDown};
 
 use crate::bits::{WORD_BITS, with_bit};
-use crate::lines::{Place, digit, put_byte};
+use crate::contents::PatternBits;
+use crate::lines::{Place, put_byte};
 use crate::made::{Line, bit_of};
 use std::marker::Model;
 
@@ -36,8 +38,7 @@ impl Model for Numbers {
     ghost invariant = { λ n. (n.count ≡ length (all_numbers n.runs.items)) × All IsFull n.runs.items };
 }
 
-/// A walk over the made bits of numbers: the run that is next, how many numbers are left of the one before it, and what the
-/// bit of the first of these is made from.
+/// A walk over numbers: the run that is next, how many numbers are left of the one before it, and the value of the first of these.
 #[derive(Clone, Copy)]
 pub struct Walk {
     pub run: usize,
@@ -46,12 +47,11 @@ pub struct Walk {
 }
 
 /// Begins a walk at a place.
-fn walk_from(runs: &[NumberRun], line: &Line, place: u64) -> Walk
-    requires first { line.now.first < 997 }
-    requires step { line.now.step < 997 }
+fn walk_from<B: PatternBits>(runs: &[NumberRun], bits: &B, place: u64) -> Walk
+    requires sound { B.is_sound bits.now }
     requires full { All IsFull runs.now }
     requires place { place < length (all_numbers runs.now) }
-    ensures { IsWalk runs.now line.now result (drop place (all_numbers runs.now)) }
+    ensures { IsWalk runs.now (B.value_of bits.now) result (drop place (all_numbers runs.now)) }
 {
     let mut before = place;
     for run in 0..runs.len() {
@@ -60,7 +60,7 @@ fn walk_from(runs: &[NumberRun], line: &Line, place: u64) -> Walk
             return Walk {
                 run: run + 1,
                 left: count - before,
-                value: line.value(from + before),
+                value: bits.value(from + before),
             };
         }
         before -= count;
@@ -69,13 +69,12 @@ fn walk_from(runs: &[NumberRun], line: &Line, place: u64) -> Walk
 }
 
 /// The walk with numbers left of its run.
-fn refilled(runs: &[NumberRun], line: &Line, walk: Walk) -> Walk
-    requires first { line.now.first < 997 }
-    requires step { line.now.step < 997 }
+fn refilled<B: PatternBits>(runs: &[NumberRun], bits: &B, walk: Walk) -> Walk
+    requires sound { B.is_sound bits.now }
     requires full { All IsFull runs.now }
-    requires next { HasNext runs.now line.now walk }
+    requires next { HasNext runs.now (B.value_of bits.now) walk }
     ensures some { 1 ≤ result.left }
-    ensures walk { (rest : List ℕ) → IsWalk runs.now line.now walk rest → IsWalk runs.now line.now result rest }
+    ensures walk { (rest : List ℕ) → IsWalk runs.now (B.value_of bits.now) walk rest → IsWalk runs.now (B.value_of bits.now) result rest }
 {
     if walk.left > 0 {
         return walk;
@@ -84,26 +83,27 @@ fn refilled(runs: &[NumberRun], line: &Line, walk: Walk) -> Walk
     Walk {
         run: walk.run + 1,
         left: count,
-        value: line.value(from),
+        value: bits.value(from),
     }
 }
 
-/// The bit of the number that a walk is at. It goes on to the next number.
-fn next_bit(runs: &[NumberRun], line: &Line, walk: &mut Walk) -> bool
-    requires first { line.now.first < 997 }
-    requires step { line.now.step < 997 }
+/// The value of the number that a walk is at. It goes on to the next number.
+fn next_value<B: PatternBits>(runs: &[NumberRun], bits: &B, walk: &mut Walk) -> u64
+    requires sound { B.is_sound bits.now }
     requires full { All IsFull runs.now }
-    requires next { HasNext runs.now line.now walk.old }
-    ensures bit { (n : ℕ) (more : List ℕ) → IsWalk runs.now line.now walk.old (n ∷ more) → result ≡ line_bit line.now n }
-    ensures walk { (n : ℕ) (more : List ℕ) → IsWalk runs.now line.now walk.old (n ∷ more) → IsWalk runs.now line.now walk.new more }
+    requires next { HasNext runs.now (B.value_of bits.now) walk.old }
+    ensures some { IsValue (B.value_of bits.now) result }
+    ensures value { (n : ℕ) (more : List ℕ) → IsWalk runs.now (B.value_of bits.now) walk.old (n ∷ more) → result ≡ B.value_of bits.now n }
+    ensures walk { (n : ℕ) (more : List ℕ) → IsWalk runs.now (B.value_of bits.now) walk.old (n ∷ more) →
+        IsWalk runs.now (B.value_of bits.now) walk.new more }
 {
-    let here = refilled(runs, line, *walk);
+    let here = refilled(runs, bits, *walk);
     *walk = Walk {
         run: here.run,
         left: here.left - 1,
-        value: line.next(here.value),
+        value: bits.next(here.value),
     };
-    bit_of(here.value)
+    here.value
 }
 
 /// The made bits of `count` numbers from a place on.
@@ -120,17 +120,23 @@ fn word_of(runs: &[NumberRun], line: &Line, first: usize, count: usize) -> u64
     let mut walk = walk_from(runs, line, first as u64);
     let mut word = 0;
     for place in 0..count {
-        let bit = next_bit(runs, line, &mut walk);
-        word = with_bit(word, place, bit);
+        let value = next_value(runs, line, &mut walk);
+        word = with_bit(word, place, bit_of(value));
     }
     word
 }
 
-/// Writes the made bits of `count` numbers as digits into a column, one a line: that of the number at the place `last`, and then those
-/// of the numbers before it.
-fn put_back(runs: &[NumberRun], line: &Line, last: usize, count: usize, text: &mut [u8], at: Place)
-    requires first { line.now.first < 997 }
-    requires step { line.now.step < 997 }
+/// Writes the bytes of `count` numbers into a column, one a line: that of the number at the place `last`, and then those of the numbers
+/// before it.
+fn put_back<B: PatternBits>(
+    runs: &[NumberRun],
+    bits: &B,
+    last: usize,
+    count: usize,
+    text: &mut [u8],
+    at: Place,
+)
+    requires sound { B.is_sound bits.now }
     requires full { All IsFull runs.now }
     requires some { 1 ≤ count }
     requires back { count ≤ last + 1 }
@@ -138,14 +144,14 @@ fn put_back(runs: &[NumberRun], line: &Line, last: usize, count: usize, text: &m
     requires narrow { at.wires ≤ 256 }
     requires column { at.column < 2 * at.wires + 2 }
     requires rows { (at.row + count) * (2 * at.wires + 2) ≤ length text.old }
-    ensures { ArePutDown at.wires at.row count at.column (λ i. bit_digit (bit_at_place line.now (all_numbers runs.now) (last - i)))
+    ensures { ArePutDown at.wires at.row count at.column (λ i. B.byte_of bits.now (slice_index (all_numbers runs.now) (last - i)))
         text.old text.new }
 {
     let first = last - (count - 1);
-    let mut walk = walk_from(runs, line, first as u64);
+    let mut walk = walk_from(runs, bits, first as u64);
     for place in 0..count {
-        let bit = next_bit(runs, line, &mut walk);
-        put_byte(text, at, count - 1 - place, digit(bit));
+        let value = next_value(runs, bits, &mut walk);
+        put_byte(text, at, count - 1 - place, bits.byte(value));
     }
 }
 
@@ -185,36 +191,32 @@ impl Numbers {
         requires step { line.now.step < 997 }
         ensures { IsLineWord line.now self.now first result }
     {
-        self.bits(line, first, WORD_BITS)
-    }
-
-    /// The made bits of `count` numbers from a place on, at most 64: 0 past the last number.
-    pub fn bits(&self, line: &Line, first: usize, count: usize) -> u64
-        requires first { line.now.first < 997 }
-        requires step { line.now.step < 997 }
-        requires few { count ≤ 64 }
-        ensures { (i : ℕ) → i < count → is_set result i ≡ bit_at_place line.now self.now (first + i) }
-    {
-        if count == 0 || first >= self.count {
+        if first >= self.count {
             return 0;
         }
-        word_of(&self.runs, line, first, (self.count - first).min(count))
+        word_of(&self.runs, line, first, (self.count - first).min(WORD_BITS))
     }
 
-    /// Writes the made bits of `count` numbers as digits into a column, one a line: that of the number at the place `last`, and then
-    /// those of the numbers before it.
-    pub fn put_back(&self, line: &Line, last: usize, count: usize, text: &mut [u8], at: Place)
-        requires first { line.now.first < 997 }
-        requires step { line.now.step < 997 }
+    /// Writes the bytes of `count` numbers into a column, one a line: that of the number at the place `last`, and then those of the
+    /// numbers before it.
+    pub fn put_back<B: PatternBits>(
+        &self,
+        bits: &B,
+        last: usize,
+        count: usize,
+        text: &mut [u8],
+        at: Place,
+    )
+        requires sound { B.is_sound bits.now }
         requires some { 1 ≤ count }
         requires back { count ≤ last + 1 }
         requires within { last < length self.now }
         requires narrow { at.wires ≤ 256 }
         requires column { at.column < 2 * at.wires + 2 }
         requires rows { (at.row + count) * (2 * at.wires + 2) ≤ length text.old }
-        ensures { ArePutDown at.wires at.row count at.column
-            (λ i. bit_digit (bit_at_place line.now self.now (last - i))) text.old text.new }
+        ensures { ArePutDown at.wires at.row count at.column (λ i. B.byte_of bits.now (slice_index self.now (last - i)))
+            text.old text.new }
     {
-        put_back(&self.runs, line, last, count, text, at);
+        put_back(&self.runs, bits, last, count, text, at);
     }
 }

@@ -12,20 +12,18 @@ ghost use Rattle.live_tests.specs.Placed.{placed_of};
 ghost use Rattle.live_tests.specs.Wires.{AreFirstWires};
 ghost use Rattle.live_tests.specs.Wrapped.{AreModeWrappers};
 ghost use Rattle.bit_machine.specs.Building.{ArePaths};
-ghost use Rattle.bit_machine.specs.Chips.{made_content};
-ghost use Rattle.bit_machine.specs.Lanes.{IsLane};
 ghost use Rattle.bit_machine.specs.Machines.{AreLanes};
-ghost use Rattle.bit_machine.specs.Placed.{IsSelfLane, planned_in};
+ghost use Rattle.bit_machine.specs.Placed.{planned_in, IsPlacedLane, IsSelfLane};
 
 use crate::building::paths_of;
+use crate::contents::Contents;
 use crate::lane::Lane;
 use crate::layout::Layout;
-use crate::made::base_of;
 use crate::path::Path;
 use live_tests::{ModeWrappers, PlacedTest, PlanIndex, PlannedChip};
 use outside::{NoMemory, push};
 use plan_model::{Phases, Plan, Wrapper};
-use soc_model::{Module, Soc, Test, live, module_at};
+use soc_model::{Module, Soc, Test, TestId, live, module_at};
 use std::alloc::Global;
 
 /// The cycles of a plan. The call tells that they are a machine's number.
@@ -47,7 +45,7 @@ fn self_test(alloc: Global, placed: &PlacedTest) -> Lane
     };
     Lane {
         tam: false,
-        base: 0,
+        key: 0,
         start: placed.start,
         end: placed.end,
         phases,
@@ -78,11 +76,10 @@ struct WrappedModule<'a> {
     wrappers: &'a ModeWrappers,
 }
 
-/// A chip and a good plan for it, the seed of the contents, and the first wires of the plan's buses.
+/// A chip and a good plan for it, and the first wires of the plan's buses.
 #[derive(Clone, Copy, Drop)]
 struct Setting<'a> {
     chip: PlannedChip<'a>,
-    seed: u64,
     firsts: &'a [u64],
 }
 
@@ -99,9 +96,10 @@ impl<'a> Setting<'a> {
     }
 
     /// A live test over the wires of a bus, the one at a place of its module.
-    fn wired_test(
+    fn wired_test<C: Contents>(
         &self,
         alloc: Global,
+        contents: &C,
         core: &WrappedModule<'_>,
         at: usize,
         test: &Test,
@@ -119,7 +117,7 @@ impl<'a> Setting<'a> {
         requires placed { placed.now
             ≡ placed_of (planned_test self.now.chip.index.now core.now.place (module_value core.now.«module».now) test.now) }
         requires over { placed.now.bus ≡ Some bus }
-        ensures { IfOk result (IsLane (made_content (soc_value self.now.chip.soc.now) self.now.seed)
+        ensures { IfOk result (IsPlacedLane (C.keys contents.now) (soc_value self.now.chip.soc.now) self.now.chip.index.now
             (planned_test self.now.chip.index.now core.now.place (module_value core.now.«module».now) test.now)) }
     {
         let module = core.module;
@@ -135,9 +133,13 @@ impl<'a> Setting<'a> {
             patterns: test.patterns,
         };
         let (first_wire, width) = self.bus_wires(bus);
+        let id = TestId {
+            module: module.number,
+            test: test.number,
+        };
         Ok(Lane {
             tam: true,
-            base: base_of(self.seed, core.place, at),
+            key: contents.key(core.place, at, id),
             start: placed.start,
             end: placed.end,
             phases,
@@ -148,9 +150,10 @@ impl<'a> Setting<'a> {
     }
 
     /// The live test at a place of a module.
-    fn lane_of(
+    fn lane_of<C: Contents>(
         &self,
         alloc: Global,
+        contents: &C,
         core: &WrappedModule<'_>,
         at: usize,
         test: &Test,
@@ -163,20 +166,21 @@ impl<'a> Setting<'a> {
         requires wrappers { AreModeWrappers self.now.chip.index.now (module_value core.now.«module».now) core.now.wrappers.now }
         requires test_there { slice_get core.now.«module».now.tests.items at ≡ Some test.now }
         requires live { IsTrue (is_live test.now) }
-        ensures { IfOk result (IsLane (made_content (soc_value self.now.chip.soc.now) self.now.seed)
+        ensures { IfOk result (IsPlacedLane (C.keys contents.now) (soc_value self.now.chip.soc.now) self.now.chip.index.now
             (planned_test self.now.chip.index.now core.now.place (module_value core.now.«module».now) test.now)) }
     {
         let placed = self.chip.test(core.place, core.module, core.wrappers, test);
         match placed.bus {
-            Some(bus) => self.wired_test(alloc, core, at, test, &placed, bus),
+            Some(bus) => self.wired_test(alloc, contents, core, at, test, &placed, bus),
             None => Ok(self_test(alloc, &placed)),
         }
     }
 
     /// Adds the test at a place of a module, where it is live.
-    fn push_test(
+    fn push_test<C: Contents>(
         &self,
         alloc: Global,
+        contents: &C,
         lanes: &mut Vec<Lane>,
         core: &WrappedModule<'_>,
         at: usize,
@@ -189,21 +193,22 @@ impl<'a> Setting<'a> {
             ≡ Some (module_value core.now.«module».now) }
         requires wrappers { AreModeWrappers self.now.chip.index.now (module_value core.now.«module».now) core.now.wrappers.now }
         requires test_there { slice_get core.now.«module».now.tests.items at ≡ Some test.now }
-        ensures { (done : List PlannedTest) → AreLanes (made_content (soc_value self.now.chip.soc.now) self.now.seed) done lanes.old.items →
-            OnOk result (AreLanes (made_content (soc_value self.now.chip.soc.now) self.now.seed)
+        ensures { (done : List PlannedTest) → AreLanes (IsPlacedLane (C.keys contents.now) (soc_value self.now.chip.soc.now) self.now.chip.index.now) done lanes.old.items →
+            OnOk result (AreLanes (IsPlacedLane (C.keys contents.now) (soc_value self.now.chip.soc.now) self.now.chip.index.now)
             (done ++ planned_in self.now.chip.index.now core.now.place (module_value core.now.«module».now) (test.now ∷ []))
             lanes.new.items) }
     {
         if !live(test) {
             return Ok(());
         }
-        push(lanes, self.lane_of(alloc, core, at, test)?)
+        push(lanes, self.lane_of(alloc, contents, core, at, test)?)
     }
 
     /// Adds the live tests of the module at a place. Its wrappers are found and walked once.
-    fn push_module(
+    fn push_module<C: Contents>(
         &self,
         alloc: Global,
+        contents: &C,
         lanes: &mut Vec<Lane>,
         module: &Module,
         place: usize,
@@ -212,8 +217,8 @@ impl<'a> Setting<'a> {
         requires good { IsGoodAlone (soc_value self.now.chip.soc.now) self.now.chip.index.now }
         requires firsts { AreFirstWires (widths self.now.chip.index.now) self.now.firsts.now }
         requires module_there { slice_get (soc_value self.now.chip.soc.now).modules place ≡ Some (module_value «module».now) }
-        ensures { (done : List PlannedTest) → AreLanes (made_content (soc_value self.now.chip.soc.now) self.now.seed) done lanes.old.items →
-            OnOk result (AreLanes (made_content (soc_value self.now.chip.soc.now) self.now.seed)
+        ensures { (done : List PlannedTest) → AreLanes (IsPlacedLane (C.keys contents.now) (soc_value self.now.chip.soc.now) self.now.chip.index.now) done lanes.old.items →
+            OnOk result (AreLanes (IsPlacedLane (C.keys contents.now) (soc_value self.now.chip.soc.now) self.now.chip.index.now)
             (done ++ planned_in self.now.chip.index.now place (module_value «module».now) «module».now.tests.items) lanes.new.items) }
     {
         let wrappers = ModeWrappers::new(self.chip.soc, self.chip.index, place, module);
@@ -223,49 +228,54 @@ impl<'a> Setting<'a> {
             wrappers: &wrappers,
         };
         for at in 0..module.tests.len() {
-            self.push_test(alloc, lanes, &core, at, &module.tests[at])?;
+            self.push_test(alloc, contents, lanes, &core, at, &module.tests[at])?;
         }
         Ok(())
     }
 
     /// The live tests of the chip, in its order.
-    fn lanes(&self, alloc: Global) -> Result<Vec<Lane>, NoMemory>
+    fn lanes<C: Contents>(&self, alloc: Global, contents: &C) -> Result<Vec<Lane>, NoMemory>
         requires sound { IsSoundChip (soc_value self.now.chip.soc.now) }
         requires good { IsGoodAlone (soc_value self.now.chip.soc.now) self.now.chip.index.now }
         requires firsts { AreFirstWires (widths self.now.chip.index.now) self.now.firsts.now }
-        ensures { IfOk result (λ lanes. AreLanes (made_content (soc_value self.now.chip.soc.now) self.now.seed)
+        ensures { IfOk result (λ lanes. AreLanes (IsPlacedLane (C.keys contents.now) (soc_value self.now.chip.soc.now) self.now.chip.index.now)
             (planned (soc_value self.now.chip.soc.now) self.now.chip.index.now) lanes.items) }
     {
         let mut lanes = Vec::new(alloc);
         for place in 0..self.chip.soc.modules.len() {
-            self.push_module(alloc, &mut lanes, module_at(self.chip.soc, place), place)?;
+            self.push_module(
+                alloc,
+                contents,
+                &mut lanes,
+                module_at(self.chip.soc, place),
+                place,
+            )?;
         }
         Ok(lanes)
     }
 }
 
-/// The live tests of a chip in its order, as a good plan places them, with the made contents of a seed. `firsts` has the first wire of
+/// The live tests of a chip in its order, as a good plan places them, by the keys that contents know them by. `firsts` has the first wire of
 /// each bus, and behind them the number of all wires.
-pub fn placed_lanes<'a>(
+pub fn placed_lanes<'a, C: Contents>(
     alloc: Global,
     soc: &'a Soc,
     plan: &'a Plan,
-    seed: u64,
+    contents: &C,
     firsts: &'a [u64],
 ) -> Result<Vec<Lane>, NoMemory>
     requires sound { IsSoundChip (soc_value soc.now) }
     requires good { IsGoodAlone (soc_value soc.now) (plan_value plan.now) }
     requires firsts { AreFirstWires (widths (plan_value plan.now)) firsts.now }
-    ensures { IfOk result (λ lanes. AreLanes (made_content (soc_value soc.now) seed)
+    ensures { IfOk result (λ lanes. AreLanes (IsPlacedLane (C.keys contents.now) (soc_value soc.now) (plan_value plan.now))
         (planned (soc_value soc.now) (plan_value plan.now)) lanes.items) }
 {
     let index = PlanIndex::new(alloc, plan)?;
     let setting = Setting {
         chip: PlannedChip { soc, index: &index },
-        seed,
         firsts,
     };
-    let lanes = setting.lanes(alloc);
+    let lanes = setting.lanes(alloc, contents);
     // dropped by a call: the end of the scope would drop each of its parts, and be proved for each
     drop(index);
     lanes

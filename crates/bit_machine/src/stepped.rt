@@ -126,7 +126,7 @@ impl SteppedLane {
         ensures page { self.new.page ≡ Some page }
         ensures pages { ArePages self.new }
     {
-        let line = Line::of(self.lane.base, page.pattern, 0);
+        let line = Line::of(self.lane.key, page.pattern, 0);
         let first = page.first as usize;
         fill_words(&mut self.pages, &self.lane.paths, &line, first);
         self.page = Some(page);
@@ -179,7 +179,7 @@ impl SteppedLane {
     {
         for chain in 0..self.lane.paths.len() {
             let path = &self.lane.paths[chain];
-            if !path.holds(&self.rings[chain], self.lane.base, pattern) {
+            if !path.holds(&self.rings[chain], self.lane.key, pattern) {
                 return false;
             }
         }
@@ -213,7 +213,7 @@ impl SteppedLane {
         if chain >= self.lane.paths.len() {
             return;
         }
-        let (base, moment) = (self.lane.base, self.moment);
+        let (base, moment) = (self.lane.key, self.moment);
         let path = &self.lane.paths[chain];
         path.step(&mut self.rings[chain], base, moment, drive);
     }

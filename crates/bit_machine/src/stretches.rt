@@ -7,12 +7,14 @@ ghost use Rattle.plan_model.specs.Plans.{PlannedTest};
 ghost use Rattle.plan_model.specs.Runs.{Content};
 ghost use Rattle.plan_model.specs.declared.moments.Turn.{Turn};
 ghost use Rattle.plan_model.specs.declared.moments.Moment.TheVariants as moment;
+ghost use Rattle.bit_machine.specs.Lanes.{IsFilled};
 ghost use Rattle.bit_machine.specs.Machines.{AreLanes, AreOnWires, AreSomeLanes};
+ghost use Rattle.bit_machine.specs.Marks.{IsKey, Marks};
 ghost use Rattle.bit_machine.specs.Vectors.{AreChainsPut, ArePlayed, AreShifts, HasLane, HasSomeLane, IsDriven, IsKeptElsewhere, IsLineOf, IsPlayed, IsRead};
 
+use crate::contents::Contents;
 use crate::lane::Lane;
-use crate::lines::{Place, put_bits, put_blanks};
-use crate::made::Line;
+use crate::lines::{Place, put_blanks};
 use crate::path::Path;
 use plan_model::{Moment, Phases, Turn};
 
@@ -56,37 +58,77 @@ fn shifts_to_come(phases: &Phases, ahead: Option<Turn>, behind: Option<Turn>) ->
     }
 }
 
-/// Writes the bits that a chain loads in a stretch into a column, one a line.
-fn put_load(text: &mut [u8], at: Place, path: &Path, base: u64, stretch: Stretch)
+/// How many of `count` Shifts come before the first bit of a chain that loads `loads` cells, where `shifts` Shifts lie between the first
+/// of them and a capture.
+fn idle_shifts(shifts: usize, loads: usize, count: usize) -> usize
+    ensures few { result ≤ count }
+    ensures idle { (i : ℕ) → i < result → loads + i ≤ shifts }
+    ensures rest { result < count → shifts < loads + result }
+{
+    if shifts < loads {
+        0
+    } else {
+        (shifts - loads).saturating_add(1).min(count)
+    }
+}
+
+/// Writes the bits that a chain loads in a stretch into a column, one a line. The first Shifts of a chain that is shorter than others
+/// carry 0, which stands there already.
+fn put_load<C: Contents>(
+    text: &mut [u8],
+    at: Place,
+    path: &Path,
+    contents: &C,
+    key: u64,
+    stretch: Stretch,
+)
     requires narrow { at.wires ≤ 256 }
-    requires base { base < 997 }
+    requires key { IsKey (C.keys contents.now) key }
     requires few { stretch.count ≤ 64 }
     requires back { (t : Turn) → stretch.ahead ≡ Some t → stretch.count ≤ t.shifts + 1 }
     requires column { at.column < 2 * at.wires + 2 }
     requires rows { (at.row + stretch.count) * (2 * at.wires + 2) ≤ length text.old }
     ensures long { length text.new ≡ length text.old }
-    ensures driven { IsDriven base path.now at.wires at.row stretch.count at.column stretch.ahead text.old text.new }
+    ensures driven { IsDriven (C.drive contents.now key) path.now at.wires at.row stretch.count at.column stretch.ahead text.old text.new }
     ensures others { IsKeptElsewhere at.wires at.row stretch.count at.column text.old text.new }
 {
     match stretch.ahead {
         Some(turn) => {
-            let line = Line::of(base, turn.pattern, 0);
-            let last = turn.shifts as usize;
-            put_bits(text, at, &path.loads, &line, last, stretch.count);
+            let loads = path.loads.len();
+            let shifts = turn.shifts as usize;
+            let idle = idle_shifts(shifts, loads, stretch.count);
+            if idle >= stretch.count {
+                return;
+            }
+            let bits = contents.stimulus(key, turn.pattern);
+            let below = Place {
+                row: at.row + idle,
+                ..at
+            };
+            path.loads
+                .put_back(&bits, shifts - idle, stretch.count - idle, text, below);
         }
         None => {}
     }
 }
 
-/// Writes the bits that are read of a chain in a stretch into a column, one a line.
-fn put_answer(text: &mut [u8], at: Place, path: &Path, base: u64, stretch: Stretch)
+/// Writes the marks of what is read of a chain in a stretch into a column, one a line.
+fn put_answer<C: Contents>(
+    text: &mut [u8],
+    at: Place,
+    path: &Path,
+    contents: &C,
+    key: u64,
+    stretch: Stretch,
+)
     requires narrow { at.wires ≤ 256 }
-    requires base { base < 997 }
+    requires key { IsKey (C.keys contents.now) key }
+    requires some { 1 ≤ stretch.count }
     requires few { stretch.count ≤ 64 }
     requires column { at.column < 2 * at.wires + 2 }
     requires rows { (at.row + stretch.count) * (2 * at.wires + 2) ≤ length text.old }
     ensures long { length text.new ≡ length text.old }
-    ensures read { IsRead base path.now at.wires at.row stretch.count at.column stretch.behind text.old text.new }
+    ensures read { IsRead (C.mark contents.now key) path.now at.wires at.row stretch.count at.column stretch.behind text.old text.new }
     ensures others { IsKeptElsewhere at.wires at.row stretch.count at.column text.old text.new }
 {
     match stretch.behind {
@@ -97,23 +139,31 @@ fn put_answer(text: &mut [u8], at: Place, path: &Path, base: u64, stretch: Stret
                 return;
             }
             let left = answers - shifts;
-            let line = Line::of(base, turn.pattern, 1);
+            let bits = contents.response(key, turn.pattern);
             let count = stretch.count.min(left);
-            put_bits(text, at, &path.answers, &line, left - 1, count);
+            path.answers.put_back(&bits, left - 1, count, text, at);
         }
         None => {}
     }
 }
 
 /// Writes what the chains of a test drive and compare in a stretch, from a row on.
-fn put_chains(text: &mut [u8], wires: usize, row: usize, lane: &Lane, stretch: Stretch)
+fn put_chains<C: Contents>(
+    text: &mut [u8],
+    wires: usize,
+    row: usize,
+    lane: &Lane,
+    contents: &C,
+    stretch: Stretch,
+)
     requires narrow { wires ≤ 256 }
-    requires base { lane.now.base < 997 }
+    requires key { IsKey (C.keys contents.now) lane.now.key }
+    requires some { 1 ≤ stretch.count }
     requires few { stretch.count ≤ 64 }
     requires back { (t : Turn) → stretch.ahead ≡ Some t → stretch.count ≤ t.shifts + 1 }
     requires columns { lane.now.first_wire + length lane.now.paths.items ≤ wires }
     requires rows { (row + stretch.count) * (2 * wires + 2) ≤ length text.old }
-    ensures { AreChainsPut lane.now.base lane.now.paths.items
+    ensures { AreChainsPut (C.drive contents.now lane.now.key) (C.mark contents.now lane.now.key) lane.now.paths.items
         (length lane.now.paths.items) wires row stretch.count lane.now.first_wire stretch.ahead stretch.behind text.old text.new }
 {
     for chain in 0..lane.paths.len() {
@@ -129,16 +179,24 @@ fn put_chains(text: &mut [u8], wires: usize, row: usize, lane: &Lane, stretch: S
             row,
             column: wires + 1 + wire,
         };
-        put_load(text, drive, path, lane.base, stretch);
-        put_answer(text, mark, path, lane.base, stretch);
+        put_load(text, drive, path, contents, lane.key, stretch);
+        put_answer(text, mark, path, contents, lane.key, stretch);
     }
 }
 
 /// Writes what a test drives and compares in a stretch that begins with a cycle, or in that cycle where it is no Shift.
 /// Answers how many cycles these are, at least one and at most `most`.
-fn put_stretch(text: &mut [u8], wires: usize, row: usize, lane: &Lane, cycle: u64, most: u64) -> u64
+fn put_stretch<C: Contents>(
+    text: &mut [u8],
+    wires: usize,
+    row: usize,
+    lane: &Lane,
+    contents: &C,
+    cycle: u64,
+    most: u64,
+) -> u64
     requires narrow { wires ≤ 256 }
-    requires lane { HasSomeLane wires lane.now }
+    requires lane { HasSomeLane (C.keys contents.now) wires lane.now }
     requires tam { lane.now.tam ≡ true }
     requires begun { lane.now.start ≤ cycle }
     requires left { 1 ≤ most }
@@ -146,8 +204,9 @@ fn put_stretch(text: &mut [u8], wires: usize, row: usize, lane: &Lane, cycle: u6
     requires rows { (row + most) * (2 * wires + 2) ≤ length text.old }
     ensures some { 1 ≤ result }
     ensures few { result ≤ most }
-    ensures played { (content : Content) (tests : List PlannedTest) (i : ℕ) (t : PlannedTest) → HasLane content tests wires i t lane.now →
-        ArePlayed content t wires cycle (cycle + result) row text.old text.new }
+    ensures played { (content : Content) (marks : Marks) (tests : List PlannedTest) (i : ℕ) (t : PlannedTest) →
+        HasLane (IsFilled (C.drive contents.now) (C.mark contents.now) content marks) tests wires i t lane.now →
+        ArePlayed content marks t wires cycle (cycle + result) row text.old text.new }
 {
     match lane.phases.at(cycle - lane.start) {
         Moment::Shift { ahead, behind } => {
@@ -158,7 +217,7 @@ fn put_stretch(text: &mut [u8], wires: usize, row: usize, lane: &Lane, cycle: u6
                 behind,
                 count: count as usize,
             };
-            put_chains(text, wires, row, lane, stretch);
+            put_chains(text, wires, row, lane, contents, stretch);
             count
         }
         Moment::Setup => 1,
@@ -168,14 +227,22 @@ fn put_stretch(text: &mut [u8], wires: usize, row: usize, lane: &Lane, cycle: u6
 
 /// Writes what a test drives and compares in `count` cycles from one on, each into a line of its own. In a blank line of a
 /// cycle its bits then stand on the wires of its bus.
-fn put_test(text: &mut [u8], wires: usize, lane: &Lane, from: u64, count: u64)
+fn put_test<C: Contents>(
+    text: &mut [u8],
+    wires: usize,
+    lane: &Lane,
+    contents: &C,
+    from: u64,
+    count: u64,
+)
     requires narrow { wires ≤ 256 }
-    requires lane { HasSomeLane wires lane.now }
+    requires lane { HasSomeLane (C.keys contents.now) wires lane.now }
     requires fits { from + count < 2 ^ 64 }
     requires rows { count * (2 * wires + 2) ≤ length text.old }
     ensures long { length text.new ≡ length text.old }
-    ensures played { (content : Content) (tests : List PlannedTest) (i : ℕ) (t : PlannedTest) → HasLane content tests wires i t lane.now →
-        (r : ℕ) → r < count → IsPlayed content t wires (from + r) r text.old text.new }
+    ensures played { (content : Content) (marks : Marks) (tests : List PlannedTest) (i : ℕ) (t : PlannedTest) →
+        HasLane (IsFilled (C.drive contents.now) (C.mark contents.now) content marks) tests wires i t lane.now →
+        (r : ℕ) → r < count → IsPlayed content marks t wires (from + r) r text.old text.new }
 {
     if !lane.tam {
         return;
@@ -184,22 +251,30 @@ fn put_test(text: &mut [u8], wires: usize, lane: &Lane, from: u64, count: u64)
     let mut cycle = lane.start.max(from);
     while cycle < end {
         let row = (cycle - from) as usize;
-        cycle += put_stretch(text, wires, row, lane, cycle, end - cycle);
+        cycle += put_stretch(text, wires, row, lane, contents, cycle, end - cycle);
     }
 }
 
 /// Writes the lines of `count` cycles from one on: first blank ones, and then test by test what is driven and compared.
-pub fn put_tests(text: &mut [u8], wires: usize, lanes: &[Lane], from: u64, count: u64)
+pub fn put_tests<C: Contents>(
+    text: &mut [u8],
+    wires: usize,
+    lanes: &[Lane],
+    contents: &C,
+    from: u64,
+    count: u64,
+)
     requires narrow { wires ≤ 256 }
-    requires lanes { AreSomeLanes lanes.now wires }
+    requires lanes { AreSomeLanes (C.keys contents.now) lanes.now wires }
     requires fits { from + count < 2 ^ 64 }
     requires rows { count * (2 * wires + 2) ≤ length text.old }
     ensures long { length text.new ≡ length text.old }
-    ensures lines { (content : Content) (tests : List PlannedTest) → AreLanes content tests lanes.now → AreOnWires tests wires → (r : ℕ) →
-        r < count → IsLineOf content tests wires (from + r) r text.new }
+    ensures lines { (content : Content) (marks : Marks) (tests : List PlannedTest) →
+        AreLanes (IsFilled (C.drive contents.now) (C.mark contents.now) content marks) tests lanes.now → AreOnWires tests wires → (r : ℕ) →
+        r < count → IsLineOf content marks tests wires (from + r) r text.new }
 {
     put_blanks(text, wires, count as usize);
     for place in 0..lanes.len() {
-        put_test(text, wires, &lanes[place], from, count);
+        put_test(text, wires, &lanes[place], contents, from, count);
     }
 }

@@ -1,5 +1,5 @@
 -- Blocks of lines one after another.
-use Rattle.std.proofs.Common.{◌≡◌, ℕ, zero, suc, ◌+◌, ◌-◌, ◌*◌, ◌≤◌, ◌<◌, List, ◌∷◌, ◌++◌, length, take, refl, ap, sym, ◌∙◌, arith, Option, Some, None}
+use Rattle.std.proofs.Common.{◌≡◌, ℕ, zero, suc, ◌+◌, ◌-◌, ◌*◌, ◌≤◌, ◌<◌, Bool, List, ◌∷◌, ◌++◌, length, take, refl, ap, sym, subst, ◌∙◌, arith, Option, Some, None}
 use Rattle.std.specs.List.{flat_map, range_with_len}
 use Rattle.std.proofs.Math.Nat.{mul-le-mul_right}
 use Rattle.std.proofs.Math.Seq.{take-append-add}
@@ -8,9 +8,14 @@ use Rattle.std.proofs.lemmas.Grind.{flat_map-append}
 use Rattle.std.proofs.lemmas.List.{take-append-le, length-append}
 use Rattle.outside.specs.Held.{Appended, AppendedFront}
 use Rattle.outside.proofs.PieceLemmas.{Appended-then}
+use Rattle.soc_model.specs.Chips.{SocValue}
 use Rattle.plan_model.specs.Plans.{PlanValue}
+use Rattle.plan_model.specs.Runs.{Content}
+use Rattle.bit_machine.specs.Marks.{Keys, Marks}
+use Rattle.bit_machine.specs.Placed.{StandFor}
+use Rattle.tester_vectors.specs.Lines.{lines_of}
 use Rattle.tester_vectors.specs.declared.TheConstants.{RUN_MOST}
-use Rattle.tester_vectors.specs.VectorText.{wire_cycles, too_many}
+use Rattle.tester_vectors.specs.VectorText.{marked_text, wire_cycles, too_many}
 
 -- ranges
 pub range_split : (a b n m : ℕ) → range_with_len a (n + m) ≡ range_with_len a n ++ range_with_len (a + n) m
@@ -65,3 +70,15 @@ not_too_long plan found is none long =
     let some : too_many plan ≡ Some (wire_cycles plan) = rw (lt-ltb RUN_MOST (wire_cycles plan) long) refl in
     let clash : None ≡ Some (wire_cycles plan) = sym none ∙ is ∙ some in
     absurd cc
+
+-- ---- what is written of the same plan
+
+pub same_lines : (keys : Keys) (drive : ℕ → ℕ → ℕ → Bool) (mark : ℕ → ℕ → ℕ → ℕ) (soc soc' : SocValue) (plan plan' : PlanValue) (content : Content) (marks : Marks) (from count : ℕ) (text : List ℕ) → soc ≡ soc' → plan ≡ plan' → StandFor keys drive mark soc' content marks →
+    ((content : Content) (marks : Marks) → StandFor keys drive mark soc content marks → text ≡ lines_of soc plan content marks from count) → text ≡ lines_of soc' plan' content marks from count
+same_lines keys drive mark soc soc' plan plan' content marks from count text e f stand is =
+    is content marks (subst (λ s. StandFor keys drive mark s content marks) (sym e) stand) ∙ ap (λ s. lines_of s plan content marks from count) e ∙ ap (λ p. lines_of soc' p content marks from count) f
+
+pub same_front : (keys : Keys) (drive : ℕ → ℕ → ℕ → Bool) (mark : ℕ → ℕ → ℕ → ℕ) (soc soc' : SocValue) (plan plan' : PlanValue) (content : Content) (marks : Marks) (a c : Option (List ℕ)) → soc ≡ soc' → plan ≡ plan' → StandFor keys drive mark soc' content marks →
+    ((content : Content) (marks : Marks) → StandFor keys drive mark soc content marks → AppendedFront a (marked_text soc plan content marks) c) → AppendedFront a (marked_text soc' plan' content marks) c
+same_front keys drive mark soc soc' plan plan' content marks a c e f stand is =
+    subst (λ (p : PlanValue). AppendedFront a (marked_text soc' p content marks) c) f (subst (λ (s : SocValue). AppendedFront a (marked_text s plan content marks) c) e (is content marks (subst (λ s. StandFor keys drive mark s content marks) (sym e) stand)))

@@ -15,10 +15,10 @@ use Rattle.plan_model.proofs.LoadsAndReads.{IsTamTest, begun_at, loaded_bit}
 use Rattle.plan_model.proofs.TestsInGoodPlans.{apart, is_tam_test}
 use Rattle.plan_model.proofs.GoodPlansRunRight.{every_good_plan_is_right}
 use Rattle.bit_machine.specs.Chips.{wires_of}
-use Rattle.tester_vectors.specs.Marks.{digit, MarksReads}
-use Rattle.tester_vectors.specs.VectorText.{vector_text}
+use Rattle.tester_vectors.specs.Marks.{digit, response_digits, Marks, MarksReads}
+use Rattle.tester_vectors.specs.VectorText.{marked_text, vector_text}
 use Rattle.tester_vectors.specs.DrivenRuns.{IsDriven, with_initial, RunsAsShown}
-use Rattle.tester_vectors.proofs.ReadBits.{marks_read}
+use Rattle.tester_vectors.proofs.ReadBits.{marks_stand_in}
 use Rattle.tester_vectors.proofs.TextPlaces.{text_driven, text_compared}
 use Rattle.tester_vectors.proofs.SameDrive.{run_same, chains_within}
 
@@ -35,21 +35,21 @@ unfolding carried
 carried_with content initial tests c w = refl
 
 -- the driven bits are those that the wires carry
-driven_is : (soc : SocValue) (plan : PlanValue) (content : Content) (initial : TestId → Cell → Bool) (drive : ℕ → ℕ → Bool) → IsDriven plan (vector_text soc plan content) drive → (c w : ℕ) → c < plan.cycles → w < wires_of plan → drive c w ≡ carried (with_initial content initial) (planned soc plan) c w
-driven_is soc plan content initial drive driven c w h within =
-    same_bit (drive c w) (carried content (planned soc plan) c w) (same_Some (digit (drive c w)) (digit (carried content (planned soc plan) c w)) (sym (driven c w h within) ∙ text_driven soc plan content c w h within))
+pub driven_is : (soc : SocValue) (plan : PlanValue) (content : Content) (marks : Marks) (initial : TestId → Cell → Bool) (drive : ℕ → ℕ → Bool) → IsDriven plan (marked_text soc plan content marks) drive → (c w : ℕ) → c < plan.cycles → w < wires_of plan → drive c w ≡ carried (with_initial content initial) (planned soc plan) c w
+driven_is soc plan content marks initial drive driven c w h within =
+    same_bit (drive c w) (carried content (planned soc plan) c w) (same_Some (digit (drive c w)) (digit (carried content (planned soc plan) c w)) (sym (driven c w h within) ∙ text_driven soc plan content marks c w h within))
     ∙ sym (carried_with content initial (planned soc plan) c w)
 
 -- so the run is the plan's own
-run_is : (soc : SocValue) (limits : LimitsValue) (plan : PlanValue) (content : Content) (initial : TestId → Cell → Bool) (drive : ℕ → ℕ → Bool) → IsGood soc limits plan → IsDriven plan (vector_text soc plan content) drive → (c : ℕ) → c < plan.cycles →
+pub run_is : (soc : SocValue) (limits : LimitsValue) (plan : PlanValue) (content : Content) (marks : Marks) (initial : TestId → Cell → Bool) (drive : ℕ → ℕ → Bool) → IsGood soc limits plan → IsDriven plan (marked_text soc plan content marks) drive → (c : ℕ) → c < plan.cycles →
     run_with (with_initial content initial) (planned soc plan) drive c ≡ state_at (with_initial content initial) (planned soc plan) c
-run_is soc limits plan content initial drive good driven c h =
-    run_same (with_initial content initial) (planned soc plan) (wires_of plan) plan.cycles c drive (carried (with_initial content initial) (planned soc plan)) (chains_within soc plan (apart soc limits plan good)) (driven_is soc plan content initial drive driven) (omega arith)
+run_is soc limits plan content marks initial drive good driven c h =
+    run_same (with_initial content initial) (planned soc plan) (wires_of plan) plan.cycles c drive (carried (with_initial content initial) (planned soc plan)) (chains_within soc plan (apart soc limits plan good)) (driven_is soc plan content marks initial drive driven) (omega arith)
 
 -- each Capture finds its stimulus
-loads_as_shown : (soc : SocValue) (limits : LimitsValue) (plan : PlanValue) (content : Content) (initial : TestId → Cell → Bool) (drive : ℕ → ℕ → Bool) → IsGood soc limits plan → IsDriven plan (vector_text soc plan content) drive → (i k c : ℕ) (t : PlannedTest) → IsAt (planned soc plan) i t → operation_at t c ≡ Some (Capture k) →
+pub loads_as_shown : (soc : SocValue) (limits : LimitsValue) (plan : PlanValue) (content : Content) (marks : Marks) (initial : TestId → Cell → Bool) (drive : ℕ → ℕ → Bool) → IsGood soc limits plan → IsDriven plan (marked_text soc plan content marks) drive → (i k c : ℕ) (t : PlannedTest) → IsAt (planned soc plan) i t → operation_at t c ≡ Some (Capture k) →
     HoldsStimulus content (run_with (with_initial content initial) (planned soc plan) drive c) i t k
-loads_as_shown soc limits plan content initial drive good driven i k c t at captures j r cells x there place loaded =
+loads_as_shown soc limits plan content marks initial drive good driven i k c t at captures j r cells x there place loaded =
     let b = begun_at t c (Capture k) captures in
     let begun : t.start ≤ c = b.0 in
     let within : c - t.start < length t.operations = slice_get_within t.operations (c - t.start) (Capture k) b.1 in
@@ -59,20 +59,20 @@ loads_as_shown soc limits plan content initial drive good driven i k c t at capt
     let is : IsTamTest t = is_tam_test soc plan i t at (stand.tam i j t at (slice_get_within t.chains j cells there)) in
     let holds = loaded_bit (with_initial content initial) (planned soc plan) stand i t at is k (c - t.start) b.1 j r cells x there place loaded in
     let now = rw number at holds in
-    ap (λ state. slice_get (bits_at state i j) r) (run_is soc limits plan content initial drive good driven c (right.ends.over i t c at (begun, omega arith))) ∙ now
+    ap (λ state. slice_get (bits_at state i j) r) (run_is soc limits plan content marks initial drive good driven c (right.ends.over i t c at (begun, omega arith))) ∙ now
 
 pub runs_as_shown : (soc : SocValue) (limits : LimitsValue) (plan : PlanValue) (content : Content) → IsGood soc limits plan → RunsAsShown soc plan content (vector_text soc plan content)
 runs_as_shown soc limits plan content good =
-    let marks : MarksReads soc plan content = marks_read soc limits plan content good in
+    let marks : MarksReads soc plan content = marks_stand_in soc limits plan (response_digits content) good in
     record {
-      driven = λ c w h within. text_driven soc plan content c w h within;
-      loads = λ drive initial driven i k c t at captures. loads_as_shown soc limits plan content initial drive good driven i k c t at captures;
+      driven = λ c w h within. text_driven soc plan content (response_digits content) c w h within;
+      loads = λ drive initial driven i k c t at captures. loads_as_shown soc limits plan content (response_digits content) initial drive good driven i k c t at captures;
       reads = λ drive initial driven c w h within r.
           let right : IsRight soc limits plan (with_initial content initial) = every_good_plan_is_right soc limits plan (with_initial content initial) good in
           let shows = (right.reads.shows r.place r.test r.pattern r.cell c w r.at r.read).1 in
-          text_compared soc plan content c w h within
-          ∙ ap Some (marks.bits r.place r.test r.pattern r.cell c w r.at r.read ∙ ap digit (sym shows ∙ ap (λ state. shown (planned soc plan) state c w) (sym (run_is soc limits plan content initial drive good driven c h))));
+          text_compared soc plan content (response_digits content) c w h within
+          ∙ ap Some (marks.bits r.place r.test r.pattern r.cell c w r.at r.read ∙ ap digit (sym shows ∙ ap (λ state. shown (planned soc plan) state c w) (sym (run_is soc limits plan content (response_digits content) initial drive good driven c h))));
       rest = λ c w h within none.
-          text_compared soc plan content c w h within
+          text_compared soc plan content (response_digits content) c w h within
           ∙ elim (marks.only c w) [ inl dash ↦ ap Some dash | inr r ↦ absurd (none r) ];
     }

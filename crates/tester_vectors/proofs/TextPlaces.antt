@@ -8,8 +8,8 @@ use Rattle.soc_model.specs.Chips.{SocValue}
 use Rattle.plan_model.specs.Plans.{PlanValue, PlannedTest, planned}
 use Rattle.plan_model.specs.Runs.{Content, carried}
 use Rattle.bit_machine.specs.Chips.{wires_of}
-use Rattle.tester_vectors.specs.Marks.{digit, mark}
-use Rattle.tester_vectors.specs.VectorText.{head_line, driven_text, compared_text, cycle_line, vector_text}
+use Rattle.tester_vectors.specs.Marks.{digit, mark, Marks}
+use Rattle.tester_vectors.specs.VectorText.{head_line, driven_text, compared_text, cycle_line, marked_text}
 use Rattle.tester_vectors.specs.DrivenRuns.{line_begin}
 
 -- ---- joined lists
@@ -49,62 +49,62 @@ at_range f a (suc n) (suc i) h = let place : a + suc i ≡ (a + 1) + i = omega a
 driven_long : (content : Content) (tests : List PlannedTest) (wires c : ℕ) → length (driven_text content tests wires c) ≡ wires
 driven_long content tests wires c = length-map-range_with_len (λ w. digit (carried content tests c w)) 0 wires
 
-compared_long : (content : Content) (tests : List PlannedTest) (wires c : ℕ) → length (compared_text content tests wires c) ≡ wires
-compared_long content tests wires c = length-map-range_with_len (mark content tests c) 0 wires
+compared_long : (marks : Marks) (tests : List PlannedTest) (wires c : ℕ) → length (compared_text marks tests wires c) ≡ wires
+compared_long marks tests wires c = length-map-range_with_len (mark marks tests c) 0 wires
 
-pub line_long : (content : Content) (tests : List PlannedTest) (wires c : ℕ) → length (cycle_line content tests wires c) ≡ wires + (wires + 2)
+pub line_long : (content : Content) (marks : Marks) (tests : List PlannedTest) (wires c : ℕ) → length (cycle_line content marks tests wires c) ≡ wires + (wires + 2)
 unfolding cycle_line
-line_long content tests wires c =
-    length-append (driven_text content tests wires c) (codes " " ++ (compared_text content tests wires c ++ codes "\n"))
-    ∙ omega (arith, driven_long content tests wires c, length-append (compared_text content tests wires c) (codes "\n"), compared_long content tests wires c)
+line_long content marks tests wires c =
+    length-append (driven_text content tests wires c) (codes " " ++ (compared_text marks tests wires c ++ codes "\n"))
+    ∙ omega (arith, driven_long content tests wires c, length-append (compared_text marks tests wires c) (codes "\n"), compared_long marks tests wires c)
 
-pub line_driven : (content : Content) (tests : List PlannedTest) (wires c w : ℕ) → w < wires → slice_get (cycle_line content tests wires c) w ≡ Some (digit (carried content tests c w))
+pub line_driven : (content : Content) (marks : Marks) (tests : List PlannedTest) (wires c w : ℕ) → w < wires → slice_get (cycle_line content marks tests wires c) w ≡ Some (digit (carried content tests c w))
 unfolding cycle_line
-line_driven content tests wires c w h =
+line_driven content marks tests wires c w h =
     let long = driven_long content tests wires c in
-    at_front (driven_text content tests wires c) (codes " " ++ (compared_text content tests wires c ++ codes "\n")) w (omega arith)
+    at_front (driven_text content tests wires c) (codes " " ++ (compared_text marks tests wires c ++ codes "\n")) w (omega arith)
     ∙ at_range (λ w. digit (carried content tests c w)) 0 wires w h
     ∙ let place : 0 + w ≡ w = omega arith in rw place refl
 
-pub line_space : (content : Content) (tests : List PlannedTest) (wires c : ℕ) → slice_get (cycle_line content tests wires c) wires ≡ Some 32
+pub line_space : (content : Content) (marks : Marks) (tests : List PlannedTest) (wires c : ℕ) → slice_get (cycle_line content marks tests wires c) wires ≡ Some 32
 unfolding cycle_line
-line_space content tests wires c =
+line_space content marks tests wires c =
     let long = driven_long content tests wires c in
-    at_back (driven_text content tests wires c) (codes " " ++ (compared_text content tests wires c ++ codes "\n")) 0 wires (omega arith)
+    at_back (driven_text content tests wires c) (codes " " ++ (compared_text marks tests wires c ++ codes "\n")) 0 wires (omega arith)
 
-pub line_feed : (content : Content) (tests : List PlannedTest) (wires c : ℕ) → slice_get (cycle_line content tests wires c) (wires + 1 + wires) ≡ Some 10
+pub line_feed : (content : Content) (marks : Marks) (tests : List PlannedTest) (wires c : ℕ) → slice_get (cycle_line content marks tests wires c) (wires + 1 + wires) ≡ Some 10
 unfolding cycle_line
-line_feed content tests wires c =
+line_feed content marks tests wires c =
     let long = driven_long content tests wires c in
-    let long' = compared_long content tests wires c in
-    at_back (driven_text content tests wires c) (codes " " ++ (compared_text content tests wires c ++ codes "\n")) (suc wires) (wires + 1 + wires) (omega arith)
-    ∙ at_back (compared_text content tests wires c) (codes "\n") 0 wires (omega arith)
+    let long' = compared_long marks tests wires c in
+    at_back (driven_text content tests wires c) (codes " " ++ (compared_text marks tests wires c ++ codes "\n")) (suc wires) (wires + 1 + wires) (omega arith)
+    ∙ at_back (compared_text marks tests wires c) (codes "\n") 0 wires (omega arith)
 
-pub line_compared : (content : Content) (tests : List PlannedTest) (wires c w : ℕ) → w < wires → slice_get (cycle_line content tests wires c) (wires + 1 + w) ≡ Some (mark content tests c w)
+pub line_compared : (content : Content) (marks : Marks) (tests : List PlannedTest) (wires c w : ℕ) → w < wires → slice_get (cycle_line content marks tests wires c) (wires + 1 + w) ≡ Some (mark marks tests c w)
 unfolding cycle_line
-line_compared content tests wires c w h =
+line_compared content marks tests wires c w h =
     let long = driven_long content tests wires c in
-    let long' = compared_long content tests wires c in
-    at_back (driven_text content tests wires c) (codes " " ++ (compared_text content tests wires c ++ codes "\n")) (suc w) (wires + 1 + w) (omega arith)
-    ∙ at_front (compared_text content tests wires c) (codes "\n") w (omega arith)
-    ∙ at_range (mark content tests c) 0 wires w h
+    let long' = compared_long marks tests wires c in
+    at_back (driven_text content tests wires c) (codes " " ++ (compared_text marks tests wires c ++ codes "\n")) (suc w) (wires + 1 + w) (omega arith)
+    ∙ at_front (compared_text marks tests wires c) (codes "\n") w (omega arith)
+    ∙ at_range (mark marks tests c) 0 wires w h
     ∙ let place : 0 + w ≡ w = omega arith in rw place refl
 
 -- ---- the whole text
 
-in_line : (soc : SocValue) (plan : PlanValue) (content : Content) (c j n : ℕ) → c < plan.cycles → j < wires_of plan + (wires_of plan + 2) → n ≡ line_begin plan c + j →
-    slice_get (vector_text soc plan content) n ≡ slice_get (cycle_line content (planned soc plan) (wires_of plan) c) j
-in_line soc plan content c j n h within e =
-    at_back (head_line (wires_of plan) plan.cycles) (flat_map (cycle_line content (planned soc plan) (wires_of plan)) (range_with_len 0 plan.cycles)) (c * (wires_of plan + (wires_of plan + 2)) + j) n (omega arith)
-    ∙ in_pieces (cycle_line content (planned soc plan) (wires_of plan)) (wires_of plan + (wires_of plan + 2)) (line_long content (planned soc plan) (wires_of plan)) 0 plan.cycles c j (c * (wires_of plan + (wires_of plan + 2)) + j) h within refl
+in_line : (soc : SocValue) (plan : PlanValue) (content : Content) (marks : Marks) (c j n : ℕ) → c < plan.cycles → j < wires_of plan + (wires_of plan + 2) → n ≡ line_begin plan c + j →
+    slice_get (marked_text soc plan content marks) n ≡ slice_get (cycle_line content marks (planned soc plan) (wires_of plan) c) j
+in_line soc plan content marks c j n h within e =
+    at_back (head_line (wires_of plan) plan.cycles) (flat_map (cycle_line content marks (planned soc plan) (wires_of plan)) (range_with_len 0 plan.cycles)) (c * (wires_of plan + (wires_of plan + 2)) + j) n (omega arith)
+    ∙ in_pieces (cycle_line content marks (planned soc plan) (wires_of plan)) (wires_of plan + (wires_of plan + 2)) (line_long content marks (planned soc plan) (wires_of plan)) 0 plan.cycles c j (c * (wires_of plan + (wires_of plan + 2)) + j) h within refl
     ∙ let place : 0 + c ≡ c = omega arith in rw place refl
 
-pub text_driven : (soc : SocValue) (plan : PlanValue) (content : Content) (c w : ℕ) → c < plan.cycles → w < wires_of plan →
-    slice_get (vector_text soc plan content) (line_begin plan c + w) ≡ Some (digit (carried content (planned soc plan) c w))
-text_driven soc plan content c w h within =
-    in_line soc plan content c w (line_begin plan c + w) h (omega arith) refl ∙ line_driven content (planned soc plan) (wires_of plan) c w within
+pub text_driven : (soc : SocValue) (plan : PlanValue) (content : Content) (marks : Marks) (c w : ℕ) → c < plan.cycles → w < wires_of plan →
+    slice_get (marked_text soc plan content marks) (line_begin plan c + w) ≡ Some (digit (carried content (planned soc plan) c w))
+text_driven soc plan content marks c w h within =
+    in_line soc plan content marks c w (line_begin plan c + w) h (omega arith) refl ∙ line_driven content marks (planned soc plan) (wires_of plan) c w within
 
-pub text_compared : (soc : SocValue) (plan : PlanValue) (content : Content) (c w : ℕ) → c < plan.cycles → w < wires_of plan →
-    slice_get (vector_text soc plan content) (line_begin plan c + (wires_of plan + 1 + w)) ≡ Some (mark content (planned soc plan) c w)
-text_compared soc plan content c w h within =
-    in_line soc plan content c (wires_of plan + 1 + w) (line_begin plan c + (wires_of plan + 1 + w)) h (omega arith) refl ∙ line_compared content (planned soc plan) (wires_of plan) c w within
+pub text_compared : (soc : SocValue) (plan : PlanValue) (content : Content) (marks : Marks) (c w : ℕ) → c < plan.cycles → w < wires_of plan →
+    slice_get (marked_text soc plan content marks) (line_begin plan c + (wires_of plan + 1 + w)) ≡ Some (mark marks (planned soc plan) c w)
+text_compared soc plan content marks c w h within =
+    in_line soc plan content marks c (wires_of plan + 1 + w) (line_begin plan c + (wires_of plan + 1 + w)) h (omega arith) refl ∙ line_compared content marks (planned soc plan) (wires_of plan) c w within

@@ -12,22 +12,25 @@ ghost use Rattle.plan_model.specs.Rules.{IsGoodAlone};
 ghost use Rattle.plan_model.specs.Views.{plan_value};
 ghost use Rattle.outside.specs.Held.{Rose, Appended, AppendedFront};
 ghost use Rattle.outside.specs.Puts.{Puts};
+ghost use Rattle.plan_model.specs.Runs.{Content};
 ghost use Rattle.bit_machine.specs.Chips.{wires_of, made_content};
-ghost use Rattle.tester_vectors.specs.Marks.{MarksReads};
-ghost use Rattle.tester_vectors.specs.VectorText.{wire_cycles as cycles_by_wires, vector_text as whole_text};
+ghost use Rattle.bit_machine.specs.Placed.{StandFor};
+ghost use Rattle.tester_vectors.specs.Marks.{Marks, MarksReads, MarksStand};
+ghost use Rattle.tester_vectors.specs.VectorText.{marked_text, wire_cycles as cycles_by_wires, vector_text as whole_text};
 ghost use Rattle.tester_vectors.specs.DrivenRuns.{RunsAsShown};
 
 mod laws;
 mod text;
 
-pub use laws::{marks_are_reads, vectors_run_as_shown};
+use bit_machine::{Contents, Made, made_contents_stand};
+pub use laws::{marks_are_reads, marks_stand, vectors_run_as_shown};
 use live_tests::all_wires;
 use outside::Sink;
 use plan_model::Plan;
 use soc_model::Soc;
 use std::alloc::Global;
 use text::Run;
-pub use text::too_many_cells;
+pub use text::{cells_over, too_many_cells};
 
 /// The cycles of a run of vectors times its wires, at most. A plan without wires counts as one of one wire.
 pub const RUN_MOST: u128 = 20_000_000;
@@ -43,6 +46,61 @@ pub enum Outcome {
     WriteFault,
     /// Memory was refused. Nothing was written.
     NoMemory,
+}
+
+/// How the writing of lines for contents ended.
+#[derive(Clone, Copy, PartialEq, Eq, Debug)]
+pub enum LinesOutcome {
+    /// The whole text was written.
+    Written,
+    /// Writing failed, and perhaps a front of the text was written.
+    WriteFault,
+    /// Memory was refused. Nothing was written.
+    NoMemory,
+}
+
+/// Writes the vectors of a good plan of a sound chip for contents: a line `vectors W C` with the wires of the plan and its cycles, then
+/// a line for each cycle. In it stand the bits that the wires carry, a space, and for each wire the mark of the response bit that is
+/// read there, or `-` where none is. Runs of any length are written: [`cells_over`] tells how long a run is.
+///
+/// All memory is taken first. Then the first line is put by itself, and the others in blocks of whole lines.
+///
+/// With `NoMemory` nothing is written. `WriteFault` comes only where the number of the sink's faults rose, and a front of the text is
+/// then written.
+pub fn write_lines<C: Contents, K: Sink>(
+    alloc: Global,
+    soc: &Soc,
+    plan: &Plan,
+    contents: &C,
+    out: &mut K,
+) -> LinesOutcome
+    requires sound { IsSoundChip (soc_value soc.now) }
+    requires good { IsGoodAlone (soc_value soc.now) (plan_value plan.now) }
+    requires narrow { wires_of (plan_value plan.now) ≤ 256 }
+    ensures faults_never_fall { K.faults out.old ≤ K.faults out.new }
+    ensures written { result ≡ LinesOutcome.Written → (content : Content) (marks : Marks) →
+        StandFor (C.keys contents.now) (C.drive contents.now) (C.mark contents.now) (soc_value soc.now) content marks →
+        Appended (K.written out.old) (marked_text (soc_value soc.now) (plan_value plan.now) content marks) (K.written out.new) }
+    ensures marks { (marks : Marks) → MarksStand (soc_value soc.now) (plan_value plan.now) marks }
+    ensures no_memory_writes_nothing { result ≡ LinesOutcome.NoMemory → out.new ≡ out.old }
+
+    // No put fails but the last one, and none is empty.
+    ensures none_failed { result ≡ LinesOutcome.Written → Puts K.is_put out.old false out.new }
+    ensures last_failed { result ≡ LinesOutcome.WriteFault → Puts K.is_put out.old true out.new }
+
+    ensures fault { result ≡ LinesOutcome.WriteFault → Rose (K.faults out.old) (K.faults out.new) }
+    ensures front { result ≡ LinesOutcome.WriteFault → (content : Content) (marks : Marks) →
+        StandFor (C.keys contents.now) (C.drive contents.now) (C.mark contents.now) (soc_value soc.now) content marks →
+        AppendedFront (K.written out.old) (marked_text (soc_value soc.now) (plan_value plan.now) content marks) (K.written out.new) }
+{
+    let mut run = match Run::new(alloc, soc, plan, contents, all_wires(plan)) {
+        Ok(run) => run,
+        Err(_) => return LinesOutcome::NoMemory,
+    };
+    match run.write(contents, out) {
+        Ok(()) => LinesOutcome::Written,
+        Err(_) => LinesOutcome::WriteFault,
+    }
 }
 
 /// Writes the vectors of a good plan of a sound chip, with the made contents of a seed: a line `vectors W C` with the wires
@@ -87,12 +145,10 @@ pub fn write_vectors<K: Sink>(
     if let Some(cells) = too_many_cells(plan) {
         return Outcome::RunTooLong { cells };
     }
-    let mut run = match Run::new(alloc, soc, plan, seed, all_wires(plan)) {
-        Ok(run) => run,
-        Err(_) => return Outcome::NoMemory,
-    };
-    match run.write(plan.cycles, out) {
-        Ok(()) => Outcome::Written,
-        Err(_) => Outcome::WriteFault,
+    made_contents_stand();
+    match write_lines(alloc, soc, plan, &Made { seed }, out) {
+        LinesOutcome::Written => Outcome::Written,
+        LinesOutcome::WriteFault => Outcome::WriteFault,
+        LinesOutcome::NoMemory => Outcome::NoMemory,
     }
 }

@@ -6,13 +6,15 @@ ghost use Rattle.outside.specs.Held.{Rose, Appended, AppendedFront};
 ghost use Rattle.outside.specs.Puts.{Puts};
 ghost use Rattle.plan_model.specs.Rules.{IsGoodAlone};
 ghost use Rattle.plan_model.specs.Views.{plan_value};
+ghost use Rattle.plan_model.specs.Runs.{Content};
 ghost use Rattle.bit_machine.specs.Chips.{wires_of};
-ghost use Rattle.bit_machine.specs.Vectors.{vectors_content};
-ghost use Rattle.tester_vectors.specs.VectorText.{too_many, head_line, vector_text};
-ghost use Rattle.tester_vectors.specs.Lines.{lines_of, IsRun};
+ghost use Rattle.bit_machine.specs.Marks.{Marks};
+ghost use Rattle.bit_machine.specs.Placed.{StandFor};
+ghost use Rattle.tester_vectors.specs.VectorText.{head_line, marked_text, more_than, too_many};
+ghost use Rattle.tester_vectors.specs.Lines.{lines_of, IsRun, IsRunOf, IsSamePlan};
 
 use crate::RUN_MOST;
-use bit_machine::Vectors;
+use bit_machine::{Contents, Vectors};
 use live_tests::all_wires;
 use outside::{NoMemory, Sink, WriteFault, extend, push_number, put_all};
 use plan_model::Plan;
@@ -29,11 +31,24 @@ fn wire_cycles(cycles: u64, wires: u64) -> u128
     u128::from(cycles) * u128::from(wires.max(1))
 }
 
-/// Whether a run is too long, by its cycles times its wires.
-fn is_too_long(cells: u128) -> bool
-    ensures { result ≡ nat_lt RUN_MOST cells }
+/// Whether a number is above another.
+fn is_above(most: u128, cells: u128) -> bool
+    ensures { result ≡ nat_lt most cells }
 {
-    cells > RUN_MOST
+    cells > most
+}
+
+/// The cycles of a plan times its wires, where these are more than `most`; a plan without wires counts as one of one wire.
+pub fn cells_over(most: u128, plan: &Plan) -> Option<u128>
+    requires { wires_of (plan_value plan.now) ≤ 256 }
+    ensures { result ≡ more_than most (plan_value plan.now) }
+{
+    let cells = wire_cycles(plan.cycles, all_wires(plan));
+    if is_above(most, cells) {
+        Some(cells)
+    } else {
+        None
+    }
 }
 
 /// The cycles of a plan times its wires, where these are more than [`RUN_MOST`]; a plan without wires counts as one of one
@@ -42,12 +57,7 @@ pub fn too_many_cells(plan: &Plan) -> Option<u128>
     requires { wires_of (plan_value plan.now) ≤ 256 }
     ensures { result ≡ too_many (plan_value plan.now) }
 {
-    let cells = wire_cycles(plan.cycles, all_wires(plan));
-    if is_too_long(cells) {
-        Some(cells)
-    } else {
-        None
-    }
+    cells_over(RUN_MOST, plan)
 }
 
 /// The characters of a cycle's line: two for each wire, a space and a line feed.
@@ -88,7 +98,9 @@ fn push_head(text: &mut Vec<u8>, wires: u64, cycles: u64) -> Result<(), NoMemory
 /// All that a run of vectors needs, before its first cycle.
 #[derive(Drop)]
 pub struct Run<'a> {
-    vectors: Vectors<'a>,
+    soc: &'a Soc,
+    plan: &'a Plan,
+    vectors: Vectors,
     /// The first line.
     head: Vec<u8>,
     /// The bytes of a line, the lines of a block, and the block.
@@ -98,28 +110,31 @@ pub struct Run<'a> {
 }
 
 impl<'a> Run<'a> {
-    /// A run of a good plan of a sound chip.
-    pub fn new(
+    /// A run of a good plan of a sound chip, for contents.
+    pub fn new<C: Contents>(
         alloc: Global,
         soc: &'a Soc,
         plan: &'a Plan,
-        seed: u64,
+        contents: &C,
         wires: u64,
     ) -> Result<Run<'a>, NoMemory>
         requires sound { IsSoundChip (soc_value soc.now) }
         requires good { IsGoodAlone (soc_value soc.now) (plan_value plan.now) }
         requires wires { wires ≡ wires_of (plan_value plan.now) }
         requires few { wires ≤ 256 }
-        ensures run { IfOk result IsRun }
-        ensures vectors { IfOk result (λ run. run.vectors ≡ record { soc = soc_value soc.now; plan = plan_value plan.now; seed = seed }) }
+        ensures soc { IfOk result (λ run. run.soc.now ≡ soc.now) }
+        ensures plan { IfOk result (λ run. run.plan.now ≡ plan.now) }
+        ensures run { IfOk result (IsRunOf (C.keys contents.now) (soc_value soc.now) (plan_value plan.now)) }
     {
         let line = line_length(wires as usize);
         let lines = lines_in_block(line, plan.cycles);
         let block = bytes(alloc, lines as usize * line)?;
-        let vectors = Vectors::new(alloc, soc, plan, seed)?;
+        let vectors = Vectors::new(alloc, soc, plan, contents)?;
         let mut head = Vec::new(alloc);
         push_head(&mut head, wires, plan.cycles)?;
         Ok(Run {
+            soc,
+            plan,
             vectors,
             head,
             line,
@@ -129,62 +144,78 @@ impl<'a> Run<'a> {
     }
 
     /// Fills the block with the lines from a cycle on, as many as it has room for, and answers how many these are.
-    fn next_block(&mut self, done: u64, cycles: u64) -> u64
-        requires run { IsRun self.old }
-        requires good { IsGoodAlone self.old.vectors.soc self.old.vectors.plan }
-        requires left { done < cycles }
+    fn next_block<C: Contents>(&mut self, contents: &C, done: u64) -> u64
+        requires run { IsRun (C.keys contents.now) self.old }
+        requires left { done < (plan_value self.old.plan.now).cycles }
         ensures some { 1 ≤ result }
-        ensures within { done + result ≤ cycles }
-        ensures run { IsRun self.new }
-        ensures vectors { self.new.vectors ≡ self.old.vectors }
+        ensures within { done + result ≤ (plan_value self.old.plan.now).cycles }
+        ensures run { IsRun (C.keys contents.now) self.new }
+        ensures same { IsSamePlan self.old self.new }
         ensures line { self.new.line ≡ self.old.line }
         ensures size { result * self.new.line ≤ length self.new.block.items }
-        ensures text { take (result * self.new.line) self.new.block.items ≡ lines_of self.old.vectors done result }
+        ensures text { (content : Content) (marks : Marks) →
+            StandFor (C.keys contents.now) (C.drive contents.now) (C.mark contents.now) (soc_value self.old.soc.now) content marks →
+            take (result * self.new.line) self.new.block.items
+            ≡ lines_of (soc_value self.old.soc.now) (plan_value self.old.plan.now) content marks done result }
     {
-        let count = self.lines.min(cycles - done);
-        self.vectors.put_lines(&mut self.block, done, count);
+        let count = self.lines.min(self.plan.cycles - done);
+        self.vectors
+            .put_lines(contents, &mut self.block, done, count);
         count
     }
 
     /// Writes the whole text: the first line by itself, and then block by block, each of whole lines. The run serves again.
-    pub fn write<K: Sink>(&mut self, cycles: u64, out: &mut K) -> Result<(), WriteFault>
-        requires run { IsRun self.old }
-        requires good { IsGoodAlone self.old.vectors.soc self.old.vectors.plan }
-        requires cycles { cycles ≡ self.old.vectors.plan.cycles }
-        ensures run { IsRun self.new }
-        ensures vectors { self.new.vectors ≡ self.old.vectors }
+    pub fn write<C: Contents, K: Sink>(
+        &mut self,
+        contents: &C,
+        out: &mut K,
+    ) -> Result<(), WriteFault>
+        requires run { IsRun (C.keys contents.now) self.old }
         ensures faults_never_fall { K.faults out.old ≤ K.faults out.new }
-        ensures all { OnOk result (Appended (K.written out.old)
-            (vector_text self.old.vectors.soc self.old.vectors.plan (vectors_content self.old.vectors)) (K.written out.new)) }
-        ensures front { OnErr result (AppendedFront (K.written out.old)
-            (vector_text self.old.vectors.soc self.old.vectors.plan (vectors_content self.old.vectors)) (K.written out.new)) }
+        ensures all { (content : Content) (marks : Marks) →
+            StandFor (C.keys contents.now) (C.drive contents.now) (C.mark contents.now) (soc_value self.old.soc.now) content marks →
+            OnOk result (Appended (K.written out.old)
+            (marked_text (soc_value self.old.soc.now) (plan_value self.old.plan.now) content marks) (K.written out.new)) }
+        ensures front { (content : Content) (marks : Marks) →
+            StandFor (C.keys contents.now) (C.drive contents.now) (C.mark contents.now) (soc_value self.old.soc.now) content marks →
+            OnErr result (AppendedFront (K.written out.old)
+            (marked_text (soc_value self.old.soc.now) (plan_value self.old.plan.now) content marks) (K.written out.new)) }
         ensures fault { OnErr result (Rose (K.faults out.old) (K.faults out.new)) }
         ensures none_failed { OnOk result (Puts K.is_put out.old false out.new) }
         ensures last_failed { OnErr result (Puts K.is_put out.old true out.new) }
     {
         put_all(out, &self.head)?;
-        match self.write_lines(cycles, out) {
+        match self.write_lines(contents, self.plan.cycles, out) {
             Ok(()) => Ok(()),
             Err(fault) => Err(fault),
         }
     }
 
     /// Writes the lines of all cycles.
-    fn write_lines<K: Sink>(&mut self, cycles: u64, out: &mut K) -> Result<(), WriteFault>
-        requires run { IsRun self.old }
-        requires good { IsGoodAlone self.old.vectors.soc self.old.vectors.plan }
-        ensures run { IsRun self.new }
-        ensures vectors { self.new.vectors ≡ self.old.vectors }
+    fn write_lines<C: Contents, K: Sink>(
+        &mut self,
+        contents: &C,
+        cycles: u64,
+        out: &mut K,
+    ) -> Result<(), WriteFault>
+        requires run { IsRun (C.keys contents.now) self.old }
+        requires cycles { cycles ≡ (plan_value self.old.plan.now).cycles }
         ensures faults_never_fall { K.faults out.old ≤ K.faults out.new }
-        ensures all { OnOk result (Appended (K.written out.old) (lines_of self.old.vectors 0 cycles) (K.written out.new)) }
-        ensures front { OnErr result (AppendedFront (K.written out.old) (lines_of self.old.vectors 0 cycles) (K.written out.new)) }
+        ensures all { (content : Content) (marks : Marks) →
+            StandFor (C.keys contents.now) (C.drive contents.now) (C.mark contents.now) (soc_value self.old.soc.now) content marks →
+            OnOk result (Appended (K.written out.old)
+            (lines_of (soc_value self.old.soc.now) (plan_value self.old.plan.now) content marks 0 cycles) (K.written out.new)) }
+        ensures front { (content : Content) (marks : Marks) →
+            StandFor (C.keys contents.now) (C.drive contents.now) (C.mark contents.now) (soc_value self.old.soc.now) content marks →
+            OnErr result (AppendedFront (K.written out.old)
+            (lines_of (soc_value self.old.soc.now) (plan_value self.old.plan.now) content marks 0 cycles) (K.written out.new)) }
         ensures fault { OnErr result (Rose (K.faults out.old) (K.faults out.new)) }
         ensures none_failed { OnOk result (Puts K.is_put out.old false out.new) }
         ensures last_failed { OnErr result (Puts K.is_put out.old true out.new) }
     {
         let mut done = 0;
         while done < cycles {
-            let count = self.next_block(done, cycles);
+            let count = self.next_block(contents, done);
             let size = count as usize * self.line;
             put_all(out, &self.block[..size])?;
             done += count;

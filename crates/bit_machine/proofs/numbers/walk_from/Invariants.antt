@@ -2,4 +2,4 @@ use Rattle.bit_machine.proofs.Walks.{IsReached}
 use Rattle.bit_machine.proofs.numbers.walk_from.Given as goal
 
 abbrev pub invariant-loop-run : goal.invariant-loop-run
-invariant-loop-run l = IsReached l.runs l.place l.run l.before
+invariant-loop-run g l = IsReached l.runs l.place l.run l.before

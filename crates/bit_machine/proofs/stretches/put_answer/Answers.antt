@@ -3,25 +3,25 @@ use Rattle.bit_machine.proofs.Columns.{rows_fit}
 use Rattle.bit_machine.proofs.ShiftStretches.{answer_put, no_answer, fewer_rows, same_turn}
 use Rattle.bit_machine.proofs.stretches.put_answer.Goals as goal
 
-pub put_bits-requires-clause-rows : goal.put_bits-requires-clause-rows
-put_bits-requires-clause-rows c =
+pub put_back-requires-clause-rows : goal.put_back-requires-clause-rows
+put_back-requires-clause-rows g c =
     rows_fit (2 * c.args.at.wires + 2) (c.args.at.row + c.min-count.result) (c.args.at.row + c.args.stretch.count) (length c.args.text.now) (omega (arith, c.min-count.ensures)) c.requires.rows
 
 pub returns-then-shifts-answers-clause-read : goal.returns-then-shifts-answers-clause-read
-returns-then-shifts-answers-clause-read c =
-    no_answer c.args.base c.args.at.wires c.args.at.row c.args.stretch.count c.args.at.column c.args.path.now c.args.stretch.behind c.args.text.now
+returns-then-shifts-answers-clause-read g c =
+    no_answer (g.C.Contents.mark c.args.contents.now c.args.key) c.args.at.wires c.args.at.row c.args.stretch.count c.args.at.column c.args.path.now c.args.stretch.behind c.args.text.now
     (λ t is. let same = same_turn c.args.stretch.behind t c.in-Some.turn is c.in-Some.is in omega (arith, same, c.if-shifts-answers.true, c.len-answers.ensures))
 
 pub returns-else-shifts-answers-clause-read : goal.returns-else-shifts-answers-clause-read
-returns-else-shifts-answers-clause-read c =
-    answer_put c.of-line.result c.args.base c.args.at.wires c.args.at.row c.args.stretch.count c.args.at.column c.min-count.result (c.len-answers.result - c.in-Some.turn.shifts) c.args.path.now c.args.stretch.behind c.in-Some.turn _ c.args.text.now c.put_bits.new.text c.in-Some.is
-    (omega (arith, c.if-shifts-answers.false, c.len-answers.ensures)) (omega (arith, c.if-shifts-answers.false, c.len-answers.ensures)) refl c.min-count.ensures c.requires.column c.of-line.ensures.bits c.put_bits.ensures
+returns-else-shifts-answers-clause-read g c =
+    answer_put (g.C.Contents.mark c.args.contents.now c.args.key) (g.C.Bits.PatternBits.byte_of c.response-bits.result) c.args.at.wires c.args.at.row c.args.stretch.count c.args.at.column c.min-count.result (c.len-answers.result - c.in-Some.turn.shifts) c.args.path.now c.args.stretch.behind c.in-Some.turn _ c.args.text.now c.put_back.new.text c.in-Some.is
+    (omega (arith, c.if-shifts-answers.false, c.len-answers.ensures)) (omega (arith, c.if-shifts-answers.false, c.len-answers.ensures)) refl c.min-count.ensures c.requires.column c.response-bits.ensures.bits c.put_back.ensures
 
 pub returns-else-shifts-answers-clause-others : goal.returns-else-shifts-answers-clause-others
-returns-else-shifts-answers-clause-others c =
-    fewer_rows c.args.at.wires c.args.at.row c.min-count.result c.args.stretch.count c.args.at.column c.args.text.now c.put_bits.new.text (omega (arith, c.min-count.ensures)) c.put_bits.ensures.others
+returns-else-shifts-answers-clause-others g c =
+    fewer_rows c.args.at.wires c.args.at.row c.min-count.result c.args.stretch.count c.args.at.column c.args.text.now c.put_back.new.text (omega (arith, c.min-count.ensures)) c.put_back.ensures.others
 
 pub returns-in-None-clause-read : goal.returns-in-None-clause-read
-returns-in-None-clause-read c =
-    no_answer c.args.base c.args.at.wires c.args.at.row c.args.stretch.count c.args.at.column c.args.path.now c.args.stretch.behind c.args.text.now
+returns-in-None-clause-read g c =
+    no_answer (g.C.Contents.mark c.args.contents.now c.args.key) c.args.at.wires c.args.at.row c.args.stretch.count c.args.at.column c.args.path.now c.args.stretch.behind c.args.text.now
     (λ t is. let wrong : None ≡ Some t = sym c.in-None.is ∙ is in absurd cc)

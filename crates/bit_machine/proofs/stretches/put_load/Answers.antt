@@ -1,11 +1,8 @@
-use Rattle.std.proofs.Common.{refl}
-use Rattle.bit_machine.proofs.ShiftStretches.{load_put, no_load}
+use Rattle.std.proofs.Common.{refl, arith}
+use Rattle.bit_machine.proofs.ShiftStretches.{load_put}
 use Rattle.bit_machine.proofs.stretches.put_load.Goals as goal
 
-pub returns-in-Some-clause-driven : goal.returns-in-Some-clause-driven
-returns-in-Some-clause-driven c =
-    load_put c.of-line.result c.args.base c.args.at.wires c.args.at.row c.args.stretch.count c.args.at.column c.args.path.now c.args.stretch.ahead c.in-Some.turn c.in-Some.turn.shifts c.args.text.now c.put_bits.new.text c.in-Some.is refl c.of-line.ensures.bits c.put_bits.ensures
-
-pub returns-in-None-clause-driven : goal.returns-in-None-clause-driven
-returns-in-None-clause-driven c =
-    no_load c.args.base c.args.at.wires c.args.at.row c.args.stretch.count c.args.at.column c.args.path.now c.args.stretch.ahead c.args.text.now c.in-None.is
+pub returns-else-idle-stretch-clause-driven : goal.returns-else-idle-stretch-clause-driven
+returns-else-idle-stretch-clause-driven g c =
+    load_put (g.C.Contents.drive c.args.contents.now c.args.key) (g.C.Bits.PatternBits.byte_of c.stimulus-bits.result) c.args.at.wires c.args.at.row c.args.stretch.count c.args.at.column c.idle_shifts-idle.result c.args.path.now c.args.stretch.ahead c.in-Some.turn c.in-Some.turn.shifts c.args.text.now c.put_back.new.text
+    c.in-Some.is refl c.requires.column c.stimulus-bits.ensures.bits c.idle_shifts-idle.ensures.few (c.requires.back c.in-Some.turn c.in-Some.is) (λ i h. let past = c.idle_shifts-idle.ensures.idle i h in omega (arith, past, c.len-loads.ensures)) (λ h. let rest = c.idle_shifts-idle.ensures.rest h in omega (arith, rest, c.len-loads.ensures)) c.put_back.ensures

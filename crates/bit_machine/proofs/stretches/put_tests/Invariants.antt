@@ -1,12 +1,14 @@
 use Rattle.std.proofs.Common.{◌≡◌, ℕ, ◌+◌, ◌<◌, List, length}
 use Rattle.plan_model.specs.Plans.{PlannedTest}
 use Rattle.plan_model.specs.Runs.{Content}
+use Rattle.bit_machine.specs.Lanes.{IsFilled}
 use Rattle.bit_machine.specs.Machines.{AreLanes, AreOnWires}
+use Rattle.bit_machine.specs.Marks.{Marks}
 use Rattle.bit_machine.specs.Vectors.{IsLineBelow}
 use Rattle.bit_machine.proofs.stretches.put_tests.Given as goal
 
 abbrev pub invariant-loop-place : goal.invariant-loop-place
-invariant-loop-place l = record {
+invariant-loop-place g l = record {
   long : length l.text ≡ length l.initial.text;
-  lines : (content : Content) (tests : List PlannedTest) → AreLanes content tests l.lanes → AreOnWires tests l.wires → (r : ℕ) → r < l.count → IsLineBelow content tests l.place l.wires (l.from + r) r l.text;
+  lines : (content : Content) (marks : Marks) (tests : List PlannedTest) → AreLanes (IsFilled (g.C.Contents.drive l.contents) (g.C.Contents.mark l.contents) content marks) tests l.lanes → AreOnWires tests l.wires → (r : ℕ) → r < l.count → IsLineBelow content marks tests l.place l.wires (l.from + r) r l.text;
 }

@@ -1,11 +1,10 @@
 use Rattle.std.proofs.Common.{◌++◌, List, take}
 use Rattle.soc_model.specs.Chips.{soc_value, module_value}
 use Rattle.plan_model.specs.Plans.{PlannedTest}
-use Rattle.bit_machine.specs.Chips.{made_content}
+use Rattle.bit_machine.specs.Placed.{planned_in, IsPlacedLane}
 use Rattle.bit_machine.specs.Machines.{AreLanes}
-use Rattle.bit_machine.specs.Placed.{planned_in}
 use Rattle.bit_machine.proofs.placing.Setting.push_module.Given as goal
 
 abbrev pub invariant-loop-at : goal.invariant-loop-at
-invariant-loop-at l = (done : List PlannedTest) → AreLanes (made_content (soc_value l.self.chip.soc.now) l.self.seed) done l.initial.lanes.items →
-    AreLanes (made_content (soc_value l.self.chip.soc.now) l.self.seed) (done ++ planned_in l.self.chip.index.now l.place (module_value l.«module») (take l.at l.«module».tests.items)) l.lanes.items
+invariant-loop-at g l = (done : List PlannedTest) → AreLanes (IsPlacedLane (g.C.Contents.keys l.contents) (soc_value l.self.chip.soc.now) l.self.chip.index.now) done l.initial.lanes.items →
+    AreLanes (IsPlacedLane (g.C.Contents.keys l.contents) (soc_value l.self.chip.soc.now) l.self.chip.index.now) (done ++ planned_in l.self.chip.index.now l.place (module_value l.«module») (take l.at l.«module».tests.items)) l.lanes.items

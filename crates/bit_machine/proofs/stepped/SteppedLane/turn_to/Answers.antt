@@ -16,7 +16,7 @@ returns-clause-pages c =
     record {
       many = ap length items ∙ c.fill_words.ensures.many ∙ ap length c.deref.ensures.value;
       each = λ page is. subst
-          (λ (page : Page). (j : ℕ) (p : Path) → slice_get s.lane.paths.items j ≡ Some p → IsPageWord s.lane.base page p.loads (slice_index (with_items s.pages c.fill_words.new.words).items j)) (same_Some _ _ is)
-          (λ j p at. subst (λ words. IsPageWord s.lane.base c.args.page p.loads (slice_index words j)) (sym items)
-          (page_word c.of-line.result s.lane.base c.args.page p.loads (slice_index c.fill_words.new.words j) c.of-line.ensures.bits (c.fill_words.ensures.words j p (subst (λ (paths : List Path). slice_get paths j ≡ Some p) (sym c.deref.ensures.value) at))));
+          (λ (page : Page). (j : ℕ) (p : Path) → slice_get s.lane.paths.items j ≡ Some p → IsPageWord s.lane.key page p.loads (slice_index (with_items s.pages c.fill_words.new.words).items j)) (same_Some _ _ is)
+          (λ j p at. subst (λ words. IsPageWord s.lane.key c.args.page p.loads (slice_index words j)) (sym items)
+          (page_word c.of-line.result s.lane.key c.args.page p.loads (slice_index c.fill_words.new.words j) c.of-line.ensures.bits (c.fill_words.ensures.words j p (subst (λ (paths : List Path). slice_get paths j ≡ Some p) (sym c.deref.ensures.value) at))));
     }

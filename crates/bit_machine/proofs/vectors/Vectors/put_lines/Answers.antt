@@ -1,26 +1,26 @@
 use Rattle.std.proofs.Common.{ℕ, ◌+◌, ◌*◌, ◌≤◌, List, length, subst, sym, arith}
-use Rattle.soc_model.specs.Chips.{soc_value}
-use Rattle.plan_model.specs.Views.{plan_value}
+use Rattle.bit_machine.specs.Lanes.{IsFilled}
 use Rattle.bit_machine.specs.Machines.{AreLanes, AreSomeLanes}
 use Rattle.bit_machine.specs.declared.lane.Lane.{Lane}
-use Rattle.bit_machine.proofs.NewChips.{vectors_some, vectors_wide, vectors_lines}
+use Rattle.bit_machine.proofs.NewChips.{vectors_some, vectors_lines}
 use Rattle.bit_machine.proofs.vectors.Vectors.put_lines.Goals as goal
 
 pub put_tests-requires-clause-narrow : goal.put_tests-requires-clause-narrow
-put_tests-requires-clause-narrow c =
-    let wide = vectors_wide c.args.self.now (soc_value c.self.inside.soc.now) (plan_value c.self.inside.plan.now) c.self.inside.seed c.self.inside.wires c.self.inside.lanes.items c.self.view_is c.self.invariant in
-    omega (arith, wide, c.requires.narrow)
+put_tests-requires-clause-narrow g c =
+    let room = c.requires.room in
+    omega (arith, room.are.all, room.narrow)
 
 pub put_tests-requires-clause-lanes : goal.put_tests-requires-clause-lanes
-put_tests-requires-clause-lanes c =
-    subst (λ (lanes : List Lane). AreSomeLanes lanes c.self.inside.wires) (sym c.deref.ensures.value) (vectors_some (soc_value c.self.inside.soc.now) (plan_value c.self.inside.plan.now) c.self.inside.seed c.self.inside.wires c.self.inside.lanes.items c.self.invariant)
+put_tests-requires-clause-lanes g c =
+    let room = c.requires.room in
+    subst (λ (lanes : List Lane). AreSomeLanes (g.C.Contents.keys c.args.contents.now) lanes c.args.self.now.wires) (sym c.deref.ensures.value) (vectors_some (g.C.Contents.keys c.args.contents.now) room.soc room.plan c.args.self.now room.are)
 
 pub put_tests-requires-clause-rows : goal.put_tests-requires-clause-rows
-put_tests-requires-clause-rows c =
-    let wide = vectors_wide c.args.self.now (soc_value c.self.inside.soc.now) (plan_value c.self.inside.plan.now) c.self.inside.seed c.self.inside.wires c.self.inside.lanes.items c.self.view_is c.self.invariant in
-    subst (λ (n : ℕ). c.args.count * (2 * n + 2) ≤ length c.args.text.now) (sym wide) c.requires.rows
+put_tests-requires-clause-rows g c =
+    let room = c.requires.room in
+    subst (λ (n : ℕ). c.args.count * (2 * n + 2) ≤ length c.args.text.now) (sym room.are.all) room.rows
 
 pub returns-clause-lines : goal.returns-clause-lines
-returns-clause-lines c =
-    vectors_lines c.args.self.now (soc_value c.self.inside.soc.now) (plan_value c.self.inside.plan.now) c.self.inside.seed c.self.inside.wires c.self.inside.lanes.items c.args.from c.args.count c.put_tests.new.text c.self.view_is c.self.invariant
-    (λ content tests are on r h. c.put_tests.ensures.lines content tests (subst (λ (lanes : List Lane). AreLanes content tests lanes) (sym c.deref.ensures.value) are) on r h)
+returns-clause-lines g c = λ soc plan content marks are stand r h.
+    vectors_lines (g.C.Contents.keys c.args.contents.now) (g.C.Contents.drive c.args.contents.now) (g.C.Contents.mark c.args.contents.now) soc plan content marks c.args.self.now c.args.from c.args.count c.put_tests.new.text are stand
+    (λ content marks tests are on r h. c.put_tests.ensures.lines content marks tests (subst (λ (lanes : List Lane). AreLanes (IsFilled (g.C.Contents.drive c.args.contents.now) (g.C.Contents.mark c.args.contents.now) content marks) tests lanes) (sym c.deref.ensures.value) are) on r h) r h
