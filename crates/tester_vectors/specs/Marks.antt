@@ -1,5 +1,5 @@
 -- What a tester compares: the mark of the response bit that is read at a cycle on a wire.
-use Rattle.std.specs.Prelude.{◌≡◌, ℕ, ◌⊎◌, Bool, Option, None, Some, List}
+use Rattle.std.specs.Prelude.{◌≡◌, ℕ, ◌⊎◌, Option, None, Some, List}
 use Rattle.soc_model.specs.Chips.{SocValue}
 use Rattle.plan_model.specs.Cells.{Cell}
 use Rattle.plan_model.specs.Plans.{PlannedTest, PlanValue, planned, uses, of_first}

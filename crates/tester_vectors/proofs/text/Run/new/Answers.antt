@@ -1,5 +1,4 @@
 use Rattle.std.proofs.Common.{◌+◌, ◌*◌, ◌++◌, ◌∙◌, ℕ, List, ap, arith}
-use Rattle.plan_model.specs.Views.{plan_value}
 use Rattle.tester_vectors.specs.VectorText.{head_line}
 use Rattle.tester_vectors.proofs.text.Run.new.Goals as goal
 

@@ -1,4 +1,4 @@
-use Rattle.std.proofs.Common.{◌*◌, ◌∙◌, ap, sym, subst, length, take, arith, List, ℕ}
+use Rattle.std.proofs.Common.{◌*◌, ◌∙◌, ap, length, take, arith}
 use Rattle.std.proofs.lemmas.List.{with_items_is}
 use Rattle.soc_model.specs.Chips.{soc_value}
 use Rattle.plan_model.specs.Rules.{bare_limits}

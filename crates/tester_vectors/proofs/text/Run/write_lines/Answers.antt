@@ -1,5 +1,5 @@
 use Rattle.std.proofs.Common.{rules, ◌≡◌, ◌+◌, ◌-◌, ◌*◌, ◌∙◌, Err, ap, subst, sym, take, List, ℕ, arith, refl, true, false}
-use Rattle.outside.specs.Held.{Appended, AppendedFront}
+use Rattle.outside.specs.Held.{Appended}
 use Rattle.outside.specs.Puts.{Puts}
 use Rattle.outside.proofs.PieceLemmas.{Appended-nil, Appended-then, puts_then}
 use Rattle.soc_model.specs.Chips.{soc_value}

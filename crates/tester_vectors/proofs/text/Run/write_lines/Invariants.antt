@@ -1,4 +1,4 @@
-use Rattle.std.proofs.Common.{◌≡◌, ◌-◌, ◌≤◌, false}
+use Rattle.std.proofs.Common.{◌-◌, ◌≤◌, false}
 use Rattle.outside.specs.Held.{Appended}
 use Rattle.outside.specs.Puts.{Puts}
 use Rattle.soc_model.specs.Chips.{soc_value}
