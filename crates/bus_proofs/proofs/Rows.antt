@@ -6,7 +6,7 @@ use Rattle.soc_model.specs.Chips.{ModuleValue, SocValue, live_from}
 use Rattle.plan_model.specs.Operations.{ops_of}
 use Rattle.plan_model.specs.Plans.{LimitsValue}
 use Rattle.plan_model.specs.Bounds.{sum_below}
-use Rattle.packed_times.specs.Packed.{packed, packed_time, packed_tam_time}
+use Rattle.packed_times.specs.Packed.{counting, averaging, beside, packed, packed_time, packed_tam_time}
 use Rattle.exclusions.specs.Exclusions.{leads, excludes}
 use Rattle.proof_model.specs.Proofs.{OfTurns, OfPower, WeightsValue, OfWide, OfPlace, CaseTree, Leaf, Branches}
 use Rattle.bus_proofs.specs.Cases.{interval, Case, root_case, NodeCase, cases_of}
@@ -51,12 +51,12 @@ sum_of wire ranks lists = record { wire = wire; ranks = ranks; lists = lists }
 -- ---- a chip of two modules on two wires
 
 times : (packed_tam_time soc_xx 0 1 ∷ packed_tam_time soc_xx 0 2 ∷ []) ≡ 28 ∷ 16 ∷ []
-unfolding soc_xx chip module_x test packed packed_time ops_of live_from
+unfolding soc_xx chip module_x test packed counting averaging beside packed_time ops_of live_from
 times = refl
 
 -- 28 cycles are shown, and 29 can't be claimed
 areas : (cost_of_all soc_xx (limits 2) [] 29 root_case (sum_of 1 [] []) ∷ worth_of_cycle 2 [] root_case (sum_of 1 [] []) ∷ leaf_shows soc_xx (limits 2) [] 29 root_case (sum_of 1 [] []) ∷ []) ≡ 56 ∷ 2 ∷ 28 ∷ []
-unfolding soc_xx chip module_x test limits sum_of packed packed_time ops_of live_from cost_of_all worth_of_cycle leaf_shows sum_below
+unfolding soc_xx chip module_x test limits sum_of packed counting averaging beside packed_time ops_of live_from cost_of_all worth_of_cycle leaf_shows sum_below
 areas = refl
 
 -- ---- the same chip by cases on its widest bus
@@ -81,11 +81,11 @@ widest = record { intervals = interval 2 2 ∷ []; may = λ place rank. true; ma
 
 -- on buses of one wire each module takes 28 cycles, so that in less than 28 none has a bus; on one of two wires both take 32
 slots : (length (slots_of soc_xx 2 28 narrowest (sum_of 1 [] []) 0) ∷ length (slots_of soc_xx 2 29 narrowest (sum_of 1 [] []) 0) ∷ length (slots_of soc_xx 2 28 widest (sum_of 0 (1 ∷ []) []) 0) ∷ []) ≡ 0 ∷ 1 ∷ 1 ∷ []
-unfolding narrowest widest soc_xx chip module_x test sum_of packed packed_time ops_of live_from
+unfolding narrowest widest soc_xx chip module_x test sum_of packed counting averaging beside packed_time ops_of live_from
 slots = refl
 
 one_bus : (cost_of_all soc_xx (limits 2) [] 28 widest (sum_of 0 (1 ∷ []) []) ∷ worth_of_cycle 2 [] widest (sum_of 0 (1 ∷ []) []) ∷ []) ≡ 32 ∷ 1 ∷ []
-unfolding widest soc_xx chip module_x test limits sum_of packed packed_time ops_of live_from cost_of_all worth_of_cycle sum_below
+unfolding widest soc_xx chip module_x test limits sum_of packed counting averaging beside packed_time ops_of live_from cost_of_all worth_of_cycle sum_below
 one_bus = refl
 
 -- ---- lists of self tests

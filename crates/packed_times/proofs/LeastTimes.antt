@@ -1,12 +1,10 @@
 -- No proper wrapper of at most `w` chains makes a test shorter than its packed time on `w` wires, and this never grows with `w`.
-use Rattle.std.proofs.Common.{◌≡◌, ℕ, ◌+◌, ◌-◌, ◌*◌, ◌≤◌, ◌<◌, max, min, Bool, true, false, Some, List, [], ◌∷◌, map, length, get_or, take, drop, eqb, refl, ap, ◌∙◌, arith, zero-add, inl, inr, ◌⊎◌, ltb}
+use Rattle.std.proofs.Common.{◌≡◌, ℕ, ◌+◌, ◌-◌, ◌*◌, ◌≤◌, ◌<◌, max, min, Bool, true, false, Some, List, [], ◌∷◌, map, length, take, drop, eqb, refl, arith, inl, inr, ◌⊎◌}
 use Rattle.std.specs.Prelude.{slice_get, if◌then◌else◌}
-use Rattle.std.specs.List.{sum, sum_by, count_by, range_with_len}
-use Rattle.std.proofs.lemmas.Bool.{cases_Bool, lt-ltb, ltb-true, eq-eqb, eqb-true}
-use Rattle.std.proofs.lemmas.Grind.{div_ceil_times}
+use Rattle.std.specs.List.{sum, sum_by, count_by}
+use Rattle.std.proofs.lemmas.Bool.{cases_Bool, eq-eqb, eqb-true}
 use Rattle.std.proofs.lemmas.List.{map-id}
-use Rattle.std.proofs.lemmas.List.FromFn.{length-range_with_len, get_or-range_with_len}
-use Rattle.std.proofs.lemmas.Option.{slice_get-get_or, slice_get_within}
+use Rattle.std.proofs.lemmas.Option.{slice_get_within}
 use Rattle.std.proofs.lemmas.List.Sums.{sum_by-cons}
 use Rattle.plan_model.proofs.Sums.{one_if, item-le-sum_by}
 use Rattle.std.proofs.Math.Nat.{mul-le-mul_left, max-le}
@@ -18,11 +16,14 @@ use Rattle.plan_model.specs.Operations.{ops_of}
 use Rattle.plan_model.specs.Plans.{operations_of, greatest}
 use Rattle.plan_model.specs.Bounds.{quotient_up, least_length, lower_time}
 use Rattle.plan_model.proofs.ChainLengths.{mode_flops, time_within}
-use Rattle.plan_model.proofs.Greatest.{le-greatest_at, greatest-least}
+use Rattle.plan_model.proofs.Greatest.{greatest-least}
 use Rattle.plan_model.proofs.LowerTimes.{Counts, if_so, loaded_counts, read_counts, least_length-le, ops_mono, quotient_up-le}
 use Rattle.plan_model.proofs.OperationCounts.{ops_length}
-use Rattle.packed_times.specs.Packed.{rising, crowd, crowd_within, packed, packed_length, packed_time}
-use Rattle.packed_times.proofs.Rising.{Rises, rising-rises, length-rising, sum_by-rising, window-le, window-le-sum}
+use Rattle.packed_times.specs.Packed.{rising, crowd, counting, packed, packed_length, packed_time}
+use Rattle.packed_times.proofs.Rising.{Rises, rising-rises, length-rising, sum_by-rising}
+use Rattle.packed_times.proofs.Counting.{crowd_at-le, counting-falls, counting-le-sum}
+use Rattle.packed_times.proofs.Averages.{quotient_up-falls, averaging-falls, averaging-le-sum}
+use Rattle.packed_times.proofs.Beside.{beside-falls, beside-le-sum}
 use Rattle.packed_times.proofs.WrapperChains.{packed-le}
 
 -- ---- in a proper wrapper
@@ -46,41 +47,9 @@ packed_self_test m t w self = rw self refl
 
 -- ---- it never grows
 
-crowd-falls : (lengths : List ℕ) (v w k : ℕ) → 1 ≤ v → v ≤ w → k * w < length lengths → crowd lengths w k ≤ crowd lengths v k
-crowd-falls lengths v w k some less more =
-    let product : k * v ≤ k * w = mul-le-mul_left k less in
-    let own : k * 1 ≤ k * v = mul-le-mul_left k some in
-    let long : length (rising lengths) ≡ length lengths = length-rising lengths in
-    window-le (k + 1) (length lengths - (k * w + 1)) (length lengths - (k * v + 1)) (rising lengths) (rising-rises lengths) (omega arith) (omega arith)
-
-pub crowd_at-le : (lengths : List ℕ) (v k : ℕ) → k < length lengths → k * v < length lengths → crowd lengths v k ≤ packed lengths v
-unfolding packed
-crowd_at-le lengths v k within more =
-    let long : length (range_with_len 0 (length lengths)) ≡ length lengths = length-range_with_len 0 (length lengths) in
-    let number : get_or (range_with_len 0 (length lengths)) k 0 ≡ k = get_or-range_with_len 0 (length lengths) k 0 (omega arith) ∙ zero-add k in
-    let here : slice_get (range_with_len 0 (length lengths)) k ≡ Some k = slice_get-get_or (range_with_len 0 (length lengths)) k 0 (omega arith) ∙ ap Some number in
-    let value : crowd_within lengths v k ≡ crowd lengths v k = rw (lt-ltb (k * v) (length lengths) more) refl in
-    omega (arith, le-greatest_at (crowd_within lengths v) (range_with_len 0 (length lengths)) k k here)
-
-pub packed-least : (lengths : List ℕ) (w most : ℕ) → ((k : ℕ) → k * w < length lengths → crowd lengths w k ≤ most) → packed lengths w ≤ most
-unfolding packed
-packed-least lengths w most h = greatest-least (crowd_within lengths w) most (range_with_len 0 (length lengths)) (λ i k at. each k (cases_Bool (ltb (k * w) (length lengths)))) where
-  each : (k : ℕ) → (ltb (k * w) (length lengths) ≡ true) ⊎ (ltb (k * w) (length lengths) ≡ false) → crowd_within lengths w k ≤ most
-  each k (inl yes') = rw yes' (h k (ltb-true (k * w) (length lengths) yes'))
-  each k (inr no') = rw no' (omega arith)
-
 packed-falls : (lengths : List ℕ) (v w : ℕ) → 1 ≤ v → v ≤ w → packed lengths w ≤ packed lengths v
-packed-falls lengths v w some less = packed-least lengths w (packed lengths v) (λ k more.
-    let product : k * v ≤ k * w = mul-le-mul_left k less in
-    let own : k * 1 ≤ k * v = mul-le-mul_left k some in
-    omega (arith, crowd-falls lengths v w k some less more, crowd_at-le lengths v k (omega arith) (omega arith)))
-
-quotient_up-falls : (a v w : ℕ) → 1 ≤ v → v ≤ w → quotient_up a w ≤ quotient_up a v
-quotient_up-falls a v w some less =
-    let up = div_ceil_times a v some in
-    let enough : a ≤ quotient_up a v * v = omega (arith, up.0) in
-    let wide : quotient_up a v * v ≤ quotient_up a v * w = mul-le-mul_left (quotient_up a v) less in
-    quotient_up-le a (quotient_up a v) w (omega arith) (omega arith)
+unfolding packed
+packed-falls lengths v w some less = omega (arith, counting-falls lengths v w some less, averaging-falls lengths v w some less, beside-falls lengths v w some less)
 
 pub packed_length-falls : (m : ModuleValue) (t : Test) (ends v w : ℕ) → 1 ≤ v → v ≤ w → packed_length m t ends w ≤ packed_length m t ends v
 packed_length-falls m t ends v w some less =
@@ -97,10 +66,9 @@ packed_time-falls m t v w live some less = go (cases_Bool t.tam) where
 
 -- ---- it is within the work of the test
 
-pub packed-le-sum : (lengths : List ℕ) (w : ℕ) → packed lengths w ≤ sum lengths
-packed-le-sum lengths w = packed-least lengths w (sum lengths) (λ k more.
-    let whole : sum (rising lengths) ≡ sum lengths = sum_by-rising (λ x. x) lengths in
-    omega (arith, window-le-sum (k + 1) (length lengths - (k * w + 1)) (rising lengths)))
+pub packed-le-sum : (lengths : List ℕ) (w : ℕ) → 1 ≤ w → packed lengths w ≤ sum lengths
+unfolding packed
+packed-le-sum lengths w some = omega (arith, counting-le-sum lengths w, averaging-le-sum lengths w some, beside-le-sum lengths w)
 
 pub up-le : (a w : ℕ) → 1 ≤ w → quotient_up a w ≤ a
 up-le a w some =
@@ -109,7 +77,7 @@ up-le a w some =
 
 pub packed_length-le-cells : (m : ModuleValue) (t : Test) (ends w : ℕ) → 1 ≤ w → packed_length m t ends w ≤ ends + sum m.chains
 packed_length-le-cells m t ends w some =
-    omega (arith, packed-le-sum (scan_lengths m t.scan) w, up-le (ends + sum (scan_lengths m t.scan)) w some, mode_flops m t.scan)
+    omega (arith, packed-le-sum (scan_lengths m t.scan) w some, up-le (ends + sum (scan_lengths m t.scan)) w some, mode_flops m t.scan)
 
 pub packed_time-le : (m : ModuleValue) (t : Test) (w : ℕ) → 1 ≤ t.patterns → 1 ≤ w → packed_time m t w ≤ test_work m t
 unfolding packed_time
@@ -150,10 +118,10 @@ last-most x y (z ∷ zs) rises some = elim (cases_Bool (eqb y x)) [
       last-most x z zs rises.1 (omega arith)
 ]
 
-longest-le : (lengths : List ℕ) (w : ℕ) → greatest lengths ≤ packed lengths w
-longest-le lengths w =
+greatest-le-counting : (lengths : List ℕ) (w : ℕ) → greatest lengths ≤ counting lengths w
+greatest-le-counting lengths w =
     let same : map (λ x. x) lengths ≡ lengths = map-id lengths in
-    let most : greatest (map (λ x. x) lengths) ≤ packed lengths w = greatest-least (λ x. x) (packed lengths w) lengths (λ i x at. each i x at) in
+    let most : greatest (map (λ x. x) lengths) ≤ counting lengths w = greatest-least (λ x. x) (counting lengths w) lengths (λ i x at. each i x at) in
     rw same at most
   where
     last : (x : ℕ) (ys : List ℕ) (n : ℕ) → length ys ≡ n → Rises ys → 1 ≤ sum_by (λ v. one_if (eqb v x)) ys → x ≤ sum (take 1 (drop (n - 1) ys))
@@ -162,7 +130,7 @@ longest-le lengths w =
         let less : n - 1 ≡ length ys = omega arith in
         rw less (last-most x y ys rises some)
 
-    each : (i x : ℕ) → slice_get lengths i ≡ Some x → x ≤ packed lengths w
+    each : (i x : ℕ) → slice_get lengths i ≡ Some x → x ≤ counting lengths w
     each i x at =
         let within : i < length lengths = slice_get_within lengths i x at in
         let one : one_if (eqb x x) ≡ 1 = rw (eq-eqb x x refl) refl in
@@ -172,11 +140,15 @@ longest-le lengths w =
         let value : crowd lengths w 0 ≡ sum (take 1 (drop (length lengths - 1) (rising lengths))) = rw none refl in
         omega (arith, last x (rising lengths) (length lengths) (length-rising lengths) (rising-rises lengths) (omega arith), crowd_at-le lengths w 0 (omega arith) (omega arith))
 
+greatest-le : (lengths : List ℕ) (w : ℕ) → greatest lengths ≤ packed lengths w
+unfolding packed
+greatest-le lengths w = omega (arith, greatest-le-counting lengths w)
+
 pub lower-le-packed : (m : ModuleValue) (t : Test) (w : ℕ) → 1 ≤ t.patterns → lower_time m t w ≤ packed_time m t w
 unfolding lower_time packed_time
 lower-le-packed m t w live = elim (cases_Bool t.tam) [
   | inl tam ↦
       rw tam (ops_mono m.setup (least_length m t (m.inputs + m.bidirs) w) (least_length m t (m.outputs + m.bidirs) w) (packed_length m t (m.inputs + m.bidirs) w) (packed_length m t (m.outputs + m.bidirs) w) t.patterns live
-      (omega (arith, longest-le (scan_lengths m t.scan) w)) (omega (arith, longest-le (scan_lengths m t.scan) w)))
+      (omega (arith, greatest-le (scan_lengths m t.scan) w)) (omega (arith, greatest-le (scan_lengths m t.scan) w)))
   | inr self ↦ rw self (omega arith)
 ]

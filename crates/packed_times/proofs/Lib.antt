@@ -1,10 +1,14 @@
 pub mod Rising
 pub mod Crowds
+pub mod Counting
+pub mod Averages
+pub mod Beside
 pub mod WrapperChains
 pub mod LeastTimes
 pub mod PlannedTimes
 pub mod FrontSums
 pub mod Greatest
+pub mod Shares
 pub mod Rows
 pub mod TestTimes
 pub mod ModuleRows

@@ -15,14 +15,14 @@ use Rattle.plan_model.proofs.OperationCounts.{ops_length}
 use Rattle.plan_model.proofs.Sums.{sum_by-le_at}
 use Rattle.bound_rules.proofs.Works.{live_patterns}
 use Rattle.packed_times.specs.declared.times.Packing.{Packing}
-use Rattle.packed_times.specs.Packed.{packed, packed_length, packed_time}
+use Rattle.packed_times.specs.Packed.{counting, averaging, beside, packed, packed_length, packed_time}
 use Rattle.packed_times.specs.Times.{longest_chain, IsPackingOf, is_self, tam_times_of, self_times_of, works_of}
 use Rattle.packed_times.proofs.LeastTimes.{packed_time-le}
 
 -- ---- one test
 
 packed_nothing : (w : ℕ) → packed [] w ≡ 0
-unfolding packed
+unfolding packed counting averaging beside
 packed_nothing w = refl
 
 chain_of : (m : ModuleValue) (p : Packing) → IsPackingOf m p → (scan : Bool) (ends : ℕ) → longest_chain p scan ends ≡ max (packed (scan_lengths m scan) p.width) (quotient_up (ends + sum (scan_lengths m scan)) p.width)

@@ -1,8 +1,8 @@
 -- In a proper wrapper the scan chains stand in the wrapper chains as numbers in boxes.
-use Rattle.std.proofs.Common.{◌≡◌, ℕ, zero, suc, ◌+◌, ◌*◌, ◌≤◌, ◌<◌, Bool, true, false, Some, List, [], ◌∷◌, ◌++◌, map, length, get_or, refl, ap, ◌∙◌, sym, arith, inl, inr, ◌⊎◌, eqb, leb}
-use Rattle.std.specs.Prelude.{slice_get, slice_index, if◌then◌else◌, ltb}
+use Rattle.std.proofs.Common.{◌≡◌, ℕ, zero, suc, ◌+◌, ◌≤◌, ◌<◌, Bool, false, Some, List, [], ◌∷◌, ◌++◌, map, length, get_or, refl, ap, ◌∙◌, sym, arith, inl, inr, eqb, leb}
+use Rattle.std.specs.Prelude.{slice_get, slice_index, if◌then◌else◌}
 use Rattle.std.specs.List.{sum_by, flat_map, count_by, range_with_len}
-use Rattle.std.proofs.lemmas.Bool.{cases_Bool, lt-leb, eq-eqb, eqb-true, ne_eqb, ltb-true}
+use Rattle.std.proofs.lemmas.Bool.{cases_Bool, lt-leb, eq-eqb, eqb-true, ne_eqb}
 use Rattle.std.proofs.lemmas.List.{append_assoc, length_push, get_or_at, length-map}
 use Rattle.std.proofs.lemmas.List.Sums.{sum_by-cons, sum_by-append}
 use Rattle.std.proofs.lemmas.List.Sorted.{sum_by-IsPermutation}
@@ -10,12 +10,14 @@ use Rattle.soc_model.specs.Chips.{ModuleValue}
 use Rattle.soc_model.proofs.Sums.{sum_by-map}
 use Rattle.plan_model.specs.Cells.{Cell, ChainValue, dealt, scan_lengths, chain_cells, IsProper}
 use Rattle.plan_model.specs.Plans.{greatest}
-use Rattle.plan_model.proofs.Greatest.{greatest-least}
 use Rattle.plan_model.proofs.LowerTimes.{Counts, count_cells}
 use Rattle.plan_model.proofs.Sums.{one_if}
-use Rattle.packed_times.specs.Packed.{crowd, crowd_within, packed, rising}
+use Rattle.packed_times.specs.Packed.{packed, rising}
 use Rattle.packed_times.proofs.Rising.{same_rising, length-rising}
-use Rattle.packed_times.proofs.Crowds.{second, held, beyond, crowd-held}
+use Rattle.packed_times.proofs.Crowds.{second, held, beyond}
+use Rattle.packed_times.proofs.Counting.{Boxed, counting-boxed}
+use Rattle.packed_times.proofs.Averages.{averaging-boxed}
+use Rattle.packed_times.proofs.Beside.{beside-boxed}
 
 -- the scan chains of wrapper chains: each by the place of its wrapper chain and by its length
 boxed : List ℕ → ℕ → List ChainValue → List (ℕ × ℕ)
@@ -122,26 +124,26 @@ scans-le p a b k lengths i o (d ∷ cs) zero c at =
     rw same (omega (arith, count_cells p a b k lengths c.scans i c.ins o c.outs))
 scans-le p a b k lengths i o (d ∷ cs) (suc j) c at = omega (arith, scans-le p a b k lengths (i + d.ins) (o + d.outs) cs j c at)
 
-crowd-le : (p : Cell → Bool) (a b : Bool) → Counts p a b → (m : ModuleValue) (scan : Bool) (chains : List ChainValue) → IsProper m scan chains → (w k : ℕ) → length chains ≤ w → k * w < length (scan_lengths m scan) →
-    crowd (scan_lengths m scan) w k ≤ greatest (map (count_by p) (chain_cells m scan chains))
-crowd-le p a b counts m scan chains proper w k few more =
-    let ps : List (ℕ × ℕ) = boxed (scan_lengths m scan) 0 chains in
+-- the lengths of the scan chains are in no more boxes than there are wrapper chains
+boxed-lengths : (p : Cell → Bool) (a b : Bool) → Counts p a b → (m : ModuleValue) (scan : Bool) (chains : List ChainValue) → IsProper m scan chains → (w : ℕ) → length chains ≤ w →
+    Boxed (scan_lengths m scan) w (greatest (map (count_by p) (chain_cells m scan chains)))
+boxed-lengths p a b counts m scan chains proper w few =
     let order : rising (map second (boxed (scan_lengths m scan) 0 chains)) ≡ rising (scan_lengths m scan) = same_rising (map second (boxed (scan_lengths m scan) 0 chains)) (scan_lengths m scan) (same_lengths m scan chains proper) in
-    let long : length (map second (boxed (scan_lengths m scan) 0 chains)) ≡ length (scan_lengths m scan) = sym (length-rising (map second (boxed (scan_lengths m scan) 0 chains))) ∙ ap length order ∙ length-rising (scan_lengths m scan) in
-    let pairs : length (map second (boxed (scan_lengths m scan) 0 chains)) ≡ length (boxed (scan_lengths m scan) 0 chains) = length-map (boxed (scan_lengths m scan) 0 chains) second in
-    let box = crowd-held (length chains) w k (boxed (scan_lengths m scan) 0 chains) few (none-beyond (scan_lengths m scan) (length chains) 0 chains (omega arith)) (omega arith) in
-    let same : crowd (map second (boxed (scan_lengths m scan) 0 chains)) w k ≡ crowd (scan_lengths m scan) w k = rw (long, order) refl in
-    let most : held box.0 (boxed (scan_lengths m scan) 0 chains) ≤ greatest (map (count_by p) (chain_cells m scan chains)) =
-    held-le (scan_lengths m scan) (greatest (map (count_by p) (chain_cells m scan chains))) box.0 0 chains (λ i c at. scans-le p a b counts (scan_lengths m scan) 0 0 chains i c at) in
-    omega (arith, box.1)
+    record {
+      boxes = length chains;
+      ps = boxed (scan_lengths m scan) 0 chains;
+      few = few;
+      inside = none-beyond (scan_lengths m scan) (length chains) 0 chains (omega arith);
+      order = order;
+      long = sym (length-map (boxed (scan_lengths m scan) 0 chains) second) ∙ sym (length-rising (map second (boxed (scan_lengths m scan) 0 chains))) ∙ ap length order ∙ length-rising (scan_lengths m scan);
+      holds = λ box. held-le (scan_lengths m scan) (greatest (map (count_by p) (chain_cells m scan chains))) box 0 chains (λ i c at. scans-le p a b counts (scan_lengths m scan) 0 0 chains i c at);
+    }
 
 -- one of the wrapper chains is at least as long as scan chains that are packed
 pub packed-le : (p : Cell → Bool) (a b : Bool) → Counts p a b → (m : ModuleValue) (scan : Bool) (chains : List ChainValue) → IsProper m scan chains → (w : ℕ) → length chains ≤ w →
     packed (scan_lengths m scan) w ≤ greatest (map (count_by p) (chain_cells m scan chains))
 unfolding packed
 packed-le p a b counts m scan chains proper w few =
-    greatest-least (crowd_within (scan_lengths m scan) w) (greatest (map (count_by p) (chain_cells m scan chains))) (range_with_len 0 (length (scan_lengths m scan))) (λ i k at. each k (cases_Bool (ltb (k * w) (length (scan_lengths m scan)))))
-  where
-    each : (k : ℕ) → (ltb (k * w) (length (scan_lengths m scan)) ≡ true) ⊎ (ltb (k * w) (length (scan_lengths m scan)) ≡ false) → crowd_within (scan_lengths m scan) w k ≤ greatest (map (count_by p) (chain_cells m scan chains))
-    each k (inl yes') = rw yes' (crowd-le p a b counts m scan chains proper w k few (ltb-true (k * w) (length (scan_lengths m scan)) yes'))
-    each k (inr no') = rw no' (omega arith)
+    let most : ℕ = greatest (map (count_by p) (chain_cells m scan chains)) in
+    let in_boxes : Boxed (scan_lengths m scan) w most = boxed-lengths p a b counts m scan chains proper w few in
+    omega (arith, counting-boxed (scan_lengths m scan) w most in_boxes, averaging-boxed (scan_lengths m scan) w most in_boxes, beside-boxed (scan_lengths m scan) w most in_boxes)
