@@ -57,6 +57,7 @@ _soctest() {
     SOC) _soctest_files .soc ;;
     LIMITS) _soctest_files .lim ;;
     PLAN) _soctest_files .plan ;;
+    DATA) _soctest_files .data ;;
     LOG) _soctest_files .log ;;
     TREE) _soctest_files .tree ;;
     PROGRAM) _soctest_files .prog ;;

@@ -57,6 +57,7 @@ form_by_word() {
     case $1 in
     Limits) echo 'a file of limits' ;;
     Plan) echo 'a plan' ;;
+    Data) echo 'test data' ;;
     Log) echo 'a fail log' ;;
     Tree) echo 'a width tree' ;;
     Program) echo 'a program of shifts' ;;

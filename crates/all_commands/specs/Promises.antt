@@ -14,6 +14,8 @@ use Rattle.plan_picture.specs.Pictures.{Headline as HeadlineOfPicture}
 use Rattle.plan_simulator.specs.Headlines.{Headline as HeadlineOfSimulate}
 use Rattle.bound_checker.specs.Headlines.{Headline as HeadlineOfBound}
 use Rattle.bound_prover.specs.Headlines.{Headline as HeadlineOfProve}
+use Rattle.made_data.specs.Headlines.{Headline as HeadlineOfData}
+use Rattle.retargeter.specs.Headlines.{Headline as HeadlineOfRetarget}
 use Rattle.bound_prover.specs.Reports.{MayReportOf as MayReportOfProve}
 use Rattle.bound_prover.specs.Requests.{IsQuiet as IsQuietProve}
 
@@ -27,6 +29,8 @@ HeadlineBy top_call.Picture command held old end new = HeadlineOfPicture command
 HeadlineBy top_call.Simulate command held old end new = HeadlineOfSimulate command held old end new
 HeadlineBy top_call.Bound command held old end new = HeadlineOfBound command held old end new
 HeadlineBy top_call.Prove command held old end new = HeadlineOfProve command held old end new
+HeadlineBy top_call.Data command held old end new = HeadlineOfData command held old end new
+HeadlineBy top_call.Retarget command held old end new = HeadlineOfRetarget command held old end new
 
 -- the headline of each command is that of the top call that takes it
 unfoldable pub Headline : Option CommandValue → Option Files → Option (List ℕ) → Status →

@@ -13,6 +13,8 @@ use Rattle.plan_picture.specs.Pictures.{procedure_of as of_picture}
 use Rattle.plan_simulator.specs.Requests.{procedure_of as of_simulate}
 use Rattle.bound_checker.specs.Requests.{procedure_of as of_bound}
 use Rattle.bound_prover.specs.Requests.{procedure_of as of_prove}
+use Rattle.made_data.specs.Requests.{procedure_of as of_data}
+use Rattle.retargeter.specs.Requests.{procedure_of as of_retarget}
 
 -- the procedures of a top call
 abbrev pub procedure_by : TopCall → CommandValue → Procedure
@@ -22,6 +24,8 @@ procedure_by top_call.Picture = of_picture
 procedure_by top_call.Simulate = of_simulate
 procedure_by top_call.Bound = of_bound
 procedure_by top_call.Prove = of_prove
+procedure_by top_call.Data = of_data
+procedure_by top_call.Retarget = of_retarget
 
 -- what words ask for: the procedure that the top call of their command has for it
 unfoldable pub requested : Option CommandValue → Procedure
@@ -35,6 +39,8 @@ fixes_text_by top_call.Picture command = true
 fixes_text_by top_call.Simulate command = true
 fixes_text_by top_call.Bound command = true
 fixes_text_by top_call.Prove command = false
+fixes_text_by top_call.Data command = true
+fixes_text_by top_call.Retarget command = true
 
 unfoldable pub fixes_text : Option CommandValue → Bool
 fixes_text command = fixes_text_by (top_call_of command) command

@@ -15,10 +15,12 @@ ghost use Rattle.all_commands.specs.Promises.{Headline, IsQuiet, MayReport};
 use bound_checker::check_bound;
 use bound_prover::prove_bound;
 use commands::{Status, TopCall, top_call};
+use made_data::make_data;
 use outside::{Shelf, Sink};
 use plan_improver::improve;
 use plan_picture::draw;
 use plan_simulator::simulate;
+use retargeter::retarget;
 use soctest::soctest;
 use std::alloc::Global;
 
@@ -74,6 +76,8 @@ pub fn run_command<H: Shelf, K: Sink, T: Sink>(
         TopCall::Simulate => simulate(alloc, words, shelf, out),
         TopCall::Bound => check_bound(alloc, words, shelf, out),
         TopCall::Prove => prove_bound(alloc, words, shelf, out, progress),
+        TopCall::Data => make_data(alloc, words, shelf, out),
+        TopCall::Retarget => retarget(alloc, words, shelf, out),
         TopCall::Soctest => soctest(alloc, words, shelf, out),
     }
 }

@@ -246,3 +246,83 @@ returns-in-Soctest-clause-reported g c =
 pub returns-in-Soctest-clause-headline : goal.returns-in-Soctest-clause-headline
 returns-in-Soctest-clause-headline g c =
     headline_chosen top_call.Soctest (command_of (map string_bytes c.args.words.now)) (sym c.in-Soctest.is ∙ c.top_call.ensures) (g.H.Shelf.held c.args.shelf.now) (g.K.Sink.written c.args.out.now) c.soctest.result (g.K.Sink.written c.soctest.new.out) (c.soctest.ensures.headline, c.soctest.ensures.headline_of_sample)
+
+pub returns-in-Data-clause-ends : goal.returns-in-Data-clause-ends
+returns-in-Data-clause-ends g c =
+    ends_chosen top_call.Data (command_of (map string_bytes c.args.words.now)) (sym c.in-Data.is ∙ c.top_call.ensures) (g.H.Shelf.held c.args.shelf.now) (g.H.Shelf.faults c.args.shelf.now) (g.H.Shelf.faults c.make_data.new.shelf) (g.K.Sink.faults c.args.out.now) (g.K.Sink.faults c.make_data.new.out) (g.K.Sink.written c.args.out.now) c.make_data.result (g.K.Sink.written c.make_data.new.out) c.make_data.ensures.ends
+
+pub returns-in-Data-clause-one_line : goal.returns-in-Data-clause-one_line
+returns-in-Data-clause-one_line g c =
+    c.make_data.ensures.one_line
+
+pub returns-in-Data-clause-by_words : goal.returns-in-Data-clause-by_words
+returns-in-Data-clause-by_words g c =
+    by_words_chosen top_call.Data (command_of (map string_bytes c.args.words.now)) (sym c.in-Data.is ∙ c.top_call.ensures) (Rose (g.K.Sink.faults c.args.out.now) (g.K.Sink.faults c.make_data.new.out)) c.make_data.result c.make_data.ensures.by_words
+
+pub returns-in-Data-clause-bad_words : goal.returns-in-Data-clause-bad_words
+returns-in-Data-clause-bad_words g c =
+    c.make_data.ensures.bad_words
+
+pub returns-in-Data-clause-untouched : goal.returns-in-Data-clause-untouched
+returns-in-Data-clause-untouched g c =
+    λ none. c.make_data.ensures.untouched (asks_nothing (procedure_by top_call.Data) (command_of (map string_bytes c.args.words.now)) none)
+
+pub returns-in-Data-clause-complete : goal.returns-in-Data-clause-complete
+returns-in-Data-clause-complete g c =
+    complete_chosen top_call.Data (command_of (map string_bytes c.args.words.now)) (sym c.in-Data.is ∙ c.top_call.ensures) (g.H.Shelf.held c.args.shelf.now) (Rose (g.H.Shelf.faults c.args.shelf.now) (g.H.Shelf.faults c.make_data.new.shelf)) (Rose (g.K.Sink.faults c.args.out.now) (g.K.Sink.faults c.make_data.new.out)) (g.K.Sink.written c.args.out.now) c.make_data.result (g.K.Sink.written c.make_data.new.out) c.make_data.ensures.complete
+
+pub returns-in-Data-clause-finishes : goal.returns-in-Data-clause-finishes
+returns-in-Data-clause-finishes g c =
+    finishes_chosen top_call.Data (command_of (map string_bytes c.args.words.now)) (sym c.in-Data.is ∙ c.top_call.ensures) (g.H.Shelf.held c.args.shelf.now) (Rose (g.H.Shelf.faults c.args.shelf.now) (g.H.Shelf.faults c.make_data.new.shelf)) (Rose (g.K.Sink.faults c.args.out.now) (g.K.Sink.faults c.make_data.new.out)) c.make_data.result c.make_data.ensures.finishes
+
+pub returns-in-Data-clause-quiet : goal.returns-in-Data-clause-quiet
+returns-in-Data-clause-quiet g c =
+    λ quiet. refl
+
+pub returns-in-Data-clause-reported : goal.returns-in-Data-clause-reported
+returns-in-Data-clause-reported g c =
+    reported_chosen top_call.Data (command_of (map string_bytes c.args.words.now)) (sym c.in-Data.is ∙ c.top_call.ensures) (g.T.Sink.written c.args.progress.now) (g.T.Sink.written c.args.progress.now) refl
+
+pub returns-in-Data-clause-headline : goal.returns-in-Data-clause-headline
+returns-in-Data-clause-headline g c =
+    headline_chosen top_call.Data (command_of (map string_bytes c.args.words.now)) (sym c.in-Data.is ∙ c.top_call.ensures) (g.H.Shelf.held c.args.shelf.now) (g.K.Sink.written c.args.out.now) c.make_data.result (g.K.Sink.written c.make_data.new.out) c.make_data.ensures.headline
+
+pub returns-in-Retarget-clause-ends : goal.returns-in-Retarget-clause-ends
+returns-in-Retarget-clause-ends g c =
+    ends_chosen top_call.Retarget (command_of (map string_bytes c.args.words.now)) (sym c.in-Retarget.is ∙ c.top_call.ensures) (g.H.Shelf.held c.args.shelf.now) (g.H.Shelf.faults c.args.shelf.now) (g.H.Shelf.faults c.retarget.new.shelf) (g.K.Sink.faults c.args.out.now) (g.K.Sink.faults c.retarget.new.out) (g.K.Sink.written c.args.out.now) c.retarget.result (g.K.Sink.written c.retarget.new.out) c.retarget.ensures.ends
+
+pub returns-in-Retarget-clause-one_line : goal.returns-in-Retarget-clause-one_line
+returns-in-Retarget-clause-one_line g c =
+    c.retarget.ensures.one_line
+
+pub returns-in-Retarget-clause-by_words : goal.returns-in-Retarget-clause-by_words
+returns-in-Retarget-clause-by_words g c =
+    by_words_chosen top_call.Retarget (command_of (map string_bytes c.args.words.now)) (sym c.in-Retarget.is ∙ c.top_call.ensures) (Rose (g.K.Sink.faults c.args.out.now) (g.K.Sink.faults c.retarget.new.out)) c.retarget.result c.retarget.ensures.by_words
+
+pub returns-in-Retarget-clause-bad_words : goal.returns-in-Retarget-clause-bad_words
+returns-in-Retarget-clause-bad_words g c =
+    c.retarget.ensures.bad_words
+
+pub returns-in-Retarget-clause-untouched : goal.returns-in-Retarget-clause-untouched
+returns-in-Retarget-clause-untouched g c =
+    λ none. c.retarget.ensures.untouched (asks_nothing (procedure_by top_call.Retarget) (command_of (map string_bytes c.args.words.now)) none)
+
+pub returns-in-Retarget-clause-complete : goal.returns-in-Retarget-clause-complete
+returns-in-Retarget-clause-complete g c =
+    complete_chosen top_call.Retarget (command_of (map string_bytes c.args.words.now)) (sym c.in-Retarget.is ∙ c.top_call.ensures) (g.H.Shelf.held c.args.shelf.now) (Rose (g.H.Shelf.faults c.args.shelf.now) (g.H.Shelf.faults c.retarget.new.shelf)) (Rose (g.K.Sink.faults c.args.out.now) (g.K.Sink.faults c.retarget.new.out)) (g.K.Sink.written c.args.out.now) c.retarget.result (g.K.Sink.written c.retarget.new.out) c.retarget.ensures.complete
+
+pub returns-in-Retarget-clause-finishes : goal.returns-in-Retarget-clause-finishes
+returns-in-Retarget-clause-finishes g c =
+    finishes_chosen top_call.Retarget (command_of (map string_bytes c.args.words.now)) (sym c.in-Retarget.is ∙ c.top_call.ensures) (g.H.Shelf.held c.args.shelf.now) (Rose (g.H.Shelf.faults c.args.shelf.now) (g.H.Shelf.faults c.retarget.new.shelf)) (Rose (g.K.Sink.faults c.args.out.now) (g.K.Sink.faults c.retarget.new.out)) c.retarget.result c.retarget.ensures.finishes
+
+pub returns-in-Retarget-clause-quiet : goal.returns-in-Retarget-clause-quiet
+returns-in-Retarget-clause-quiet g c =
+    λ quiet. refl
+
+pub returns-in-Retarget-clause-reported : goal.returns-in-Retarget-clause-reported
+returns-in-Retarget-clause-reported g c =
+    reported_chosen top_call.Retarget (command_of (map string_bytes c.args.words.now)) (sym c.in-Retarget.is ∙ c.top_call.ensures) (g.T.Sink.written c.args.progress.now) (g.T.Sink.written c.args.progress.now) refl
+
+pub returns-in-Retarget-clause-headline : goal.returns-in-Retarget-clause-headline
+returns-in-Retarget-clause-headline g c =
+    headline_chosen top_call.Retarget (command_of (map string_bytes c.args.words.now)) (sym c.in-Retarget.is ∙ c.top_call.ensures) (g.H.Shelf.held c.args.shelf.now) (g.K.Sink.written c.args.out.now) c.retarget.result (g.K.Sink.written c.retarget.new.out) c.retarget.ensures.headline
