@@ -33,5 +33,6 @@ pub use chip::{Chip, Report};
 pub use laws::{
     held_stimuli_stand, responses_are_numbered, responses_have_lengths, stimuli_are_numbered,
 };
+pub use made::{Line, base_of, bit_of};
 pub use session::Session;
 pub use vectors::Vectors;

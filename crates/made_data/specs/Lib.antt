@@ -1,0 +1,5 @@
+pub mod Entries
+pub mod DataText
+pub mod Laws
+pub mod Sending
+pub mod Parts
