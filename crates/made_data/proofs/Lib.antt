@@ -5,3 +5,7 @@ pub mod SentTexts
 pub mod MadeLines
 pub mod ChipParts
 pub mod MadeTexts
+pub mod SmallParts
+pub mod DataOfContents
+pub mod Endings
+pub mod Answering
