@@ -41,6 +41,16 @@ impl Line {
             step: (7 + 3 * k) % MODULUS,
         }
     }
+
+    /// What the bit of the next number is made from, by what that of a number is.
+    pub fn after(&self, value: u64) -> u64
+        requires step { self.now.step < 997 }
+        requires value { value < 997 }
+        ensures { result ≡ (value + self.now.step) % 997 }
+    {
+        let sum = value + self.step;
+        if sum < MODULUS { sum } else { sum - MODULUS }
+    }
 }
 
 /// The bit that is made from a value.
@@ -67,8 +77,7 @@ impl PatternBits for Line {
     }
 
     fn next(&self, value: u64) -> u64 {
-        let sum = value + self.step;
-        if sum < MODULUS { sum } else { sum - MODULUS }
+        self.after(value)
     }
 
     fn byte(&self, value: u64) -> u8 {

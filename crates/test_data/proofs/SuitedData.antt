@@ -156,7 +156,7 @@ places_of soc sound m t is =
     let found = test_position t.number m.tests is.at t is.test_at refl (sound_module soc sound is.place m is.module_at).tests_differ (position (λ (u : Test). nat_eq t.number u.number) m.tests) refl in
     test_places-at soc (name_in m t) is.place m placed is.module_at ∙ ap (option_map (λ (n : ℕ). (is.place, n))) found
 
-wanted_is : (soc : SocValue) → IsSoundChip soc → (m : ModuleValue) (t : Test) → IsTamTest soc m t → wanted_by soc (name_in m t) ≡ Some (wanted_for m t)
+pub wanted_is : (soc : SocValue) → IsSoundChip soc → (m : ModuleValue) (t : Test) → IsTamTest soc m t → wanted_by soc (name_in m t) ≡ Some (wanted_for m t)
 unfolding wanted_by
 wanted_is soc sound m t is =
     ap (test_at soc) (places_of soc sound m t is) ∙ ap (λ (o : Option ModuleValue). test_in o is.at) is.module_at ∙ ap (tam_only m) is.test_at ∙ ap (λ b. cond b (Some (wanted_for m t)) None) is.tam

@@ -18,7 +18,7 @@ pub use laws::{
     data_is_not_refused, data_refused_once, data_without_misfit_suits, each_text_is_answered,
     say_one_data, some_content_agrees,
 };
-pub use misfits::first_misfit;
+pub use misfits::{Wanted, first_misfit, wanted_for};
 pub use places::{PatternBits, bit_of};
 use soc_model::TestId;
 

@@ -43,7 +43,7 @@ fn terminals(some: u64, bidirs: u64) -> u128
 }
 
 /// What a module wants of the data of a test over the wires.
-fn wanted_for(module: &Module, test: &Test) -> Wanted
+pub fn wanted_for(module: &Module, test: &Test) -> Wanted
     ensures { result ≡ wanted_of_test (module_value «module».now) test.now }
 {
     let flops = scan_cells(mode_chains(module, test.scan));

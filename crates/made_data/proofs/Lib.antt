@@ -1,0 +1,11 @@
+pub mod ReadBack
+pub mod Names
+pub mod SuitingEntries
+pub mod SentTexts
+pub mod MadeLines
+pub mod ChipParts
+pub mod MadeTexts
+pub mod SmallParts
+pub mod DataOfContents
+pub mod Endings
+pub mod Answering

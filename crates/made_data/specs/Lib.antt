@@ -1,0 +1,10 @@
+pub mod Entries
+pub mod DataText
+pub mod Laws
+pub mod Sending
+pub mod Parts
+pub mod Made
+pub mod Ready
+pub mod Requests
+pub mod Endings
+pub mod Headlines
