@@ -4,7 +4,7 @@ use Rattle.std.specs.Prelude.{IsTrue}
 use Rattle.std.specs.Global.{Vec}
 use Rattle.outside.specs.Held.{Files, Rose, Appended}
 use Rattle.commands.specs.declared.FileKind.{FileKind}
-use Rattle.commands.specs.declared.FileKind.TheVariants.{Soc, Limits, Plan, Tree, Program, Log, Proof}
+use Rattle.commands.specs.declared.FileKind.TheVariants.{Soc, Limits, Plan, Tree, Program, Log, Proof, Data}
 use Rattle.commands.specs.declared.Status.{Status}
 use Rattle.commands.specs.declared.Status.TheVariants.{Done, Refused, BadWords, ReadFault, TooLong, WriteFault, NoMemory}
 use Rattle.commands.specs.declared.Verdict.{Verdict}
@@ -77,6 +77,7 @@ unread_is_line Tree = refl
 unread_is_line Program = refl
 unread_is_line Log = refl
 unread_is_line Proof = refl
+unread_is_line Data = refl
 
 -- a text that suits its status
 suited : (status : Status) (text : List ℕ) (old new : Option (List ℕ)) → Suits status text → Appended old text new → OneLine old status new

@@ -26,6 +26,8 @@ pub data CommandValue : Type 0 where
   Simulate : (soc limits plan : List ℕ) → (seed : ℕ) → CommandValue
   Bound : (soc limits proof : List ℕ) → CommandValue
   Prove : (soc limits plan : List ℕ) → (nodes : ℕ) → CommandValue
+  Data : (soc : List ℕ) → (seed : ℕ) → CommandValue
+  Retarget : (soc limits plan «data» : List ℕ) → CommandValue
 
 abbrev pub command_value : Command → CommandValue
 command_value (command.Print soc) = Print soc.now
@@ -44,6 +46,8 @@ command_value (command.Picture soc limits plan) = Picture soc.now limits.now pla
 command_value (command.Simulate soc limits plan seed) = Simulate soc.now limits.now plan.now seed
 command_value (command.Bound soc limits proof) = Bound soc.now limits.now proof.now
 command_value (command.Prove soc limits plan nodes) = Prove soc.now limits.now plan.now nodes
+command_value (command.Data soc seed) = Data soc.now seed
+command_value (command.Retarget soc limits plan «data») = Retarget soc.now limits.now plan.now «data».now
 
 -- the numbers of a command are in their ranges
 abbrev pub IsInRange : CommandValue → Type 0
@@ -63,6 +67,8 @@ IsInRange (Picture soc limits plan) = Unit {0}
 IsInRange (Simulate soc limits plan seed) = seed ≤ NUMBER_WORD_MOST
 IsInRange (Bound soc limits proof) = Unit {0}
 IsInRange (Prove soc limits plan nodes) = (1 ≤ nodes) × (nodes ≤ NODES_MOST)
+IsInRange (Data soc seed) = seed ≤ NUMBER_WORD_MOST
+IsInRange (Retarget soc limits plan «data») = Unit {0}
 
 -- ---- from words to a command
 
@@ -103,6 +109,11 @@ abbrev pub prove_of : (soc limits plan : List ℕ) → Option ℕ → Option Com
 prove_of soc limits plan None = None
 prove_of soc limits plan (Some nodes) = if nat_le 1 nodes then Some (Prove soc limits plan nodes) else None
 
+-- `data` with a seed, where it is a number word
+abbrev pub data_of : (soc : List ℕ) → Option ℕ → Option CommandValue
+data_of soc None = None
+data_of soc (Some seed) = Some (Data soc seed)
+
 -- the command of a word with one more word
 unfoldable pub with_one : (word soc : List ℕ) → Option CommandValue
 with_one word soc = if pointwise nat_eq word (codes "print") then Some (Print soc) else None
@@ -113,6 +124,7 @@ with_two word first last =
     if pointwise nat_eq word (codes "widths") then widths_of first (number_of last WIRES_MOST)
     else if pointwise nat_eq word (codes "plan") then Some (Plan first last)
     else if pointwise nat_eq word (codes "sample") then sample_of (number_of first NUMBER_WORD_MOST) (number_of last NUMBER_WORD_MOST)
+    else if pointwise nat_eq word (codes "data") then data_of first (number_of last NUMBER_WORD_MOST)
     else None
 
 -- with three more words
@@ -134,6 +146,7 @@ with_four word soc limits plan last =
     else if pointwise nat_eq word (codes "locate") then Some (Locate soc limits plan last)
     else if pointwise nat_eq word (codes "shift") then Some (Shift soc limits plan last)
     else if pointwise nat_eq word (codes "prove") then prove_of soc limits plan (number_of last NODES_MOST)
+    else if pointwise nat_eq word (codes "retarget") then Some (Retarget soc limits plan last)
     else None
 
 -- with five more words
@@ -145,7 +158,8 @@ with_five word soc limits plan tries seed =
 -- `print SOC`, `widths SOC WIRES`, `plan SOC LIMITS`, `check SOC LIMITS PLAN`, `chart SOC LIMITS PLAN`,
 -- `vectors SOC LIMITS PLAN SEED`, `sample N SEED`, `locate SOC LIMITS PLAN LOG`, `tree SOC LIMITS TREE`, `split SOC LIMITS MOST`,
 -- `shift SOC LIMITS PLAN PROGRAM`, `improve SOC LIMITS PLAN TRIES SEED`, `picture SOC LIMITS PLAN`,
--- `simulate SOC LIMITS PLAN SEED`, `bound SOC LIMITS PROOF` and `prove SOC LIMITS PLAN NODES`; no other words are a command
+-- `simulate SOC LIMITS PLAN SEED`, `bound SOC LIMITS PROOF`, `prove SOC LIMITS PLAN NODES`, `data SOC SEED` and
+-- `retarget SOC LIMITS PLAN DATA`; no other words are a command
 unfoldable pub command_of : List (List ℕ) → Option CommandValue
 command_of (word ∷ soc ∷ []) = with_one word soc
 command_of (word ∷ first ∷ last ∷ []) = with_two word first last
@@ -174,6 +188,8 @@ words_of (Picture soc limits plan) = codes "picture" ∷ soc ∷ limits ∷ plan
 words_of (Simulate soc limits plan seed) = codes "simulate" ∷ soc ∷ limits ∷ plan ∷ decimal seed ∷ []
 words_of (Bound soc limits proof) = codes "bound" ∷ soc ∷ limits ∷ proof ∷ []
 words_of (Prove soc limits plan nodes) = codes "prove" ∷ soc ∷ limits ∷ plan ∷ decimal nodes ∷ []
+words_of (Data soc seed) = codes "data" ∷ soc ∷ decimal seed ∷ []
+words_of (Retarget soc limits plan «data») = codes "retarget" ∷ soc ∷ limits ∷ plan ∷ «data» ∷ []
 
 -- Each command has words that ask for it.
 abbrev pub EachHasWords : Type 0

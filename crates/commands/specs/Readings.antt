@@ -8,8 +8,8 @@ use Rattle.plan_model.specs.Faults.{FaultValue, IsFault, IsFaultless}
 use Rattle.limits_text.specs.Answers.{Reading, read_as, refused_line, unknown_line, shown_loop, passing_power, IsReading}
 use Rattle.plan_text.specs.Answers.{SaysPlan, RefusesText}
 use Rattle.commands.specs.declared.FileKind.{FileKind}
-use Rattle.commands.specs.declared.FileKind.TheVariants.{Soc, Limits, Plan, Tree, Program, Log, Proof}
-use Rattle.commands.specs.declared.TheConstants.{FILE_MOST, PLAN_FILE_MOST}
+use Rattle.commands.specs.declared.FileKind.TheVariants.{Soc, Limits, Plan, Tree, Program, Log, Proof, Data}
+use Rattle.commands.specs.declared.TheConstants.{DATA_FILE_MOST, FILE_MOST, PLAN_FILE_MOST}
 use Rattle.commands.specs.Texts.{chip_line, chip_limit_line, limits_line, unknown_test_line, loop_line, test_power_line, plan_line, fault_line}
 
 -- the greatest length of a file, in bytes
@@ -21,6 +21,7 @@ most_of Tree = FILE_MOST
 most_of Program = FILE_MOST
 most_of Log = FILE_MOST
 most_of Proof = FILE_MOST
+most_of Data = DATA_FILE_MOST
 
 -- the name holds bytes within the limit of its file, and they say the value
 pub record IsRead {V : Type 0} (file : FileKind) (Says : List ℕ → V → Type 0) (held : Option (List ℕ)) (value : V) : Type 0 where

@@ -9,7 +9,7 @@ use Rattle.soc_model.specs.declared.Which.TheVariants.{Modules, Tests, Chains, P
 use Rattle.plan_model.specs.Certificates.{CertificateFault, BadListFault, LessFault}
 use Rattle.plan_model.specs.Faults.{FaultValue, WidthFault, UnknownModuleFault, ModulePlaceFault, WrapperListFault, CellsFault, TestsFault, WireFault, BusyFault, ParentFault, BeforeFault, PowerFault, CyclesFault, BoundFault}
 use Rattle.commands.specs.declared.FileKind.{FileKind}
-use Rattle.commands.specs.declared.FileKind.TheVariants.{Soc, Limits, Plan, Tree, Program, Log, Proof}
+use Rattle.commands.specs.declared.FileKind.TheVariants.{Soc, Limits, Plan, Tree, Program, Log, Proof, Data}
 
 -- one line feed, at the end
 abbrev pub is_line : List ℕ → Bool
@@ -29,6 +29,7 @@ file_name Tree = codes "TREE"
 file_name Program = codes "PROGRAM"
 file_name Log = codes "LOG"
 file_name Proof = codes "PROOF"
+file_name Data = codes "DATA"
 
 abbrev pub unread_line : FileKind → List ℕ
 unread_line file = codes "cannot read " ++ file_name file ++ codes "\n"

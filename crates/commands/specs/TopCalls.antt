@@ -1,10 +1,11 @@
 -- Which top call takes the words of a command line.
 use Rattle.std.specs.Prelude.{Option, None, Some}
-use Rattle.commands.specs.Commands.{CommandValue, Print, Widths, Plan, Check, Chart, Vectors, Sample, Locate, Tree, Split, Shift, Improve, Picture, Simulate, Bound, Prove}
+use Rattle.commands.specs.Commands.{CommandValue, Print, Widths, Plan, Check, Chart, Vectors, Sample, Locate, Tree, Split, Shift, Improve, Picture, Simulate, Bound, Prove, Data, Retarget}
 use Rattle.commands.specs.declared.top_calls.TopCall.{TopCall}
 use Rattle.commands.specs.declared.top_calls.TopCall.TheVariants as top_call
 
--- `improve`, `picture`, `simulate`, `bound` and `prove` have a top call each; all other words go to that of the eleven commands
+-- `improve`, `picture`, `simulate`, `bound`, `prove`, `data` and `retarget` have a top call each; all other words go to that of the
+-- eleven commands
 abbrev pub top_call_of : Option CommandValue → TopCall
 top_call_of None = top_call.Soctest
 top_call_of (Some (Print soc)) = top_call.Soctest
@@ -23,3 +24,5 @@ top_call_of (Some (Picture soc limits plan)) = top_call.Picture
 top_call_of (Some (Simulate soc limits plan seed)) = top_call.Simulate
 top_call_of (Some (Bound soc limits proof)) = top_call.Bound
 top_call_of (Some (Prove soc limits plan nodes)) = top_call.Prove
+top_call_of (Some (Data soc seed)) = top_call.Data
+top_call_of (Some (Retarget soc limits plan «data»)) = top_call.Retarget

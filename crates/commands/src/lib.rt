@@ -29,6 +29,8 @@ pub use writing::write_verdict;
 pub const FILE_MOST: u64 = 1_048_576;
 /// The greatest length of a plan file, in bytes.
 pub const PLAN_FILE_MOST: u64 = 33_554_432;
+/// The greatest length of a file of test data, in bytes.
+pub const DATA_FILE_MOST: u64 = 268_435_456;
 
 /// The most tries of `improve`.
 pub const TRIES_MOST: u64 = 10_000_000;
@@ -137,6 +139,18 @@ pub enum Command<'a> {
         plan: &'a str,
         nodes: u64,
     },
+    /// Test data of a chip, with contents that are made from a seed.
+    Data {
+        soc: &'a str,
+        seed: u64,
+    },
+    /// What a tester drives and compares in a plan that is accepted, with the contents of test data.
+    Retarget {
+        soc: &'a str,
+        limits: &'a str,
+        plan: &'a str,
+        data: &'a str,
+    },
 }
 
 /// How a call ended. Its number is the status of the program.
@@ -168,6 +182,7 @@ pub enum FileKind {
     Program,
     Log,
     Proof,
+    Data,
 }
 
 /// How a call ends, decided before anything is written.

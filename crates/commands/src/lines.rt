@@ -24,6 +24,7 @@ pub(crate) fn unread_line(file: FileKind) -> &'static [u8]
         FileKind::Program => b"cannot read PROGRAM\n",
         FileKind::Log => b"cannot read LOG\n",
         FileKind::Proof => b"cannot read PROOF\n",
+        FileKind::Data => b"cannot read DATA\n",
     }
 }
 
@@ -40,6 +41,7 @@ pub(crate) fn too_long_line(file: FileKind) -> &'static [u8]
         FileKind::Program => b"too long PROGRAM\n",
         FileKind::Log => b"too long LOG\n",
         FileKind::Proof => b"too long PROOF\n",
+        FileKind::Data => b"too long DATA\n",
     }
 }
 

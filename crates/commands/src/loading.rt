@@ -17,7 +17,7 @@ use crate::lines::{
     chip_limit_line, chip_line, fault_line, limits_line, loop_line, plan_line, test_power_line,
     too_long_line, unknown_test_line,
 };
-use crate::{FILE_MOST, FileKind, PLAN_FILE_MOST, Status, Verdict};
+use crate::{DATA_FILE_MOST, FILE_MOST, FileKind, PLAN_FILE_MOST, Status, Verdict};
 use limits_text::{LimFault, read_limits_with};
 use live_tests::LiveTests;
 use outside::{Loaded, NoMemory, Shelf};
@@ -121,6 +121,7 @@ fn most_of(file: FileKind) -> u64
         | FileKind::Program
         | FileKind::Proof => FILE_MOST,
         FileKind::Plan => PLAN_FILE_MOST,
+        FileKind::Data => DATA_FILE_MOST,
     }
 }
 

@@ -21,6 +21,10 @@ pub enum TopCall {
     Bound,
     /// That of `prove`.
     Prove,
+    /// That of `data`.
+    Data,
+    /// That of `retarget`.
+    Retarget,
 }
 
 /// The top call that takes these words, by the command that they are.
@@ -33,6 +37,8 @@ pub fn top_call(words: &[String]) -> TopCall
         Some(Command::Simulate { .. }) => TopCall::Simulate,
         Some(Command::Bound { .. }) => TopCall::Bound,
         Some(Command::Prove { .. }) => TopCall::Prove,
+        Some(Command::Data { .. }) => TopCall::Data,
+        Some(Command::Retarget { .. }) => TopCall::Retarget,
         Some(
             Command::Print { .. }
             | Command::Widths { .. }

@@ -139,6 +139,10 @@ fn two<'a>(word: &str, first: &'a str, last: &'a str) -> Option<Command<'a>>
     if word == "sample" {
         return sample(first, last);
     }
+    if word == "data" {
+        let seed = number_word(last)?;
+        return Some(Command::Data { soc: first, seed });
+    }
     None
 }
 
@@ -237,6 +241,14 @@ fn four<'a>(
     }
     if word == "prove" {
         return prove_words(soc, limits, plan, last);
+    }
+    if word == "retarget" {
+        return Some(Command::Retarget {
+            soc,
+            limits,
+            plan,
+            data: last,
+        });
     }
     None
 }

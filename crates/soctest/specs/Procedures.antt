@@ -11,7 +11,7 @@ use Rattle.width_tree.specs.Trees.{TreeValue}
 use Rattle.bit_machine.specs.Chips.{made_content}
 use Rattle.tester_vectors.specs.VectorText.{too_many, vector_text}
 use Rattle.commands.specs.Texts.{run_refusal}
-use Rattle.commands.specs.Commands.{CommandValue, Print, Widths, Plan, Check, Chart, Vectors, Sample, Locate, Tree, Split, Shift, Improve, Picture, Simulate, Bound, Prove}
+use Rattle.commands.specs.Commands.{CommandValue, Print, Widths, Plan, Check, Chart, Vectors, Sample, Locate, Tree, Split, Shift, Improve, Picture, Simulate, Bound, Prove, Data, Retarget}
 use Rattle.sample_maker.specs.Samples.{made_chip}
 use Rattle.sample_maker.specs.declared.TheConstants.{SAMPLE_MODULES_MOST}
 use Rattle.soctest.specs.Samples.{sample_limits, sample_line, sample_text}
@@ -82,6 +82,8 @@ procedure_of (Picture soc limits plan) = NoCommand
 procedure_of (Simulate soc limits plan seed) = NoCommand
 procedure_of (Bound soc limits proof) = NoCommand
 procedure_of (Prove soc limits plan nodes) = NoCommand
+procedure_of (Data soc seed) = NoCommand
+procedure_of (Retarget soc limits plan «data») = NoCommand
 
 -- the files fix the text of an answer; that of `plan`, `sample` and `split` may be of any plan that the planner may make
 abbrev pub fixes_text : Option CommandValue → Bool
@@ -102,3 +104,5 @@ fixes_text (Some (Picture soc limits plan)) = true
 fixes_text (Some (Simulate soc limits plan seed)) = true
 fixes_text (Some (Bound soc limits proof)) = true
 fixes_text (Some (Prove soc limits plan nodes)) = true
+fixes_text (Some (Data soc seed)) = true
+fixes_text (Some (Retarget soc limits plan «data»)) = true

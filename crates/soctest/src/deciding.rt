@@ -379,7 +379,9 @@ pub fn decide<H: Shelf>(alloc: Global, words: &[String], shelf: &mut H) -> Endin
             | Command::Picture { .. }
             | Command::Simulate { .. }
             | Command::Bound { .. }
-            | Command::Prove { .. },
+            | Command::Prove { .. }
+            | Command::Data { .. }
+            | Command::Retarget { .. },
         )
         | None => Ending::Decided(bad_words(alloc)),
     }
