@@ -1,0 +1,9 @@
+pub mod SameLoads
+pub mod DataBits
+pub mod RightData
+pub mod RightTexts
+pub mod RetargetTexts
+pub mod SaidBits
+pub mod DataFiles
+pub mod Endings
+pub mod Answering

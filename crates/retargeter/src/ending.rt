@@ -1,0 +1,68 @@
+//! The end of a call: a verdict that is written at once, or the text of a plan with test data that is written as it is made.
+ghost use Rattle.std.specs.Prelude.{◌≤◌, None};
+ghost use Rattle.soc_model.specs.Chips.{soc_value};
+ghost use Rattle.soc_model.specs.SoundChips.{IsSoundChip};
+ghost use Rattle.plan_model.specs.Rules.{IsGoodAlone};
+ghost use Rattle.plan_model.specs.Views.{plan_value};
+ghost use Rattle.bit_machine.specs.Chips.{wires_of};
+ghost use Rattle.commands.specs.Ends.{WritesUnless, MakesPuts};
+ghost use Rattle.retargeter.specs.DataTexts.{retarget_text};
+ghost use Rattle.retargeter.specs.Endings.{IsRunnable, WritesEnding, PutsEnding};
+
+use crate::contents::DataContents;
+use commands::{Accepted, Status, Verdict, write_verdict};
+use outside::Sink;
+use plan_model::{Plan, good_without_limits};
+use soc_model::Soc;
+use std::alloc::Global;
+use test_data::TestData;
+use tester_vectors::{LinesOutcome, write_lines};
+
+/// How a call ends.
+#[derive(Drop)]
+pub enum Ending {
+    /// All is decided, with the text.
+    Decided(Verdict),
+    /// The vectors of an accepted plan, with the contents of test data, are to be written.
+    Run { all: Accepted, test_data: TestData },
+}
+
+/// Writes the vectors of a plan with the contents of test data, as they are made. All memory is taken before the first byte.
+fn write_run<K: Sink>(
+    alloc: Global,
+    soc: &Soc,
+    plan: &Plan,
+    test_data: &TestData,
+    out: &mut K,
+) -> Status
+    requires sound { IsSoundChip (soc_value soc.now) }
+    requires good { IsGoodAlone (soc_value soc.now) (plan_value plan.now) }
+    requires narrow { wires_of (plan_value plan.now) ≤ 256 }
+    ensures faults_never_fall { K.faults out.old ≤ K.faults out.new }
+    ensures written { WritesUnless None (retarget_text (soc_value soc.now) (plan_value plan.now) test_data.now)
+        (K.faults out.old) (K.faults out.new) (K.written out.old) result (K.written out.new) }
+    ensures puts { MakesPuts K.is_put out.old result out.new }
+{
+    let contents = DataContents { test_data };
+    match write_lines(alloc, soc, plan, &contents, out) {
+        LinesOutcome::Written => Status::Done,
+        LinesOutcome::WriteFault => Status::WriteFault,
+        LinesOutcome::NoMemory => Status::NoMemory,
+    }
+}
+
+/// Writes what a call ends with, and answers its status.
+pub fn write_ending<K: Sink>(alloc: Global, ending: Ending, out: &mut K) -> Status
+    requires { IsRunnable ending }
+    ensures faults_never_fall { K.faults out.old ≤ K.faults out.new }
+    ensures written { WritesEnding ending (K.faults out.old) (K.faults out.new) (K.written out.old) result (K.written out.new) }
+    ensures puts { PutsEnding K.is_put ending out.old result out.new }
+{
+    match ending {
+        Ending::Decided(verdict) => write_verdict(verdict, out),
+        Ending::Run { all, test_data } => {
+            good_without_limits();
+            write_run(alloc, &all.soc, &all.plan, &test_data, out)
+        }
+    }
+}

@@ -1,0 +1,58 @@
+//! Loads and reads test data for a chip.
+ghost use Rattle.std.specs.Prelude.{◌≡◌, ◌≤◌, IfOk};
+ghost use Rattle.soc_model.specs.Chips.{soc_value};
+ghost use Rattle.soc_model.specs.SoundChips.{IsSoundChip};
+ghost use Rattle.test_data.specs.Agreement.{Suits};
+ghost use Rattle.retargeter.specs.Readings.{AnswersSuiting, LoadsData, LoadsSuiting, RefusesFault};
+
+use crate::lines::{data_line, misfit_line};
+use commands::{FileKind, Verdict, load_file, refused_with};
+use outside::Shelf;
+use soc_model::Soc;
+use std::alloc::Global;
+use test_data::{DataFault, TestData, data_without_misfit_suits, first_misfit, read_data};
+
+/// The answer to a text of test data that isn't taken.
+fn refused_data(alloc: Global, fault: DataFault) -> Verdict
+    ensures { RefusesFault fault result }
+{
+    match fault {
+        DataFault::Text { line } => refused_with(data_line(alloc, line)),
+        DataFault::NoMemory => Verdict::NoMemory,
+    }
+}
+
+/// The data where it suits a chip, else the answer to what shows that it doesn't.
+fn suiting(alloc: Global, soc: &Soc, test_data: TestData) -> Result<TestData, Verdict>
+    ensures { AnswersSuiting (soc_value soc.now) test_data result }
+{
+    match first_misfit(&test_data, soc) {
+        None => Ok(test_data),
+        Some(misfit) => Err(refused_with(misfit_line(alloc, misfit))),
+    }
+}
+
+/// Loads and reads test data that suits a chip, else how the command ends.
+///
+/// The data is refused at a line of its text, or else for the first thing that shows that it doesn't suit the chip: the name of a
+/// test, its number of patterns, the number of bits of a word.
+pub fn load_suiting<H: Shelf>(
+    alloc: Global,
+    soc: &Soc,
+    name: &str,
+    shelf: &mut H,
+) -> Result<TestData, Verdict>
+    requires { IsSoundChip (soc_value soc.now) }
+    ensures held_stays { H.held shelf.new ≡ H.held shelf.old }
+    ensures faults_never_fall { H.faults shelf.old ≤ H.faults shelf.new }
+    ensures suits { IfOk result (Suits (soc_value soc.now)) }
+    ensures loads { LoadsSuiting (soc_value soc.now) name.now (H.held shelf.old) (H.faults shelf.old) (H.faults shelf.new) result }
+    ensures by_loads { LoadsData H.is_load (soc_value soc.now) name.now shelf.old result shelf.new }
+{
+    data_without_misfit_suits();
+    let bytes = load_file(alloc, FileKind::Data, name, shelf)?;
+    match read_data(alloc, bytes) {
+        Ok(test_data) => suiting(alloc, soc, test_data),
+        Err(fault) => Err(refused_data(alloc, fault)),
+    }
+}
