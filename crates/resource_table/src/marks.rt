@@ -15,6 +15,10 @@ use crate::points::{
 use crate::power::Draw;
 use crate::spares::{put_over, put_spares, takes_spare};
 
+/// Where fewer points stand behind the marks of a test, they move once for each mark: that takes less time than to look first how many
+/// marks find no point.
+const MANY_BEHIND: usize = 256;
+
 /// A mark of a test: its start, or behind that the end of one of its draws, which are those from a place on.
 fn mark_at(draws: &[Draw], from: usize, start: u64, at: usize) -> u64
     requires { from + at ≤ length draws.now }
@@ -129,8 +133,16 @@ fn missing(points: &[Point], draws: &[Draw], from: usize, start: u64, first: usi
 }
 
 /// Puts spare points behind the place of the last of the first `first` marks of a test, where several of them find no point at
-/// their cycle, in room that is there. The first place of a spare point is answered, and without one a place past all points.
-fn open_gap(points: &mut Vec<Point>, draws: &[Draw], from: usize, start: u64, first: usize) -> usize
+/// their cycle and many points stand behind, in room that is there. That place is looked for from a near one. The first place of a
+/// spare point is answered, and without one a place past all points.
+fn open_gap(
+    points: &mut Vec<Point>,
+    near: usize,
+    draws: &[Draw],
+    from: usize,
+    start: u64,
+    first: usize,
+) -> usize
     requires from { from ≤ length draws.now }
     requires first { first ≤ length draws.now - from + 1 }
     requires ordered { IsNonDecreasingBy (λ (p : Point). p.cycle) points.old.items }
@@ -142,10 +154,13 @@ fn open_gap(points: &mut Vec<Point>, draws: &[Draw], from: usize, start: u64, fi
     if first < 3 {
         return points.capacity();
     }
-    let more = missing(points, draws, from, start, first);
     let last = mark_at(draws, from, start, first - 1);
-    let place = places_before_near(points, points.len(), last);
-    if more < 2 || place == points.len() {
+    let place = places_before_near(points, near, last);
+    if points.len() - place < MANY_BEHIND {
+        return points.capacity();
+    }
+    let more = missing(points, draws, from, start, first);
+    if more < 2 {
         return points.capacity();
     }
     put_spares(points, place + 1, more);
@@ -220,7 +235,7 @@ fn add_first(
     ensures capacity { vec_capacity points.new ≡ vec_capacity points.old }
 {
     make_room(points, first);
-    let mut spare = open_gap(points, draws, from, start, first);
+    let mut spare = open_gap(points, last, draws, from, start, first);
     let mut near = last;
     let mut left = first;
     while left > 0 {

@@ -8,8 +8,8 @@ pub returns-clause-points : goal.returns-clause-points
 returns-clause-points c = λ held cycles are.
     let items : List Point = c.args.points.now.items in
     let place : ℕ = c.places_before_near-place.result in
-    let bound : place ≤ length items = subst (λ (v : List Point). place ≤ length v) c.deref-2.ensures.value c.places_before_near-place.ensures.bound in
-    let inside : place < length items = (let apart = c.if-place-len.false in omega (arith, bound, apart, c.len-else-more-lt2.ensures, c.args.points.now.ok)) in
+    let bound : place ≤ length items = subst (λ (v : List Point). place ≤ length v) c.deref.ensures.value c.places_before_near-place.ensures.bound in
+    let inside : place < length items = (let many = c.if-len-place-lt-MANY_BEHIND.false in omega (arith, bound, many, c.len.ensures, c.args.points.now.ok)) in
     let here : place + 1 - 1 ≡ place = omega arith in
     subst (ArePoints held cycles) (sym (c.put_spares.ensures.items ∙ ap (λ (k : ℕ). take (place + 1) items ++ (replicate c.missing-more.result (let p : Point = record { cycle = (get_or items k no_point).cycle; load = (get_or items k no_point).load; uses = 0 } in p) ++ drop (place + 1) items)) here))
     (spares_put held cycles items place c.missing-more.result are inside)
