@@ -16,7 +16,7 @@ loop-done-preserved c = record {
   put = λ n at.
       byte_more (made_byte c.args.line) c.args.bytes.now c.loop-done.bytes _ c.args.from n c.loop-done.done c.byte_of.result (omega (arith, c.loop-done.invariant.long, c.requires.within)) refl
       (c.byte_of.ensures ∙ ap (λ v. bit_byte (data_bit (has_odd_square v))) (c.loop-done.invariant.next n at)) (c.loop-done.invariant.put n at);
-  next = λ n at. let place : n + (c.loop-done.done + 1) ≡ n + c.loop-done.done + 1 = omega arith in value_next c.args.line (n + c.loop-done.done) c.loop-done.value c.next-value.result (c.loop-done.invariant.next n at) c.next-value.ensures ∙ ap (line_value c.args.line) (sym place);
+  next = λ n at. let place : n + (c.loop-done.done + 1) ≡ n + c.loop-done.done + 1 = omega arith in value_next c.args.line (n + c.loop-done.done) c.loop-done.value c.after-value.result (c.loop-done.invariant.next n at) c.after-value.ensures ∙ ap (line_value c.args.line) (sym place);
 }
 
 pub returns-clause-put : goal.returns-clause-put
