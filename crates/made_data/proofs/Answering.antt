@@ -1,12 +1,9 @@
 -- There is one answer to each file, and what it promises.
-use Rattle.std.proofs.Common.{◌≡◌, ℕ, List, Option, Some, true, subst}
+use Rattle.std.proofs.Common.{ℕ, List, Option, Some, true, subst}
 use Rattle.std.specs.FinMap.{get}
 use Rattle.outside.specs.Held.{Files, Appended}
-use Rattle.soc_model.specs.Chips.{SocValue}
-use Rattle.soc_model.specs.SoundChips.{IsSoundChip}
 use Rattle.soc_reader.specs.ChipForm.{SaysChip}
 use Rattle.soc_reader.proofs.ChipsSaid.{sound_chip}
-use Rattle.plan_model.specs.Runs.{Content}
 use Rattle.bit_machine.specs.Chips.{made_content}
 use Rattle.commands.specs.declared.FileKind.TheVariants.{Soc}
 use Rattle.commands.specs.declared.Status.{Status}
@@ -21,7 +18,6 @@ use Rattle.commands.proofs.Completeness.{settled_chip}
 use Rattle.commands.proofs.Settled.{done_once}
 use Rattle.commands.proofs.Trusted.{done_answer, not_refused, stage_done}
 use Rattle.made_data.specs.Headlines.{IsMade, Headline}
-use Rattle.made_data.specs.Laws.{IsDataOf}
 use Rattle.made_data.specs.Made.{made_text, long_refusal}
 use Rattle.made_data.specs.Requests.{procedure_of}
 use Rattle.made_data.proofs.DataOfContents.{data_of}

@@ -1,7 +1,7 @@
 -- What is written part by part is the text of the made contents.
-use Rattle.std.proofs.Common.{◌≡◌, ◌≢◌, ℕ, zero, suc, ◌+◌, ◌-◌, ◌*◌, ◌%◌, ◌<◌, ◌≤◌, ◌^◌, ◌⊎◌, inl, inr, max, Bool, true, false, nat_eq, List, [], ◌∷◌, ◌++◌, length, map, Some, refl, sym, ◌∙◌, ap, subst, arith, eq-eqb}
-use Rattle.std.specs.Prelude.{slice_get, sum, codes}
-use Rattle.std.specs.List.{All, filter, flat_map, range_with_len, sum_by, position_or_len}
+use Rattle.std.proofs.Common.{◌≡◌, ◌≢◌, ℕ, zero, suc, ◌+◌, ◌*◌, ◌%◌, ◌⊎◌, inl, inr, true, false, nat_eq, List, [], ◌∷◌, ◌++◌, length, map, Some, refl, sym, ◌∙◌, ap, subst, arith, eq-eqb}
+use Rattle.std.specs.Prelude.{slice_get, codes}
+use Rattle.std.specs.List.{filter, flat_map, range_with_len, sum_by, position_or_len}
 use Rattle.std.proofs.lemmas.Bool.{cases_Bool, and_parts, ne_eqb}
 use Rattle.std.proofs.lemmas.Grind.{flat_map-append}
 use Rattle.std.proofs.lemmas.List.{length-append, length-map}
@@ -9,12 +9,10 @@ use Rattle.std.proofs.lemmas.List.FromFn.{length-range_with_len}
 use Rattle.std.proofs.lemmas.List.Sums.{sum_by-cons}
 use Rattle.std.proofs.lemmas.Option.{slice_get-map, slice_get_within, get_or_from_slice_get, same_Some}
 use Rattle.soc_model.specs.declared.Test.{Test}
-use Rattle.soc_model.specs.Chips.{ModuleValue, SocValue, LiveTest, is_live, id_of}
+use Rattle.soc_model.specs.Chips.{ModuleValue, SocValue, is_live}
 use Rattle.soc_model.specs.Modes.{is_tam, scan_lengths}
 use Rattle.soc_model.specs.SoundChips.{IsSoundChip, IsSoundModule, AllDiffer}
-use Rattle.plan_model.specs.Cells.{Cell, stimulus_cells, response_cells, IsStimulusBit, IsResponseBit}
-use Rattle.plan_model.specs.Runs.{Content}
-use Rattle.live_tests.proofs.Placing.{the_live}
+use Rattle.plan_model.specs.Cells.{Cell, stimulus_cells, response_cells}
 use Rattle.bit_machine.specs.Chips.{made_content, made_stimulus, made_response, stimulus_place}
 use Rattle.bit_machine.specs.Sessions.{response_place}
 use Rattle.bit_machine.specs.Paths.{made_from}
@@ -24,11 +22,11 @@ use Rattle.bit_machine.proofs.Responses.{response_number}
 use Rattle.bit_machine.proofs.Stimuli.{stimulus_number}
 use Rattle.test_data.specs.declared.DataBit.{DataBit}
 use Rattle.test_data.specs.declared.misfits.Wanted.{Wanted}
-use Rattle.test_data.specs.DataWords.{PatternValue, EntryValue}
+use Rattle.test_data.specs.DataWords.{PatternValue}
 use Rattle.test_data.specs.Suiting.{wanted_for, name_in}
 use Rattle.made_data.specs.DataText.{bit_byte, bits_word, pattern_line, test_line, entry_lines, data_text}
 use Rattle.made_data.specs.Entries.{data_bit, pattern_of, entry_of, entries_in, entries_of}
-use Rattle.made_data.specs.Parts.{PartValue, made_bits, made_pattern, made_lines, part_text, parts_text, part_of, parts_in, parts_from, word_length, part_length}
+use Rattle.made_data.specs.Parts.{PartValue, made_bits, made_pattern, made_lines, part_text, parts_text, parts_in, parts_from, word_length, part_length}
 
 -- ---- the bits of a test
 

@@ -1,8 +1,8 @@
 -- The names of the live tests over the wires of a sound chip: none stands twice.
-use Rattle.std.proofs.Common.{◌≡◌, ◌≢◌, ◌⊎◌, inl, inr, ℕ, zero, suc, Bool, true, false, not, ◌&&◌, ◌||◌, List, [], ◌∷◌, ◌++◌, map, nat_eq, Some, None, Option, option_map, is_some, refl, sym, ◌∙◌, ap, subst, arith, append_assoc, eq-eqb}
-use Rattle.std.specs.Prelude.{slice_get, find, cond}
-use Rattle.std.specs.List.{filter, flat_map, list_any}
-use Rattle.std.proofs.lemmas.Bool.{cases_Bool, eqb-true, and_parts, ne_eqb}
+use Rattle.std.proofs.Common.{◌≡◌, ◌⊎◌, inl, inr, ℕ, suc, Bool, true, false, not, ◌&&◌, ◌||◌, List, [], ◌∷◌, ◌++◌, map, nat_eq, Some, None, Option, option_map, is_some, refl, sym, ◌∙◌, ap, subst, arith, append_assoc, eq-eqb}
+use Rattle.std.specs.Prelude.{slice_get, find}
+use Rattle.std.specs.List.{filter, flat_map}
+use Rattle.std.proofs.lemmas.Bool.{cases_Bool, eqb-true, ne_eqb}
 use Rattle.std.proofs.lemmas.List.Folds.{list_any-append}
 use Rattle.std.proofs.lemmas.Option.{slice_get-map}
 use Rattle.soc_model.specs.declared.Test.{Test}

@@ -1,17 +1,16 @@
 -- Test data that is written is read back.
-use Rattle.std.proofs.Common.{◌≡◌, ℕ, ◌+◌, ◌<◌, ◌≤◌, ◌^◌, Bool, true, false, ◌&&◌, ◌||◌, List, [], ◌∷◌, ◌++◌, map, length, nat_eq, Some, None, Option, cond, refl, sym, ◌∙◌, ap, subst, arith, append_assoc}
-use Rattle.std.specs.Prelude.{decimal, codes, if◌then◌else◌}
+use Rattle.std.proofs.Common.{◌≡◌, ℕ, ◌+◌, ◌<◌, ◌≤◌, ◌^◌, true, false, List, [], ◌∷◌, ◌++◌, map, length, Some, refl, sym, ◌∙◌, ap, subst, arith, append_assoc}
+use Rattle.std.specs.Prelude.{decimal, codes}
 use Rattle.std.specs.List.{flat_map, list_all}
 use Rattle.std.proofs.lemmas.Fmt.{decimal_nonempty}
-use Rattle.outside.specs.Words.{Word, words_left, words_of, AllInWord, IsEnd, ends_word, same_letters}
-use Rattle.outside.specs.Decimal.{number_of}
+use Rattle.outside.specs.Words.{words_left, AllInWord, IsEnd, ends_word}
 use Rattle.outside.proofs.WordLemmas.{first_word}
 use Rattle.outside.proofs.DecimalLemmas.{decimal_in_word, number_of-decimal}
 use Rattle.soc_model.specs.declared.TestId.{TestId}
 use Rattle.plan_model.specs.declared.TheConstants.{PLAN_NUMBER_MOST}
 use Rattle.test_data.specs.declared.DataBit.{DataBit}
 use Rattle.test_data.specs.declared.DataBit.TheVariants.{Zero, One, Any}
-use Rattle.test_data.specs.DataWords.{is_bit, bit_of, is_all_bits, bit_word, PatternValue, EntryValue, DataToken, title, header, number, bits, SaysToken, SayTokens, pattern_tokens, entry_tokens, data_tokens, IsDataText, SaysData}
+use Rattle.test_data.specs.DataWords.{is_bit, bit_of, is_all_bits, bit_word, PatternValue, EntryValue, DataToken, title, header, number, bits, SaysToken, SayTokens, pattern_tokens, entry_tokens, SaysData}
 use Rattle.made_data.specs.DataText.{bit_byte, bits_word, pattern_line, test_line, entry_lines, data_text}
 
 -- from any line on the words of a text say these tokens

@@ -1,5 +1,5 @@
 -- The parts of a sound chip are few, and small; together they make the text.
-use Rattle.std.proofs.Common.{◌≡◌, ℕ, zero, suc, ◌+◌, ◌*◌, ◌%◌, ◌<◌, ◌≤◌, ◌^◌, ◌⊎◌, inl, inr, Bool, true, false, List, [], ◌∷◌, ◌++◌, length, map, get_or, Some, refl, sym, ◌∙◌, ap, subst, arith}
+use Rattle.std.proofs.Common.{◌≡◌, ℕ, suc, ◌+◌, ◌<◌, ◌≤◌, ◌^◌, ◌⊎◌, inl, inr, Bool, true, false, List, [], ◌∷◌, ◌++◌, length, map, Some, refl, sym, ◌∙◌, ap, subst, arith}
 use Rattle.std.specs.Prelude.{slice_get, sum, codes}
 use Rattle.std.specs.List.{All, flat_map, sum_by}
 use Rattle.std.proofs.lemmas.Bool.{cases_Bool}
@@ -15,13 +15,10 @@ use Rattle.soc_model.specs.Sizes.{all_tests}
 use Rattle.soc_model.specs.SoundChips.{IsSoundChip}
 use Rattle.soc_model.proofs.Limits.{modules-small, scan_cells-lt}
 use Rattle.soc_model.proofs.Sums.{IsSmall, kept}
-use Rattle.plan_model.specs.Cells.{stimulus_cells, response_cells}
-use Rattle.bit_machine.specs.Chips.{made_content}
 use Rattle.test_data.proofs.ChipBits.{stimulus_length, response_length}
 use Rattle.made_data.specs.declared.parts.Part.{Part}
-use Rattle.made_data.specs.Entries.{entries_of}
 use Rattle.made_data.specs.Made.{made_text}
-use Rattle.made_data.specs.Parts.{PartValue, IsSmallPart, part_value, part_text, parts_text, part_of, parts_in, parts_from, part_length}
+use Rattle.made_data.specs.Parts.{PartValue, IsSmallPart, part_value, parts_text, part_of, parts_in, parts_from, part_length}
 use Rattle.made_data.proofs.MadeTexts.{whole_text, parts_long}
 
 no_more_cells : (m : ModuleValue) (scan : Bool) → sum (scan_lengths m scan) ≤ sum m.chains

@@ -1,27 +1,25 @@
 -- The data of a content suits the chip, and the content agrees with it.
-use Rattle.std.proofs.Common.{◌≡◌, ◌≢◌, ◌⊎◌, inl, inr, ℕ, zero, suc, ◌+◌, ◌<◌, ◌≤◌, ◌^◌, Bool, true, false, List, [], ◌∷◌, ◌++◌, map, length, nat_eq, Some, None, Option, option_map, is_some, refl, sym, ◌∙◌, ap, subst, arith, eq-eqb}
-use Rattle.std.specs.Prelude.{slice_get, find, cond}
-use Rattle.std.specs.List.{All, filter, flat_map, range_with_len}
-use Rattle.std.proofs.lemmas.Bool.{eqb-true}
+use Rattle.std.proofs.Common.{◌≡◌, ℕ, zero, suc, ◌+◌, ◌<◌, Bool, true, false, List, [], ◌∷◌, ◌++◌, map, length, Some, None, Option, option_map, is_some, refl, sym, ◌∙◌, ap, subst, arith, eq-eqb}
+use Rattle.std.specs.Prelude.{slice_get}
+use Rattle.std.specs.List.{filter, flat_map, range_with_len}
 use Rattle.std.proofs.lemmas.List.{length-map, map-append}
 use Rattle.std.proofs.lemmas.List.FromFn.{length-map-range_with_len, length-range_with_len, get_or-range_with_len}
-use Rattle.std.proofs.lemmas.Option.{slice_get-map, slice_get-get_or, slice_get_within, get_or_from_slice_get, same_Some}
+use Rattle.std.proofs.lemmas.Option.{slice_get-map, slice_get_within, get_or_from_slice_get, same_Some}
 use Rattle.soc_model.specs.declared.Test.{Test}
 use Rattle.soc_model.specs.declared.TestId.{TestId}
 use Rattle.soc_model.specs.declared.TheConstants.{NUMBER_WORD_MOST}
 use Rattle.soc_model.specs.Chips.{ModuleValue, SocValue}
 use Rattle.soc_model.specs.Modes.{is_tam}
 use Rattle.soc_model.specs.Sizes.{HasSmall, test_numbers, module_numbers}
-use Rattle.soc_model.specs.SoundChips.{IsSoundChip, IsSoundModule, AllDiffer}
+use Rattle.soc_model.specs.SoundChips.{IsSoundChip, IsSoundModule}
 use Rattle.soc_model.proofs.Places.{IsKeyed-from_sound, module-unique}
 use Rattle.plan_model.specs.Cells.{Cell, stimulus_cells, response_cells}
 use Rattle.plan_model.specs.Runs.{Content}
-use Rattle.plan_model.proofs.Lists.{from_map, from_flat_map, from_filter, in_flat_map, in_append_left, in_append_right}
+use Rattle.plan_model.proofs.Lists.{from_map, from_flat_map, from_filter, in_flat_map, in_append_right}
 use Rattle.test_data.specs.declared.DataBit.{DataBit}
 use Rattle.test_data.specs.declared.Misfit.{Misfit}
-use Rattle.test_data.specs.declared.misfits.Wanted.{Wanted}
 use Rattle.test_data.specs.DataWords.{PatternValue, EntryValue}
-use Rattle.test_data.specs.Suiting.{wanted_for, wanted_by, name_in, tam_names_in, tam_names, entry_names, has_name, first_misnamed, first_missing, patterns_against, wrong_patterns, wrong_word, bits_against, wrong_bits, or_else, first_of, misnaming, misfit_of}
+use Rattle.test_data.specs.Suiting.{wanted_for, wanted_by, name_in, tam_names_in, tam_names, entry_names, first_misnamed, first_missing, patterns_against, wrong_patterns, wrong_word, bits_against, wrong_bits, first_of, misfit_of}
 use Rattle.test_data.specs.Agreement.{IsTamTest, Suits, driven_bit, MayShow, IsPatternOf, Agrees}
 use Rattle.test_data.proofs.SuitedData.{suits, wanted_is}
 use Rattle.made_data.specs.Entries.{data_bit, pattern_of, entry_of, entries_in, entries_of}

@@ -1,7 +1,6 @@
 -- What the test data of contents is.
-use Rattle.std.specs.Prelude.{◌≡◌, None, List, ℕ}
+use Rattle.std.specs.Prelude.{◌≡◌, None}
 use Rattle.soc_model.specs.Chips.{SocValue}
-use Rattle.soc_model.specs.SoundChips.{IsSoundChip}
 use Rattle.plan_model.specs.Runs.{Content}
 use Rattle.test_data.specs.Agreement.{Agrees, Suits}
 use Rattle.test_data.specs.DataWords.{SaysData}

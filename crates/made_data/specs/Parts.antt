@@ -1,8 +1,8 @@
 -- What is written of a test, part by part, and how it is made of the seed.
-use Rattle.std.specs.Prelude.{◌≡◌, ℕ, ◌+◌, ◌*◌, ◌%◌, ◌<◌, ◌≤◌, ◌^◌, Bool, List, [], ◌∷◌, ◌++◌, map, max, length, if◌then◌else◌}
+use Rattle.std.specs.Prelude.{ℕ, ◌+◌, ◌*◌, ◌%◌, ◌<◌, ◌≤◌, ◌^◌, List, [], ◌∷◌, ◌++◌, map, max, length, if◌then◌else◌}
 use Rattle.std.specs.List.{flat_map, range_with_len}
 use Rattle.soc_model.specs.declared.Test.{Test}
-use Rattle.soc_model.specs.Chips.{ModuleValue, SocValue}
+use Rattle.soc_model.specs.Chips.{ModuleValue}
 use Rattle.soc_model.specs.Modes.{is_tam}
 use Rattle.bit_machine.specs.Paths.{made_from}
 use Rattle.bit_machine.specs.Numbers.{line_bit}
@@ -11,7 +11,7 @@ use Rattle.test_data.specs.declared.misfits.Wanted.{Wanted}
 use Rattle.test_data.specs.declared.DataBit.{DataBit}
 use Rattle.test_data.specs.DataWords.{PatternValue}
 use Rattle.test_data.specs.Suiting.{wanted_for, name_in}
-use Rattle.made_data.specs.DataText.{bit_byte, bits_word, pattern_line, test_line}
+use Rattle.made_data.specs.DataText.{bit_byte, pattern_line, test_line}
 use Rattle.made_data.specs.Entries.{data_bit}
 use Rattle.made_data.specs.declared.parts.Part.{Part}
 

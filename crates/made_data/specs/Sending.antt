@@ -1,5 +1,5 @@
 -- Text that goes to an output through a block: what a call put into the block and out of it.
-use Rattle.std.specs.Prelude.{◌≡◌, ℕ, ◌≤◌, ◌<◌, List, ◌++◌, Bool, true, false, Option, length, take}
+use Rattle.std.specs.Prelude.{◌≡◌, ℕ, ◌≤◌, ◌<◌, List, ◌++◌, true, false, Option, length, take}
 use Rattle.outside.specs.Held.{Rose, Appended, AppendedFront}
 use Rattle.outside.specs.Puts.{Puts}
 use Rattle.outside.specs.declared.sink.Put.{Put}

@@ -1,6 +1,5 @@
-use Rattle.std.proofs.Common.{◌≡◌, ◌+◌, ◌-◌, ◌*◌, ◌%◌, ◌++◌, ◌∷◌, ◌∙◌, [], ap, sym, refl, map, arith, rules}
+use Rattle.std.proofs.Common.{◌+◌, ◌-◌, ◌++◌, map, arith}
 use Rattle.std.specs.List.{range_with_len}
-use Rattle.bit_machine.specs.Numbers.{line_value}
 use Rattle.made_data.specs.Parts.{made_byte}
 use Rattle.made_data.specs.Sending.{waiting}
 use Rattle.made_data.proofs.MadeLines.{map_split, map_rest, first_value}

@@ -1,4 +1,4 @@
-use Rattle.std.proofs.Common.{◌++◌, map, arith}
+use Rattle.std.proofs.Common.{map, arith}
 use Rattle.std.specs.List.{range_with_len}
 use Rattle.std.proofs.lemmas.Result.{on_ok_weaker, on_err_weaker}
 use Rattle.made_data.specs.DataText.{bits_word}
