@@ -1,31 +1,28 @@
 -- What data that suits a chip says of the tests of a plan.
-use Rattle.std.proofs.Common.{◌≡◌, ◌≢◌, ◌⊎◌, inl, inr, ℕ, zero, suc, ◌+◌, ◌-◌, ◌≤◌, ◌<◌, Bool, true, false, Option, None, Some, List, [], ◌∷◌, length, get_or, refl, ap, sym, subst, ◌∙◌, arith}
-use Rattle.std.specs.Prelude.{slice_get, nat_eq, ◌&&◌}
-use Rattle.std.specs.List.{Contains, filter, flat_map, position_or_len}
-use Rattle.std.specs.List.Sorted.{IsPermutation}
+use Rattle.std.proofs.Common.{◌≡◌, ◌⊎◌, inl, inr, ℕ, suc, ◌+◌, ◌-◌, ◌≤◌, ◌<◌, Bool, true, false, Option, Some, List, [], length, get_or, refl, ap, sym, subst, ◌∙◌, arith}
+use Rattle.std.specs.Prelude.{slice_get}
+use Rattle.std.specs.List.{Contains, flat_map, position_or_len}
 use Rattle.std.proofs.lemmas.Bool.{cases_Bool}
-use Rattle.std.proofs.lemmas.Option.{same_Some, slice_get-get_or, slice_get_within, get_or_from_slice_get}
+use Rattle.std.proofs.lemmas.Option.{slice_get-get_or, slice_get_within, get_or_from_slice_get}
 use Rattle.std.proofs.lemmas.List.Sorted.{Contains-permutation, IsPermutation-sym}
 use Rattle.std.proofs.lemmas.List.Sums.{position_or_len_is}
 use Rattle.soc_model.specs.declared.Test.{Test}
-use Rattle.soc_model.specs.declared.TestId.{TestId}
 use Rattle.soc_model.specs.Chips.{ModuleValue, SocValue, same_test, is_live}
-use Rattle.soc_model.specs.Lookups.{test_places}
-use Rattle.soc_model.specs.Modes.{is_tam, scan_lengths}
+use Rattle.soc_model.specs.Modes.{scan_lengths}
 use Rattle.soc_model.specs.SoundChips.{IsSoundChip}
-use Rattle.plan_model.specs.Cells.{Cell, In, is_loaded, is_read, in_length, cells_of, stimulus_cells, response_cells, IsStimulusBit, IsResponseBit}
+use Rattle.plan_model.specs.Cells.{Cell, is_loaded, is_read, cells_of, stimulus_cells, IsStimulusBit, IsResponseBit}
 use Rattle.plan_model.specs.Plans.{PlanValue, PlannedTest, planned, planned_test}
 use Rattle.plan_model.specs.Right.{IsAt, AllStand}
-use Rattle.plan_model.specs.Runs.{Content, chain_at}
+use Rattle.plan_model.specs.Runs.{Content}
 use Rattle.plan_model.proofs.Finding.{in_filter}
 use Rattle.plan_model.proofs.Lists.{from_filter, contains_at, at_contains, in_flat_map}
 use Rattle.plan_model.proofs.PlannedTests.{Origin, origin}
 use Rattle.plan_model.proofs.TestsInGoodPlans.{planned_tam}
 use Rattle.test_data.specs.declared.DataBit.{DataBit}
-use Rattle.test_data.specs.declared.DataBit.TheVariants.{Zero, One, Any}
+use Rattle.test_data.specs.declared.DataBit.TheVariants.{Any}
 use Rattle.test_data.specs.DataWords.{PatternValue, EntryValue}
 use Rattle.test_data.specs.Suiting.{name_in}
-use Rattle.test_data.specs.Agreement.{IsTamTest, HasBits, Suits, driven_bit, MayShow, IsPatternOf, Agrees}
+use Rattle.test_data.specs.Agreement.{IsTamTest, HasBits, Suits, driven_bit, IsPatternOf, Agrees}
 use Rattle.test_data.proofs.SuitedData.{id_itself, same_id, places_of}
 use Rattle.bit_machine.specs.Chips.{stimulus_place}
 use Rattle.bit_machine.specs.Sessions.{response_place}

@@ -23,8 +23,7 @@ use Rattle.test_data.proofs.SuitedData.{suits}
 use Rattle.commands.specs.declared.FileKind.TheVariants.{Data}
 use Rattle.commands.specs.declared.Status.TheVariants.{Refused}
 use Rattle.commands.specs.declared.Verdict.{Verdict}
-use Rattle.commands.specs.declared.Verdict.TheVariants.{Answered, CannotRead, NoMemory as OutOfMemory}
-use Rattle.commands.specs.Decides.{Follows, GivesText, LoadsBytes, Refuses}
+use Rattle.commands.specs.Decides.{Follows, GivesText, LoadsBytes}
 use Rattle.commands.specs.Loads.{LoadsOf, DecidesAlone, LoadsFile, OfVerdict}
 use Rattle.commands.specs.Procedures.{nothing}
 use Rattle.commands.specs.Readings.{most_of}

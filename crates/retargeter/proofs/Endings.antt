@@ -1,5 +1,5 @@
 -- From the end of a call to what it answers.
-use Rattle.std.proofs.Common.{◌≡◌, ℕ, ◌≤◌, inl, inr, List, [], Option, None, Some, IfOk, IfSome, Result, refl, ap, sym, subst, ◌∙◌, arith, option_map}
+use Rattle.std.proofs.Common.{◌≡◌, ℕ, ◌≤◌, inl, inr, List, [], Option, None, Some, IfOk, IfSome, Result, refl, sym, subst}
 use Rattle.std.specs.Prelude.{IsTrue}
 use Rattle.std.specs.FinMap.{empty, get}
 use Rattle.std.specs.Global.{Vec}
@@ -18,7 +18,7 @@ use Rattle.commands.specs.declared.Status.TheVariants.{Done, Refused, NoMemory}
 use Rattle.commands.specs.declared.Verdict.{Verdict}
 use Rattle.commands.specs.declared.loading.Accepted.{Accepted}
 use Rattle.commands.specs.Answers.{Answers}
-use Rattle.commands.specs.Decides.{AreRead, Follows, GivesText}
+use Rattle.commands.specs.Decides.{AreRead, GivesText}
 use Rattle.commands.specs.Ends.{IsWritten, WritesUnless, MayAnswer, Ends, OneLine, EndsByWords, SaysBadWords, MakesPuts}
 use Rattle.commands.specs.Loads.{LoadsOf, IsLoaded, AllLoaded, LoadsDecide, EndsByLoads}
 use Rattle.commands.specs.Procedures.{Procedure, Read, Unless, done_with, with_all}

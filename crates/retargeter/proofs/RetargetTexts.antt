@@ -1,14 +1,11 @@
 -- The text that is written of data runs right, and is that of the vectors where the data says each response bit.
-use Rattle.std.proofs.Common.{◌≡◌, ◌⊎◌, inl, inr, ℕ, Bool, Some, List, ◌++◌, map, refl, ap, sym, subst, ◌∙◌}
+use Rattle.std.proofs.Common.{◌≡◌, ◌⊎◌, inl, inr, ℕ, Some, List, ◌++◌, refl, ap, sym, ◌∙◌}
 use Rattle.std.proofs.Math.Path.{fun_ext}
-use Rattle.std.specs.Prelude.{slice_get}
 use Rattle.std.specs.List.{flat_map, range_with_len}
-use Rattle.soc_model.specs.declared.TestId.{TestId}
 use Rattle.soc_model.specs.Chips.{SocValue}
 use Rattle.soc_model.specs.SoundChips.{IsSoundChip}
 use Rattle.plan_model.specs.Cells.{Cell}
 use Rattle.plan_model.specs.Plans.{PlanValue, LimitsValue, PlannedTest, planned}
-use Rattle.plan_model.specs.Right.{IsAt, IsReadAt}
 use Rattle.plan_model.specs.Rules.{IsGood}
 use Rattle.plan_model.specs.Runs.{Content, carried}
 use Rattle.test_data.specs.DataWords.{EntryValue}
@@ -20,7 +17,7 @@ use Rattle.tester_vectors.specs.VectorText.{head_line, cycle_line, marked_text, 
 use Rattle.tester_vectors.proofs.DrivenByText.{runs_as_shown}
 use Rattle.tester_vectors.proofs.ReadBits.{marks_stand_in}
 use Rattle.tester_vectors.proofs.TextPlaces.{text_driven, text_compared}
-use Rattle.retargeter.specs.Contents.{compared_byte, data_content, data_marks}
+use Rattle.retargeter.specs.Contents.{data_content, data_marks}
 use Rattle.retargeter.specs.DataRuns.{bit_as_data, RunsWithData}
 use Rattle.retargeter.specs.DataTexts.{retarget_text, SaysAllResponses}
 use Rattle.retargeter.proofs.RightData.{data_carried, IsReadOfData, read_of_data}

@@ -1,43 +1,36 @@
 -- What a plan with test data drives and reads: the bits of the data.
-use Rattle.std.proofs.Common.{◌≡◌, ◌≢◌, ◌⊎◌, inl, inr, ℕ, zero, suc, ◌+◌, ◌-◌, ◌≤◌, ◌<◌, Bool, true, false, Option, None, Some, List, [], ◌∷◌, length, get_or, reverse, refl, ap, sym, subst, ◌∙◌, arith}
+use Rattle.std.proofs.Common.{◌≡◌, ◌⊎◌, inl, inr, ℕ, ◌-◌, ◌≤◌, ◌<◌, true, Some, List, [], length, get_or, reverse, ap, sym, subst, ◌∙◌, arith}
 use Rattle.std.specs.Prelude.{slice_get}
 use Rattle.std.specs.List.{Contains}
-use Rattle.std.proofs.lemmas.List.{get_or-reverse, get_or_past, length-reverse}
+use Rattle.std.proofs.lemmas.List.{get_or_past, length-reverse}
 use Rattle.std.proofs.lemmas.List.Sums.{count_by-le-length}
 use Rattle.std.proofs.lemmas.Bool.{cases_lt}
-use Rattle.std.proofs.lemmas.Option.{same_Some, slice_get-get_or, slice_get_within, get_or_from_slice_get}
+use Rattle.std.proofs.lemmas.Option.{slice_get-get_or, slice_get_within, get_or_from_slice_get}
 use Rattle.soc_model.specs.declared.Test.{Test}
-use Rattle.soc_model.specs.declared.TestId.{TestId}
-use Rattle.soc_model.specs.Chips.{ModuleValue, SocValue, is_live}
-use Rattle.soc_model.specs.Modes.{is_tam, scan_lengths}
+use Rattle.soc_model.specs.Chips.{ModuleValue, SocValue}
+use Rattle.soc_model.specs.Modes.{scan_lengths}
 use Rattle.soc_model.specs.SoundChips.{IsSoundChip}
 use Rattle.plan_model.specs.Cells.{Cell, In, is_loaded, is_read, in_length, cells_of, response_cells, IsResponseBit}
-use Rattle.plan_model.specs.Operations.{Operation, Shift, Capture}
+use Rattle.plan_model.specs.Operations.{Capture}
 use Rattle.plan_model.specs.Plans.{PlanValue, LimitsValue, PlannedTest, planned}
 use Rattle.plan_model.specs.Right.{IsAt, IsRight, IsReadAt, AllStand}
 use Rattle.plan_model.specs.Rules.{IsGood}
-use Rattle.plan_model.specs.Runs.{Content, chain_at, carried, operation_at}
+use Rattle.plan_model.specs.Runs.{Content, chain_at, carried}
 use Rattle.plan_model.proofs.ChainsInTheRun.{AreApart}
 use Rattle.plan_model.proofs.GoodPlansRunRight.{every_good_plan_is_right}
 use Rattle.plan_model.proofs.LawOfOneTest.{reverse_is}
 use Rattle.plan_model.proofs.LoadsAndReads.{IsTamTest as DoesPatterns, begun_at}
-use Rattle.plan_model.proofs.Lists.{from_filter, at_contains}
 use Rattle.plan_model.proofs.OperationBlocks.{IsCaptured, capture_found}
 use Rattle.plan_model.proofs.TestsInGoodPlans.{apart, is_tam_test, all_stand}
 use Rattle.test_data.specs.declared.DataBit.{DataBit}
-use Rattle.test_data.specs.declared.DataBit.TheVariants.{Zero, One, Any}
+use Rattle.test_data.specs.declared.DataBit.TheVariants.{Any}
 use Rattle.test_data.specs.DataWords.{PatternValue, EntryValue}
 use Rattle.test_data.specs.Suiting.{name_in}
-use Rattle.test_data.specs.Agreement.{IsTamTest, Suits, MayShow, IsPatternOf, Agrees}
-use Rattle.bit_machine.specs.Chips.{wires_of, IsCompared}
+use Rattle.test_data.specs.Agreement.{Suits, IsPatternOf, Agrees}
 use Rattle.bit_machine.specs.Sessions.{response_place}
 use Rattle.bit_machine.proofs.Responses.{response_number}
-use Rattle.tester_vectors.specs.Marks.{digit}
-use Rattle.tester_vectors.specs.DrivenRuns.{IsDriven, line_begin, with_initial}
-use Rattle.tester_vectors.proofs.SameDrive.{chains_within}
 use Rattle.retargeter.specs.Contents.{compared_byte, unload_bit, entry_place, data_content, data_marks}
-use Rattle.retargeter.specs.DataRuns.{bit_as_data, IsSaid, IsByteOf, IsComparedOnce, IsOfData, ComparesData}
-use Rattle.retargeter.proofs.SameLoads.{SameLoads, SameInChain, carried_same, loaded_cell, tam_tests}
+use Rattle.retargeter.proofs.SameLoads.{SameLoads, carried_same, loaded_cell, tam_tests}
 use Rattle.retargeter.proofs.DataBits.{IsOfChip, of_chip, cell_of_mode, response_bit, HasPattern, pattern_of, unload_is, marked_is, same_load}
 
 -- ---- cells of chains

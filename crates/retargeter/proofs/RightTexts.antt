@@ -1,6 +1,6 @@
 -- A text with the contents of data runs right with every content that agrees with the data, and compares what the data says.
-use Rattle.std.proofs.Common.{◌≡◌, ◌≢◌, ◌⊎◌, inl, inr, ℕ, zero, suc, ◌+◌, ◌-◌, ◌≤◌, ◌<◌, Bool, true, false, Option, None, Some, List, length, map, option_map, refl, ap, sym, subst, ◌∙◌, arith}
-use Rattle.std.specs.Prelude.{slice_get, ◌&&◌}
+use Rattle.std.proofs.Common.{◌≡◌, ◌≢◌, ◌⊎◌, inl, inr, ℕ, ◌+◌, ◌-◌, ◌≤◌, ◌<◌, Bool, true, false, Some, List, length, option_map, refl, ap, sym, subst, ◌∙◌, arith}
+use Rattle.std.specs.Prelude.{slice_get}
 use Rattle.std.specs.List.{Contains}
 use Rattle.std.proofs.lemmas.Bool.{and_parts}
 use Rattle.std.proofs.lemmas.Option.{same_Some, slice_get_within, slice_get-map}
@@ -10,7 +10,7 @@ use Rattle.soc_model.specs.Chips.{ModuleValue, SocValue, LiveTest, is_live, live
 use Rattle.soc_model.specs.SoundChips.{IsSoundChip}
 use Rattle.plan_model.specs.Cells.{Cell, is_read, cells_of}
 use Rattle.plan_model.specs.Operations.{Shift}
-use Rattle.plan_model.specs.Plans.{PlanValue, LimitsValue, PlannedTest, planned, planned_test, end_of}
+use Rattle.plan_model.specs.Plans.{PlanValue, LimitsValue, PlannedTest, planned, planned_test}
 use Rattle.plan_model.specs.Right.{IsAt, IsRight, IsReadAt}
 use Rattle.plan_model.specs.Rules.{IsGood}
 use Rattle.plan_model.specs.Runs.{Content, carried, operation_at}
@@ -31,7 +31,7 @@ use Rattle.tester_vectors.specs.DrivenRuns.{IsDriven, line_begin, RunsAsShown}
 use Rattle.tester_vectors.specs.VectorText.{vector_text}
 use Rattle.tester_vectors.proofs.SameDrive.{chains_within}
 use Rattle.retargeter.specs.Contents.{compared_byte, data_content, data_marks}
-use Rattle.retargeter.specs.DataRuns.{bit_as_data, IsSaid, IsByteOf, IsComparedOnce, IsOfData, ComparesData, RunsWithContent, RunsWithData}
+use Rattle.retargeter.specs.DataRuns.{bit_as_data, IsSaid, IsByteOf, IsComparedOnce, IsOfData, RunsWithContent}
 use Rattle.retargeter.proofs.DataBits.{planned_name, planned_patterns, planned_cells}
 use Rattle.retargeter.proofs.RightData.{data_carried, IsReadOfData, read_of_data, mark_by_number}
 

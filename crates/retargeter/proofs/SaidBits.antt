@@ -1,11 +1,10 @@
 -- The bytes of a word of the data are those of its contents, and these stand for the data's content on a chip.
-use Rattle.std.proofs.Common.{◌≡◌, ℕ, ◌<◌, ◌≤◌, Bool, true, List, [], get_or, length, position, Option, None, Some, refl, ap, sym, ◌∙◌, arith}
+use Rattle.std.proofs.Common.{◌≡◌, ℕ, true, List, [], get_or, length, position, None, Some, refl, ap, sym, ◌∙◌, arith}
 use Rattle.std.specs.Prelude.{slice_get}
-use Rattle.std.specs.List.{position_or_len}
 use Rattle.std.proofs.lemmas.List.Sums.{position_or_len_is}
 use Rattle.std.proofs.lemmas.Option.{slice_get-get_or}
 use Rattle.soc_model.specs.declared.TestId.{TestId}
-use Rattle.soc_model.specs.Chips.{SocValue, LiveTest, live_tests, id_of, is_live, same_test}
+use Rattle.soc_model.specs.Chips.{SocValue, LiveTest, live_tests, is_live, same_test}
 use Rattle.soc_model.specs.SoundChips.{IsSoundChip}
 use Rattle.plan_model.proofs.Finding.{none_passes}
 use Rattle.plan_model.proofs.Lists.{from_filter}

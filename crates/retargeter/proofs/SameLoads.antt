@@ -1,8 +1,8 @@
 -- What the wires carry depends only on the bits that cells load.
-use Rattle.std.proofs.Common.{◌≡◌, ◌⊎◌, inl, inr, ℕ, zero, suc, ◌+◌, ◌-◌, ◌≤◌, ◌<◌, Bool, true, false, Option, None, Some, List, [], ◌∷◌, ◌++◌, length, get_or, drop, refl, ap, sym, subst, ◌∙◌, arith, append_assoc}
+use Rattle.std.proofs.Common.{◌≡◌, ◌⊎◌, inl, inr, ℕ, zero, suc, ◌+◌, ◌-◌, ◌≤◌, ◌<◌, Bool, true, false, Option, None, Some, List, [], ◌∷◌, ◌++◌, length, get_or, drop, refl, ap, sym, subst, ◌∙◌, arith}
 use Rattle.std.specs.Prelude.{slice_get, nat_lt, if◌then◌else◌}
 use Rattle.std.specs.List.{All, count_by, flat_map}
-use Rattle.std.proofs.lemmas.Bool.{cases_Bool, ltb-true, and_parts}
+use Rattle.std.proofs.lemmas.Bool.{cases_Bool, ltb-true}
 use Rattle.std.proofs.lemmas.List.{get_or_append_left}
 use Rattle.std.proofs.lemmas.List.Sums.{sum_by-append}
 use Rattle.std.proofs.lemmas.List.Elements.{All-append, All-get_or}
@@ -16,7 +16,7 @@ use Rattle.plan_model.proofs.CellOrder.{count_none, count_all}
 use Rattle.plan_model.proofs.LoadsAndReads.{IsTamTest}
 use Rattle.plan_model.proofs.OperationBlocks.{IsCaptured, capture_found}
 use Rattle.plan_model.proofs.PlannedTests.{Origin, origin}
-use Rattle.plan_model.proofs.TestsInGoodPlans.{Uses, uses_is, is_tam_test, planned_tam}
+use Rattle.plan_model.proofs.TestsInGoodPlans.{uses_is, is_tam_test, planned_tam}
 use Rattle.plan_model.proofs.TurnBounds.{planned_chains}
 use Rattle.bit_machine.proofs.Numbering.{ins_loaded, flops_loaded, outs_unloaded}
 

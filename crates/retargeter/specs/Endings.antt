@@ -1,5 +1,5 @@
 -- How a call ends that is either decided with its text or writes the text of a plan with test data as it is made.
-use Rattle.std.specs.Prelude.{◌≡◌, ℕ, List, Option, None}
+use Rattle.std.specs.Prelude.{ℕ, List, Option, None}
 use Rattle.outside.specs.Held.{Files}
 use Rattle.outside.specs.declared.sink.Put.{Put}
 use Rattle.soc_model.specs.Chips.{soc_value}

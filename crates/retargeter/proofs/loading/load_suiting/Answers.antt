@@ -1,6 +1,5 @@
-use Rattle.std.proofs.Common.{rules, ◌≡◌, Err, subst}
+use Rattle.std.proofs.Common.{rules, ◌≡◌, Err}
 use Rattle.soc_model.specs.Chips.{soc_value}
-use Rattle.test_data.specs.DataAnswers.{IsReadData}
 use Rattle.retargeter.proofs.DataFiles.{data_unread, data_stops, data_refused, data_load_refused, data_looked_at, data_load_looked_at, kept_suits}
 use Rattle.retargeter.proofs.loading.load_suiting.Goals as goal
 
