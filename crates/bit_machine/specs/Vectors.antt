@@ -131,7 +131,8 @@ pub record AreChainsPut (bits : ℕ → ℕ → Bool) (marks : ℕ → ℕ → �
 -- ---- one live test
 
 -- a lane of a test among tests on `wires` wires
-pub record HasLane (Is : PlannedTest → Lane → Type 0) (tests : List PlannedTest) (wires i : ℕ) (t : PlannedTest) (lane : Lane) : Type 0 where
+pub record HasLane (Is : PlannedTest → Lane → Type 0) (tests : List PlannedTest) (wires i : ℕ) (t : PlannedTest) (lane : Lane)
+    : Type 0 where
   pub at : IsAt tests i t
   pub on : AreOnWires tests wires
   pub is : Is t lane

@@ -8,7 +8,7 @@ ghost use Rattle.plan_model.specs.Views.{plan_value};
 ghost use Rattle.bit_machine.specs.Chips.{at_first, wires_of, carried_bits, shown_bits, chip_content, chip_tests, IsCompared, captures_at, right_loads_at};
 
 use crate::machine::Machine;
-use crate::made::Made;
+use crate::made::MadeContents;
 use crate::placing::{cycles_of, placed_lanes};
 use crate::stepped::resting_lanes;
 use live_tests::first_wires;
@@ -79,7 +79,7 @@ impl<'a> Chip<'a> {
         let firsts = first_wires(alloc, plan)?;
         let wires = firsts[plan.buses.len()] as usize;
         let users = nobody(alloc, wires)?;
-        let lanes = placed_lanes(alloc, soc, plan, &Made { seed }, &firsts)?;
+        let lanes = placed_lanes(alloc, soc, plan, &MadeContents { seed }, &firsts)?;
         let stepped = resting_lanes(alloc, lanes)?;
         let machine = Machine::new(stepped, users);
         Ok(Chip {

@@ -36,6 +36,6 @@ pub use laws::{
     held_stimuli_stand, made_contents_stand, responses_are_numbered, responses_have_lengths,
     stimuli_are_numbered,
 };
-pub use made::{Line, Made, bit_of};
+pub use made::{Line, MadeContents, bit_of};
 pub use session::Session;
 pub use vectors::Vectors;

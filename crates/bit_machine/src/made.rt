@@ -88,12 +88,12 @@ impl PatternBits for Line {
 /// The made contents of a seed: each bit is fixed by the seed, the place of its module in the chip, the place of its test in the module,
 /// its pattern and its number. A test is known by what the seed and its places give to its bits.
 #[derive(Clone, Copy)]
-pub struct Made {
+pub struct MadeContents {
     /// The seed.
     pub seed: u64,
 }
 
-impl Contents for Made {
+impl Contents for MadeContents {
     type Bits = Line;
 
     ghost use Rattle.bit_machine.specs.Paths.{made_drive, made_keys, made_mark};

@@ -76,6 +76,14 @@ struct WrappedModule<'a> {
     wrappers: &'a ModeWrappers,
 }
 
+/// The test at a place of such a module.
+#[derive(Clone, Copy, Drop)]
+struct WrappedTest<'a> {
+    core: WrappedModule<'a>,
+    at: usize,
+    test: &'a Test,
+}
+
 /// A chip and a good plan for it, and the first wires of the plan's buses.
 #[derive(Clone, Copy, Drop)]
 struct Setting<'a> {
@@ -95,31 +103,33 @@ impl<'a> Setting<'a> {
         (self.firsts[bus] as usize, plan.buses[bus].width as usize)
     }
 
-    /// A live test over the wires of a bus, the one at a place of its module.
+    /// A live test over the wires of a bus.
     fn wired_test<C: Contents>(
         &self,
         alloc: Global,
         contents: &C,
-        core: &WrappedModule<'_>,
-        at: usize,
-        test: &Test,
+        wrapped: &WrappedTest<'_>,
         placed: &PlacedTest,
         bus: usize,
     ) -> Result<Lane, NoMemory>
         requires sound { IsSoundChip (soc_value self.now.chip.soc.now) }
         requires good { IsGoodAlone (soc_value self.now.chip.soc.now) self.now.chip.index.now }
         requires firsts { AreFirstWires (widths self.now.chip.index.now) self.now.firsts.now }
-        requires module_there { slice_get (soc_value self.now.chip.soc.now).modules core.now.place
-            ≡ Some (module_value core.now.«module».now) }
-        requires wrappers { AreModeWrappers self.now.chip.index.now (module_value core.now.«module».now) core.now.wrappers.now }
-        requires test_there { slice_get core.now.«module».now.tests.items at ≡ Some test.now }
-        requires live { IsTrue (is_live test.now) }
+        requires module_there { slice_get (soc_value self.now.chip.soc.now).modules wrapped.now.core.place
+            ≡ Some (module_value wrapped.now.core.«module».now) }
+        requires wrappers { AreModeWrappers self.now.chip.index.now
+            (module_value wrapped.now.core.«module».now) wrapped.now.core.wrappers.now }
+        requires test_there { slice_get wrapped.now.core.«module».now.tests.items wrapped.now.at ≡ Some wrapped.now.test.now }
+        requires live { IsTrue (is_live wrapped.now.test.now) }
         requires placed { placed.now
-            ≡ placed_of (planned_test self.now.chip.index.now core.now.place (module_value core.now.«module».now) test.now) }
+            ≡ placed_of (planned_test self.now.chip.index.now wrapped.now.core.place
+            (module_value wrapped.now.core.«module».now) wrapped.now.test.now) }
         requires over { placed.now.bus ≡ Some bus }
         ensures { IfOk result (IsPlacedLane (C.keys contents.now) (soc_value self.now.chip.soc.now) self.now.chip.index.now
-            (planned_test self.now.chip.index.now core.now.place (module_value core.now.«module».now) test.now)) }
+            (planned_test self.now.chip.index.now wrapped.now.core.place
+            (module_value wrapped.now.core.«module».now) wrapped.now.test.now)) }
     {
+        let (core, test) = (wrapped.core, wrapped.test);
         let module = core.module;
         let Some(long) = core.wrappers.in_mode(test.scan) else {
             unreachable!()
@@ -139,7 +149,7 @@ impl<'a> Setting<'a> {
         };
         Ok(Lane {
             tam: true,
-            key: contents.key(core.place, at, id),
+            key: contents.key(core.place, wrapped.at, id),
             start: placed.start,
             end: placed.end,
             phases,
@@ -171,7 +181,14 @@ impl<'a> Setting<'a> {
     {
         let placed = self.chip.test(core.place, core.module, core.wrappers, test);
         match placed.bus {
-            Some(bus) => self.wired_test(alloc, contents, core, at, test, &placed, bus),
+            Some(bus) => {
+                let wrapped = WrappedTest {
+                    core: *core,
+                    at,
+                    test,
+                };
+                self.wired_test(alloc, contents, &wrapped, &placed, bus)
+            }
             None => Ok(self_test(alloc, &placed)),
         }
     }
@@ -193,7 +210,8 @@ impl<'a> Setting<'a> {
             ≡ Some (module_value core.now.«module».now) }
         requires wrappers { AreModeWrappers self.now.chip.index.now (module_value core.now.«module».now) core.now.wrappers.now }
         requires test_there { slice_get core.now.«module».now.tests.items at ≡ Some test.now }
-        ensures { (done : List PlannedTest) → AreLanes (IsPlacedLane (C.keys contents.now) (soc_value self.now.chip.soc.now) self.now.chip.index.now) done lanes.old.items →
+        ensures { (done : List PlannedTest) →
+            AreLanes (IsPlacedLane (C.keys contents.now) (soc_value self.now.chip.soc.now) self.now.chip.index.now) done lanes.old.items →
             OnOk result (AreLanes (IsPlacedLane (C.keys contents.now) (soc_value self.now.chip.soc.now) self.now.chip.index.now)
             (done ++ planned_in self.now.chip.index.now core.now.place (module_value core.now.«module».now) (test.now ∷ []))
             lanes.new.items) }
@@ -217,7 +235,8 @@ impl<'a> Setting<'a> {
         requires good { IsGoodAlone (soc_value self.now.chip.soc.now) self.now.chip.index.now }
         requires firsts { AreFirstWires (widths self.now.chip.index.now) self.now.firsts.now }
         requires module_there { slice_get (soc_value self.now.chip.soc.now).modules place ≡ Some (module_value «module».now) }
-        ensures { (done : List PlannedTest) → AreLanes (IsPlacedLane (C.keys contents.now) (soc_value self.now.chip.soc.now) self.now.chip.index.now) done lanes.old.items →
+        ensures { (done : List PlannedTest) →
+            AreLanes (IsPlacedLane (C.keys contents.now) (soc_value self.now.chip.soc.now) self.now.chip.index.now) done lanes.old.items →
             OnOk result (AreLanes (IsPlacedLane (C.keys contents.now) (soc_value self.now.chip.soc.now) self.now.chip.index.now)
             (done ++ planned_in self.now.chip.index.now place (module_value «module».now) «module».now.tests.items) lanes.new.items) }
     {
@@ -238,7 +257,8 @@ impl<'a> Setting<'a> {
         requires sound { IsSoundChip (soc_value self.now.chip.soc.now) }
         requires good { IsGoodAlone (soc_value self.now.chip.soc.now) self.now.chip.index.now }
         requires firsts { AreFirstWires (widths self.now.chip.index.now) self.now.firsts.now }
-        ensures { IfOk result (λ lanes. AreLanes (IsPlacedLane (C.keys contents.now) (soc_value self.now.chip.soc.now) self.now.chip.index.now)
+        ensures { IfOk result (λ lanes.
+            AreLanes (IsPlacedLane (C.keys contents.now) (soc_value self.now.chip.soc.now) self.now.chip.index.now)
             (planned (soc_value self.now.chip.soc.now) self.now.chip.index.now) lanes.items) }
     {
         let mut lanes = Vec::new(alloc);
@@ -255,8 +275,8 @@ impl<'a> Setting<'a> {
     }
 }
 
-/// The live tests of a chip in its order, as a good plan places them, by the keys that contents know them by. `firsts` has the first wire of
-/// each bus, and behind them the number of all wires.
+/// The live tests of a chip in its order, as a good plan places them, by the keys that contents know them by. `firsts` has the first
+/// wire of each bus, and behind them the number of all wires.
 pub fn placed_lanes<'a, C: Contents>(
     alloc: Global,
     soc: &'a Soc,

@@ -21,4 +21,5 @@ pub record IsMade (files : Files) (soc : List ℕ) (seed : ℕ) (old new : Optio
 -- so where the call ends with Done, and the shelf tells what it holds
 abbrev pub Headline : Option CommandValue → Option Files → Option (List ℕ) → Status → Option (List ℕ) → Type 0
 Headline command held old end new =
-    (files : Files) (soc : List ℕ) (seed : ℕ) → held ≡ Some files → command ≡ Some (Data soc seed) → end ≡ Done → IsMade files soc seed old new
+    (files : Files) (soc : List ℕ) (seed : ℕ) → held ≡ Some files → command ≡ Some (Data soc seed) → end ≡ Done →
+    IsMade files soc seed old new

@@ -57,7 +57,8 @@ part_of seed place m at t = record { head = test_line (name_in m t); base = (see
 -- of the tests from a place on
 abbrev pub parts_in : (seed place : ℕ) → ModuleValue → (at : ℕ) → List Test → List PartValue
 parts_in seed place m at [] = []
-parts_in seed place m at (t ∷ ts) = if is_tam t then part_of seed place m at t ∷ parts_in seed place m (at + 1) ts else parts_in seed place m (at + 1) ts
+parts_in seed place m at (t ∷ ts) =
+    if is_tam t then part_of seed place m at t ∷ parts_in seed place m (at + 1) ts else parts_in seed place m (at + 1) ts
 
 -- of the modules from a place on
 abbrev pub parts_from : (seed place : ℕ) → List ModuleValue → List PartValue

@@ -280,7 +280,8 @@ impl Block {
         requires empty { waiting self.old ≡ [] }
         requires small { All (λ p. IsSmallPart (part_value p)) parts.now }
         ensures faults { K.faults out.old ≤ K.faults out.new }
-        ensures written { OnOk result (Appended (K.written out.old) (codes "Data 1\n" ++ parts_text (map part_value parts.now)) (K.written out.new)) }
+        ensures written { OnOk result (Appended (K.written out.old)
+            (codes "Data 1\n" ++ parts_text (map part_value parts.now)) (K.written out.new)) }
         ensures none_failed { OnOk result (Puts K.is_put out.old false out.new) }
         ensures failed { OnErr result (HasFailed K.is_put K.written K.faults out.old out.new
             (codes "Data 1\n" ++ parts_text (map part_value parts.now))) }

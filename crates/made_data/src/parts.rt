@@ -6,7 +6,7 @@ ghost use Rattle.soc_model.specs.Chips.{module_value, soc_value};
 ghost use Rattle.made_data.specs.DataText.{test_line as line_of};
 ghost use Rattle.made_data.specs.Parts.{IsSmallPart, part_length as length_of, part_of as the_part, part_value, parts_from, parts_in};
 
-use bit_machine::{Contents, Made};
+use bit_machine::{Contents, MadeContents};
 use outside::{NoMemory, extend, push, push_number};
 use soc_model::{Module, Soc, Test, TestId, over_wires};
 use std::alloc::Global;
@@ -54,7 +54,7 @@ fn part_of(
     let head = test_line(alloc, id)?;
     Ok(Part {
         head,
-        base: Made { seed }.key(place, at, id),
+        base: MadeContents { seed }.key(place, at, id),
         wanted: wanted_for(module, test),
     })
 }

@@ -7,7 +7,7 @@ ghost use Rattle.retargeter.specs.Contents.{byte_for as the_byte, entry_place, n
 
 use bit_machine::{Contents, PatternBits};
 use soc_model::TestId;
-use test_data::{DataBit, PatternBits as PatternWords, TestData, bit_of};
+use test_data::{DataBit, PatternWords, TestData, bit_of};
 
 /// What is driven for a bit that may be any.
 const DRIVEN: u8 = b'0';

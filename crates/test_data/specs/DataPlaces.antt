@@ -9,7 +9,7 @@ use Rattle.test_data.specs.declared.DataBit.{DataBit}
 use Rattle.test_data.specs.declared.places.BitPlace.{BitPlace}
 use Rattle.test_data.specs.declared.places.PatternPlaces.{PatternPlaces}
 use Rattle.test_data.specs.declared.places.TestEntry.{TestEntry}
-use Rattle.test_data.specs.declared.places.PatternBits.{PatternBits}
+use Rattle.test_data.specs.declared.places.PatternWords.{PatternWords}
 use Rattle.test_data.specs.declared.spots.WordSpot.{WordSpot}
 use Rattle.test_data.specs.declared.text.DataText.{DataText}
 use Rattle.test_data.specs.declared.text.DataText.TheVariants as text
@@ -78,7 +78,7 @@ pub record IsNextWord (bytes : List ℕ) (place line : ℕ) (s : WordSpot) : Typ
 
 -- ---- what is handed out
 
-abbrev pub bits_value : PatternBits → PatternValue
+abbrev pub bits_value : PatternWords → PatternValue
 bits_value p = record { load = map bit_of p.load.now; unload = map bit_of p.unload.now }
 
 abbrev pub pattern_of : Option EntryValue → ℕ → Option PatternValue

@@ -6,7 +6,7 @@ ghost use Rattle.test_data.specs.DataWords.{EntryValue};
 ghost use Rattle.test_data.specs.DataAnswers.{IsReadData};
 ghost use Rattle.test_data.specs.DataPlaces.{bits_value, entries_in, pattern_at};
 
-use crate::places::{PatternBits, TestEntry, bytes_of};
+use crate::places::{PatternWords, TestEntry, bytes_of};
 use crate::text::read_entries;
 use crate::{DATA_MOST, DataFault};
 use outside::Unread;
@@ -47,12 +47,12 @@ impl TestData {
     }
 
     /// The bits of a pattern of an entry, both by their places. None comes exactly where there is no such pattern.
-    pub fn pattern(&self, entry: usize, pattern: usize) -> Option<PatternBits<'_>>
+    pub fn pattern(&self, entry: usize, pattern: usize) -> Option<PatternWords<'_>>
         ensures { option_map bits_value result ≡ pattern_at self.now entry pattern }
     {
         let found = self.entries.get(entry)?;
         let places = found.patterns.get(pattern)?;
-        Some(PatternBits {
+        Some(PatternWords {
             load: bytes_of(&self.bytes, places.load),
             unload: bytes_of(&self.bytes, places.unload),
         })

@@ -19,7 +19,7 @@ pub use laws::{
     say_one_data, some_content_agrees,
 };
 pub use misfits::{Wanted, first_misfit, wanted_for};
-pub use places::{PatternBits, bit_of};
+pub use places::{PatternWords, bit_of};
 use soc_model::TestId;
 
 /// Bytes of a text of test data, at most.

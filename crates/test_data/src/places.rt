@@ -29,7 +29,7 @@ pub struct TestEntry {
 
 /// The bits of a pattern, a byte for each; [`bit_of`] says which bit a byte stands for.
 #[derive(Clone, Copy, Drop)]
-pub struct PatternBits<'a> {
+pub struct PatternWords<'a> {
     /// Those of the stimulus: of the input cells, and then of the scan chains by chain and place.
     pub load: &'a [u8],
     /// Those of the response: of the scan chains by chain and place, and then of the output cells.

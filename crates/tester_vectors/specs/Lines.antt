@@ -14,7 +14,8 @@ use Rattle.tester_vectors.specs.VectorText.{head_line, cycle_line}
 
 -- the lines of `count` cycles of a plan, from one on
 abbrev pub lines_of : SocValue → PlanValue → Content → Marks → (from count : ℕ) → List ℕ
-lines_of soc plan content marks from count = flat_map (cycle_line content marks (planned soc plan) (wires_of plan)) (range_with_len from count)
+lines_of soc plan content marks from count =
+    flat_map (cycle_line content marks (planned soc plan) (wires_of plan)) (range_with_len from count)
 
 -- what a run of vectors keeps: its plan is good, the vectors are those of the plan for contents with these keys; the first line, the bytes
 -- of a line, and room for some lines

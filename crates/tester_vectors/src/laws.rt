@@ -15,7 +15,8 @@ pub fn marks_are_reads()
 
 /// In a good plan the mark of a wire at a cycle is that of the response bit that is read there, and `-` where none is read.
 pub fn marks_stand()
-    ensures { (soc : SocValue) (limits : LimitsValue) (plan : PlanValue) (marks : Marks) → IsGood soc limits plan → MarksStand soc plan marks }
+    ensures { (soc : SocValue) (limits : LimitsValue) (plan : PlanValue) (marks : Marks) → IsGood soc limits plan →
+        MarksStand soc plan marks }
 {}
 
 /// A run that is driven with the bits of a good plan's vectors loads each pattern and reads the bits that they compare, for

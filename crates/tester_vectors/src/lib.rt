@@ -22,7 +22,7 @@ ghost use Rattle.tester_vectors.specs.DrivenRuns.{RunsAsShown};
 mod laws;
 mod text;
 
-use bit_machine::{Contents, Made, made_contents_stand};
+use bit_machine::{Contents, MadeContents, made_contents_stand};
 pub use laws::{marks_are_reads, marks_stand, vectors_run_as_shown};
 use live_tests::all_wires;
 use outside::Sink;
@@ -146,7 +146,7 @@ pub fn write_vectors<K: Sink>(
         return Outcome::RunTooLong { cells };
     }
     made_contents_stand();
-    match write_lines(alloc, soc, plan, &Made { seed }, out) {
+    match write_lines(alloc, soc, plan, &MadeContents { seed }, out) {
         LinesOutcome::Written => Outcome::Written,
         LinesOutcome::WriteFault => Outcome::WriteFault,
         LinesOutcome::NoMemory => Outcome::NoMemory,
