@@ -6,3 +6,5 @@ pub mod Wired
 pub mod GoodPlans
 pub mod Whole
 mod Rows
+pub mod Shared
+pub mod Held

@@ -6,3 +6,4 @@ pub mod ModuleLines
 pub mod Holders
 pub mod Chains
 pub mod ReportText
+pub mod Laws

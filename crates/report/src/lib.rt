@@ -23,12 +23,14 @@ mod buses;
 mod chain;
 mod entries;
 mod holders;
+mod laws;
 mod modules;
 mod peak;
 mod totals;
 
 use buses::push_buses;
 use chain::push_chain;
+pub use laws::good_plans_report_right;
 use live_tests::{PlacedTest, tests_placed};
 use modules::push_modules;
 use outside::NoMemory;
