@@ -28,13 +28,13 @@ use Rattle.made_data.proofs.ReadBack.{IsSmallName, AreSmallNames}
 
 -- ---- each entry is a test's
 
-record IsEntryOf (soc : SocValue) (content : Content) (e : EntryValue) : Type 0 where
-  core : ModuleValue
-  test : Test
-  is : IsTamTest soc core test
-  entry : e ≡ entry_of content core test
+pub record IsEntryOf (soc : SocValue) (content : Content) (e : EntryValue) : Type 0 where
+  pub core : ModuleValue
+  pub test : Test
+  pub is : IsTamTest soc core test
+  pub entry : e ≡ entry_of content core test
 
-entry_at : (soc : SocValue) (content : Content) (q : ℕ) (e : EntryValue) → slice_get (entries_of soc content) q ≡ Some e → IsEntryOf soc content e
+pub entry_at : (soc : SocValue) (content : Content) (q : ℕ) (e : EntryValue) → slice_get (entries_of soc content) q ≡ Some e → IsEntryOf soc content e
 unfolding entries_of
 entry_at soc content q e at =
     let f = from_flat_map (entries_in content) soc.modules q e at in

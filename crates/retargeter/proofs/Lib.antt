@@ -7,3 +7,4 @@ pub mod SaidBits
 pub mod DataFiles
 pub mod Endings
 pub mod Answering
+pub mod ContentTexts

@@ -10,6 +10,7 @@ ghost use Rattle.test_data.specs.Agreement.{Agrees, Suits};
 ghost use Rattle.test_data.specs.DataWords.{EntryValue};
 ghost use Rattle.tester_vectors.specs.VectorText.{vector_text};
 ghost use Rattle.commands.specs.Settled.{RefusesOne, SaysOne};
+ghost use Rattle.made_data.specs.Entries.{entries_of};
 ghost use Rattle.retargeter.specs.DataRuns.{RunsWithData};
 ghost use Rattle.retargeter.specs.DataTexts.{retarget_text, SaysAllResponses};
 ghost use Rattle.retargeter.specs.Readings.{RefusesData, SaysSuiting};
@@ -26,6 +27,13 @@ pub fn full_data_gives_vectors()
     ensures { (soc : SocValue) (limits : LimitsValue) (plan : PlanValue) (es : List EntryValue) (content : Content) → IsSoundChip soc →
         IsGood soc limits plan → Suits soc es → Agrees soc es content → SaysAllResponses es →
         retarget_text soc plan es ≡ vector_text soc plan content }
+{}
+
+/// The text of a good plan with the data of a content is that of the content's vectors: `retarget` of what `data` writes for a seed is
+/// what `vectors` writes for it.
+pub fn data_of_contents_gives_vectors()
+    ensures { (soc : SocValue) (limits : LimitsValue) (plan : PlanValue) (content : Content) → IsSoundChip soc →
+        IsGood soc limits plan → retarget_text soc plan (entries_of soc content) ≡ vector_text soc plan content }
 {}
 
 /// A text says at most one list of entries that suit a chip, and is refused in no more than one line.

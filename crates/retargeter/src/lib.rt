@@ -15,7 +15,10 @@ mod loading;
 mod top;
 
 pub use contents::{DataContents, WordBytes};
-pub use laws::{data_files_say_one_thing, full_data_gives_vectors, retargeted_texts_run_right};
+pub use laws::{
+    data_files_say_one_thing, data_of_contents_gives_vectors, full_data_gives_vectors,
+    retargeted_texts_run_right,
+};
 pub use loading::load_suiting;
 pub use top::retarget;
 
