@@ -1,5 +1,5 @@
 -- The most that modules are worth on the buses of a case, bus by bus.
-use Rattle.std.specs.Prelude.{◌≡◌, ℕ, ◌+◌, ◌-◌, ◌<◌, ◌≤◌, ◌×◌, List, length, slice_index}
+use Rattle.std.specs.Prelude.{◌≡◌, ℕ, ◌+◌, ◌-◌, ◌<◌, ◌≤◌, List, length, slice_index}
 use Rattle.pack_leaves.specs.Knapsacks.{most_worth}
 use Rattle.pack_leaves.specs.Sharings.{IsMostShared}
 use Rattle.proof_model.specs.Proofs.{PricingValue, WeightsValue}

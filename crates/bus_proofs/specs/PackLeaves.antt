@@ -56,9 +56,10 @@ pub record ArePricedOnce (soc : SocValue) (prices : List (ℕ × ℕ)) : Type 0 
   pub wired : All (HasTamTest soc) (numbers_priced prices)
   pub differ : AllDiffer (numbers_priced prices)
 
--- Such modules, lists as of a sum, and no more cells and no more work, with the work `done` of the leaves before it, than there may
--- be.
+-- A cell has a cycle; such modules, lists as of a sum, and no more cells and no more work, with the work `done` of the leaves before
+-- it, than there may be.
 pub record IsPack (soc : SocValue) (w : ℕ) (lists : List ListValue) (claim done : ℕ) (c : Case) (pricing : PricingValue) : Type 0 where
+  pub some : 1 ≤ pricing.grain
   pub modules : ArePricedOnce soc pricing.prices
   pub named : AreNamedLists lists c pricing.lists
   pub few : cells_of claim pricing ≤ CELLS_MOST

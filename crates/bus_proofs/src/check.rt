@@ -6,11 +6,12 @@ ghost use Rattle.plan_model.specs.Views.{limits_value};
 ghost use Rattle.plan_model.specs.Rules.{IsBound};
 ghost use Rattle.plan_model.specs.SoundLimits.{IsSoundLimits};
 ghost use Rattle.live_tests.specs.Resolved.{IsResolved};
+ghost use Rattle.bus_proofs.specs.declared.basis.Basis.{Basis};
 ghost use Rattle.proof_model.specs.Proofs.{LeafValue, OfLeaf, node_value, proof_value};
 ghost use Rattle.proof_model.specs.Sayable.{MayBeSaid};
 ghost use Rattle.bus_proofs.specs.Bounds.{IsAccepted, IsProofFault};
 ghost use Rattle.bus_proofs.specs.Bases.{chip_of, limits_of, proof_of};
-ghost use Rattle.bus_proofs.specs.Walks.{named_in};
+ghost use Rattle.bus_proofs.specs.Walks.{FitsLeaves, named_in};
 ghost use Rattle.bus_proofs.specs.ProofRooms.{IsProofRoom};
 
 use crate::ProofFault;
@@ -142,6 +143,14 @@ impl<'a> ProofRoom<'a> {
     }
 }
 
+/// No work is noted yet.
+fn begin_work(leaf: &mut LeafRoom)
+    ensures leaves { (g : Basis) → FitsLeaves g leaf.old → FitsLeaves g leaf.new }
+    ensures work { leaf.new.pack.work ≡ 0 }
+{
+    leaf.pack.work = 0;
+}
+
 /// The check over a room in the case of the root, which it has again at the end.
 fn check_in(
     basis: &Basis<'_>,
@@ -160,7 +169,7 @@ fn check_in(
         });
     }
     let root = case.mark();
-    leaf.pack.work = 0;
+    begin_work(leaf);
     let checked = check_nodes(basis, case, leaf, turns);
     case.undo(root);
     checked

@@ -30,8 +30,8 @@ fn price_sum(pricing: &Pricing) -> u64
     ensures small { result ≤ 10 ^ 18 }
 {
     let mut sum = 0;
-    for (_, price) in &pricing.prices {
-        sum += *price;
+    for item in 0..pricing.prices.len() {
+        sum += pricing.prices[item].1;
     }
     sum
 }

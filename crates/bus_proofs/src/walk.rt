@@ -211,8 +211,9 @@ fn next_branch(
 
 /// The answer to what was found at the leaf at a place.
 fn judge_answer(claimed: u64, place: usize, answer: LeafAnswer) -> Result<(), ProofFault>
-    ensures { (g : Basis) (done : ℕ) (c : Case) (leaf : LeafValue) → claimed ≡ claim_of g → IsLeafAnswer g done c leaf answer →
+    ensures judged { (g : Basis) (done : ℕ) (c : Case) (leaf : LeafValue) → claimed ≡ claim_of g → IsLeafAnswer g done c leaf answer →
         IsJudged g done place (in_case c (OfLeaf leaf)) result }
+    ensures broken { answer ≡ LeafAnswer.Broken → OnOk result ⊥ }
 {
     match answer {
         LeafAnswer::Broken => Err(ProofFault::BadNode { place }),
