@@ -4,6 +4,7 @@ use Rattle.std.specs.Prelude.{slice_get, slice_index, nat_eq, nat_lt, ◌&&◌, 
 use Rattle.std.specs.List.{All, sum, sum_by}
 use Rattle.std.proofs.lemmas.Bool.{cases_lt, cases_Bool, eqb-true, lt-ltb, le-ltb, and_parts, and_from, eq-eqb}
 use Rattle.std.proofs.lemmas.List.{length-map, get_or_default, take_all}
+use Rattle.std.proofs.lemmas.List.Sums.{sum_by-cons, sum-cons}
 use Rattle.std.proofs.lemmas.Nat.{le-div}
 use Rattle.std.proofs.Math.Nat.{mul-add, mul-div-le}
 use Rattle.std.proofs.lemmas.Option.{slice_get-get_or, slice_get_within}
@@ -92,7 +93,7 @@ prices_are pricing = by pricing.prices
   where
     all : (xs : List (ℕ × ℕ)) → sum_by (λ (p : ℕ × ℕ). p.1) xs ≡ sum (map (λ (p : ℕ × ℕ). p.1) xs)
     all [] = refl
-    all (x ∷ xs) = let ih : sum_by (λ (p : ℕ × ℕ). p.1) xs ≡ sum (map (λ (p : ℕ × ℕ). p.1) xs) = all xs in ap (λ n. x.1 + n) ih
+    all (x ∷ xs) = omega (arith, all xs, sum_by-cons (λ (p : ℕ × ℕ). p.1) x xs, sum-cons x.1 (map (λ (p : ℕ × ℕ). p.1) xs))
 
     by : (xs : List (ℕ × ℕ)) → sum_by (λ (p : ℕ × ℕ). p.1) xs ≡ sum_below (slice_index (map (λ (p : ℕ × ℕ). p.1) xs)) (length xs)
     by xs =
@@ -278,7 +279,7 @@ prices_fit soc limits lists plan claim c pricing f rank top leafing once some pa
 -- ---- leaves of both kinds
 
 pub leaves_none : (soc : SocValue) (limits : LimitsValue) (lists : List ListValue) (claim : ℕ) (plan : PlanValue) → IsSoundChip soc → IsGood soc limits plan → IsTimed soc limits plan → SomeWire soc plan → AreKept soc limits lists → plan.cycles < claim → LeavesHaveNone soc limits lists claim plan
-leaves_none soc limits lists claim plan sound good timed some kept short done c (OfSum weights) rule holds = sums_none soc limits lists claim plan sound good timed some kept short c weights rule holds
+leaves_none soc limits lists claim plan sound good timed some kept short done c (OfSum weights) rule holds f rank top ranked is = sums_none soc limits lists claim plan sound good timed some kept short c weights rule holds f rank top ranked is
 leaves_none soc limits lists claim plan sound good timed some kept short done c (OfPack pricing) rule holds f rank top ranked is = elim holds [
   | inl empty ↦ empty_none soc plan limits.wires c f rank top ranked is empty
   | inr other ↦ elim other [

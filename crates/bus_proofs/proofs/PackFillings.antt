@@ -2,6 +2,7 @@
 use Rattle.std.proofs.Common.{◌≡◌, ℕ, zero, suc, ◌+◌, ◌-◌, ◌≤◌, ◌<◌, Bool, true, false, Option, Some, None, List, [], ◌∷◌, length, refl, sym, ap, ◌∙◌, subst, arith, inl, inr, ◌⊎◌}
 use Rattle.std.specs.Prelude.{nat_lt, ◌&&◌, if◌then◌else◌}
 use Rattle.std.specs.List.{sum_by}
+use Rattle.std.proofs.lemmas.List.Sums.{sum_by-cons}
 use Rattle.std.proofs.lemmas.Bool.{cases_lt, lt-ltb, le-ltb}
 use Rattle.plan_model.specs.Bounds.{sum_below}
 use Rattle.plan_model.proofs.SumsOverCycles.{sum_below-same, sum_below-add, sum_below-le_by}
@@ -31,7 +32,9 @@ sum_split f m (suc n) =
 -- the least widths, rank by rank
 lows_are : (is : List Interval) → sum_below (λ k. (interval_of is k).low) (length is) ≡ least_wires is
 lows_are [] = sum_none (λ k. (interval_of [] k).low)
-lows_are (i ∷ is) = (let first = sum_below-first (λ k. (interval_of (i ∷ is) k).low) (length is) in let rest = lows_are is in omega (arith, first, rest))
+lows_are (i ∷ is) =
+    let first : sum_below (λ k. (interval_of (i ∷ is) k).low) (suc (length is)) ≡ i.low + sum_below (λ k. (interval_of is k).low) (length is) = sum_below-first (λ k. (interval_of (i ∷ is) k).low) (length is) in
+    first ∙ ap (λ n. i.low + n) (lows_are is) ∙ sym (sum_by-cons (λ (j : Interval). j.low) i is)
 
 -- ---- one bus
 

@@ -1,5 +1,5 @@
 -- What modules are worth on buses, module by module and rank by rank.
-use Rattle.std.proofs.Common.{◌≡◌, ℕ, zero, suc, ◌+◌, ◌-◌, ◌*◌, ◌^◌, ◌≤◌, ◌<◌, Bool, true, false, List, [], ◌∷◌, length, map, refl, sym, ap, ◌∙◌, subst, arith, inl, inr}
+use Rattle.std.proofs.Common.{◌≡◌, ℕ, zero, suc, ◌+◌, ◌-◌, ◌*◌, ◌^◌, ◌≤◌, ◌<◌, Bool, true, false, Option, List, [], ◌∷◌, length, map, refl, sym, ap, ◌∙◌, subst, arith, inl, inr}
 use Rattle.std.specs.Prelude.{slice_get, slice_index, nat_lt, ◌&&◌, if◌then◌else◌}
 use Rattle.std.specs.List.{All}
 use Rattle.std.proofs.lemmas.Bool.{cases_lt, lt-ltb, le-ltb}
@@ -16,11 +16,12 @@ use Rattle.proof_model.specs.Proofs.{PricingValue}
 use Rattle.proof_model.specs.Sayable.{ArePrices, IsPrice}
 use Rattle.bus_proofs.specs.declared.basis.Basis.{Basis}
 use Rattle.bus_proofs.specs.Cases.{Case, known_ranks, low_at, spare}
-use Rattle.bus_proofs.specs.Leaves.{rest_high}
-use Rattle.bus_proofs.specs.Bases.{chip_of, limits_of, lists_of, claim_of}
-use Rattle.bus_proofs.specs.PackLeaves.{ArePricedOnce, cells_of, cells_taken, has_slot, net_worth, price_at, priced_place}
+use Rattle.bus_proofs.specs.Leaves.{cost, module_use, rest_high, slot, weighed}
+use Rattle.bus_proofs.specs.Bases.{IsBasis, chip_of, limits_of, lists_of, claim_of}
+use Rattle.bus_proofs.specs.PackLeaves.{ArePricedOnce, bus_rank, cells_of, cells_taken, has_slot, list_weights, net_worth, price_at, priced_place}
 use Rattle.bus_proofs.specs.PackBuses.{IsWiresRow, bus_most, most_of, net_at, rank_worth, rest_worth, span_at}
 use Rattle.bus_proofs.proofs.PackBounds.{items-le}
+use Rattle.bus_proofs.proofs.ProofChecks.{few_modules}
 
 -- ---- how many modules, and what they are worth at most
 
@@ -28,6 +29,10 @@ pub few_priced : (soc : SocValue) (pricing : PricingValue) → ArePricedOnce soc
 few_priced soc pricing once =
     let each : sum_below (λ i. 1) (length pricing.prices) ≤ sum_below (λ p. 1) (length soc.modules) = items-le soc pricing (λ p. 1) once in
     omega (arith, each, sum_below-one (length pricing.prices), sum_below-one (length soc.modules))
+
+-- no more than a chip has modules
+pub few_modules_priced : (g : Basis) (pricing : PricingValue) → IsBasis g → ArePricedOnce (chip_of g) pricing.prices → length pricing.prices ≤ 1000
+few_modules_priced g pricing basis once = omega (arith, few_priced (chip_of g) pricing once, few_modules (chip_of g) basis.sound.size)
 
 pub price-le : (pricing : PricingValue) (item : ℕ) → ArePrices pricing → price_at pricing item ≤ 10 ^ 15
 price-le pricing item are = by pricing.prices item are.prices
@@ -47,6 +52,19 @@ most-le g c pricing rank width count cells are =
     omega (arith, all, each)
 
 -- ---- one module more
+
+-- what a price leaves beyond the uses that were found
+pub net_is : (g : Basis) (c : Case) (pricing : PricingValue) (place price rank width known uses net : ℕ) (own : Option ℕ) → net ≡ price - uses → uses ≡ cost (chip_of g) (limits_of g) (lists_of g) (list_weights pricing) place (slot own width 0) →
+    own ≡ bus_rank known rank → known ≡ known_ranks c → net ≡ net_at g c pricing place price rank width
+net_is g c pricing place price rank width known uses net own net_is uses_is own_is known_is =
+    let alone : cost (chip_of g) (limits_of g) (lists_of g) (list_weights pricing) place (slot own width 0) ≡ weighed (lists_of g) (list_weights pricing) (module_use (chip_of g) (limits_of g) place (slot own width 0)) = omega arith in
+    net_is ∙ ap (λ u. price - u) (uses_is ∙ alone ∙ ap (λ r. weighed (lists_of g) (list_weights pricing) (module_use (chip_of g) (limits_of g) place (slot r width 0))) (own_is ∙ ap (λ n. bus_rank n rank) known_is))
+
+-- the item that was added
+pub item_is : (b : Bool) (time time' net net' : ℕ) (row : ℕ → ℕ) (x n : ℕ) → true ≡ b → time ≡ time' → net ≡ net' → n ≡ with_item true time net row x → n ≡ with_item b time' net' row x
+item_is b time time' net net' row x n b_is time_is net_is is =
+    is ∙ ap (λ t. with_item true t net row x) time_is ∙ ap (λ m. with_item true time' m row x) net_is ∙ ap (λ c. with_item c time' net' row x) b_is
+
 
 -- a row of a bus with one module more
 pub row_more : (g : Basis) (c : Case) (pricing : PricingValue) (rank width item : ℕ) (place price : ℕ) (before after : ℕ → ℕ) (end : ℕ) →
@@ -83,12 +101,12 @@ no_wire g c pricing rank = by (length pricing.prices)
     by (suc n) =
         worth_next (λ item. has_slot (chip_of g) (claim_of g) c (priced_place (chip_of g) pricing item) rank 0) (λ item. cells_taken (chip_of g) pricing (priced_place (chip_of g) pricing item) 0)
         (λ item. net_worth (chip_of g) (limits_of g) (lists_of g) c pricing item rank 0) n (cells_of (claim_of g) pricing)
-        ∙ ap (λ b. with_item b (cells_taken (chip_of g) pricing (priced_place (chip_of g) pricing n) 0) (net_worth (chip_of g) (limits_of g) (lists_of g) c pricing n rank 0) (most_of g c pricing rank 0 n) (cells_of (claim_of g) pricing)) (off (if nat_lt rank (known_ranks c) then c.may (priced_place (chip_of g) pricing n) rank else c.may_rest (priced_place (chip_of g) pricing n)))
+        ∙ ap (λ b. with_item b (cells_taken (chip_of g) pricing (priced_place (chip_of g) pricing n) 0) (net_worth (chip_of g) (limits_of g) (lists_of g) c pricing n rank 0) (most_of g c pricing rank 0 n) (cells_of (claim_of g) pricing)) (off (if nat_lt rank (known_ranks c) then c.may (priced_place (chip_of g) pricing n) rank else c.may_rest (priced_place (chip_of g) pricing n)) _)
         ∙ by n
       where
-        off : (b : Bool) {d : Bool} → b && (false && d) ≡ false
-        off true = refl
-        off false = refl
+        off : (b d : Bool) → b && (false && d) ≡ false
+        off true d = refl
+        off false d = refl
 
 -- ---- all buses
 
@@ -113,9 +131,10 @@ rank_noted worth noted row span x n same h = record {
 pub rest_rows : (g : Basis) (c : Case) (pricing : PricingValue) (noted row : List ℕ) (high end : ℕ) → high ≡ rest_high (limits_of g).wires c (known_ranks c) → end ≡ spare (limits_of g).wires c.intervals + 1 →
     ((w : ℕ) → w ≤ high → slice_index noted w ≡ bus_most g c pricing (known_ranks c) (0 + w)) → ((x : ℕ) → x < end → IsWithRest (slice_index noted) (slice_index row) high x (slice_index row x)) → IsWiresRow g c pricing 0 row
 rest_rows g c pricing noted row high end high_is end_is same filled x less =
+    let noted_is : (w : ℕ) → slice_index noted w ≡ bus_most g c pricing (known_ranks c) (0 + w) → slice_index noted w ≡ bus_most g c pricing (known_ranks c) w = (λ w e. let zero : 0 + w ≡ w = omega arith in e ∙ ap (bus_most g c pricing (known_ranks c)) zero) in
     subst (λ h. IsMostShared (rest_worth g c pricing) (rank_worth g c pricing) (span_at c) h 0 x (slice_index row x)) high_is
     (rest_most (rest_worth g c pricing) (slice_index row) (rank_worth g c pricing) (span_at c) high end (no_wire g c pricing (known_ranks c))
-    (λ y h. rest_noted (rest_worth g c pricing) (slice_index noted) (slice_index row) high y (slice_index row y) (λ w l. same w l) (filled y h)) x (omega (arith, less, end_is)))
+    (λ y h. rest_noted (rest_worth g c pricing) (slice_index noted) (slice_index row) high y (slice_index row y) (λ w l. noted_is w (same w l)) (filled y h)) x (omega (arith, less, end_is)))
 
 pub rank_rows : (g : Basis) (c : Case) (pricing : PricingValue) (rank : ℕ) (noted before after : List ℕ) (span end : ℕ) → span ≡ span_at c rank → end ≡ spare (limits_of g).wires c.intervals + 1 →
     ((w : ℕ) → w ≤ span → slice_index noted w ≡ bus_most g c pricing rank (low_at c rank + w)) → ((x : ℕ) → x < end → IsWithRank (slice_index noted) (slice_index before) span x (slice_index after x)) →

@@ -112,6 +112,7 @@ fn note_work(room: &mut PackRoom, work: u128) -> bool
 /// The work of a leaf where buses have so many cells.
 fn pack_work(case: &CaseRoom, pricing: &Pricing, cells: u64) -> u128
     requires case { HasCase case.now }
+    requires known { (c : Case) × IsCaseOf case.now c }
     requires cells { cells ≤ 4096 }
     requires lists { length pricing.now.lists.items ≤ 2 ^ 24 }
     requires prices { length pricing.now.prices.items ≤ 2 ^ 24 }
@@ -134,6 +135,7 @@ fn keeps_rule(
     requires basis { IsBasis basis.now }
     requires case { HasCase case.now }
     requires of { IsCaseFor basis.now case.now }
+    requires known { (c : Case) × IsCaseOf case.now c }
     requires prices { ArePrices (pricing_value pricing.now) }
     requires few { max (length pricing.now.lists.items) (length pricing.now.prices.items) ≤ 2 ^ 24 }
     requires places { max (length pricing.now.lists.items) (length pricing.now.prices.items) ≤ length room.old.bus.places.items }

@@ -160,6 +160,7 @@ fn add_priced(
     requires leaf { IsPackSetting basis.now case.now weighed.now grain }
     requires width { bus.width ≤ (limits_of basis.now).wires }
     requires place { item.place < length (chip_of basis.now).modules }
+    requires few { (claim_of basis.now - 1) / grain ≤ 4096 }
     requires room { (claim_of basis.now - 1) / grain < length row.old }
     requires small { (x : ℕ) → x < (claim_of basis.now - 1) / grain + 1 → slice_index row.old x + item.price ≤ 10 ^ 18 }
     ensures long { length row.new ≡ length row.old }

@@ -109,7 +109,8 @@ fn widths_known(widths: &Widths) -> u64
 
 /// How many widths of a bus of a known rank or of the rest there are.
 fn pair_count(case: &CaseRoom) -> u64
-    requires { HasCase case.now }
+    requires case { HasCase case.now }
+    requires known { (c : Case) × IsCaseOf case.now c }
     ensures count { (c : Case) → IsCaseOf case.now c → result ≡ pair_count case.now.widths.wires c }
     ensures few { result ≤ 2 ^ 18 }
 {
@@ -119,7 +120,7 @@ fn pair_count(case: &CaseRoom) -> u64
 /// What is to be worked out at a leaf where buses have so many cells.
 pub(crate) fn work_in(case: &CaseRoom, pricing: &Pricing, cells: u64) -> u128
     requires case { HasCase case.now }
-    requires wires { case.now.widths.wires ≤ 256 }
+    requires known { (c : Case) × IsCaseOf case.now c }
     requires cells { cells ≤ 4096 }
     requires lists { length (pricing_value pricing.now).lists ≤ 2 ^ 24 }
     requires prices { length (pricing_value pricing.now).prices ≤ 2 ^ 24 }
@@ -129,6 +130,6 @@ pub(crate) fn work_in(case: &CaseRoom, pricing: &Pricing, cells: u64) -> u128
 {
     let pairs = pair_count(case);
     let of_price = cells + 1 + pricing.lists.len() as u64;
-    let of_pair = u128::from(of_price) * pricing.prices.len() as u128 + u128::from(case.widths.wires);
-    of_pair * u128::from(pairs)
+    let of_pair = pricing.prices.len() as u64 * of_price + case.widths.wires;
+    u128::from(pairs) * u128::from(of_pair)
 }

@@ -59,3 +59,22 @@ pub returns-else-not-begin_place-clause-work : goal.returns-else-not-begin_place
 returns-else-not-begin_place-clause-work c = λ root x left at.
     split_work c.args.basis.now root c.args.turns.now c.args.at.depth c.args.leaf.now.pack.work c.args.case.now c.args.at.node x left (OfPlace c.in-Place.«module» c.in-Place.rank c.deref.result.now)
     (c.node_at.ensures ∙ ap (λ n. Some (node_value n)) c.in-Place.is ∙ ap (λ (ts : List ℕ). Some (OfSplit (OfPlace c.in-Place.«module» c.in-Place.rank ts))) (sym c.deref.ensures.value)) at
+
+pub next_branch-requires-in-Ok-judge_pack-clause-awaits : goal.next_branch-requires-in-Ok-judge_pack-clause-awaits
+next_branch-requires-in-Ok-judge_pack-clause-awaits c = (
+  c.requires.at.0,
+  c.requires.at.2,
+  c.requires.at.3.further,
+  leaf_awaits c.args.basis.now c.requires.at.0 c.args.turns.now c.args.at.depth c.args.case.now c.args.at.node c.requires.at.1 c.requires.at.2 (OfPack (pricing_value c.in-Pack.pricing))
+      (c.node_at.ensures ∙ ap (λ n. Some (node_value n)) c.in-Pack.is) c.requires.at.3,
+)
+
+pub returns-in-Ok-judge_pack-clause-judged : goal.returns-in-Ok-judge_pack-clause-judged
+returns-in-Ok-judge_pack-clause-judged c = λ root x left at.
+    leaf_enough c.args.basis.now root c.args.turns.now c.args.at.depth 0 c.args.leaf.now.pack.work c.args.case.now c.args.at.node x left (OfPack (pricing_value c.in-Pack.pricing))
+    (c.node_at.ensures ∙ ap (λ n. Some (node_value n)) c.in-Pack.is) at (c.in-Ok-judge_pack.ensures.judged x.within at.case)
+
+pub returns-in-Ok-judge_pack-clause-further : goal.returns-in-Ok-judge_pack-clause-further
+returns-in-Ok-judge_pack-clause-further c = λ root x left at.
+    c.next_branch-in-Ok-judge_pack.ensures.further root left at.further
+    (leaf_awaits c.args.basis.now root c.args.turns.now c.args.at.depth c.args.case.now c.args.at.node x left (OfPack (pricing_value c.in-Pack.pricing)) (c.node_at.ensures ∙ ap (λ n. Some (node_value n)) c.in-Pack.is) at)
