@@ -4,7 +4,7 @@ use Rattle.std.specs.Prelude.{slice_get, slice_index, nat_eq, nat_lt, ◌&&◌, 
 use Rattle.std.specs.List.{All, sum, sum_by}
 use Rattle.std.proofs.lemmas.Bool.{cases_lt, cases_Bool, eqb-true, lt-ltb, le-ltb, and_parts, and_from, eq-eqb}
 use Rattle.std.proofs.lemmas.List.{length-map, get_or_default, take_all}
-use Rattle.std.proofs.lemmas.List.Sums.{sum_by-cons, sum-cons}
+use Rattle.std.proofs.lemmas.List.Sums.{sum_by-cons}
 use Rattle.std.proofs.lemmas.Nat.{le-div}
 use Rattle.std.proofs.Math.Nat.{mul-add, mul-div-le}
 use Rattle.std.proofs.lemmas.Option.{slice_get-get_or, slice_get_within}
@@ -93,7 +93,7 @@ prices_are pricing = by pricing.prices
   where
     all : (xs : List (ℕ × ℕ)) → sum_by (λ (p : ℕ × ℕ). p.1) xs ≡ sum (map (λ (p : ℕ × ℕ). p.1) xs)
     all [] = refl
-    all (x ∷ xs) = omega (arith, all xs, sum_by-cons (λ (p : ℕ × ℕ). p.1) x xs, sum-cons x.1 (map (λ (p : ℕ × ℕ). p.1) xs))
+    all (x ∷ xs) = omega (arith, all xs, sum_by-cons (λ (p : ℕ × ℕ). p.1) x xs, sum_by-cons (λ (n : ℕ). n) x.1 (map (λ (p : ℕ × ℕ). p.1) xs))
 
     by : (xs : List (ℕ × ℕ)) → sum_by (λ (p : ℕ × ℕ). p.1) xs ≡ sum_below (slice_index (map (λ (p : ℕ × ℕ). p.1) xs)) (length xs)
     by xs =

@@ -1,5 +1,5 @@
 -- What modules are worth on buses, module by module and rank by rank.
-use Rattle.std.proofs.Common.{◌≡◌, ℕ, zero, suc, ◌+◌, ◌-◌, ◌*◌, ◌^◌, ◌≤◌, ◌<◌, Bool, true, false, Option, List, [], ◌∷◌, length, map, refl, sym, ap, ◌∙◌, subst, arith, inl, inr}
+use Rattle.std.proofs.Common.{◌≡◌, ℕ, zero, suc, ◌+◌, ◌-◌, ◌*◌, ◌^◌, ◌≤◌, ◌<◌, Bool, true, false, Option, List, [], ◌∷◌, length, map, refl, sym, ap, ◌∙◌, subst, arith, inl, inr, ◌⊎◌}
 use Rattle.std.specs.Prelude.{slice_get, slice_index, nat_lt, ◌&&◌, if◌then◌else◌}
 use Rattle.std.specs.List.{All}
 use Rattle.std.proofs.lemmas.Bool.{cases_lt, lt-ltb, le-ltb}
@@ -15,10 +15,12 @@ use Rattle.pack_leaves.proofs.Shares.{rest_most, rank_most}
 use Rattle.proof_model.specs.Proofs.{PricingValue}
 use Rattle.proof_model.specs.Sayable.{ArePrices, IsPrice}
 use Rattle.bus_proofs.specs.declared.basis.Basis.{Basis}
-use Rattle.bus_proofs.specs.Cases.{Case, known_ranks, low_at, spare}
-use Rattle.bus_proofs.specs.Leaves.{cost, module_use, rest_high, slot, weighed}
+use Rattle.bus_proofs.specs.Cases.{Case, Interval, IsEmpty, high_at, interval_of, known_ranks, low_at, spare}
+use Rattle.bus_proofs.specs.declared.case.CaseRoom.{CaseRoom}
+use Rattle.bus_proofs.specs.CaseRooms.{IsCaseOf}
+use Rattle.bus_proofs.specs.Leaves.{cost, is_short, module_use, rest_high, slot, weighed}
 use Rattle.bus_proofs.specs.Bases.{IsBasis, chip_of, limits_of, lists_of, claim_of}
-use Rattle.bus_proofs.specs.PackLeaves.{ArePricedOnce, bus_rank, cells_of, cells_taken, has_slot, list_weights, net_worth, price_at, priced_place}
+use Rattle.bus_proofs.specs.PackLeaves.{ArePricedOnce, bus_at, bus_rank, cells_of, cells_taken, has_slot, list_weights, net_worth, price_at, priced_place}
 use Rattle.bus_proofs.specs.PackBuses.{IsWiresRow, bus_most, most_of, net_at, rank_worth, rest_worth, span_at}
 use Rattle.bus_proofs.proofs.PackBounds.{items-le}
 use Rattle.bus_proofs.proofs.ProofChecks.{few_modules}
@@ -56,9 +58,9 @@ most-le g c pricing rank width count cells are =
 -- what a price leaves beyond the uses that were found
 pub net_is : (g : Basis) (c : Case) (pricing : PricingValue) (place price rank width known uses net : ℕ) (own : Option ℕ) → net ≡ price - uses → uses ≡ cost (chip_of g) (limits_of g) (lists_of g) (list_weights pricing) place (slot own width 0) →
     own ≡ bus_rank known rank → known ≡ known_ranks c → net ≡ net_at g c pricing place price rank width
-net_is g c pricing place price rank width known uses net own net_is uses_is own_is known_is =
+net_is g c pricing place price rank width known uses net own less_is uses_is own_is known_is =
     let alone : cost (chip_of g) (limits_of g) (lists_of g) (list_weights pricing) place (slot own width 0) ≡ weighed (lists_of g) (list_weights pricing) (module_use (chip_of g) (limits_of g) place (slot own width 0)) = omega arith in
-    net_is ∙ ap (λ u. price - u) (uses_is ∙ alone ∙ ap (λ r. weighed (lists_of g) (list_weights pricing) (module_use (chip_of g) (limits_of g) place (slot r width 0))) (own_is ∙ ap (λ n. bus_rank n rank) known_is))
+    less_is ∙ ap (λ u. price - u) (uses_is ∙ alone ∙ ap (λ r. weighed (lists_of g) (list_weights pricing) (module_use (chip_of g) (limits_of g) place (slot r width 0))) (own_is ∙ ap (λ n. bus_rank n rank) known_is))
 
 -- the item that was added
 pub item_is : (b : Bool) (time time' net net' : ℕ) (row : ℕ → ℕ) (x n : ℕ) → true ≡ b → time ≡ time' → net ≡ net' → n ≡ with_item true time net row x → n ≡ with_item b time' net' row x
@@ -101,7 +103,7 @@ no_wire g c pricing rank = by (length pricing.prices)
     by (suc n) =
         worth_next (λ item. has_slot (chip_of g) (claim_of g) c (priced_place (chip_of g) pricing item) rank 0) (λ item. cells_taken (chip_of g) pricing (priced_place (chip_of g) pricing item) 0)
         (λ item. net_worth (chip_of g) (limits_of g) (lists_of g) c pricing item rank 0) n (cells_of (claim_of g) pricing)
-        ∙ ap (λ b. with_item b (cells_taken (chip_of g) pricing (priced_place (chip_of g) pricing n) 0) (net_worth (chip_of g) (limits_of g) (lists_of g) c pricing n rank 0) (most_of g c pricing rank 0 n) (cells_of (claim_of g) pricing)) (off (if nat_lt rank (known_ranks c) then c.may (priced_place (chip_of g) pricing n) rank else c.may_rest (priced_place (chip_of g) pricing n)) _)
+        ∙ ap (λ b. with_item b (cells_taken (chip_of g) pricing (priced_place (chip_of g) pricing n) 0) (net_worth (chip_of g) (limits_of g) (lists_of g) c pricing n rank 0) (most_of g c pricing rank 0 n) (cells_of (claim_of g) pricing)) (off (if nat_lt rank (known_ranks c) then c.may (priced_place (chip_of g) pricing n) rank else c.may_rest (priced_place (chip_of g) pricing n)) (is_short (chip_of g) (claim_of g) (priced_place (chip_of g) pricing n) (bus_at c rank 0)))
         ∙ by n
       where
         off : (b d : Bool) → b && (false && d) ≡ false
@@ -110,7 +112,19 @@ no_wire g c pricing rank = by (length pricing.prices)
 
 -- ---- all buses
 
-abbrev WithRow : Basis → Case → PricingValue → (known x n : ℕ) → Type 0
+-- where a case has a plan, no rank is without a width
+pub not_crossed : (w : ℕ) (room : CaseRoom) (c : Case) (rank : ℕ) → IsCaseOf room c → (IsEmpty w c → ⊥) → rank < length room.widths.intervals.items → (interval_of room.widths.intervals.items rank).low ≤ (interval_of room.widths.intervals.items rank).high
+not_crossed w room c rank of some within =
+    subst (λ (l : List Interval). (interval_of l rank).low ≤ (interval_of l rank).high) (sym of.intervals) (by (cases_lt (high_at c rank) (low_at c rank)))
+  where
+    long : length room.widths.intervals.items ≡ known_ranks c
+    long = ap length of.intervals
+
+    by : (high_at c rank < low_at c rank) ⊎ (low_at c rank ≤ high_at c rank) → low_at c rank ≤ high_at c rank
+    by (inl cross) = absurd (some (inr (rank, omega (arith, within, long), cross)))
+    by (inr fine) = fine
+
+abbrev pub WithRow : Basis → Case → PricingValue → (known x n : ℕ) → Type 0
 WithRow g c pricing known x n = IsMostShared (rest_worth g c pricing) (rank_worth g c pricing) (span_at c) (rest_high (limits_of g).wires c (known_ranks c)) known x n
 
 -- what a bus is worth by the numbers that were noted
@@ -127,6 +141,15 @@ rank_noted worth noted row span x n same h = record {
   reached = (let w = h.is in let e = same h.best w.to in let r = h.reached in omega (arith, e, r));
   most = λ w is. (let e = same w is.to in let m = h.most w is in omega (arith, e, m));
 }
+
+-- no number of a row with one rank more is much greater
+pub rank_small : (worth row : ℕ → ℕ) (span x n most : ℕ) → IsWithRank worth row span x n → ((w : ℕ) → w ≤ span → worth w ≤ 10 ^ 18) → ((y : ℕ) → y ≤ x → row y ≤ most) → n ≤ most + 10 ^ 18
+rank_small worth row span x n most g few low =
+    let w = g.is in
+    let own = few g.best w.to in
+    let rest = low (x - g.best) (omega arith) in
+    let r = g.reached in
+    omega (arith, own, rest, r)
 
 pub rest_rows : (g : Basis) (c : Case) (pricing : PricingValue) (noted row : List ℕ) (high end : ℕ) → high ≡ rest_high (limits_of g).wires c (known_ranks c) → end ≡ spare (limits_of g).wires c.intervals + 1 →
     ((w : ℕ) → w ≤ high → slice_index noted w ≡ bus_most g c pricing (known_ranks c) (0 + w)) → ((x : ℕ) → x < end → IsWithRest (slice_index noted) (slice_index row) high x (slice_index row x)) → IsWiresRow g c pricing 0 row

@@ -68,6 +68,7 @@ fn pays_too_much(
         PaysTooMuch (chip_of basis.now) (limits_of basis.now) (lists_of basis.now) (claim_of basis.now) c (pricing_value pricing.now) → ⊥ }
     ensures room { IsBusesRoom basis.now (pricing_value pricing.now) room.new }
     ensures work { room.new.work ≡ room.old.work }
+    ensures places { room.new.bus.places ≡ room.old.bus.places }
 {
     let filled = most_filled(basis, weighed, case, pricing, room);
     let prices = price_sum(pricing);

@@ -195,6 +195,7 @@ fn bus_most(
     ensures most { (c : Case) → IsCaseOf case.now c → result ≡ bus_most basis.now c (pricing_value pricing.now) bus.rank bus.width }
     ensures small { result ≤ 10 ^ 18 }
     ensures room { IsBusRoom basis.now (pricing_value pricing.now) room.new }
+    ensures places { room.new.places ≡ room.old.places }
 {
     let end = cells_of(basis.proof.claimed, pricing.grain) as usize + 1;
     clear_row(&mut room.cells, end);
@@ -232,6 +233,7 @@ fn note_worths(
     ensures room { IsBusesRoom basis.now (pricing_value pricing.now) room.new }
     ensures wires { room.new.wires ≡ room.old.wires }
     ensures work { room.new.work ≡ room.old.work }
+    ensures places { room.new.bus.places ≡ room.old.bus.places }
 {
     for more in 0..span as usize + 1 {
         let bus = Bus {
@@ -257,6 +259,7 @@ fn rest_row(
         slice_index room.new.wires.items x ≤ 300 * 10 ^ 18 }
     ensures room { IsBusesRoom basis.now (pricing_value pricing.now) room.new }
     ensures work { room.new.work ≡ room.old.work }
+    ensures places { room.new.bus.places ≡ room.old.bus.places }
 {
     let known = known_ranks(&case.widths);
     let high = rest_high(case);
@@ -280,6 +283,7 @@ fn rank_row(
 )
     requires leaf { IsPackLeaf basis.now case.now weighed.now (pricing_value pricing.now) }
     requires room { IsBusesRoom basis.now (pricing_value pricing.now) room.old }
+    requires some { (c : Case) → IsCaseOf case.now c → IsEmpty (limits_of basis.now).wires c → ⊥ }
     requires rank { rank < length case.now.widths.intervals.items }
     requires few { rank < 256 }
     requires small { (x : ℕ) → x ≤ spare (limits_of basis.now).wires case.now.widths.intervals.items →
@@ -290,6 +294,7 @@ fn rank_row(
         slice_index room.new.wires.items x ≤ (301 + rank) * 10 ^ 18 }
     ensures room { IsBusesRoom basis.now (pricing_value pricing.now) room.new }
     ensures work { room.new.work ≡ room.old.work }
+    ensures places { room.new.bus.places ≡ room.old.bus.places }
 {
     let interval = interval_at(&case.widths, rank);
     let span = interval.high.saturating_sub(interval.low);
@@ -318,6 +323,7 @@ pub(crate) fn most_filled(
     ensures small { result ≤ 600 * 10 ^ 18 }
     ensures room { IsBusesRoom basis.now (pricing_value pricing.now) room.new }
     ensures work { room.new.work ≡ room.old.work }
+    ensures places { room.new.bus.places ≡ room.old.bus.places }
 {
     rest_row(basis, weighed, case, pricing, room);
     for rank in 0..known_ranks(&case.widths) {

@@ -1,6 +1,6 @@
-use Rattle.std.proofs.Common.{◌≡◌, ◌≤◌, ◌<◌, ◌+◌, ◌-◌, ◌/◌, ◌*◌, ◌^◌, ℕ, length, refl, sym, ap, subst, ◌∙◌, arith, rules}
+use Rattle.std.proofs.Common.{◌≡◌, ◌≤◌, ◌<◌, ◌+◌, ◌-◌, ◌/◌, ◌*◌, ◌^◌, ℕ, length, refl, sym, ap, subst, ◌∙◌, arith}
 use Rattle.std.specs.Prelude.{slice_index}
-use Rattle.std.proofs.lemmas.List.{with_items_is}
+use Rattle.std.proofs.lemmas.List.{get_or_default, with_items_is}
 use Rattle.proof_model.specs.Proofs.{pricing_value}
 use Rattle.bus_proofs.specs.Bases.{chip_of, claim_of}
 use Rattle.bus_proofs.specs.PackLeaves.{cells_of, priced_place}
@@ -26,6 +26,7 @@ loop-item-init c =
     let items = with_items_is c.args.room.now.cells c.clear_row.new.row (omega (arith, c.clear_row.ensures.long, long, c.args.room.now.cells.ok.0)) in
     record {
       room = record { cells = ap length items ∙ c.clear_row.ensures.long ∙ long ∙ c.requires.room.cells; long = c.requires.room.long; places = c.requires.room.places };
+      places = refl;
       row = λ k of x less. ap (λ l. slice_index l x) items ∙ c.clear_row.ensures.row x less ∙ row_none c.args.basis.now k (pricing_value c.args.pricing.now) c.args.bus.rank c.args.bus.width x;
     }
 
@@ -56,6 +57,7 @@ loop-item-preserved c =
     c.priced_at-priced.ensures.place ∙ ap (λ l. slice_index l c.loop-item.item) c.deref.ensures.value ∙ c.loop-item.invariant.room.places c.loop-item.item (omega (arith, c.loop-item-test.true, c.len-item-end.ensures)) in
     record {
       room = record { cells = ap length items ∙ c.add_priced.ensures.long ∙ long ∙ room.cells; long = room.long; places = room.places };
+      places = c.loop-item.invariant.places;
       row = λ k of x less. ap (λ l. slice_index l x) items
           ∙ row_more c.args.basis.now k (pricing_value c.args.pricing.now) c.args.bus.rank c.args.bus.width c.loop-item.item c.priced_at-priced.result.place c.priced_at-priced.result.price
           (slice_index c.deref_mut-in-loop-item.result.now) (slice_index c.add_priced.new.row) (c.cells_of.result + 1) place c.priced_at-priced.ensures.price
@@ -75,7 +77,8 @@ returns-clause-most c = λ k of.
     let end : c.loop-item.item ≡ length (pricing_value c.args.pricing.now).prices = omega (arith, c.loop-item-test.false, c.loop-item.auto.item-end, c.len-item-end.ensures) in
     let last : c.cells_of.result + 1 - 1 ≡ cells_of (claim_of c.args.basis.now) (pricing_value c.args.pricing.now) = omega (arith, cells) in
     let here : slice_index c.loop-item.room.cells.items (c.cells_of.result + 1 - 1) ≡ most_of c.args.basis.now k (pricing_value c.args.pricing.now) c.args.bus.rank c.args.bus.width c.loop-item.item (c.cells_of.result + 1 - 1) = c.loop-item.invariant.row k of (c.cells_of.result + 1 - 1) (omega arith) in
-    let read : c.index.result.now ≡ slice_index c.loop-item.room.cells.items (c.cells_of.result + 1 - 1) = search rules in
+    let read : c.index.result.now ≡ slice_index c.loop-item.room.cells.items (c.cells_of.result + 1 - 1) =
+    sym (get_or_default c.loop-item.room.cells.items (c.cells_of.result + 1 - 1) 0 c.index.result.now (omega (arith, cells, c.requires.leaf.few, c.loop-item.invariant.room.cells)) ∙ sym c.index.ensures) in
     read ∙ here ∙ ap (λ n. most_of c.args.basis.now k (pricing_value c.args.pricing.now) c.args.bus.rank c.args.bus.width n (c.cells_of.result + 1 - 1)) end
     ∙ ap (most_of c.args.basis.now k (pricing_value c.args.pricing.now) c.args.bus.rank c.args.bus.width (length (pricing_value c.args.pricing.now).prices)) last
 

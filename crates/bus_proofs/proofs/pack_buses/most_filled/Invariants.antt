@@ -13,4 +13,5 @@ invariant-loop-rank l = record {
   row : (k : Case) → IsCaseOf l.case k → IsWiresRow l.basis k (pricing_value l.pricing) l.rank l.room.wires.items;
   small : (x : ℕ) → x ≤ spare (limits_of l.basis).wires l.case.widths.intervals.items → slice_index l.room.wires.items x ≤ (300 + l.rank) * 10 ^ 18;
   work : l.room.work ≡ l.initial.room.work;
+  places : l.room.bus.places ≡ l.initial.room.bus.places;
 }

@@ -13,4 +13,5 @@ invariant-loop-more l = record {
   small : (d : ℕ) → d < l.more → slice_index l.room.worth.items d ≤ 10 ^ 18;
   wires : l.room.wires ≡ l.initial.room.wires;
   work : l.room.work ≡ l.initial.room.work;
+  places : l.room.bus.places ≡ l.initial.room.bus.places;
 }
