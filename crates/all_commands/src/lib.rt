@@ -19,6 +19,7 @@ use made_data::make_data;
 use outside::{Shelf, Sink};
 use plan_improver::improve;
 use plan_picture::draw;
+use plan_report::report_plan;
 use plan_simulator::simulate;
 use retargeter::retarget;
 use soctest::soctest;
@@ -78,6 +79,7 @@ pub fn run_command<H: Shelf, K: Sink, T: Sink>(
         TopCall::Prove => prove_bound(alloc, words, shelf, out, progress),
         TopCall::Data => make_data(alloc, words, shelf, out),
         TopCall::Retarget => retarget(alloc, words, shelf, out),
+        TopCall::Report => report_plan(alloc, words, shelf, out),
         TopCall::Soctest => soctest(alloc, words, shelf, out),
     }
 }

@@ -6,4 +6,5 @@ mod deciding;
 mod lines;
 mod top;
 
+pub use deciding::accepted_claim;
 pub use top::check_bound;

@@ -5,7 +5,7 @@ use Rattle.commands.specs.Procedures.{done_with}
 use Rattle.commands.proofs.FileStages.{done_of}
 use Rattle.commands.proofs.AllFiles.{not_all, after_all}
 use Rattle.commands.proofs.LoadStages.{after_three, stops_all, done_loaded}
-use Rattle.plan_picture.proofs.top.decide_picture.Goals as goal
+use Rattle.plan_picture.proofs.deciding.decide_picture.Goals as goal
 
 pub returns-in-Ok-clause-follows : goal.returns-in-Ok-clause-follows
 returns-in-Ok-clause-follows g c =
