@@ -56,7 +56,9 @@ draw_sweep() {
         function line(values, colour,    i, points) {
             for (i = 1; i <= NR; i++) points = points sprintf("%.1f,%.1f ", x(wires[i]), y(values[i]))
             printf "<polyline fill=\"none\" stroke=\"%s\" stroke-width=\"2\" points=\"%s\"/>\n", colour, points
-            for (i = 1; i <= NR; i++) printf "<circle cx=\"%.1f\" cy=\"%.1f\" r=\"3\" fill=\"%s\"><title>%d wires: %s cycles</title></circle>\n", x(wires[i]), y(values[i]), colour, wires[i], values[i]
+            for (i = 1; i <= NR; i++)
+                printf "<circle cx=\"%.1f\" cy=\"%.1f\" r=\"3\" fill=\"%s\"><title>%d wires: %s cycles</title></circle>\n", x(wires[i]),
+                    y(values[i]), colour, wires[i], values[i]
         }
         END {
             print "<svg xmlns=\"http://www.w3.org/2000/svg\" viewBox=\"0 0 720 390\" font-family=\"sans-serif\" font-size=\"12\">"
@@ -65,12 +67,16 @@ draw_sweep() {
             for (i = 1; i <= NR; i++) if (cycles[i] <= 1.01 * least) { knee = i; break }
             if (knee) {
                 printf "<path d=\"M%.1f 20V330\" stroke=\"grey\" stroke-dasharray=\"4\"/>\n", x(wires[knee])
-                printf "<text x=\"%.1f\" y=\"15\" text-anchor=\"middle\">%d wires are within 1 %% of the best</text>\n", x(wires[knee]) < 180 ? 180 : x(wires[knee]) > 560 ? 560 : x(wires[knee]), wires[knee]
+                at = x(wires[knee])
+                if (at < 180) at = 180
+                if (at > 560) at = 560
+                printf "<text x=\"%.1f\" y=\"15\" text-anchor=\"middle\">%d wires are within 1 %% of the best</text>\n", at, wires[knee]
             }
             line(claim, "orange")
             line(cycles, "royalblue")
-            printf "<text x=\"64\" y=\"%.1f\" text-anchor=\"end\">%s</text>\n<text x=\"64\" y=\"334\" text-anchor=\"end\">0</text>\n", y(most) + 4, most
-            for (i = 1; i <= NR; i++) if (NR <= 16 || i % int((NR + 15) / 16) == 1) printf "<text x=\"%.1f\" y=\"348\" text-anchor=\"middle\">%d</text>\n", x(wires[i]), wires[i]
+            printf "<text x=\"64\" y=\"%.1f\" text-anchor=\"end\">%s</text>\n", y(most) + 4, most
+            print "<text x=\"64\" y=\"334\" text-anchor=\"end\">0</text>"
+            for (i = 1; i <= NR; i += 1 + int((NR - 1) / 16)) printf "<text x=\"%.1f\" y=\"348\" text-anchor=\"middle\">%d</text>\n", x(wires[i]), wires[i]
             print "<text x=\"380\" y=\"368\" text-anchor=\"middle\">wires</text>"
             print "<text x=\"80\" y=\"384\" fill=\"royalblue\">cycles of the plan</text>\n<text x=\"220\" y=\"384\" fill=\"darkorange\">cycles that no good plan goes below</text>\n</svg>"
         }' "$1"
@@ -87,6 +93,7 @@ sweep() {
     read_words "$@"
     are_right "$@" && (($4 <= $5)) || { refuse_words sweep; return; }
     need_program sweep
+    take_in filing
     [ -z "$svg" ] || is_free "$svg" || { say "nothing can be written to $svg" && return 5; }
     soc=$2 limits=$3 tries=${7:-10000} count=$(nproc 2>/dev/null || echo 1)
     room=$(mktemp -d) || give_up 'no folder can be made for the files'

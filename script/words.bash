@@ -23,7 +23,7 @@ is_in_range() {
 
 # what read_words sets: the words of a command by its help, those that are given for its files, and its first number that is out of range
 form=() wrong=''
-declare -A files=()
+declare -gA files=()
 
 read_words() {
     local i file
