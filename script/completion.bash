@@ -53,8 +53,6 @@ _soctest() {
     install) form=(install DIR) ;;
     *) read -ra form <"$_soctest_help/${COMP_WORDS[at]}.txt" || return ;;
     esac 2>/dev/null
-    # (a picture may take a proof as one word more)
-    [[ ${form[0]-} != picture ]] || form+=(PROOF)
     case ${form[COMP_CWORD - at]-} in
     SOC) _soctest_files .soc ;;
     LIMITS) _soctest_files .lim ;;
