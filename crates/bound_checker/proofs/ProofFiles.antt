@@ -1,8 +1,6 @@
 -- A file with a proof: the files give one answer of it, and the bound that is printed is one.
-use Rattle.std.proofs.Common.{◌≡◌, ◌∙◌, ℕ, List, Option, Some, Result, Ok, Err, IfOk, true, sym, subst, ap, inl, inr}
+use Rattle.std.proofs.Common.{◌≡◌, ◌∙◌, ℕ, List, Option, Some, true, sym, subst, ap}
 use Rattle.std.specs.FinMap.{get}
-use Rattle.std.specs.Global.{Vec}
-use Rattle.outside.specs.declared.NoMemory.{NoMemory as MemoryFault}
 use Rattle.outside.specs.Held.{Files, Appended}
 use Rattle.outside.specs.Words.{words_of}
 use Rattle.outside.specs.Grammars.{last_line}
@@ -19,22 +17,18 @@ use Rattle.proof_text.specs.TextLaws.{SayOneProof, ProofsAreNotRefused, ProofsAr
 use Rattle.commands.specs.declared.FileKind.TheVariants.{Soc, Limits, Proof}
 use Rattle.commands.specs.declared.Status.{Status}
 use Rattle.commands.specs.declared.Status.TheVariants.{Done}
-use Rattle.commands.specs.declared.Verdict.{Verdict}
-use Rattle.commands.specs.declared.Verdict.TheVariants.{Answered, CannotRead, NoMemory as OutOfMemory}
 use Rattle.commands.specs.Answers.{Answers}
 use Rattle.commands.specs.Commands.{CommandValue, Bound}
-use Rattle.commands.specs.Decides.{AnswersBytes, GivesText}
 use Rattle.commands.specs.Ends.{MayAnswer, Ends}
 use Rattle.commands.specs.Procedures.{asked, done_with}
 use Rattle.commands.specs.Readings.{IsRead, SaysLimits}
 use Rattle.commands.specs.Settled.{SaysOne, RefusesOne, IsSettled, FilesSayOneThing}
 use Rattle.commands.proofs.Completeness.{settled_both}
-use Rattle.commands.proofs.OwnFiles.{bytes_answered}
 use Rattle.commands.proofs.Judged.{JudgedLaws, judged_one, judged_refused_one}
 use Rattle.commands.proofs.Settled.{done_once}
 use Rattle.commands.proofs.Trusted.{both_done, done_answer, read_as_well, stage_done}
 use Rattle.bound_checker.specs.Headlines.{IsProvedBound, Headline}
-use Rattle.bound_checker.specs.Readings.{ClaimsBound, SaysBound, RefusesProof}
+use Rattle.bound_checker.specs.Readings.{SaysBound, RefusesProof}
 use Rattle.bound_checker.specs.Requests.{procedure_of, with_proof}
 use Rattle.bound_checker.specs.Texts.{bound_line, proof_line, proof_fault_line}
 
@@ -74,19 +68,6 @@ bound_settled laws proof chip bounds = (proof_one laws chip bounds, proof_refuse
 pub settled_asked : FilesSayOneThing → ProofLaws → (command : Option CommandValue) → IsSettled true (asked procedure_of command)
 settled_asked files laws (Some (Bound soc limits proof)) = settled_both files true soc limits (with_proof proof) (bound_settled laws proof)
 settled_asked files laws other = tt
-
--- ---- what is answered of a claim
-
-pub claim_answered : (chip : SocValue) (bounds : LimitsValue) (answer : ProofValue → List ℕ) (bytes : List ℕ) (claim : ℕ) (made : Result (Vec ℕ) MemoryFault) (verdict : Verdict) → ClaimsBound chip bounds bytes (Ok claim) →
-    ((value : ProofValue) → value.claimed ≡ claim → IfOk made (λ text. text.items ≡ answer value)) → GivesText Done made verdict → AnswersBytes (SaysBound chip bounds) (RefusesProof chip bounds) answer bytes verdict
-claim_answered chip bounds answer bytes claim made verdict claims is d =
-    bytes_answered (SaysBound chip bounds) (RefusesProof chip bounds) answer bytes claims.0 made verdict claims.1 (is claims.0 claims.2) d
-
-pub claim_refused : (chip : SocValue) (bounds : LimitsValue) (answer : ProofValue → List ℕ) (bytes : List ℕ) (verdict : Verdict) → ClaimsBound chip bounds bytes (Err verdict) → AnswersBytes (SaysBound chip bounds) (RefusesProof chip bounds) answer bytes verdict
-claim_refused chip bounds answer bytes (Answered status text) (inl said) = absurd said.1.1
-claim_refused chip bounds answer bytes (Answered status text) (inr refused) = inr refused
-claim_refused chip bounds answer bytes (CannotRead file) d = absurd d
-claim_refused chip bounds answer bytes OutOfMemory d = tt
 
 -- ---- the bound that is printed
 

@@ -1,13 +1,11 @@
 -- What the bytes of a file with a proof say, and the lines that refuse them.
-use Rattle.std.specs.Prelude.{◌≡◌, ℕ, ◌⊎◌, List, [], Result, Ok, Err}
+use Rattle.std.specs.Prelude.{◌≡◌, ℕ, ◌⊎◌, List}
 use Rattle.soc_model.specs.Chips.{SocValue}
 use Rattle.plan_model.specs.Plans.{LimitsValue}
 use Rattle.bus_proofs.specs.declared.ProofFault.{ProofFault}
 use Rattle.proof_model.specs.Proofs.{ProofValue}
 use Rattle.proof_text.specs.Answers.{SaysProof, RefusesText}
 use Rattle.bus_proofs.specs.Bounds.{IsAccepted, IsProofFault}
-use Rattle.commands.specs.declared.Verdict.{Verdict}
-use Rattle.commands.specs.Decides.{AnswersBytes}
 use Rattle.bound_checker.specs.Texts.{proof_line, proof_fault_line}
 
 -- the text says the proof, which is accepted for the chip under the limits
@@ -20,9 +18,3 @@ RefusesProof chip bounds bytes text =
     ((line : ℕ) × RefusesText bytes line × (text ≡ proof_line line))
     ⊎ ((value : ProofValue) × SaysProof bytes value × ((fault : ProofFault) × IsProofFault chip bounds value fault
     × (text ≡ proof_fault_line fault)))
-
--- the claim of an accepted proof that the text says, or a verdict on a text that says none
-abbrev pub ClaimsBound : SocValue → LimitsValue → List ℕ → Result ℕ Verdict → Type 0
-ClaimsBound chip bounds bytes (Ok claim) = (value : ProofValue) × SaysBound chip bounds bytes value × (value.claimed ≡ claim)
-ClaimsBound chip bounds bytes (Err verdict) =
-    AnswersBytes {ProofValue} (λ bytes value. ⊥) (RefusesProof chip bounds) (λ value. []) bytes verdict

@@ -1,8 +1,7 @@
 //! Decides how a call ends before anything is written.
-ghost use Rattle.std.specs.Prelude.{◌≡◌, ℕ, ◌≤◌, List, map, string_bytes, IfSome};
-ghost use Rattle.soc_model.specs.Chips.{SocValue, soc_value};
+ghost use Rattle.std.specs.Prelude.{◌≡◌, ◌≤◌, map, string_bytes, IfSome};
+ghost use Rattle.soc_model.specs.Chips.{soc_value};
 ghost use Rattle.soc_model.specs.SoundChips.{IsSoundChip};
-ghost use Rattle.plan_model.specs.Plans.{LimitsValue};
 ghost use Rattle.plan_model.specs.SoundLimits.{IsSoundLimits};
 ghost use Rattle.plan_model.specs.Views.{limits_value};
 ghost use Rattle.plan_model.specs.Rules.{live_ids};
@@ -12,7 +11,7 @@ ghost use Rattle.commands.specs.Procedures.{asked};
 ghost use Rattle.commands.specs.Decides.{AnswersBytes, Decides, Follows};
 ghost use Rattle.commands.specs.Ends.{IsCommand};
 ghost use Rattle.commands.specs.Loads.{LoadsGive};
-ghost use Rattle.bound_checker.specs.Readings.{ClaimsBound, RefusesProof, SaysBound};
+ghost use Rattle.bound_checker.specs.Readings.{RefusesProof, SaysBound};
 ghost use Rattle.bound_checker.specs.Requests.{procedure_of, with_proof};
 ghost use Rattle.bound_checker.specs.Texts.{bound_line as bound_text};
 
@@ -23,74 +22,42 @@ use commands::{
     load_file, refused_with,
 };
 use limits_text::resolved_of;
-use live_tests::{LiveTests, Resolved};
+use live_tests::Resolved;
 use outside::Shelf;
 use plan_model::Limits;
 use proof_text::{ProofTextFault, read_proof};
 use soc_model::Soc;
 use std::alloc::Global;
 
-/// The claim of the proof that a text says, as [`accepted_claim`], where chip and limits are resolved.
-fn claim_with(
+/// What is answered of a proof's bytes, for a chip under limits.
+fn answer_proof(
     alloc: Global,
     soc: &Soc,
     limits: &Limits,
     resolved: &Resolved,
     bytes: &[u8],
-) -> Result<u64, Verdict>
+) -> Verdict
     requires chip { IsSoundChip (soc_value soc.now) }
     requires limits { IsSoundLimits (soc_value soc.now) (limits_value limits.now) }
     requires resolved { IsResolved (soc_value soc.now) limits.now resolved.now }
-    ensures { ClaimsBound (soc_value soc.now) (limits_value limits.now) bytes.now result }
+    ensures { AnswersBytes (SaysBound (soc_value soc.now) (limits_value limits.now))
+        (RefusesProof (soc_value soc.now) (limits_value limits.now)) bound_text bytes.now result }
 {
     let proof = match read_proof(alloc, bytes) {
         Ok(proof) => proof,
-        Err(ProofTextFault::Text { line }) => return Err(refused_with(proof_line(alloc, line))),
-        Err(ProofTextFault::NoMemory) => return Err(Verdict::NoMemory),
+        Err(ProofTextFault::Text { line }) => return refused_with(proof_line(alloc, line)),
+        Err(ProofTextFault::NoMemory) => return Verdict::NoMemory,
     };
     let Ok(mut room) = ProofRoom::with_resolved(alloc, soc, limits, resolved, &proof) else {
-        return Err(Verdict::NoMemory);
+        return Verdict::NoMemory;
     };
     match check_proof(&mut room) {
-        Ok(()) => Ok(proof.claimed),
-        Err(fault) => Err(refused_with(proof_fault_line(alloc, fault))),
+        Ok(()) => answered_with(Status::Done, bound_line(alloc, &proof)),
+        Err(fault) => refused_with(proof_fault_line(alloc, fault)),
     }
 }
 
-/// The claim, in cycles, of the proof that a text says, where it is accepted for a chip under limits, whose live tests may be noted.
-/// Else how the command ends: the line that refuses the text or the proof, or out of memory.
-pub fn accepted_claim(
-    alloc: Global,
-    soc: &Soc,
-    limits: &Limits,
-    live: Option<LiveTests>,
-    bytes: &[u8],
-) -> Result<u64, Verdict>
-    requires chip { IsSoundChip (soc_value soc.now) }
-    requires limits { IsSoundLimits (soc_value soc.now) (limits_value limits.now) }
-    requires live { IfSome live (λ tests. tests ≡ live_ids (soc_value soc.now)) }
-    ensures { ClaimsBound (soc_value soc.now) (limits_value limits.now) bytes.now result }
-{
-    let Ok(resolved) = resolved_of(alloc, soc, limits, live) else {
-        return Err(Verdict::NoMemory);
-    };
-    let claimed = claim_with(alloc, soc, limits, &resolved, bytes);
-    drop(resolved);
-    claimed
-}
-
-/// What is answered of a claim, or how the command ends without one.
-fn answer_claim(alloc: Global, claimed: Result<u64, Verdict>) -> Verdict
-    ensures { (chip : SocValue) (bounds : LimitsValue) (bytes : List ℕ) → ClaimsBound chip bounds bytes claimed →
-        AnswersBytes (SaysBound chip bounds) (RefusesProof chip bounds) bound_text bytes result }
-{
-    match claimed {
-        Ok(claim) => answered_with(Status::Done, bound_line(alloc, claim)),
-        Err(verdict) => verdict,
-    }
-}
-
-/// What is answered of a proof's bytes, for a chip under limits.
+/// Resolves a chip and its limits, and answers a proof's bytes for them.
 fn answer_bytes(alloc: Global, both: Both, bytes: &[u8]) -> Verdict
     requires chip { IsSoundChip (soc_value both.soc) }
     requires limits { IsSoundLimits (soc_value both.soc) (limits_value both.limits) }
@@ -99,8 +66,12 @@ fn answer_bytes(alloc: Global, both: Both, bytes: &[u8]) -> Verdict
         (RefusesProof (soc_value both.soc) (limits_value both.limits)) bound_text bytes.now result }
 {
     let Both { soc, limits, live } = both;
-    let claimed = accepted_claim(alloc, &soc, &limits, live, bytes);
-    answer_claim(alloc, claimed)
+    let Ok(resolved) = resolved_of(alloc, &soc, &limits, live) else {
+        return Verdict::NoMemory;
+    };
+    let verdict = answer_proof(alloc, &soc, &limits, &resolved, bytes);
+    drop(resolved);
+    verdict
 }
 
 /// Loads the proof of this name and answers its bytes for a chip and its limits, else how the command ends without them.

@@ -6,5 +6,5 @@ mod deciding;
 mod lines;
 mod top;
 
-pub use deciding::accepted_claim;
+pub use lines::{proof_fault_line, proof_line};
 pub use top::check_bound;

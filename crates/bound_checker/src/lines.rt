@@ -1,23 +1,24 @@
 //! The lines that are written of proofs.
 ghost use Rattle.std.specs.Prelude.{◌≡◌, IfOk, IsTrue};
-ghost use Rattle.proof_model.specs.Proofs.{ProofValue};
+ghost use Rattle.proof_model.specs.Proofs.{proof_value};
 ghost use Rattle.commands.specs.Texts.{is_line};
 ghost use Rattle.bound_checker.specs.Texts.{bound_line as bound_text, proof_line as proof_line_text, proof_fault_line as proof_fault_text};
 
 use bus_proofs::ProofFault;
 use commands::{less_line, numbered};
 use outside::NoMemory;
+use proof_model::Proof;
 use std::alloc::Global;
 
 /// `bound` and the cycles that a proof claims.
-pub(crate) fn bound_line(alloc: Global, claim: u64) -> Result<Vec<u8>, NoMemory>
-    ensures text { (proof : ProofValue) → proof.claimed ≡ claim → IfOk result (λ text. text.items ≡ bound_text proof) }
+pub(crate) fn bound_line(alloc: Global, proof: &Proof) -> Result<Vec<u8>, NoMemory>
+    ensures text { IfOk result (λ text. text.items ≡ bound_text (proof_value proof.now)) }
 {
-    numbered(alloc, b"bound ", u128::from(claim))
+    numbered(alloc, b"bound ", u128::from(proof.claimed))
 }
 
 /// `refused proof line` and the line.
-pub(crate) fn proof_line(alloc: Global, line: u64) -> Result<Vec<u8>, NoMemory>
+pub fn proof_line(alloc: Global, line: u64) -> Result<Vec<u8>, NoMemory>
     ensures text { IfOk result (λ text. text.items ≡ proof_line_text line) }
     ensures line { IfOk result (λ text. IsTrue (is_line text.items)) }
 {
@@ -25,7 +26,7 @@ pub(crate) fn proof_line(alloc: Global, line: u64) -> Result<Vec<u8>, NoMemory>
 }
 
 /// `refused proof` and the fault.
-pub(crate) fn proof_fault_line(alloc: Global, fault: ProofFault) -> Result<Vec<u8>, NoMemory>
+pub fn proof_fault_line(alloc: Global, fault: ProofFault) -> Result<Vec<u8>, NoMemory>
     ensures text { IfOk result (λ text. text.items ≡ proof_fault_text fault) }
     ensures line { IfOk result (λ text. IsTrue (is_line text.items)) }
 {

@@ -1,5 +1,5 @@
 //! Decides how a call ends before anything is written.
-ghost use Rattle.std.specs.Prelude.{◌≡◌, ℕ, ◌≤◌, List, map, string_bytes, IfSome};
+ghost use Rattle.std.specs.Prelude.{◌≡◌, ◌≤◌, map, string_bytes, IfSome};
 ghost use Rattle.soc_model.specs.Chips.{soc_value};
 ghost use Rattle.soc_model.specs.SoundChips.{IsSoundChip};
 ghost use Rattle.plan_model.specs.Rules.{IsGood, live_ids};
@@ -10,17 +10,22 @@ ghost use Rattle.commands.specs.Procedures.{asked};
 ghost use Rattle.commands.specs.Decides.{AnswersBytes, Decides, Follows};
 ghost use Rattle.commands.specs.Ends.{IsCommand};
 ghost use Rattle.commands.specs.Loads.{LoadsGive};
-ghost use Rattle.bound_checker.specs.Readings.{ClaimsBound, RefusesProof, SaysBound};
+ghost use Rattle.live_tests.specs.Resolved.{IsResolved};
+ghost use Rattle.bound_checker.specs.Readings.{RefusesProof, SaysBound};
 ghost use Rattle.plan_picture.specs.Pictures.{claim_picture, procedure_of, with_claim};
 
-use bound_checker::accepted_claim;
+use bound_checker::{proof_fault_line, proof_line};
+use bus_proofs::{ProofRoom, check_proof};
 use commands::{
     Accepted, Command, FileKind, Status, Verdict, answered_with, bad_words, command_of, load_all,
-    load_file,
+    load_file, refused_with,
 };
+use limits_text::resolved_of;
+use live_tests::Resolved;
 use outside::Shelf;
 use picture::{print_picture, print_picture_of_claim};
 use plan_model::{Limits, Plan};
+use proof_text::{ProofTextFault, read_proof};
 use soc_model::Soc;
 use std::alloc::Global;
 
@@ -48,31 +53,41 @@ fn decide_picture<H: Shelf>(
     }
 }
 
-/// What is answered of the claim of a proof: the picture of a plan with it; or how the command ends without one.
-fn answer_claim(
+/// What is answered of a proof's bytes, for a plan of a chip under limits: the picture with the claim, or as `bound` refuses them.
+fn answer_proof(
     alloc: Global,
     soc: &Soc,
     limits: &Limits,
     plan: &Plan,
-    claimed: Result<u64, Verdict>,
+    resolved: &Resolved,
+    bytes: &[u8],
 ) -> Verdict
     requires chip { IsSoundChip (soc_value soc.now) }
     requires limits { IsSoundLimits (soc_value soc.now) (limits_value limits.now) }
     requires good { IsGood (soc_value soc.now) (limits_value limits.now) (plan_value plan.now) }
-    ensures { (bytes : List ℕ) → ClaimsBound (soc_value soc.now) (limits_value limits.now) bytes claimed →
-        AnswersBytes (SaysBound (soc_value soc.now) (limits_value limits.now)) (RefusesProof (soc_value soc.now) (limits_value limits.now))
-        (claim_picture (soc_value soc.now) (limits_value limits.now) (plan_value plan.now)) bytes result }
+    requires resolved { IsResolved (soc_value soc.now) limits.now resolved.now }
+    ensures { AnswersBytes (SaysBound (soc_value soc.now) (limits_value limits.now))
+        (RefusesProof (soc_value soc.now) (limits_value limits.now))
+        (claim_picture (soc_value soc.now) (limits_value limits.now) (plan_value plan.now)) bytes.now result }
 {
-    match claimed {
-        Ok(claim) => answered_with(
+    let proof = match read_proof(alloc, bytes) {
+        Ok(proof) => proof,
+        Err(ProofTextFault::Text { line }) => return refused_with(proof_line(alloc, line)),
+        Err(ProofTextFault::NoMemory) => return Verdict::NoMemory,
+    };
+    let Ok(mut room) = ProofRoom::with_resolved(alloc, soc, limits, resolved, &proof) else {
+        return Verdict::NoMemory;
+    };
+    match check_proof(&mut room) {
+        Ok(()) => answered_with(
             Status::Done,
-            print_picture_of_claim(alloc, soc, limits, plan, claim),
+            print_picture_of_claim(alloc, soc, limits, plan, proof.claimed),
         ),
-        Err(verdict) => verdict,
+        Err(fault) => refused_with(proof_fault_line(alloc, fault)),
     }
 }
 
-/// What is answered of a proof's bytes, for a plan of a chip under limits.
+/// Resolves a chip and its limits, and answers a proof's bytes for a plan of them.
 fn answer_bytes(alloc: Global, all: Accepted, bytes: &[u8]) -> Verdict
     requires chip { IsSoundChip (soc_value all.soc) }
     requires limits { IsSoundLimits (soc_value all.soc) (limits_value all.limits) }
@@ -88,8 +103,12 @@ fn answer_bytes(alloc: Global, all: Accepted, bytes: &[u8]) -> Verdict
         plan,
         live,
     } = all;
-    let claimed = accepted_claim(alloc, &soc, &limits, live, bytes);
-    answer_claim(alloc, &soc, &limits, &plan, claimed)
+    let Ok(resolved) = resolved_of(alloc, &soc, &limits, live) else {
+        return Verdict::NoMemory;
+    };
+    let verdict = answer_proof(alloc, &soc, &limits, &plan, &resolved, bytes);
+    drop(resolved);
+    verdict
 }
 
 /// Loads the proof of this name and answers its bytes for a plan, else how the command ends without them.
@@ -164,4 +183,3 @@ pub(crate) fn decide<H: Shelf>(alloc: Global, words: &[String], shelf: &mut H) -
         _ => bad_words(alloc),
     }
 }
-
