@@ -86,7 +86,8 @@ failure = codes "        $display(\"cycle %0d shows %b, wanted %b where %b\", cy
 -- whether the wires are as they are wanted where one is compared
 abbrev pub comparison : (wires : ℕ) → List ℕ
 comparison wires =
-    codes "      if (((wo ^ want) & care) !== " ++ (number (replicate wires 48) ++ (codes ") begin\n        failed = failed + 1;\n" ++ failure))
+    codes "      if (((wo ^ want) & care) !== "
+    ++ (number (replicate wires 48) ++ (codes ") begin\n        failed = failed + 1;\n" ++ failure))
 
 -- the clock rises and falls, and the cycle is over
 abbrev pub clocking : List ℕ
