@@ -1,0 +1,4 @@
+pub mod Variables
+pub mod Dumps
+pub mod Forms
+pub mod Listings
