@@ -1,5 +1,5 @@
 -- What the form of a dump keeps, and what is listed while it is made.
-use Rattle.std.specs.Prelude.{◌≡◌, ℕ, ◌+◌, ◌*◌, ◌<◌, ◌≤◌, List, [], ◌∷◌, ◌++◌, length, map, take, slice_get, Some, codes, decimal}
+use Rattle.std.specs.Prelude.{◌≡◌, ℕ, ◌+◌, ◌*◌, ◌<◌, ◌≤◌, List, [], ◌∷◌, ◌++◌, length, map, take, slice_index_or, codes, decimal}
 use Rattle.std.specs.List.{flat_map, range_with_len}
 use Rattle.vcd_text.specs.declared.code.Code.{Code}
 use Rattle.vcd_text.specs.Variables.{Source, OfDriven, OfCompared, OfControl}
@@ -13,7 +13,7 @@ pub record IsCode (number : ℕ) (code : Code) : Type 0 where
 -- those of the variables from 0 on
 pub record AreCodes (count : ℕ) (all : List Code) : Type 0 where
   pub long : length all ≡ count
-  pub each : (number : ℕ) (code : Code) → slice_get all number ≡ Some code → IsCode number code
+  pub each : (number : ℕ) (other : Code) → number < count → IsCode number (slice_index_or all number other)
 
 -- ---- sources
 

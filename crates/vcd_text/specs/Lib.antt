@@ -2,3 +2,4 @@ pub mod Variables
 pub mod Dumps
 pub mod Forms
 pub mod Listings
+pub mod Shown

@@ -1,16 +1,68 @@
 //! The values of a cycle: those of the wires, and those of the controls.
-ghost use Rattle.std.specs.Prelude.{◌≡◌, ◌+◌, ◌*◌, ◌<◌, ◌≤◌, true, length};
-ghost use Rattle.std.specs.List.{flat_map, All};
-ghost use Rattle.cycle_forms.specs.Rows.{HasSizes, IsPutAt, row_of};
+ghost use Rattle.std.specs.Prelude.{◌≡◌, ℕ, ◌+◌, ◌*◌, ◌<◌, ◌≤◌, true, length, slice_index};
+ghost use Rattle.std.specs.List.{flat_map};
+ghost use Rattle.cycle_forms.specs.Rows.{IsPutAt, row_of};
 ghost use Rattle.vcd_text.specs.Dumps.{change_line, changes, has_changed};
-ghost use Rattle.vcd_text.specs.Forms.{AreCodes, control_sources, wire_sources};
+ghost use Rattle.vcd_text.specs.Forms.{AreCodes, control_sources, sources_of_wire, wire_sources};
 
 use crate::code::Code;
 use crate::lines::{put_change, put_value, shown};
 use cycle_forms::Row;
 
+/// Writes what a wire carries and what is compared there, from the byte `at` on, and answers where that ends.
+fn put_wire_value(codes: &[Code], wire: usize, row: Row<'_>, text: &mut [u8], at: usize) -> usize
+    requires narrow { wire < 256 }
+    requires codes { AreCodes (length codes.now) codes.now }
+    requires coded { 2 * wire + 2 ≤ length codes.now }
+    requires driven { wire < length row.driven.now }
+    requires compared { wire < length row.compared.now }
+    requires room { at + 16 ≤ length text.old }
+    ensures within { result ≤ at + 16 }
+    ensures put { IsPutAt at
+        (flat_map change_line (changes (λ s. true) (row_of row.entry) (2 * wire) (sources_of_wire wire))) result text.old text.new }
+{
+    let (driven, compared) = (&codes[2 * wire], &codes[2 * wire + 1]);
+    let end = put_value(text, at, row.driven[wire], driven);
+    put_value(text, end, shown(row.compared[wire]), compared)
+}
+
+/// Writes these where they aren't as before.
+fn put_wire_change(
+    codes: &[Code],
+    wire: usize,
+    before: Row<'_>,
+    row: Row<'_>,
+    text: &mut [u8],
+    at: usize,
+) -> usize
+    requires narrow { wire < 256 }
+    requires codes { AreCodes (length codes.now) codes.now }
+    requires coded { 2 * wire + 2 ≤ length codes.now }
+    requires driven { wire < length row.driven.now }
+    requires compared { wire < length row.compared.now }
+    requires driven_before { wire < length before.driven.now }
+    requires compared_before { wire < length before.compared.now }
+    requires room { at + 16 ≤ length text.old }
+    ensures within { result ≤ at + 16 }
+    ensures put { IsPutAt at
+        (flat_map change_line
+        (changes (has_changed (row_of before.entry) (row_of row.entry)) (row_of row.entry) (2 * wire) (sources_of_wire wire)))
+        result text.old text.new }
+{
+    let (driven, compared) = (&codes[2 * wire], &codes[2 * wire + 1]);
+    let end = put_change(text, at, before.driven[wire], row.driven[wire], driven);
+    let (was, is) = (shown(before.compared[wire]), shown(row.compared[wire]));
+    put_change(text, end, was, is, compared)
+}
+
 /// Writes what each wire carries and what is compared there.
-pub fn put_wire_values(codes: &[Code], wires: usize, row: Row<'_>, text: &mut [u8], at: usize) -> usize
+pub fn put_wire_values(
+    codes: &[Code],
+    wires: usize,
+    row: Row<'_>,
+    text: &mut [u8],
+    at: usize,
+) -> usize
     requires narrow { wires ≤ 256 }
     requires codes { AreCodes (length codes.now) codes.now }
     requires coded { 2 * wires ≤ length codes.now }
@@ -22,8 +74,7 @@ pub fn put_wire_values(codes: &[Code], wires: usize, row: Row<'_>, text: &mut [u
 {
     let mut end = at;
     for wire in 0..wires {
-        end = put_value(text, end, row.driven[wire], &codes[2 * wire]);
-        end = put_value(text, end, shown(row.compared[wire]), &codes[2 * wire + 1]);
+        end = put_wire_value(codes, wire, row, text, end);
     }
     end
 }
@@ -52,20 +103,7 @@ pub fn put_wire_changes(
 {
     let mut end = at;
     for wire in 0..wires {
-        end = put_change(
-            text,
-            end,
-            before.driven[wire],
-            row.driven[wire],
-            &codes[2 * wire],
-        );
-        end = put_change(
-            text,
-            end,
-            shown(before.compared[wire]),
-            shown(row.compared[wire]),
-            &codes[2 * wire + 1],
-        );
+        end = put_wire_change(codes, wire, before, row, text, end);
     }
     end
 }
@@ -81,7 +119,7 @@ pub fn put_control_values(
 ) -> usize
     requires codes { AreCodes (length codes.now) codes.now }
     requires coded { length codes.now ≡ first + length places.now }
-    requires there { All (λ place. place < length row.controls.now) places.now }
+    requires there { (i : ℕ) → i < length places.now → slice_index places.now i < length row.controls.now }
     requires room { at + 8 * length places.now ≤ length text.old }
     ensures within { result ≤ at + 8 * length places.now }
     ensures put { IsPutAt at
@@ -89,7 +127,8 @@ pub fn put_control_values(
 {
     let mut end = at;
     for i in 0..places.len() {
-        end = put_value(text, end, row.controls[places[i]], &codes[first + i]);
+        let code = &codes[first + i];
+        end = put_value(text, end, row.controls[places[i]], code);
     }
     end
 }
@@ -106,7 +145,7 @@ pub fn put_control_changes(
 ) -> usize
     requires codes { AreCodes (length codes.now) codes.now }
     requires coded { length codes.now ≡ first + length places.now }
-    requires there { All (λ place. place < length row.controls.now) places.now }
+    requires there { (i : ℕ) → i < length places.now → slice_index places.now i < length row.controls.now }
     requires there_before { length before.controls.now ≡ length row.controls.now }
     requires room { at + 8 * length places.now ≤ length text.old }
     ensures within { result ≤ at + 8 * length places.now }
@@ -117,14 +156,8 @@ pub fn put_control_changes(
 {
     let mut end = at;
     for i in 0..places.len() {
-        let place = places[i];
-        end = put_change(
-            text,
-            end,
-            before.controls[place],
-            row.controls[place],
-            &codes[first + i],
-        );
+        let (place, code) = (places[i], &codes[first + i]);
+        end = put_change(text, end, before.controls[place], row.controls[place], code);
     }
     end
 }

@@ -8,9 +8,9 @@ ghost use Rattle.plan_model.specs.Plans.{widths};
 ghost use Rattle.plan_model.specs.Views.{bus_value, plan_value};
 ghost use Rattle.controls.specs.Controls.{tam_numbers};
 ghost use Rattle.vcd_text.specs.Dumps.{dump_head, scope_line, scope_lines, variable_line, variable_lines};
-ghost use Rattle.vcd_text.specs.Forms.{form_sources};
+ghost use Rattle.vcd_text.specs.Forms.{control_sources, form_sources};
 ghost use Rattle.vcd_text.specs.Listings.{AreListed, IsListed, number_of};
-ghost use Rattle.vcd_text.specs.Variables.{bus_scope, bus_scopes, live_of_module, module_scopes, one_if, run_name, run_variable, run_variables, scope_of_module, scopes_of, sources_of, wire_variables, wired_variables};
+ghost use Rattle.vcd_text.specs.Variables.{OfControl, bus_scope, bus_scopes, live_of_module, module_scopes, one_if, run_name, run_variable, run_variables, scope_of_module, scopes_of, sources_of, wire_variables, wired_variables};
 
 use controls::{controls_of, tam_modules};
 use outside::{NoMemory, extend, push, push_number};
@@ -59,12 +59,7 @@ fn push_variable(text: &mut Vec<u8>, number: u128, word: &[u8], last: u128) -> R
 }
 
 /// Appends the line of the variable that says whether a test is active.
-fn push_run_line(
-    text: &mut Vec<u8>,
-    number: u128,
-    module: u64,
-    test: u64,
-) -> Result<(), NoMemory>
+fn push_run_line(text: &mut Vec<u8>, number: u128, module: u64, test: u64) -> Result<(), NoMemory>
     ensures { OnOk result (text.new.items ≡ text.old.items ++ variable_line number (run_name «module» test)) }
 {
     push_code(text, number)?;
@@ -174,15 +169,22 @@ impl Listing {
         Ok(place)
     }
 
+    /// Adds the variable of a control of a module.
+    fn push_control(&mut self, word: &[u8], module: u64, place: usize) -> Result<(), NoMemory>
+        ensures { OnOk result (IsListed self.old self.new
+            (record { name = word.now ++ decimal «module»; source = OfControl place } ∷ [])) }
+    {
+        let number = self.number();
+        push_variable(&mut self.text, number, word, module as u128)?;
+        push(&mut self.places, place)
+    }
+
     /// Adds the variables of the Shifts and the Captures of a module.
     fn push_wired(&mut self, module: u64, shift: usize, capture: usize) -> Result<(), NoMemory>
         ensures { OnOk result (IsListed self.old self.new (wired_variables «module» shift capture true)) }
     {
-        let number = self.number();
-        push_variable(&mut self.text, number, b"shift_", u128::from(module))?;
-        push_variable(&mut self.text, number + 1, b"capture_", u128::from(module))?;
-        push(&mut self.places, shift)?;
-        push(&mut self.places, capture)
+        self.push_control(b"shift_", module, shift)?;
+        self.push_control(b"capture_", module, capture)
     }
 
     /// Adds these where a module has any.
@@ -212,7 +214,7 @@ impl Listing {
         if !has_live_test(module) {
             return Ok(at);
         }
-        push_scope(&mut self.text, b"module_", u128::from(module.number))?;
+        push_scope(&mut self.text, b"module_", module.number as u128)?;
         let run = self.push_runs(module.number, &module.tests, at.run)?;
         let shift = self.push_any_wired(module, at)?;
         extend(&mut self.text, UP)?;
@@ -279,17 +281,20 @@ pub fn definitions_of(
     requires wires { wires ≡ sum (widths (plan_value plan.now)) }
     requires narrow { wires ≤ 256 }
     ensures text { IfOk result (λ listing. listing.text.items ≡ dump_head (soc_value soc.now) (plan_value plan.now)) }
-    ensures places { IfOk result (λ listing. form_sources wires listing.places.items
+    ensures sources { IfOk result (λ listing. form_sources wires listing.places.items
         ≡ sources_of (scopes_of (soc_value soc.now) (plan_value plan.now))) }
+    ensures controls { IfOk result (λ listing. control_sources listing.places.items
+        ≡ sources_of (module_scopes counts.wired 0 counts.runs (soc_value soc.now).modules)) }
 {
     let mut text = Vec::new(alloc);
     extend(&mut text, b"$timescale 10 ns $end\n")?;
     extend(&mut text, b"$scope module soc $end\n")?;
     push_buses(&mut text, &plan.buses)?;
+    let places = Vec::new(alloc);
     let mut listing = Listing {
         text,
         first: 2 * wires,
-        places: Vec::new(alloc),
+        places,
     };
     listing.push_modules(soc, counts.runs, counts.wired)?;
     extend(&mut listing.text, UP)?;

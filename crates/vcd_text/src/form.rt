@@ -1,6 +1,5 @@
 //! The form of a dump: what is made of a plan once, and the part of each cycle.
-ghost use Rattle.std.specs.Prelude.{◌≡◌, ℕ, ◌+◌, ◌*◌, ◌^◌, ◌<◌, ◌≤◌, ◌++◌, List, Option, Some, length, sum, vec_len, IfOk};
-ghost use Rattle.std.specs.List.{All};
+ghost use Rattle.std.specs.Prelude.{◌≡◌, ℕ, ◌+◌, ◌*◌, ◌^◌, ◌<◌, ◌≤◌, ◌++◌, List, Option, None, Some, length, slice_index, sum, vec_len, IfOk};
 ghost use Rattle.soc_model.specs.Chips.{soc_value};
 ghost use Rattle.soc_model.specs.SoundChips.{IsSoundChip};
 ghost use Rattle.plan_model.specs.Plans.{widths};
@@ -13,8 +12,8 @@ ghost use Rattle.vcd_text.specs.Forms.{AreCodes, form_sources};
 
 use crate::changes::{put_control_changes, put_control_values, put_wire_changes, put_wire_values};
 use crate::code::Code;
-use crate::lines::{LINE_MOST, TIME_MOST, code_of, put_time};
 use crate::definitions::{Counts, Listing, counts_of, definitions_of};
+use crate::lines::{LINE_MOST, TIME_MOST, code_of, put_time};
 use cycle_forms::{CYCLE_MOST, CycleForm, Row};
 use live_tests::all_wires;
 use outside::{NoMemory, extend, push, push_number};
@@ -35,7 +34,7 @@ pub struct VcdForm {
     codes: Vec<Code>,
     ghost narrow: { wires ≤ 256 },
     ghost few: { vec_len places < 2 ^ 32 },
-    ghost there: { All (λ place. place < controls) places.items },
+    ghost there: { (i : ℕ) → i < length places.items → slice_index places.items i < controls },
     ghost coded: { AreCodes (2 * wires + vec_len places) codes.items },
 }
 
@@ -79,7 +78,11 @@ impl VcdForm {
         let tail = tail_of(alloc, plan.cycles)?;
         let listing = definitions_of(alloc, soc, plan, counts, wires)?;
         let codes = codes_of(alloc, 2 * wires + listing.places.len())?;
-        let Listing { text, first: _, places } = listing;
+        let Listing {
+            text,
+            first: _,
+            places,
+        } = listing;
         Ok(VcdForm {
             head: text,
             tail,
@@ -101,11 +104,25 @@ impl VcdForm {
     {
         let time_end = put_time(text, at, cycle);
         let wires_end = put_wire_values(&self.codes, self.wires, row, text, time_end);
-        put_control_values(&self.codes, 2 * self.wires, &self.places, row, text, wires_end)
+        put_control_values(
+            &self.codes,
+            2 * self.wires,
+            &self.places,
+            row,
+            text,
+            wires_end,
+        )
     }
 
     /// Writes the part of a cycle behind another one, whose row is `before`.
-    fn put_changed(&self, cycle: u64, before: Row<'_>, row: Row<'_>, text: &mut [u8], at: usize) -> usize
+    fn put_changed(
+        &self,
+        cycle: u64,
+        before: Row<'_>,
+        row: Row<'_>,
+        text: &mut [u8],
+        at: usize,
+    ) -> usize
         requires cycle { cycle ≤ CYCLE_MOST }
         requires before { HasSizes self.now.wires self.now.controls (row_of before) }
         requires row { HasSizes self.now.wires self.now.controls (row_of row) }

@@ -9,6 +9,8 @@ mod changes;
 mod code;
 mod definitions;
 mod form;
+mod laws;
 mod lines;
 
 pub use form::VcdForm;
+pub use laws::values_are_of_rows;

@@ -1,5 +1,5 @@
 //! The lines of values: for each variable its code in bytes, and what is put into a text.
-ghost use Rattle.std.specs.Prelude.{◌≡◌, ℕ, ◌+◌, ◌^◌, ◌<◌, ◌≤◌, ◌∷◌, [], length, nat_eq, if◌then◌else◌};
+ghost use Rattle.std.specs.Prelude.{◌≡◌, ℕ, ◌+◌, ◌^◌, ◌<◌, ◌≤◌, ◌∷◌, [], length, nat_eq, not, if◌then◌else◌};
 ghost use Rattle.std.specs.List.{flat_map};
 ghost use Rattle.cycle_forms.specs.Rows.{IsPutAt};
 ghost use Rattle.vcd_text.specs.Dumps.{change_line, shown_mark, time_line};
@@ -21,16 +21,11 @@ pub fn code_of(number: usize) -> Code
     ensures { IsCode number result }
 {
     let mut buffer = Buffer::new();
-    let digits = buffer.format(number).as_bytes();
     let mut bytes = [b'0'; LINE_MOST];
-    let end = 2 + digits.len();
-    bytes[1] = b's';
-    bytes[2..end].copy_from_slice(digits);
-    bytes[end] = b'\n';
-    Code {
-        bytes,
-        length: end + 1,
-    }
+    let sign_end = put_bytes(&mut bytes, 1, b"s");
+    let number_end = put_bytes(&mut bytes, sign_end, buffer.format(number).as_bytes());
+    let length = put_bytes(&mut bytes, number_end, b"\n");
+    Code { bytes, length }
 }
 
 /// Writes bytes into a text, from the byte `at` on, and answers where they end.
@@ -74,7 +69,7 @@ pub fn put_change(text: &mut [u8], at: usize, before: u8, value: u8, code: &Code
     requires { at + 8 ≤ length text.old }
     ensures within { result ≤ at + 8 }
     ensures put { (number : ℕ) → IsCode number code.now →
-        IsPutAt at (if nat_eq before value then [] else change_line (record { number = number; value = value }))
+        IsPutAt at (if not (nat_eq before value) then change_line (record { number = number; value = value }) else [])
         result text.old text.new }
 {
     if before == value {

@@ -1,21 +1,20 @@
-use Rattle.std.proofs.Common.{rules, ◌≡◌, ℕ, ◌+◌, ◌*◌, ◌^◌, ◌<◌, ◌≤◌, ◌++◌, ◌∷◌, [], true, List, codes, decimal, length, map, sum, OnOk, IfOk, ◌-◌, ◌/◌, ◌%◌, Bool, false, nat_eq, nat_lt, slice_index_or, slice_set, bit_and, bit_or, Fits, w8, w32, w64, Bor, MutBor}
-use Rattle.std.specs.List.{filter, list_any}
-use Rattle.soc_model.specs.Chips.{is_live, module_value, soc_value}
-use Rattle.soc_model.specs.Modes.{has_tam}
+use Rattle.std.proofs.Common.{◌≡◌, ◌+◌, ◌*◌, length, ap, ◌∙◌, arith}
+use Rattle.soc_model.specs.Chips.{soc_value}
 use Rattle.plan_model.specs.Rules.{live_ids}
-use Rattle.plan_model.specs.Plans.{widths}
-use Rattle.plan_model.specs.Views.{bus_value, plan_value}
-use Rattle.controls.specs.Controls.{tam_numbers}
-use Rattle.vcd_text.specs.Dumps.{dump_head, scope_line, scope_lines, variable_line, variable_lines}
-use Rattle.vcd_text.specs.Forms.{form_sources}
-use Rattle.vcd_text.specs.Listings.{AreListed, IsListed, number_of}
-use Rattle.vcd_text.specs.Variables.{bus_scope, bus_scopes, live_of_module, module_scopes, one_if, run_name, run_variable, run_variables, scope_of_module, scopes_of, sources_of, wire_variables, wired_variables}
+use Rattle.controls.specs.Controls.{controls, tam_numbers}
+use Rattle.vcd_text.proofs.Listed.{controls-length}
 use Rattle.vcd_text.proofs.definitions.counts_of.Goals as goal
 
--- src/definitions.rt:263:15
 pub overflow_sub-result : goal.overflow_sub-result
-overflow_sub-result c = ?
+overflow_sub-result c =
+    let soc = soc_value c.args.soc.now in
+    let wired : c.len-wired.result ≡ length (tam_numbers soc) = c.len-wired.ensures ∙ c.in_ok-modules.modules.ok.0 ∙ ap length c.in_ok-modules.ensures in
+    let all : c.len.result ≡ length (live_ids soc) + 2 * length (tam_numbers soc) = c.len.ensures ∙ c.in_ok-controls.controls.ok.0 ∙ ap length c.in_ok-controls.ensures ∙ controls-length soc in
+    omega (arith, wired, all)
 
--- src/definitions.rt:255:1
 pub returns-clause-runs : goal.returns-clause-runs
-returns-clause-runs c = ?
+returns-clause-runs c =
+    let soc = soc_value c.args.soc.now in
+    let wired : c.len-wired.result ≡ length (tam_numbers soc) = c.len-wired.ensures ∙ c.in_ok-modules.modules.ok.0 ∙ ap length c.in_ok-modules.ensures in
+    let all : c.len.result ≡ length (live_ids soc) + 2 * length (tam_numbers soc) = c.len.ensures ∙ c.in_ok-controls.controls.ok.0 ∙ ap length c.in_ok-controls.ensures ∙ controls-length soc in
+    omega (arith, wired, all)

@@ -1,10 +1,13 @@
-use Rattle.std.proofs.Common.{rules, ◌≡◌, ℕ, ◌+◌, ◌^◌, ◌<◌, ◌≤◌, ◌∷◌, [], length, nat_eq, if◌then◌else◌, ◌-◌, ◌*◌, ◌/◌, ◌%◌, Bool, true, false, nat_lt, List, ◌++◌, slice_index_or, slice_set, bit_and, bit_or, Fits, w8, w32, w64, Bor, MutBor}
-use Rattle.std.specs.List.{flat_map}
-use Rattle.cycle_forms.specs.Rows.{IsPutAt}
-use Rattle.vcd_text.specs.Dumps.{change_line, shown_mark, time_line}
-use Rattle.vcd_text.specs.Forms.{IsCode}
+use Rattle.std.proofs.Common.{◌≡◌, ℕ, ◌+◌, ◌-◌, ◌++◌, codes, decimal, length, take, drop, refl, ap, ◌∙◌, arith, rules, length-drop}
+use Rattle.std.proofs.lemmas.List.{length-take-le}
+use Rattle.vcd_text.proofs.Parts.{value_put}
 use Rattle.vcd_text.proofs.lines.put_value.Goals as goal
 
--- src/lines.rt:61:1
 pub returns-clause-put : goal.returns-clause-put
-returns-clause-put c = ?
+returns-clause-put c = λ number is.
+    let at = c.args.at in
+    let text = c.args.text.now in
+    let k : at + 8 - at ≡ 8 = omega arith in
+    let room : length (take (at + 8 - at) (drop at text)) ≡ 8 = length-take-le (at + 8 - at) (drop at text) (omega (arith, length-drop at text, c.requires)) ∙ k in
+    let eight : length c.copy_from_slice.new.self ≡ 8 = c.copy_from_slice.ensures.len ∙ room in
+    value_put at (at + 8 - at) c.args.code.now.length c.args.value c.copy_from_slice.new.self (codes "s" ++ (decimal number ++ codes "\n")) text _ k c.requires eight c.args.code.now.short (ap (take c.args.code.now.length) c.copy_from_slice.ensures.after ∙ is.line) (search rules) refl
