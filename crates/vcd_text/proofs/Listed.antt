@@ -6,7 +6,7 @@ use Rattle.std.proofs.lemmas.List.{length-append, length-map, map-append, at_dro
 use Rattle.std.proofs.lemmas.List.Concat.{flat_map-append}
 use Rattle.std.proofs.lemmas.List.Sums.{sum-map, sum_by-cons, sum_by-drop_more}
 use Rattle.soc_model.specs.declared.Test.{Test}
-use Rattle.soc_model.specs.Chips.{ModuleValue, SocValue, LiveTest, is_live, live_of, live_from, id_of}
+use Rattle.soc_model.specs.Chips.{ModuleValue, SocValue, is_live, live_of, live_from, id_of}
 use Rattle.soc_model.specs.Modes.{is_tam, has_tam}
 use Rattle.plan_model.specs.declared.Bus.{Bus}
 use Rattle.plan_model.specs.Rules.{live_ids}

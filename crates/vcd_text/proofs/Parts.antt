@@ -1,13 +1,12 @@
 -- Parts of a text that are put one behind the other, and the lines of values.
-use Rattle.std.proofs.Common.{◌≡◌, ℕ, zero, suc, ◌+◌, ◌*◌, ◌≤◌, ◌<◌, Bool, true, false, not, List, [], ◌∷◌, ◌++◌, length, map, take, drop, set, get_or, cond, nat_eq, refl, sym, ap, subst, ◌∙◌, arith, rules, append_assoc, append-nil, Result, Ok, Err, OnOk}
+use Rattle.std.proofs.Common.{◌≡◌, ℕ, zero, suc, ◌+◌, ◌*◌, ◌≤◌, ◌<◌, Bool, true, false, List, [], ◌∷◌, ◌++◌, length, take, set, get_or, cond, refl, sym, ap, subst, ◌∙◌, arith, append_assoc, append-nil, Result, Ok, Err, OnOk}
 use Rattle.std.specs.List.{flat_map, range_with_len}
-use Rattle.std.proofs.lemmas.Grind.{common_steps}
 use Rattle.std.proofs.lemmas.List.{length-append, length-map, map-append, take-append-le, length-take-le, set_at, take_more}
 use Rattle.std.proofs.lemmas.List.Concat.{flat_map-append}
 use Rattle.std.proofs.Math.Seq.{take-append-add}
 use borrow.Rule.Slice.PartMut.{put_mid, post_of}
 use Rattle.cycle_forms.specs.Rows.{CycleRow, IsPutAt}
-use Rattle.vcd_text.specs.Dumps.{Change, change_line, changes, has_changed, value_of}
+use Rattle.vcd_text.specs.Dumps.{Change, change_line, changes, value_of}
 use Rattle.vcd_text.specs.Forms.{sources_of_wire, wire_sources, control_sources}
 use Rattle.vcd_text.specs.Variables.{Source, OfControl}
 

@@ -1,9 +1,9 @@
 -- The part of a cycle.
-use Rattle.std.proofs.Common.{◌≡◌, ℕ, suc, ◌+◌, ◌*◌, ◌≤◌, ◌<◌, List, [], ◌∷◌, ◌++◌, length, take, Bool, true, refl, sym, ap, subst, ◌∙◌, arith, append_assoc, append-nil, Some, None}
+use Rattle.std.proofs.Common.{◌≡◌, ℕ, ◌+◌, ◌*◌, ◌≤◌, List, [], ◌∷◌, ◌++◌, length, take, Bool, true, refl, sym, ap, subst, ◌∙◌, arith, append-nil, None}
 use Rattle.std.specs.List.{flat_map}
 use Rattle.std.proofs.lemmas.List.{length-append, length-take-le, take_at, take-take}
 use Rattle.cycle_forms.specs.Rows.{CycleRow, IsPutAt}
-use Rattle.vcd_text.specs.Dumps.{Change, change_line, changes, has_changed, part_text, time_line, timed}
+use Rattle.vcd_text.specs.Dumps.{Change, change_line, part_text, time_line, timed}
 use Rattle.vcd_text.specs.Forms.{wire_sources, control_sources, form_sources}
 use Rattle.vcd_text.specs.Variables.{Source}
 use Rattle.vcd_text.proofs.Parts.{lines_of, lines-append, put_then, wire_sources-length}

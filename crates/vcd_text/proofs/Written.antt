@@ -1,10 +1,10 @@
 -- The value that was written last is that of the row.
-use Rattle.std.proofs.Common.{◌≡◌, ℕ, zero, suc, ◌+◌, ◌<◌, Bool, true, false, not, Option, None, Some, List, [], ◌∷◌, ◌++◌, cond, nat_eq, refl, sym, ap, subst, ◌∙◌, arith, inl, inr}
+use Rattle.std.proofs.Common.{◌≡◌, ℕ, zero, suc, ◌+◌, ◌<◌, Bool, true, false, not, Option, None, Some, List, [], ◌∷◌, ◌++◌, cond, nat_eq, refl, sym, ap, ◌∙◌, arith, inl, inr}
 use Rattle.std.specs.Prelude.{slice_get}
 use Rattle.std.proofs.lemmas.Bool.{cases_Bool, eqb-true, eq-eqb}
 use Rattle.cycle_forms.specs.Rows.{CycleRow}
-use Rattle.vcd_text.specs.Dumps.{Change, changes, changes_at, has_changed, value_of}
-use Rattle.vcd_text.specs.Shown.{later, last_written, row_before, changes_before}
+use Rattle.vcd_text.specs.Dumps.{Change, changes, has_changed, value_of}
+use Rattle.vcd_text.specs.Shown.{later, last_written, changes_before}
 use Rattle.vcd_text.specs.Variables.{Source}
 
 later_later : (a b c : Option ℕ) → later (later a b) c ≡ later a (later b c)

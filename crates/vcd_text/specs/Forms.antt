@@ -1,5 +1,5 @@
 -- What the form of a dump keeps, and what is listed while it is made.
-use Rattle.std.specs.Prelude.{◌≡◌, ℕ, ◌+◌, ◌*◌, ◌<◌, ◌≤◌, List, [], ◌∷◌, ◌++◌, length, map, take, slice_index_or, codes, decimal}
+use Rattle.std.specs.Prelude.{◌≡◌, ℕ, ◌<◌, List, [], ◌∷◌, ◌++◌, length, map, take, slice_index_or, codes, decimal}
 use Rattle.std.specs.List.{flat_map, range_with_len}
 use Rattle.vcd_text.specs.declared.code.Code.{Code}
 use Rattle.vcd_text.specs.Variables.{Source, OfDriven, OfCompared, OfControl}

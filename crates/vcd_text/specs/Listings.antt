@@ -3,7 +3,7 @@ use Rattle.std.specs.Prelude.{◌≡◌, ℕ, ◌+◌, List, ◌++◌, length}
 use Rattle.vcd_text.specs.declared.definitions.Listing.{Listing}
 use Rattle.vcd_text.specs.Dumps.{variable_lines, scope_lines}
 use Rattle.vcd_text.specs.Forms.{control_sources}
-use Rattle.vcd_text.specs.Variables.{Source, Variable, Scope, sources_in, sources_of}
+use Rattle.vcd_text.specs.Variables.{Variable, Scope, sources_in, sources_of}
 
 -- the number of the next variable
 abbrev pub number_of : Listing → ℕ

@@ -1,4 +1,4 @@
-use Rattle.std.proofs.Common.{◌≡◌, ◌+◌, true, subst, sym, arith}
+use Rattle.std.proofs.Common.{◌+◌, subst, sym, arith}
 use Rattle.cycle_forms.specs.Rows.{row_of}
 use Rattle.vcd_text.specs.Dumps.{has_changed}
 use Rattle.vcd_text.specs.Forms.{IsCode}

@@ -1,4 +1,4 @@
-use Rattle.std.proofs.Common.{◌≡◌, ◌+◌, ◌*◌, ◌≤◌, take, true}
+use Rattle.std.proofs.Common.{◌+◌, ◌*◌, ◌≤◌, take, true}
 use Rattle.cycle_forms.specs.Rows.{IsPutAt, row_of}
 use Rattle.vcd_text.specs.Forms.{control_sources}
 use Rattle.vcd_text.proofs.Parts.{lines_of}

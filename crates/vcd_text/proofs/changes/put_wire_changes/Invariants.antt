@@ -1,4 +1,4 @@
-use Rattle.std.proofs.Common.{◌≡◌, ◌+◌, ◌*◌, ◌≤◌}
+use Rattle.std.proofs.Common.{◌+◌, ◌*◌, ◌≤◌}
 use Rattle.cycle_forms.specs.Rows.{IsPutAt, row_of}
 use Rattle.vcd_text.specs.Dumps.{has_changed}
 use Rattle.vcd_text.specs.Forms.{wire_sources}

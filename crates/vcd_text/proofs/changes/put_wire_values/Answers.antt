@@ -1,6 +1,5 @@
-use Rattle.std.proofs.Common.{◌≡◌, true, arith}
+use Rattle.std.proofs.Common.{true, arith}
 use Rattle.cycle_forms.specs.Rows.{row_of}
-use Rattle.vcd_text.specs.Dumps.{has_changed}
 use Rattle.vcd_text.proofs.Parts.{put_none, wire_put}
 use Rattle.vcd_text.proofs.changes.put_wire_values.Goals as goal
 

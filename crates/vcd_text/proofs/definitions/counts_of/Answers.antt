@@ -1,7 +1,7 @@
 use Rattle.std.proofs.Common.{◌≡◌, ◌+◌, ◌*◌, length, ap, ◌∙◌, arith}
 use Rattle.soc_model.specs.Chips.{soc_value}
 use Rattle.plan_model.specs.Rules.{live_ids}
-use Rattle.controls.specs.Controls.{controls, tam_numbers}
+use Rattle.controls.specs.Controls.{tam_numbers}
 use Rattle.vcd_text.proofs.Listed.{controls-length}
 use Rattle.vcd_text.proofs.definitions.counts_of.Goals as goal
 

@@ -1,12 +1,10 @@
 use Rattle.std.proofs.Common.{◌≡◌, ◌+◌, ◌*◌, ◌++◌, length, map, ap, ◌∙◌, arith}
 use Rattle.soc_model.specs.Chips.{soc_value}
-use Rattle.plan_model.specs.Rules.{live_ids}
 use Rattle.plan_model.specs.Views.{bus_value, plan_value}
 use Rattle.controls.specs.Controls.{tam_numbers}
 use Rattle.vcd_text.specs.declared.definitions.Listing.{Listing}
 use Rattle.vcd_text.specs.Dumps.{definitions, scope_lines}
 use Rattle.vcd_text.specs.Forms.{control_sources}
-use Rattle.vcd_text.specs.Listings.{AreListed}
 use Rattle.vcd_text.specs.Variables.{bus_scopes, module_scopes, sources_of}
 use Rattle.vcd_text.proofs.Parts.{wire_sources-length}
 use Rattle.vcd_text.proofs.Whole.{definitions_text, bus_sources-all, whole_sources}

@@ -1,4 +1,4 @@
-use Rattle.std.proofs.Common.{◌≡◌, ◌+◌, ◌-◌, ◌*◌, ◌++◌, ap, arith, codes, decimal, [], ◌∷◌}
+use Rattle.std.proofs.Common.{◌≡◌, ◌+◌, ◌-◌, ◌*◌, ◌++◌, ap, arith, codes, decimal}
 use Rattle.std.specs.List.{flat_map, range_with_len}
 use Rattle.vcd_text.specs.Dumps.{variable_lines}
 use Rattle.vcd_text.specs.Variables.{wire_variables}

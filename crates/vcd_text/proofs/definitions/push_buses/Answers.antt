@@ -1,4 +1,4 @@
-use Rattle.std.proofs.Common.{◌≡◌, ◌+◌, ◌≤◌, ◌++◌, map, sum, drop, get_or, refl, arith}
+use Rattle.std.proofs.Common.{◌++◌, map, sum, refl, arith}
 use Rattle.plan_model.specs.declared.Bus.{Bus}
 use Rattle.plan_model.specs.Views.{bus_value}
 use Rattle.vcd_text.specs.Dumps.{scope_lines}

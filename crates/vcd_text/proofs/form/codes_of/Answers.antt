@@ -1,4 +1,4 @@
-use Rattle.std.proofs.Common.{◌≡◌, ◌+◌, subst, sym, ◌∙◌, ap, arith}
+use Rattle.std.proofs.Common.{◌+◌, subst, sym}
 use Rattle.vcd_text.specs.Forms.{AreCodes}
 use Rattle.vcd_text.proofs.Digits.{no_codes, codes_more}
 use Rattle.vcd_text.proofs.form.codes_of.Goals as goal

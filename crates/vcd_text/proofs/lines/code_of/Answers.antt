@@ -1,4 +1,4 @@
-use Rattle.std.proofs.Common.{◌≡◌, ◌≤◌, length, arith}
+use Rattle.std.proofs.Common.{◌≤◌, length, arith}
 use Rattle.vcd_text.proofs.Digits.{four_digits}
 use Rattle.vcd_text.proofs.lines.code_of.Goals as goal
 

@@ -1,4 +1,4 @@
-use Rattle.std.proofs.Common.{◌≡◌, ◌+◌, ◌*◌, ◌≤◌, length, decimal, arith, ap, ◌∙◌}
+use Rattle.std.proofs.Common.{◌≤◌, length, arith}
 use Rattle.vcd_text.proofs.Digits.{eleven_digits}
 use Rattle.vcd_text.proofs.lines.put_time.Goals as goal
 

@@ -1,4 +1,4 @@
-use Rattle.std.proofs.Common.{◌≡◌, ℕ, ◌+◌, ◌-◌, ◌++◌, codes, decimal, length, take, drop, refl, ap, ◌∙◌, arith, rules, length-drop}
+use Rattle.std.proofs.Common.{◌≡◌, ◌+◌, ◌-◌, ◌++◌, codes, decimal, length, take, drop, refl, ap, ◌∙◌, arith, rules, length-drop}
 use Rattle.std.proofs.lemmas.List.{length-take-le}
 use Rattle.vcd_text.proofs.Parts.{value_put}
 use Rattle.vcd_text.proofs.lines.put_value.Goals as goal

@@ -5,7 +5,6 @@ use Rattle.soc_model.specs.Modes.{has_tam}
 use Rattle.vcd_text.specs.declared.definitions.Listing.{Listing}
 use Rattle.vcd_text.specs.Listings.{AreListed, IsListed}
 use Rattle.vcd_text.specs.Variables.{live_of_module, one_if, run_variables, wired_variables}
-use Rattle.vcd_text.proofs.Parts.{on_ok}
 use Rattle.vcd_text.proofs.Listed.{no_live, no_scope, no_tam, some_scope, scopes_none, scope_listed, listed_then}
 use Rattle.vcd_text.proofs.definitions.Listing.push_module.Goals as goal
 

@@ -1,6 +1,6 @@
-use Rattle.std.proofs.Common.{◌≡◌, ◌+◌, ◌≤◌, ◌∷◌, [], List, map, length, refl, sym, ap, subst, ◌∙◌, arith}
+use Rattle.std.proofs.Common.{◌≡◌, ◌+◌, ◌∷◌, map, length, refl, ap, subst, ◌∙◌, arith}
 use Rattle.std.specs.List.{filter, sum_by}
-use Rattle.soc_model.specs.Chips.{ModuleValue, SocValue, module_value, soc_value}
+use Rattle.soc_model.specs.Chips.{module_value, soc_value}
 use Rattle.soc_model.specs.Modes.{has_tam}
 use Rattle.soc_model.proofs.Entries.{modules-at_start}
 use Rattle.vcd_text.specs.Listings.{ScopesGoOn}

@@ -1,4 +1,4 @@
-use Rattle.std.proofs.Common.{◌≡◌, ◌+◌, ◌*◌, ◌≤◌, length, subst, arith}
+use Rattle.std.proofs.Common.{◌+◌, ◌*◌, subst, arith}
 use Rattle.soc_model.specs.Chips.{soc_value}
 use Rattle.vcd_text.specs.Forms.{AreCodes}
 use Rattle.vcd_text.proofs.Listed.{controls-length}

@@ -1,4 +1,4 @@
-use Rattle.std.proofs.Common.{◌≡◌, ◌*◌, subst, arith}
+use Rattle.std.proofs.Common.{◌*◌, subst, arith}
 use Rattle.cycle_forms.specs.Rows.{IsPutAt, row_of}
 use Rattle.vcd_text.specs.Dumps.{changes, has_changed}
 use Rattle.vcd_text.specs.Forms.{control_sources, form_sources}
