@@ -1,0 +1,5 @@
+pub mod Variables
+pub mod Dumps
+pub mod Forms
+pub mod Listings
+pub mod Shown

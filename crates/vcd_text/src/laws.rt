@@ -1,0 +1,14 @@
+//! The law over the definitions. It is the contract of a function that does nothing: a caller learns it by the call.
+ghost use Rattle.std.specs.Prelude.{◌≡◌, ℕ, ◌+◌, Some, List, slice_get};
+ghost use Rattle.cycle_forms.specs.Rows.{CycleRow};
+ghost use Rattle.vcd_text.specs.Dumps.{value_of};
+ghost use Rattle.vcd_text.specs.Shown.{changes_before, last_written};
+ghost use Rattle.vcd_text.specs.Variables.{Source};
+
+/// The value that was written last for a variable, up to and with the part of a cycle, is the one that the row of that cycle shows,
+/// whatever the rows are.
+pub fn values_are_of_rows()
+    ensures { (rows : ℕ → CycleRow) (sources : List Source) (cycle number : ℕ) (source : Source) →
+        slice_get sources number ≡ Some source →
+        last_written number (changes_before rows sources (cycle + 1)) ≡ Some (value_of (rows cycle) source) }
+{}
