@@ -54,9 +54,10 @@ line_first : (content : Content) (marks : Marks) (tests : List PlannedTest) (wir
 unfolding cycle_line
 line_first content marks tests wires c x is =
     let whole : x ≡ cycle_line content marks tests wires c ++ drop (2 * wires + 2) x =
-    sym (take-append-drop (2 * wires + 2) x) ∙ ap (λ (t : List ℕ). t ++ drop (2 * wires + 2) x) is in
-    (driven_cut (driven_text content tests wires c) (compared_text marks tests wires c) (drop (2 * wires + 2) x) x wires (driven_long content tests wires c) whole,
-    compared_cut (driven_text content tests wires c) (compared_text marks tests wires c) (drop (2 * wires + 2) x) x wires (driven_long content tests wires c) (compared_long marks tests wires c) whole)
+    sym (take-append-drop (2 * wires + 2) x) ∙ ap (λ (t : List ℕ). t ++ drop (2 * wires + 2) x) is in (
+      driven_cut (driven_text content tests wires c) (compared_text marks tests wires c) (drop (2 * wires + 2) x) x wires (driven_long content tests wires c) whole,
+      compared_cut (driven_text content tests wires c) (compared_text marks tests wires c) (drop (2 * wires + 2) x) x wires (driven_long content tests wires c) (compared_long marks tests wires c) whole,
+    )
 
 -- ---- a row
 

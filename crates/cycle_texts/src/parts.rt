@@ -14,12 +14,7 @@ use outside::{Sink, WriteFault, put_all};
 
 /// Answers where a part of at most `room` bytes can be put into a text that is filled up to a byte. Where too little is left behind it,
 /// what stands before it is written first.
-fn with_room<K: Sink>(
-    text: &[u8],
-    at: usize,
-    room: usize,
-    out: &mut K,
-) -> Result<usize, WriteFault>
+fn with_room<K: Sink>(text: &[u8], at: usize, room: usize, out: &mut K) -> Result<usize, WriteFault>
     requires at { at ≤ length text.now }
     requires room { room ≤ length text.now }
     ensures faults_never_fall { K.faults out.old ≤ K.faults out.new }

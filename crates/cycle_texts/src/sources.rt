@@ -131,11 +131,7 @@ fn rows_of_bytes(alloc: Global, count: usize, row: usize) -> Result<Vec<u8>, NoM
 
 impl BlockRooms {
     /// Room for the blocks of a source, and for a text with parts of at most `room` bytes. `NoMemory` where there is none.
-    pub fn new(
-        alloc: Global,
-        source: &RowSource<'_>,
-        room: usize,
-    ) -> Result<BlockRooms, NoMemory>
+    pub fn new(alloc: Global, source: &RowSource<'_>, room: usize) -> Result<BlockRooms, NoMemory>
         requires narrow { source.now.wires ≤ 256 }
         requires few { source.now.most < 2 ^ 63 }
         ensures { IfOk result (λ rooms. HaveRoom source.now room rooms.lines.items rooms.digits.items rooms.text.items) }
