@@ -1,12 +1,13 @@
 -- Parts of a text that are put one behind the other, and the lines of values.
-use Rattle.std.proofs.Common.{◌≡◌, ℕ, zero, suc, ◌+◌, ◌*◌, ◌≤◌, ◌<◌, Bool, true, false, List, [], ◌∷◌, ◌++◌, length, take, set, get_or, cond, refl, sym, ap, subst, ◌∙◌, arith, append_assoc, append-nil, Result, Ok, Err, OnOk}
+use Rattle.std.proofs.Common.{◌≡◌, ℕ, zero, suc, ◌+◌, ◌*◌, ◌≤◌, ◌<◌, Bool, true, false, not, nat_eq, List, [], ◌∷◌, ◌++◌, length, take, set, get_or, cond, refl, sym, ap, subst, ◌∙◌, arith, append_assoc, append-nil, Result, Ok, Err, OnOk}
 use Rattle.std.specs.List.{flat_map, range_with_len}
 use Rattle.std.proofs.lemmas.List.{length-append, length-map, map-append, take-append-le, length-take-le, set_at, take_more}
+use Rattle.std.proofs.lemmas.Bool.{eq-eqb}
 use Rattle.std.proofs.lemmas.List.Concat.{flat_map-append}
 use Rattle.std.proofs.Math.Seq.{take-append-add}
 use borrow.Rule.Slice.PartMut.{put_mid, post_of}
 use Rattle.cycle_forms.specs.Rows.{CycleRow, IsPutAt}
-use Rattle.vcd_text.specs.Dumps.{Change, change_line, changes, value_of}
+use Rattle.vcd_text.specs.Dumps.{Change, change_line, changes, has_changed, value_of}
 use Rattle.vcd_text.specs.Forms.{sources_of_wire, wire_sources, control_sources}
 use Rattle.vcd_text.specs.Variables.{Source, OfControl}
 
@@ -148,3 +149,15 @@ control_put p row first i at middle end places old between new more one two =
     ∙ ap (λ k. lines_of p row first (control_sources (take i places)) ++ lines_of p row k (s ∷ [])) number
     ∙ ap (λ v. lines_of p row first (control_sources (take i places)) ++ v) (lines-one p row (first + i) s) in
     subst (λ part. IsPutAt at part end old new) (sym e) (put_then at middle end (lines_of p row first (control_sources (take i places))) (line_if p row (first + i) s) old between new one two)
+
+-- no line is written for controls that are as before
+pub no_control_lines : (before row : CycleRow) (n : ℕ) (places : List ℕ) → before.controls ≡ row.controls → lines_of (has_changed before row) row n (control_sources places) ≡ []
+no_control_lines before row n [] same = refl
+no_control_lines before row n (p ∷ ps) same =
+    let kept : has_changed before row (OfControl p) ≡ false = ap (λ (bits : List ℕ). not (nat_eq (get_or bits p 0) (get_or row.controls p 0))) same ∙ ap not (eq-eqb (get_or row.controls p 0) (get_or row.controls p 0) refl) in
+    lines-cons (has_changed before row) row n (OfControl p) (control_sources ps)
+    ∙ ap (λ b. cond b (change_line (record { number = n; value = value_of row (OfControl p) })) [] ++ lines_of (has_changed before row) row (n + 1) (control_sources ps)) kept
+    ∙ no_control_lines before row (n + 1) ps same
+
+pub controls_kept : (before row : CycleRow) (n at : ℕ) (places text : List ℕ) → before.controls ≡ row.controls → IsPutAt at (lines_of (has_changed before row) row n (control_sources places)) at text text
+controls_kept before row n at places text same = subst (λ part. IsPutAt at part at text text) (sym (no_control_lines before row n places same)) (put_none at text)

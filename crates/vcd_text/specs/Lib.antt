@@ -3,3 +3,4 @@ pub mod Dumps
 pub mod Forms
 pub mod Listings
 pub mod Shown
+pub mod Naming

@@ -70,7 +70,8 @@ pub fn put_wire_values(
     requires compared { length row.compared.now ≡ wires }
     requires room { at + 16 * wires ≤ length text.old }
     ensures within { result ≤ at + 16 * wires }
-    ensures put { IsPutAt at (flat_map change_line (changes (λ s. true) (row_of row.entry) 0 (wire_sources wires))) result text.old text.new }
+    ensures put { IsPutAt at
+        (flat_map change_line (changes (λ s. true) (row_of row.entry) 0 (wire_sources wires))) result text.old text.new }
 {
     let mut end = at;
     for wire in 0..wires {
@@ -133,7 +134,14 @@ pub fn put_control_values(
     end
 }
 
-/// Writes the bit of each control, where it isn't as before.
+/// Whether two rows of bytes are the same.
+fn are_same(one: &[u8], other: &[u8]) -> bool
+    ensures { result ≡ true → one.now ≡ other.now }
+{
+    one == other
+}
+
+/// Writes the bit of each control, where it isn't as before. At most cycles all are as before.
 pub fn put_control_changes(
     codes: &[Code],
     first: usize,
@@ -154,6 +162,9 @@ pub fn put_control_changes(
         (changes (has_changed (row_of before.entry) (row_of row.entry)) (row_of row.entry) first (control_sources places.now)))
         result text.old text.new }
 {
+    if are_same(before.controls, row.controls) {
+        return at;
+    }
     let mut end = at;
     for i in 0..places.len() {
         let (place, code) = (places[i], &codes[first + i]);

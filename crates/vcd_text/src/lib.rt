@@ -13,4 +13,4 @@ mod laws;
 mod lines;
 
 pub use form::VcdForm;
-pub use laws::values_are_of_rows;
+pub use laws::{controls_have_their_names, values_are_of_rows};
