@@ -24,6 +24,7 @@ use plan_simulator::simulate;
 use retargeter::retarget;
 use soctest::soctest;
 use std::alloc::Global;
+use tester_programs::write_tester_program;
 
 /// Runs the command of these words over the files of a shelf, and writes its answer.
 ///
@@ -79,6 +80,7 @@ pub fn run_command<H: Shelf, K: Sink, T: Sink>(
         TopCall::Prove => prove_bound(alloc, words, shelf, out, progress),
         TopCall::Data => make_data(alloc, words, shelf, out),
         TopCall::Retarget => retarget(alloc, words, shelf, out),
+        TopCall::Programs => write_tester_program(alloc, words, shelf, out),
         TopCall::Report => report_plan(alloc, words, shelf, out),
         TopCall::Soctest => soctest(alloc, words, shelf, out),
     }
