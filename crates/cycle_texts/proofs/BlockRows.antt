@@ -1,13 +1,12 @@
 -- The rows of a block, and the parts that are made from them.
-use Rattle.std.proofs.Common.{◌≡◌, ℕ, zero, suc, ◌+◌, ◌-◌, ◌*◌, ◌<◌, ◌≤◌, List, [], ◌∷◌, ◌++◌, Option, None, Some, length, take, drop, refl, ap, sym, subst, ◌∙◌, arith, append-nil, append_assoc, length-drop}
-use Rattle.std.specs.List.{flat_map, range_with_len}
+use Rattle.std.proofs.Common.{◌≡◌, ℕ, zero, suc, ◌+◌, ◌-◌, ◌*◌, ◌<◌, ◌≤◌, List, [], ◌++◌, Option, Some, length, take, drop, refl, ap, sym, subst, ◌∙◌, arith, append-nil, append_assoc, length-drop}
 use Rattle.std.proofs.Math.Nat.{mul-le-mul_right}
 use Rattle.std.proofs.lemmas.List.{length-take-le}
 use Rattle.outside.specs.Held.{Appended}
 use Rattle.cycle_forms.specs.Rows.{CycleRow, HasSizes, HaveSizes}
 use Rattle.cycle_texts.specs.declared.blocks.RowBlock.{RowBlock}
 use Rattle.cycle_texts.specs.ProgramText.{PartOf, row_before, part_at, parts_of}
-use Rattle.cycle_texts.specs.RowBlocks.{row_in, block_row, block_before, IsBlock, HasRows}
+use Rattle.cycle_texts.specs.RowBlocks.{block_row, block_before, IsBlock, HasRows}
 use Rattle.cycle_texts.specs.UnderWay.{IsUnderWay}
 
 -- ---- sizes

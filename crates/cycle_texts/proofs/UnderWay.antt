@@ -1,5 +1,5 @@
 -- A text that is written by and by.
-use Rattle.std.proofs.Common.{◌≡◌, ℕ, ◌+◌, ◌≤◌, List, [], ◌++◌, Option, take, refl, ap, sym, subst, ◌∙◌, arith, append_assoc}
+use Rattle.std.proofs.Common.{◌≡◌, ℕ, List, [], ◌++◌, Option, take, refl, ap, sym, subst, ◌∙◌, append_assoc}
 use Rattle.outside.specs.Held.{Appended, AppendedFront}
 use Rattle.outside.proofs.PieceLemmas.{Appended-nil, Appended-then}
 use Rattle.cycle_forms.specs.Rows.{IsPutAt}

@@ -1,9 +1,8 @@
-use Rattle.std.proofs.Common.{◌≡◌, ◌+◌, ◌-◌, ℕ, length, take, arith, refl, sym, ap, ◌∙◌, subst, true, false}
+use Rattle.std.proofs.Common.{◌+◌, ◌-◌, ℕ, take, arith, refl, ◌∙◌, true, false}
 use Rattle.outside.specs.Puts.{Puts}
 use Rattle.outside.proofs.PieceLemmas.{puts_then}
 use Rattle.cycle_texts.specs.ProgramText.{parts_of}
 use Rattle.cycle_texts.specs.RowBlocks.{block_row, block_before}
-use Rattle.cycle_texts.specs.UnderWay.{IsUnderWay}
 use Rattle.cycle_texts.proofs.BlockRows.{next_part, parts_rest_of, no_parts, all_parts}
 use Rattle.cycle_texts.proofs.UnderWay.{under_way_begins, put_behind, finished, stopped}
 use Rattle.cycle_texts.proofs.parts.put_parts.Goals as goal

@@ -1,4 +1,4 @@
-use Rattle.std.proofs.Common.{◌≡◌, ◌+◌, ◌-◌, ℕ, arith, refl, sym, ap, ◌∙◌, subst, true, false}
+use Rattle.std.proofs.Common.{◌≡◌, ◌+◌, ◌-◌, ℕ, arith, refl, ◌∙◌, subst, true, false}
 use Rattle.outside.specs.Held.{Appended}
 use Rattle.outside.specs.Puts.{Puts}
 use Rattle.outside.proofs.PieceLemmas.{Appended-nil, puts_then}

@@ -1,7 +1,6 @@
-use Rattle.std.proofs.Common.{◌≡◌, ◌+◌, ◌*◌, ◌∙◌, ap, sym, arith, length, subst, ℕ, ◌≤◌}
+use Rattle.std.proofs.Common.{◌+◌, ◌*◌, arith, length, subst, ℕ, ◌≤◌}
 use Rattle.soc_model.specs.Chips.{soc_value}
 use Rattle.plan_model.specs.Views.{plan_value}
-use Rattle.controls.specs.Controls.{controls}
 use Rattle.cycle_texts.proofs.SourceRows.{row_is}
 use Rattle.cycle_texts.proofs.sources.RowSource.fill.Goals as goal
 
