@@ -7,7 +7,7 @@ use Rattle.plan_model.specs.Plans.{LimitsValue}
 use Rattle.plan_model.specs.SoundLimits.{IsSoundLimits}
 use Rattle.proof_model.specs.Proofs.{WeightsValue, Leaf}
 use Rattle.bus_proofs.specs.Cases.{NodeCase, root_case, tightened, in_case, cases_of}
-use Rattle.proof_model.specs.Proofs.{OfSum}
+use Rattle.proof_model.specs.Proofs.{OfSum, OfLeaf}
 use Rattle.bus_proofs.specs.Leaves.{IsKnownList, worth_of_cycle, LeafHolds}
 use Rattle.bus_proofs.specs.Bounds.{IsEnough, AreEnough, IsAccepted, all_cases}
 use Rattle.bound_prover.specs.Proved.{IsProved, no_claim}
@@ -29,19 +29,19 @@ holds soc limits some =
 
 -- and is as it should be
 leaf_enough : (soc : SocValue) (limits : LimitsValue) → 1 ≤ limits.wires →
-    IsEnough soc limits [] 0 (in_case (tightened limits.wires root_case) (OfSum one_wire))
+    IsEnough soc limits [] 0 0 (in_case (tightened limits.wires root_case) (OfLeaf (OfSum one_wire)))
 leaf_enough soc limits some = record { rule = record { few = omega arith; named = All-nil (λ (o : ℕ × ℕ). MatchOption (slice_get [] o.0) ⊥ (IsKnownList 0)) }; holds = holds soc limits some }
 
 -- it is the only node
-enough : (soc : SocValue) (limits : LimitsValue) → 1 ≤ limits.wires → AreEnough soc limits [] 0 (all_cases soc limits (Leaf one_wire))
+enough : (soc : SocValue) (limits : LimitsValue) → 1 ≤ limits.wires → AreEnough soc limits [] 0 (all_cases soc limits (Leaf (OfSum one_wire)))
 unfolding cases_of
-enough soc limits some zero n is = subst (λ (m : NodeCase). IsEnough soc limits [] 0 m) (cc) (leaf_enough soc limits some)
+enough soc limits some zero n is = subst (λ (m : NodeCase). IsEnough soc limits [] 0 0 m) (cc) (leaf_enough soc limits some)
 enough soc limits some (suc place) n is = absurd cc
 
 pub nothing_accepted : (soc : SocValue) (limits : LimitsValue) → IsSoundLimits soc limits → IsAccepted soc limits no_claim
 nothing_accepted soc limits sound = record {
   lists = λ place list is. absurd cc;
-  tree = Leaf one_wire;
+  tree = Leaf (OfSum one_wire);
   nodes = refl;
   enough = enough soc limits sound.some_wire;
 }

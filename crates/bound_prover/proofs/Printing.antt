@@ -7,7 +7,7 @@ use Rattle.outside.specs.declared.NoMemory.{NoMemory}
 use Rattle.proof_model.specs.declared.Proof.{Proof}
 use Rattle.proof_model.specs.declared.Weights.{Weights}
 use Rattle.proof_model.specs.declared.Node.TheVariants.{Sum}
-use Rattle.proof_model.specs.Proofs.{OfSum, ProofValue, Leaf, proof_value}
+use Rattle.proof_model.specs.Proofs.{OfSum, OfLeaf, ProofValue, Leaf, proof_value}
 use Rattle.proof_text.specs.ProofLines.{proof_text, proof_tokens}
 use Rattle.proof_model.specs.Sayable.{NamesTests, IsWeight, IsUse, HasWeights}
 use Rattle.proof_text.specs.Grammar.{IsInRange}
@@ -31,8 +31,8 @@ nothing_readable = record {
   said = record {
     few = omega arith;
     lists = All-nil NamesTests;
-    one = (Leaf one_wire, refl);
-    weights = All-cons HasWeights (OfSum one_wire) [] (record { wire = omega arith; ranks = All-nil IsWeight; lists = All-nil IsUse }) (All-nil HasWeights);
+    one = (Leaf (OfSum one_wire), refl);
+    weights = All-cons HasWeights (OfLeaf (OfSum one_wire)) [] (record { wire = omega arith; ranks = All-nil IsWeight; lists = All-nil IsUse }) (All-nil HasWeights);
   };
   range = nothing_range;
 }

@@ -2,7 +2,7 @@
 use Rattle.std.specs.Prelude.{◌≡◌, ℕ, ◌≤◌, List, [], ◌∷◌, length}
 use Rattle.soc_model.specs.Chips.{SocValue}
 use Rattle.plan_model.specs.Plans.{LimitsValue}
-use Rattle.proof_model.specs.Proofs.{OfSum, ProofValue}
+use Rattle.proof_model.specs.Proofs.{OfSum, OfLeaf, ProofValue}
 use Rattle.proof_text.specs.ProofLines.{proof_text}
 use Rattle.proof_model.specs.Sayable.{MayBeSaid}
 use Rattle.proof_text.specs.Grammar.{IsInRange}
@@ -12,7 +12,7 @@ use Rattle.commands.specs.declared.TheConstants.{FILE_MOST}
 
 -- the proof that claims nothing: no list, and one leaf at the root
 abbrev pub no_claim : ProofValue
-no_claim = record { claimed = 0; lists = []; nodes = OfSum (record { wire = 1; ranks = []; lists = [] }) ∷ [] }
+no_claim = record { claimed = 0; lists = []; nodes = OfLeaf (OfSum (record { wire = 1; ranks = []; lists = [] })) ∷ [] }
 
 -- a proof that a text may say, with its numbers in the range of the grammar
 pub record IsReadable (value : ProofValue) : Type 0 where

@@ -19,7 +19,8 @@ use Rattle.exclusions.specs.Exclusions.{Excludes, excludes, least_power}
 use Rattle.bus_proofs.specs.Cases.{root_case}
 use Rattle.bus_proofs.specs.Laws.{AcceptedCasesHaveNoPlan, AcceptedProofsAreBounds}
 use Rattle.bus_proofs.proofs.Active.{planned_at}
-use Rattle.bus_proofs.proofs.LeafBounds.{IsTimed, SomeWire, leaves_none}
+use Rattle.bus_proofs.proofs.LeafBounds.{IsTimed, SomeWire}
+use Rattle.bus_proofs.proofs.PackBounds.{leaves_none}
 use Rattle.bus_proofs.proofs.Rankings.{plans_have_rankings, ByRanks, by_ranks, root_in}
 use Rattle.bus_proofs.proofs.Trees.{tree_none}
 

@@ -7,12 +7,12 @@ use Rattle.plan_model.specs.Plans.{LimitsValue}
 use Rattle.plan_model.specs.Rules.{IsFirstBreach}
 use Rattle.bus_proofs.specs.declared.ProofFault.{ProofFault}
 use Rattle.bus_proofs.specs.declared.ProofFault.TheVariants.{BadList, BadNode, Less}
-use Rattle.proof_model.specs.Proofs.{ListValue, WeightsValue, OfSum, CaseTree, ProofValue}
-use Rattle.bus_proofs.specs.Cases.{NodeCase}
+use Rattle.proof_model.specs.Proofs.{ListValue, LeafValue, OfLeaf, OfSum, OfPack, CaseTree, ProofValue}
+use Rattle.bus_proofs.specs.Cases.{Case, NodeCase}
 use Rattle.plan_model.specs.Bounds.{quotient_up}
 use Rattle.plan_model.proofs.LowerTimes.{quotient_up-le}
 use Rattle.bus_proofs.specs.Leaves.{cost_of_all, worth_of_cycle, cycles_shown, leaf_shows}
-use Rattle.bus_proofs.specs.Bounds.{KeepsNode, NodeHolds, AreEnough, IsFirstLess, HasFault, IsNodeFault, all_cases}
+use Rattle.bus_proofs.specs.Bounds.{AnyLeafHolds, KeepsNodeAt, NodeHolds, AreEnough, any_leaf_shows, IsFirstLess, HasFault, IsNodeFault, all_cases}
 use Rattle.bus_proofs.specs.Laws.{ProofsHaveOneFault, AcceptedProofsHaveNoFault, LessShowsLess}
 use Rattle.bus_proofs.proofs.OneTree.{one_tree}
 
@@ -38,24 +38,29 @@ same_item P xs p q x y a b =
 same_node : (soc : SocValue) (limits : LimitsValue) (lists : List ListValue) (claim : ℕ) (nodes : List NodeCase) (p q : ℕ) (m n : NodeCase) → IsFirstLess soc limits lists claim nodes p m → IsFirstLess soc limits lists claim nodes q n → m ≡ n
 same_node soc limits lists claim nodes p q m n a b = same_item _ nodes p q m n a b
 
-same_weights : (x y : WeightsValue) → OfSum x ≡ OfSum y → x ≡ y
-same_weights x y e = cc
+same_leaf : (x y : LeafValue) → OfLeaf x ≡ OfLeaf y → x ≡ y
+same_leaf x y e = cc
+
+-- the rule at one place is the one at the other, where these are the same
+same_rule : (soc : SocValue) (limits : LimitsValue) (lists : List ListValue) (claim : ℕ) (nodes : List NodeCase) (p q : ℕ) (m n : NodeCase) → p ≡ q → m ≡ n → KeepsNodeAt soc limits lists claim nodes p m → KeepsNodeAt soc limits lists claim nodes q n
+same_rule soc limits lists claim nodes p q m n place node keeps =
+    subst (λ (k : ℕ). KeepsNodeAt soc limits lists claim nodes k n) place (subst (λ (x : NodeCase). KeepsNodeAt soc limits lists claim nodes p x) node keeps)
 
 same_fault : (soc : SocValue) (limits : LimitsValue) (lists : List ListValue) (claim : ℕ) (nodes : List NodeCase) (f g : ProofFault) → HasFault soc limits lists claim nodes f → HasFault soc limits lists claim nodes g → f ≡ g
 same_fault soc limits lists claim nodes (BadList p) g a b = absurd a
 same_fault soc limits lists claim nodes (BadNode p) (BadList q) a b = absurd b
 same_fault soc limits lists claim nodes (BadNode p) (BadNode q) a b = ap BadNode (same_place _ nodes p q a.n b.n a.first b.first)
 same_fault soc limits lists claim nodes (BadNode p) (Less q c s) a b =
-    absurd (a.broken (subst (λ (n : NodeCase). KeepsNode soc limits lists n.within n.node) (sym (same_node soc limits lists claim nodes p q a.n b.n a.first b.first)) b.rule))
+    absurd (a.broken (same_rule soc limits lists claim nodes q p b.n a.n (sym (same_place _ nodes p q a.n b.n a.first b.first)) (sym (same_node soc limits lists claim nodes p q a.n b.n a.first b.first)) b.rule))
 same_fault soc limits lists claim nodes (Less p c s) (BadList q) a b = absurd b
 same_fault soc limits lists claim nodes (Less p c s) (BadNode q) a b =
-    absurd (b.broken (subst (λ (n : NodeCase). KeepsNode soc limits lists n.within n.node) (same_node soc limits lists claim nodes p q a.n b.n a.first b.first) a.rule))
+    absurd (b.broken (same_rule soc limits lists claim nodes p q a.n b.n (same_place _ nodes p q a.n b.n a.first b.first) (same_node soc limits lists claim nodes p q a.n b.n a.first b.first) a.rule))
 same_fault soc limits lists claim nodes (Less p c s) (Less q d u) a b =
     let place : p ≡ q = same_place _ nodes p q a.n b.n a.first b.first in
     let node : a.n ≡ b.n = same_node soc limits lists claim nodes p q a.n b.n a.first b.first in
-    let weights : a.weights ≡ b.weights = same_weights a.weights b.weights (sym a.leaf ∙ ap (λ (n : NodeCase). n.node) node ∙ b.leaf) in
+    let leaf : a.leaf ≡ b.leaf = same_leaf a.leaf b.leaf (sym a.leaf_is ∙ ap (λ (n : NodeCase). n.node) node ∙ b.leaf_is) in
     let claimed : c ≡ d = a.claimed_is ∙ sym b.claimed_is in
-    let shown : s ≡ u = a.shown_is ∙ ap (λ (n : NodeCase). leaf_shows soc limits lists claim n.within a.weights) node ∙ ap (leaf_shows soc limits lists claim (b.n).within) weights ∙ sym b.shown_is in
+    let shown : s ≡ u = a.shown_is ∙ ap (λ (n : NodeCase). any_leaf_shows soc limits lists claim n.within a.leaf) node ∙ ap (any_leaf_shows soc limits lists claim (b.n).within) leaf ∙ sym b.shown_is in
     cc
 
 none : (soc : SocValue) (limits : LimitsValue) (lists : List ListValue) (claim : ℕ) (nodes : List NodeCase) (f : ProofFault) → AreEnough soc limits lists claim nodes → HasFault soc limits lists claim nodes f → ⊥
@@ -105,16 +110,18 @@ shown-less cost worth claim some few = go worth few
         let least : quotient_up cost (suc w) ≤ claim - 1 = quotient_up-le cost (claim - 1) (suc w) (omega arith) (omega (arith, few, product, all, turned)) in
         rw (ne_eqb (suc w) 0 (λ e. omega arith)) (omega (arith, least, before))
 
-pub less_shows_less : LessShowsLess
+-- a leaf that doesn't hold shows less than is claimed
+leaf_less : (soc : SocValue) (limits : LimitsValue) (lists : List ListValue) (claim : ℕ) (c : Case) (leaf : LeafValue) → 1 ≤ claim → (AnyLeafHolds soc limits lists claim c leaf → ⊥) → any_leaf_shows soc limits lists claim c leaf < claim
 unfolding leaf_shows
+leaf_less soc limits lists claim c (OfPack pricing) some less = omega (arith, some)
+leaf_less soc limits lists claim c (OfSum weights) some less = elim (cases_lt (worth_of_cycle limits.wires lists c weights * claim) (cost_of_all soc limits lists claim c weights + worth_of_cycle limits.wires lists c weights)) [
+  | inl more ↦ absurd (less (inr (inr more)))
+  | inr few ↦ shown-less (cost_of_all soc limits lists claim c weights) (worth_of_cycle limits.wires lists c weights) claim some few
+]
+
+pub less_shows_less : LessShowsLess
 less_shows_less soc limits p place claimed shown fault some =
     let a = fault.has in
-    let worth : ℕ = worth_of_cycle limits.wires p.lists (a.n).within a.weights in
-    elim (cases_lt (worth_of_cycle limits.wires p.lists (a.n).within a.weights * p.claimed) (cost_of_all soc limits p.lists p.claimed (a.n).within a.weights + worth_of_cycle limits.wires p.lists (a.n).within a.weights)) [
-      | inl more ↦
-          let holds : NodeHolds soc limits p.lists p.claimed (a.n).within (OfSum a.weights) = inr (inr more) in
-          absurd (a.first.breaks (record { rule = a.rule; holds = subst (NodeHolds soc limits p.lists p.claimed (a.n).within) (sym a.leaf) holds }))
-      | inr few ↦
-          let less : leaf_shows soc limits p.lists p.claimed (a.n).within a.weights < p.claimed = shown-less (cost_of_all soc limits p.lists p.claimed (a.n).within a.weights) (worth_of_cycle limits.wires p.lists (a.n).within a.weights) p.claimed (omega (arith, a.claimed_is)) few in
-          omega (arith, less, a.shown_is, a.claimed_is)
-    ]
+    let less : AnyLeafHolds soc limits p.lists p.claimed (a.n).within a.leaf → ⊥ = (λ holds. a.first.breaks (record { rule = a.rule; holds = subst (NodeHolds soc limits p.lists p.claimed (a.n).within) (sym a.leaf_is) holds })) in
+    let few : any_leaf_shows soc limits p.lists p.claimed (a.n).within a.leaf < p.claimed = leaf_less soc limits p.lists p.claimed (a.n).within a.leaf (omega (arith, some, a.claimed_is)) less in
+    omega (arith, few, a.shown_is, a.claimed_is)

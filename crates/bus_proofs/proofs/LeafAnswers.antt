@@ -12,7 +12,7 @@ use Rattle.bus_proofs.specs.declared.basis.Basis.{Basis}
 use Rattle.bus_proofs.specs.declared.case.CaseRoom.{CaseRoom}
 use Rattle.bus_proofs.specs.declared.leaf.LeafAnswer.{LeafAnswer}
 use Rattle.bus_proofs.specs.declared.leaf.LeafAnswer.TheVariants.{Broken, Holds, Shows}
-use Rattle.proof_model.specs.Proofs.{ListValue, WeightsValue}
+use Rattle.proof_model.specs.Proofs.{ListValue, WeightsValue, OfSum}
 use Rattle.bus_proofs.specs.Cases.{Case, IsEmpty}
 use Rattle.bus_proofs.specs.CaseRooms.{IsCaseOf}
 use Rattle.bus_proofs.specs.Leaves.{IsSum}
@@ -39,7 +39,7 @@ all_named lists known os i long all = subst (All (IsNamed lists known)) (take_al
 -- ---- buses
 
 -- a module with a test over the wires is in the chip
-wired_within : (soc : SocValue) (place : ℕ) → has_tam_at soc place ≡ true → place < length soc.modules
+pub wired_within : (soc : SocValue) (place : ℕ) → has_tam_at soc place ≡ true → place < length soc.modules
 wired_within soc place tam = go (slice_get soc.modules place) refl tam
   where
     go : (o : Option ModuleValue) → slice_get soc.modules place ≡ o → passes has_tam o ≡ true → place < length soc.modules
@@ -52,10 +52,10 @@ some_bus g c weights modules sum none = sum.1 none.place (wired_within (chip_of 
 
 -- ---- what is found
 
-pub found : (g : Basis) (c : Case) (weights : WeightsValue) (o : LeafAnswer) → IsSum (lists_of g) c weights → (IsEmpty (limits_of g).wires c → ⊥) → IsWeighedAnswer g c weights o → IsLeafAnswer g c weights o
-found g c weights Broken rule some is = absurd is
-found g c weights Holds rule some is = (rule, inr is)
-found g c weights (Shows shown) rule some is = record {
+pub found : (g : Basis) (c : Case) (weights : WeightsValue) (o : LeafAnswer) → IsSum (lists_of g) c weights → (IsEmpty (limits_of g).wires c → ⊥) → IsWeighedAnswer g c weights o → (done : ℕ) → IsLeafAnswer g done c (OfSum weights) o
+found g c weights Broken rule some is done = absurd is
+found g c weights Holds rule some is done = (rule, inr is)
+found g c weights (Shows shown) rule some is done = record {
   rule = rule;
   less = λ h. elim h [
     | inl empty ↦ some empty

@@ -21,13 +21,13 @@ use Rattle.plan_model.proofs.SumsOverCycles.{sum_below-add, sum_below-le_by}
 use Rattle.plan_model.proofs.TurnBounds.{plan_of}
 use Rattle.packed_times.specs.Packed.{packed_time, packed_tam_time, self_test_time}
 use Rattle.proof_model.specs.Proofs.{ListValue, OfTurns, OfTurnsOn, OfCrowd, OfPower, WeightsValue}
-use Rattle.bus_proofs.specs.Cases.{Case, known_ranks, spare, least_wires}
+use Rattle.bus_proofs.specs.Cases.{Case, known_ranks, spare, least_wires, IsEmpty}
 use Rattle.bus_proofs.specs.Lists.{KeepsList, room_of, use_of, is_among, excludes_all}
-use Rattle.bus_proofs.specs.Leaves.{Slot, slot, is_short, all_slots, slots_of, is_rank, module_use, self_use, weighed, cost, least_cost, cost_of_all, worth_of_cycle}
+use Rattle.bus_proofs.specs.Leaves.{IsSum, LeafHolds, Slot, slot, is_short, all_slots, slots_of, is_rank, module_use, self_use, weighed, cost, least_cost, cost_of_all, worth_of_cycle}
 use Rattle.bus_proofs.specs.Bounds.{AreKept}
 use Rattle.bus_proofs.proofs.Intervals.{lows-le}
 use Rattle.bus_proofs.proofs.Steps.{IsIn}
-use Rattle.bus_proofs.proofs.Trees.{IsRanked, LeavesHaveNone}
+use Rattle.bus_proofs.proofs.Trees.{IsRanked, NoPlan}
 use Rattle.bus_proofs.proofs.Active.{planned_at, time_of}
 use Rattle.bus_proofs.proofs.Turns.{NeverMeet, OneBus, never_bound, bus_never, turns_fit, turns_on_fit}
 use Rattle.bus_proofs.proofs.Crowds.{LeastDraws, crowd_fits}
@@ -58,7 +58,7 @@ live_tam soc i l at tam =
     let t = from_filter is_live l.core.tests o.n l.test o.test_at in
     any_from is_tam l.core.tests t.0 l.test t.1 (and_from (is_live l.test) l.test.tam t.2 tam)
 
-wired_module : (soc : SocValue) (p : ℕ) → has_tam_at soc p ≡ true → (m : ModuleValue) × (slice_get soc.modules p ≡ Some m) × (has_tam m ≡ true)
+pub wired_module : (soc : SocValue) (p : ℕ) → has_tam_at soc p ≡ true → (m : ModuleValue) × (slice_get soc.modules p ≡ Some m) × (has_tam m ≡ true)
 wired_module soc p = go (slice_get soc.modules p) refl
   where
     go : (o : Option ModuleValue) → slice_get soc.modules p ≡ o → passes has_tam o ≡ true → (m : ModuleValue) × (slice_get soc.modules p ≡ Some m) × (has_tam m ≡ true)
@@ -93,7 +93,7 @@ one_bus soc plan w f rank top known is i j k a b at at' tam tam' on' on'' =
     is.one_bus a.place b.place a.core b.core (live_module soc i a at) (live_module soc j b at') (live_tam soc i a at tam) (live_tam soc j b at' tam') (known_is known (rank a.place) k on' ∙ sym (known_is known (rank b.place) k on''))
 
 -- a bus takes no longer than the plan
-load-le : (soc : SocValue) (limits : LimitsValue) (plan : PlanValue) (f rank : ℕ → ℕ) (top : ℕ) → IsGood soc limits plan → IsRanked soc plan limits.wires f rank top → (k : ℕ) → sum_by (λ l. if l.test.tam && nat_eq (rank l.place) k then time_of plan l else 0) (live_tests soc) ≤ plan.cycles
+pub load-le : (soc : SocValue) (limits : LimitsValue) (plan : PlanValue) (f rank : ℕ → ℕ) (top : ℕ) → IsGood soc limits plan → IsRanked soc plan limits.wires f rank top → (k : ℕ) → sum_by (λ l. if l.test.tam && nat_eq (rank l.place) k then time_of plan l else 0) (live_tests soc) ≤ plan.cycles
 load-le soc limits plan f rank top good is k = never_bound soc limits plan good (λ l. l.test.tam && nat_eq (rank l.place) k) (λ i j c a b order at at' p q active active'.
     let x = and_parts a.test.tam (nat_eq (rank a.place) k) p in
     let y = and_parts b.test.tam (nat_eq (rank b.place) k) q in
@@ -135,30 +135,30 @@ use_off soc limits on' (OfPower near) m n l h = use_of-mono soc limits on' (OfPo
 -- ---- one leaf
 
 -- all that is at hand
-record Leafing (soc : SocValue) (limits : LimitsValue) (lists : List ListValue) (plan : PlanValue) (claim : ℕ) (c : Case) (weights : WeightsValue) (f rank : ℕ → ℕ) (top : ℕ) : Type 0 where
-  sound : IsSoundChip soc
-  good : IsGood soc limits plan
-  timed : IsTimed soc limits plan
-  short : plan.cycles < claim
-  kept : AreKept soc limits lists
-  few : length weights.ranks ≤ known_ranks c
-  some : (p : ℕ) (m : ModuleValue) → slice_get soc.modules p ≡ Some m → has_tam m ≡ true → 1 ≤ f (rank p)
-  ranked : IsRanked soc plan limits.wires f rank top
-  is_in : IsIn f rank (has_tam_at soc) c
+pub record Leafing (soc : SocValue) (limits : LimitsValue) (lists : List ListValue) (plan : PlanValue) (claim : ℕ) (c : Case) (weights : WeightsValue) (f rank : ℕ → ℕ) (top : ℕ) : Type 0 where
+  pub sound : IsSoundChip soc
+  pub good : IsGood soc limits plan
+  pub timed : IsTimed soc limits plan
+  pub short : plan.cycles < claim
+  pub kept : AreKept soc limits lists
+  pub few : length weights.ranks ≤ known_ranks c
+  pub some : (p : ℕ) (m : ModuleValue) → slice_get soc.modules p ≡ Some m → has_tam m ≡ true → 1 ≤ f (rank p)
+  pub ranked : IsRanked soc plan limits.wires f rank top
+  pub is_in : IsIn f rank (has_tam_at soc) c
 
 -- the slot of a module
-abbrev own_slot : (c : Case) (weights : WeightsValue) (f rank : ℕ → ℕ) → ℕ → Slot
+abbrev pub own_slot : (c : Case) (weights : WeightsValue) (f rank : ℕ → ℕ) → ℕ → Slot
 own_slot c weights f rank p = slot (known_rank (known_ranks c) (rank p)) (f (rank p)) (rate_of f c weights (rank p))
 
 -- a test over the wires takes at least its packed time on the width of its rank
-packed-le : (soc : SocValue) (limits : LimitsValue) (lists : List ListValue) (plan : PlanValue) (claim : ℕ) (c : Case) (weights : WeightsValue) (f rank : ℕ → ℕ) (top : ℕ) → Leafing soc limits lists plan claim c weights f rank top →
+pub packed-le : (soc : SocValue) (limits : LimitsValue) (lists : List ListValue) (plan : PlanValue) (claim : ℕ) (c : Case) (weights : WeightsValue) (f rank : ℕ → ℕ) (top : ℕ) → Leafing soc limits lists plan claim c weights f rank top →
     (p i : ℕ) (l : LiveTest) → slice_get (live_tests soc) i ≡ Some l → l.test.tam && is_of p l ≡ true → packed_time l.core l.test (f (rank p)) ≤ time_of plan l
 packed-le soc limits lists plan claim c weights f rank top h p i l at both =
     let x = and_parts l.test.tam (is_of p l) both in
     let width : f (rank p) ≡ bus_width plan l.core = ap (λ q. f (rank q)) (sym (eqb-true l.place p x.1)) ∙ h.ranked.own l.place l.core (live_module soc i l at) (live_tam soc i l at x.0) in
     rw width (h.timed.packed i l at x.0)
 
-short-enough : (soc : SocValue) (limits : LimitsValue) (lists : List ListValue) (plan : PlanValue) (claim : ℕ) (c : Case) (weights : WeightsValue) (f rank : ℕ → ℕ) (top : ℕ) → Leafing soc limits lists plan claim c weights f rank top →
+pub short-enough : (soc : SocValue) (limits : LimitsValue) (lists : List ListValue) (plan : PlanValue) (claim : ℕ) (c : Case) (weights : WeightsValue) (f rank : ℕ → ℕ) (top : ℕ) → Leafing soc limits lists plan claim c weights f rank top →
     (p : ℕ) → packed_tam_time soc p (f (rank p)) + self_test_time soc p < claim
 short-enough soc limits lists plan claim c weights f rank top h p =
     let both : packed_tam_time soc p (f (rank p)) + self_test_time soc p ≤ sum_by (λ l. if is_of p l then time_of plan l else 0) (live_tests soc) =
@@ -173,7 +173,7 @@ short-enough soc limits lists plan claim c weights f rank top h p =
     each false false x y t a b = omega arith
 
 -- the slot is one that the leaf looks at
-slot_is : (soc : SocValue) (limits : LimitsValue) (lists : List ListValue) (plan : PlanValue) (claim : ℕ) (c : Case) (weights : WeightsValue) (f rank : ℕ → ℕ) (top : ℕ) → Leafing soc limits lists plan claim c weights f rank top →
+pub slot_is : (soc : SocValue) (limits : LimitsValue) (lists : List ListValue) (plan : PlanValue) (claim : ℕ) (c : Case) (weights : WeightsValue) (f rank : ℕ → ℕ) (top : ℕ) → Leafing soc limits lists plan claim c weights f rank top →
     (p : ℕ) → has_tam_at soc p ≡ true → (n : ℕ) × (slice_get (slots_of soc limits.wires claim c weights p) n ≡ Some (own_slot c weights f rank p))
 slot_is soc limits lists plan claim c weights f rank top h p tam =
     let m = wired_module soc p tam in
@@ -181,8 +181,25 @@ slot_is soc limits lists plan claim c weights f rank top h p tam =
     in_filter (is_short soc claim p) (all_slots limits.wires c weights p) at.0 (own_slot c weights f rank p) at.1 (lt-ltb (packed_tam_time soc p (f (rank p)) + self_test_time soc p) claim (short-enough soc limits lists plan claim c weights f rank top h p))
 
 -- what a test uses of a list in the plan
-abbrev planned_use : SocValue → LimitsValue → PlanValue → (c : Case) (rank : ℕ → ℕ) → ListValue → LiveTest → ℕ
+abbrev pub planned_use : SocValue → LimitsValue → PlanValue → (c : Case) (rank : ℕ → ℕ) → ListValue → LiveTest → ℕ
 planned_use soc limits plan c rank list l = use_of soc limits (on_of (known_ranks c) rank l) list (time_of plan l) l
+
+-- what a module uses of the lists is at most what its tests use of them in the plan
+pub module_uses-le : (soc : SocValue) (limits : LimitsValue) (lists : List ListValue) (plan : PlanValue) (claim : ℕ) (c : Case) (weights : WeightsValue) (f rank : ℕ → ℕ) (top : ℕ) → Leafing soc limits lists plan claim c weights f rank top →
+    (p : ℕ) → weighed lists weights (module_use soc limits p (own_slot c weights f rank p)) ≤ weighed lists weights (λ list. sum_by (λ l. if l.test.tam && is_of p l then planned_use soc limits plan c rank list l else 0) (live_tests soc))
+module_uses-le soc limits lists plan claim c weights f rank top h p =
+    weighed-le lists weights (module_use soc limits p (own_slot c weights f rank p)) (λ list. sum_by (λ l. if l.test.tam && is_of p l then planned_use soc limits plan c rank list l else 0) (live_tests soc))
+    (λ n list there. sum_by-le_at (λ l. if l.test.tam && is_of p l then use_of soc limits (is_rank (known_rank (known_ranks c) (rank p))) list (packed_time l.core l.test (f (rank p))) l else 0) (λ l. if l.test.tam && is_of p l then planned_use soc limits plan c rank list l else 0) (live_tests soc)
+    (λ i l at. if-le (l.test.tam && is_of p l) (use_of soc limits (is_rank (known_rank (known_ranks c) (rank p))) list (packed_time l.core l.test (f (rank p))) l) (planned_use soc limits plan c rank list l) (λ both. used list i l at both)))
+  where
+    same_place : (l : LiveTest) → l.test.tam && is_of p l ≡ true → p ≡ l.place
+    same_place l both = sym (eqb-true l.place p (and_parts l.test.tam (is_of p l) both).1)
+
+    used : (list : ListValue) (i : ℕ) (l : LiveTest) → slice_get (live_tests soc) i ≡ Some l → l.test.tam && is_of p l ≡ true → use_of soc limits (is_rank (known_rank (known_ranks c) (rank p))) list (packed_time l.core l.test (f (rank p))) l ≤ planned_use soc limits plan c rank list l
+    used list i l at both =
+        let less : use_of soc limits (is_rank (known_rank (known_ranks c) (rank p))) list (packed_time l.core l.test (f (rank p))) l ≤ use_of soc limits (is_rank (known_rank (known_ranks c) (rank p))) list (time_of plan l) l =
+        use_of-mono soc limits (is_rank (known_rank (known_ranks c) (rank p))) list (packed_time l.core l.test (f (rank p))) (time_of plan l) l (packed-le soc limits lists plan claim c weights f rank top h p i l at both) in
+        subst (λ q. use_of soc limits (is_rank (known_rank (known_ranks c) (rank p))) list (packed_time l.core l.test (f (rank p))) l ≤ use_of soc limits (is_rank (known_rank (known_ranks c) (rank q))) list (time_of plan l) l) (same_place l both) less
 
 -- what a module costs is at most what its tests take in the plan
 cost-le : (soc : SocValue) (limits : LimitsValue) (lists : List ListValue) (plan : PlanValue) (claim : ℕ) (c : Case) (weights : WeightsValue) (f rank : ℕ → ℕ) (top : ℕ) → Leafing soc limits lists plan claim c weights f rank top →
@@ -195,9 +212,7 @@ cost-le soc limits lists plan claim c weights f rank top h p =
     sum_by-le_at (λ l. if l.test.tam && is_of p l then rate_of f c weights (rank p) * packed_time l.core l.test (f (rank p)) else 0) (λ l. if l.test.tam && is_of p l then rate_of f c weights (rank l.place) * time_of plan l else 0) (live_tests soc)
     (λ i l at. if-le (l.test.tam && is_of p l) (rate_of f c weights (rank p) * packed_time l.core l.test (f (rank p))) (rate_of f c weights (rank l.place) * time_of plan l) (λ both. rated i l at both)) in
     let uses : weighed lists weights (module_use soc limits p (own_slot c weights f rank p)) ≤ weighed lists weights (λ list. sum_by (λ l. if l.test.tam && is_of p l then planned_use soc limits plan c rank list l else 0) (live_tests soc)) =
-    weighed-le lists weights (module_use soc limits p (own_slot c weights f rank p)) (λ list. sum_by (λ l. if l.test.tam && is_of p l then planned_use soc limits plan c rank list l else 0) (live_tests soc))
-    (λ n list there. sum_by-le_at (λ l. if l.test.tam && is_of p l then use_of soc limits (is_rank (known_rank (known_ranks c) (rank p))) list (packed_time l.core l.test (f (rank p))) l else 0) (λ l. if l.test.tam && is_of p l then planned_use soc limits plan c rank list l else 0) (live_tests soc)
-    (λ i l at. if-le (l.test.tam && is_of p l) (use_of soc limits (is_rank (known_rank (known_ranks c) (rank p))) list (packed_time l.core l.test (f (rank p))) l) (planned_use soc limits plan c rank list l) (λ both. used list i l at both))) in
+    module_uses-le soc limits lists plan claim c weights f rank top h p in
     omega (arith, product, rates, uses)
   where
     same_place : (l : LiveTest) → l.test.tam && is_of p l ≡ true → p ≡ l.place
@@ -207,12 +222,6 @@ cost-le soc limits lists plan claim c weights f rank top h p =
     rated i l at both =
         let less : rate_of f c weights (rank p) * packed_time l.core l.test (f (rank p)) ≤ rate_of f c weights (rank p) * time_of plan l = mul-le-mul_left (rate_of f c weights (rank p)) (packed-le soc limits lists plan claim c weights f rank top h p i l at both) in
         subst (λ q. rate_of f c weights (rank p) * packed_time l.core l.test (f (rank p)) ≤ rate_of f c weights (rank q) * time_of plan l) (same_place l both) less
-
-    used : (list : ListValue) (i : ℕ) (l : LiveTest) → slice_get (live_tests soc) i ≡ Some l → l.test.tam && is_of p l ≡ true → use_of soc limits (is_rank (known_rank (known_ranks c) (rank p))) list (packed_time l.core l.test (f (rank p))) l ≤ planned_use soc limits plan c rank list l
-    used list i l at both =
-        let less : use_of soc limits (is_rank (known_rank (known_ranks c) (rank p))) list (packed_time l.core l.test (f (rank p))) l ≤ use_of soc limits (is_rank (known_rank (known_ranks c) (rank p))) list (time_of plan l) l =
-        use_of-mono soc limits (is_rank (known_rank (known_ranks c) (rank p))) list (packed_time l.core l.test (f (rank p))) (time_of plan l) l (packed-le soc limits lists plan claim c weights f rank top h p i l at both) in
-        subst (λ q. use_of soc limits (is_rank (known_rank (known_ranks c) (rank p))) list (packed_time l.core l.test (f (rank p))) l ≤ use_of soc limits (is_rank (known_rank (known_ranks c) (rank q))) list (time_of plan l) l) (same_place l both) less
 
 least-le : (soc : SocValue) (limits : LimitsValue) (lists : List ListValue) (plan : PlanValue) (claim : ℕ) (c : Case) (weights : WeightsValue) (f rank : ℕ → ℕ) (top : ℕ) → Leafing soc limits lists plan claim c weights f rank top →
     (p : ℕ) → least_cost soc limits lists claim c weights p ≤ sum_by (λ l. if l.test.tam && is_of p l then rate_of f c weights (rank l.place) * time_of plan l else 0) (live_tests soc)
@@ -250,7 +259,7 @@ all_costs-le soc limits lists plan claim c weights f rank top h =
     omega (arith, each, split, rates, turned, uses)
 
 -- what all tests use of the lists, those over the wires and the self tests
-uses-le : (soc : SocValue) (limits : LimitsValue) (lists : List ListValue) (plan : PlanValue) (claim : ℕ) (c : Case) (weights : WeightsValue) (f rank : ℕ → ℕ) (top : ℕ) → Leafing soc limits lists plan claim c weights f rank top →
+pub uses-le : (soc : SocValue) (limits : LimitsValue) (lists : List ListValue) (plan : PlanValue) (claim : ℕ) (c : Case) (weights : WeightsValue) (f rank : ℕ → ℕ) (top : ℕ) → Leafing soc limits lists plan claim c weights f rank top →
     weighed lists weights (λ list. sum_by (λ l. if l.test.tam then planned_use soc limits plan c rank list l else 0) (live_tests soc)) + weighed lists weights (self_use soc limits) ≤ plan.cycles * weighed lists weights room_of
 uses-le soc limits lists plan claim c weights f rank top h =
     let both : weighed lists weights (λ list. sum_by (λ l. if l.test.tam then planned_use soc limits plan c rank list l else 0) (live_tests soc) + self_use soc limits list) ≡ weighed lists weights (λ list. sum_by (λ l. if l.test.tam then planned_use soc limits plan c rank list l else 0) (live_tests soc)) + weighed lists weights (self_use soc limits) =
@@ -299,14 +308,19 @@ costs_fit soc limits lists plan claim c weights f rank top h =
 abbrev pub SomeWire : SocValue → PlanValue → Type 0
 SomeWire soc plan = (p : ℕ) (m : ModuleValue) → slice_get soc.modules p ≡ Some m → has_tam m ≡ true → 1 ≤ bus_width plan m
 
-pub leaves_none : (soc : SocValue) (limits : LimitsValue) (lists : List ListValue) (claim : ℕ) (plan : PlanValue) → IsSoundChip soc → IsGood soc limits plan → IsTimed soc limits plan → SomeWire soc plan → AreKept soc limits lists → plan.cycles < claim → LeavesHaveNone soc limits lists claim plan
-leaves_none soc limits lists claim plan sound good timed some kept short c weights rule holds f rank top ranked is = elim holds [
-  | inl empty ↦ elim empty [
-    | inl much ↦
-        let least : least_wires c.intervals ≤ sum_below f (length c.intervals) = lows-le c.intervals f is.low in
-        omega (arith, least, ranked.fits (length c.intervals), much)
-    | inr crossed ↦ omega (arith, crossed.2, is.low crossed.0 crossed.1, is.high crossed.0 crossed.1)
-  ]
+-- an empty case has none
+pub empty_none : (soc : SocValue) (plan : PlanValue) (w : ℕ) (c : Case) (f rank : ℕ → ℕ) (top : ℕ) → IsRanked soc plan w f rank top → IsIn f rank (has_tam_at soc) c → IsEmpty w c → ⊥
+empty_none soc plan w c f rank top ranked is empty = elim empty [
+  | inl much ↦
+      let least : least_wires c.intervals ≤ sum_below f (length c.intervals) = lows-le c.intervals f is.low in
+      omega (arith, least, ranked.fits (length c.intervals), much)
+  | inr crossed ↦ omega (arith, crossed.2, is.low crossed.0 crossed.1, is.high crossed.0 crossed.1)
+]
+
+pub sums_none : (soc : SocValue) (limits : LimitsValue) (lists : List ListValue) (claim : ℕ) (plan : PlanValue) → IsSoundChip soc → IsGood soc limits plan → IsTimed soc limits plan → SomeWire soc plan → AreKept soc limits lists → plan.cycles < claim →
+    (c : Case) (weights : WeightsValue) → IsSum lists c weights → LeafHolds soc limits lists claim c weights → NoPlan soc plan limits.wires c
+sums_none soc limits lists claim plan sound good timed some kept short c weights rule holds f rank top ranked is = elim holds [
+  | inl empty ↦ empty_none soc plan limits.wires c f rank top ranked is empty
   | inr other ↦ elim other [
     | inl none ↦
         let at = slot_is soc limits lists plan claim c weights f rank top leafing none.place none.tam in

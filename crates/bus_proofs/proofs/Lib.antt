@@ -10,6 +10,7 @@ pub mod Rankings
 pub mod Weighed
 pub mod Slots
 pub mod LeafBounds
+pub mod PackBounds
 pub mod AcceptedProofs
 pub mod Rows
 pub mod OneTree
@@ -30,6 +31,10 @@ pub mod LeafTotals
 pub mod LeafAnswers
 pub mod Marked
 pub mod RoomSteps
+pub mod PackFillings
+pub mod PackRules
+pub mod PackSteps
+pub mod PackAnswers
 pub mod NodeRules
 pub mod WalkSteps
 pub mod ProofChecks

@@ -16,7 +16,7 @@ use Rattle.bus_proofs.specs.declared.basis.Basis.{Basis}
 use Rattle.bus_proofs.specs.declared.case.CaseRoom.{CaseRoom}
 use Rattle.bus_proofs.specs.declared.leaf.LeafRoom.{LeafRoom}
 use Rattle.bus_proofs.specs.declared.walk.OpenSplit.{OpenSplit}
-use Rattle.proof_model.specs.Proofs.{ListValue, WeightsValue, OfSum, CaseTree, nodes_of, node_value, ProofValue}
+use Rattle.proof_model.specs.Proofs.{ListValue, LeafValue, OfLeaf, CaseTree, nodes_of, node_value, ProofValue}
 use Rattle.bus_proofs.specs.Cases.{root_case}
 use Rattle.proof_model.specs.Sayable.{MayBeSaid}
 use Rattle.bus_proofs.specs.Bounds.{AreKept, IsAccepted, IsProofFault, all_cases}
@@ -24,7 +24,7 @@ use Rattle.bus_proofs.specs.ListTables.{KeepFirst}
 use Rattle.bus_proofs.specs.CaseRooms.{HasCase, IsCaseOf, IsSame}
 use Rattle.bus_proofs.specs.Bases.{IsBasis, chip_of, limits_of, lists_of, proof_of}
 use Rattle.bus_proofs.specs.LeafAnswers.{HasLeafSpace}
-use Rattle.bus_proofs.specs.Walks.{FitsLeaves, IsChecked}
+use Rattle.bus_proofs.specs.Walks.{FitsLeaves, IsChecked, named_in}
 use Rattle.bus_proofs.specs.ProofRooms.{IsProofRoom, RoomValue}
 use Rattle.bus_proofs.specs.Laws.{AcceptedProofsAreBounds}
 use Rattle.bus_proofs.proofs.RoomSteps.{AreWithin, same_case, same_room}
@@ -67,21 +67,21 @@ room_back g a b leaf leaf' turns turns' room same fits long = record {
   turns_fit = omega (arith, long, room.turns_fit);
 }
 
--- ---- how many lists a leaf weighs
+-- ---- how many lists or modules a leaf names
 
 pub uses_more : (nodes : List Node) (place most next : ℕ) (node : Node) →
-    ((q : ℕ) (w : WeightsValue) → q < place → slice_get (map node_value nodes) q ≡ Some (OfSum w) → length w.lists ≤ most) → place < length nodes → node ≡ get_or nodes place node →
-    ((w : WeightsValue) → node_value node ≡ OfSum w → length w.lists ≤ next) → most ≤ next →
-    (q : ℕ) (w : WeightsValue) → q < place + 1 → slice_get (map node_value nodes) q ≡ Some (OfSum w) → length w.lists ≤ next
+    ((q : ℕ) (w : LeafValue) → q < place → slice_get (map node_value nodes) q ≡ Some (OfLeaf w) → named_in w ≤ most) → place < length nodes → node ≡ get_or nodes place node →
+    ((w : LeafValue) → node_value node ≡ OfLeaf w → named_in w ≤ next) → most ≤ next →
+    (q : ℕ) (w : LeafValue) → q < place + 1 → slice_get (map node_value nodes) q ≡ Some (OfLeaf w) → named_in w ≤ next
 uses_more nodes place most next node before within is here less q w q_less at = elim (cases_lt q place) [
-  | inl earlier ↦ (let few : length w.lists ≤ most = before q w earlier at in omega (arith, few, less))
+  | inl earlier ↦ (let few : named_in w ≤ most = before q w earlier at in omega (arith, few, less))
   | inr last ↦ this (let same : q ≡ place = omega (arith, q_less, last) in same)
 ]
   where
-    value : Some (node_value node) ≡ Some (OfSum w) → node_value node ≡ OfSum w
+    value : Some (node_value node) ≡ Some (OfLeaf w) → node_value node ≡ OfLeaf w
     value e = cc
 
-    this : q ≡ place → length w.lists ≤ next
+    this : q ≡ place → named_in w ≤ next
     this same =
         let there : slice_get (map node_value nodes) place ≡ Some (node_value node) = slice_get-map node_value nodes place ∙ ap (option_map node_value) (slice_get_read nodes (length nodes) place node refl within is) in
         here w (value (sym there ∙ ap (slice_get (map node_value nodes)) (sym same) ∙ at))
@@ -100,9 +100,9 @@ few_modules soc size = go (nat_lt MODULES_MOST (length soc.modules)) refl (size 
 
 pub new_room : (g : Basis) (soc : SocValue) (limits : LimitsValue) (p : ProofValue) (room : CaseRoom) (leaf : LeafRoom) (turns : List OpenSplit) (uses : ℕ) → IsBasis g →
     chip_of g ≡ soc → limits_of g ≡ limits → proof_of g ≡ p → MayBeSaid p → HasCase room → IsCaseOf room root_case → room.modules ≡ length soc.modules → room.widths.wires ≡ limits.wires →
-    room.widths.most ≡ 256 → HasLeafSpace g leaf → uses ≤ 2 ^ 24 →
-    ((place : ℕ) (w : WeightsValue) → slice_get p.nodes place ≡ Some (OfSum w) → length w.lists ≤ uses) → length p.nodes ≤ length turns → IsProofRoom g room leaf turns
-new_room g soc limits p room leaf turns uses basis chip_is limits_is proof_is said has root modules wires most space few each fit = record {
+    room.widths.most ≡ 256 → HasLeafSpace g leaf → length leaf.pack.bus.places.items ≡ uses → uses ≤ 2 ^ 24 →
+    ((place : ℕ) (w : LeafValue) → slice_get p.nodes place ≡ Some (OfLeaf w) → named_in w ≤ uses) → length p.nodes ≤ length turns → IsProofRoom g room leaf turns
+new_room g soc limits p room leaf turns uses basis chip_is limits_is proof_is said has root modules wires most space places few each fit = record {
   basis_is = basis;
   said = subst MayBeSaid (sym proof_is) said;
   room = record {
@@ -116,8 +116,8 @@ new_room g soc limits p room leaf turns uses basis chip_is limits_is proof_is sa
   };
   root = root;
   leaves = λ place w at.
-      let lists : length w.lists ≤ uses = each place w (ap (λ (q : ProofValue). slice_get q.nodes place) (sym proof_is) ∙ at) in
-      record { few = omega (arith, lists, few); space = space };
+      let lists : named_in w ≤ uses = each place w (ap (λ (q : ProofValue). slice_get q.nodes place) (sym proof_is) ∙ at) in
+      record { few = omega (arith, lists, few); places = omega (arith, lists, places); space = space };
   turns_fit = omega (arith, fit, ap (λ (q : ProofValue). length q.nodes) proof_is);
 }
 

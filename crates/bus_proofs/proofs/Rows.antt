@@ -8,7 +8,7 @@ use Rattle.plan_model.specs.Plans.{LimitsValue}
 use Rattle.plan_model.specs.Bounds.{sum_below}
 use Rattle.packed_times.specs.Packed.{counting, averaging, beside, packed, packed_time, packed_tam_time}
 use Rattle.exclusions.specs.Exclusions.{leads, excludes}
-use Rattle.proof_model.specs.Proofs.{OfTurns, OfPower, WeightsValue, OfWide, OfPlace, CaseTree, Leaf, Branches}
+use Rattle.proof_model.specs.Proofs.{OfTurns, OfPower, WeightsValue, OfSum, OfWide, OfPlace, CaseTree, Leaf, Branches}
 use Rattle.bus_proofs.specs.Cases.{interval, Case, root_case, NodeCase, cases_of}
 use Rattle.bus_proofs.specs.Lists.{least_together, names_exclude, counted}
 use Rattle.bus_proofs.specs.Leaves.{slots_of, cost_of_all, worth_of_cycle, leaf_shows}
@@ -64,8 +64,8 @@ areas = refl
 node_tree : CaseTree
 node_tree =
     Branches (OfWide 0 1)
-    (Branches (OfWide 1 0) (Leaf (sum_of 1 [] [])) (Branches (OfPlace 1 0 (1 ∷ [])) (Leaf (sum_of 1 (1 ∷ []) [])) (Leaf (sum_of 1 (1 ∷ []) []))))
-    (Leaf (sum_of 0 (1 ∷ []) []))
+    (Branches (OfWide 1 0) (Leaf (OfSum (sum_of 1 [] []))) (Branches (OfPlace 1 0 (1 ∷ [])) (Leaf (OfSum (sum_of 1 (1 ∷ []) []))) (Leaf (OfSum (sum_of 1 (1 ∷ []) [])))))
+    (Leaf (OfSum (sum_of 0 (1 ∷ []) [])))
 
 -- the widths of each node's ranks
 widths_of_nodes : map (λ (n : NodeCase). n.within.intervals) (cases_of soc_xx 2 root_case node_tree) ≡

@@ -59,7 +59,7 @@ beside f (suc n) zero h = absurd (omega arith)
 beside f (suc n) (suc k) h = omega (arith, beside (λ j. f (suc j)) n k (omega arith), sum_below-first f n, sum_below-first f (suc k))
 
 -- a bus of the rest is within its bound
-rest_fits : (w : ℕ) (f : ℕ → ℕ) (c : Case) (r : ℕ) → Falls f → Fits f w → AreLows c.intervals f → AreHighs c.intervals f → known_ranks c ≤ r → f r ≤ rest_high w c (known_ranks c)
+pub rest_fits : (w : ℕ) (f : ℕ → ℕ) (c : Case) (r : ℕ) → Falls f → Fits f w → AreLows c.intervals f → AreHighs c.intervals f → known_ranks c ≤ r → f r ≤ rest_high w c (known_ranks c)
 rest_fits w f c r falls fits lows highs rest = go (known_ranks c) refl
   where
     go : (known : ℕ) → known_ranks c ≡ known → f r ≤ rest_high w c known

@@ -1,5 +1,5 @@
 -- By induction on the tree: where every leaf of an accepted tree is without a plan, so is the case at its root.
-use Rattle.std.proofs.Common.{◌≡◌, ℕ, suc, ◌+◌, ◌<◌, true, Some, List, ◌∷◌, ◌++◌, refl, ap, ◌∙◌, sym, subst, arith, inl, inr, ◌⊎◌}
+use Rattle.std.proofs.Common.{◌≡◌, ℕ, suc, ◌+◌, ◌<◌, true, Some, List, ◌∷◌, ◌++◌, refl, ap, ◌∙◌, sym, subst, arith, inl, inr, ◌⊎◌, take}
 use Rattle.std.specs.Prelude.{slice_get, nat_eq}
 use Rattle.std.specs.List.{All, list_any}
 use Rattle.std.proofs.lemmas.Bool.{cases_lt, cases_Bool, cases_eq, eqb-true, eq-eqb, ne_eqb, or_from}
@@ -12,10 +12,9 @@ use Rattle.plan_model.specs.Certificates.{has_tam_at}
 use Rattle.plan_model.proofs.CertificatesAreBounds.{place_or, some_place}
 use Rattle.plan_model.proofs.Lists.{any_at, at_contains, in_append_left, in_append_right}
 use Rattle.plan_model.proofs.PowerAndAreaBounds.{bus_width}
-use Rattle.proof_model.specs.Proofs.{ListValue, WeightsValue, SplitValue, OfWide, OfPlace, OfSplit, OfSum, CaseTree, Leaf, Branches}
+use Rattle.proof_model.specs.Proofs.{ListValue, LeafValue, SplitValue, OfWide, OfPlace, OfSplit, OfLeaf, CaseTree, Leaf, Branches}
 use Rattle.bus_proofs.specs.Cases.{Case, known_ranks, tightened, with_rank, narrow, wide, placed_on, placed_off, case_by, first_case, second_case, NodeCase, in_case, cases_of, AreTwins, KeepsSplit}
-use Rattle.bus_proofs.specs.Leaves.{IsSum, LeafHolds}
-use Rattle.bus_proofs.specs.Bounds.{IsEnough, AreEnough}
+use Rattle.bus_proofs.specs.Bounds.{AnyLeafHolds, AreEnough, IsEnough, KeepsLeaf, work_of_all}
 use Rattle.bus_proofs.proofs.Intervals.{Falls}
 use Rattle.bus_proofs.proofs.Steps.{IsIn, Fits, tightened_in, with_rank_in, narrow_in, wide_in, placed_on_in, placed_off_in, exchanged, exchanged_in, exchanged_at, exchanged_back}
 
@@ -98,26 +97,37 @@ split_none soc plan w c (OfPlace m k twins) rule first second =
 
 -- a leaf that keeps its rule and holds has no plan
 abbrev pub LeavesHaveNone : SocValue → LimitsValue → List ListValue → (claim : ℕ) → PlanValue → Type 0
-LeavesHaveNone soc limits lists claim plan = (c : Case) (weights : WeightsValue) → IsSum lists c weights → LeafHolds soc limits lists claim c weights → NoPlan soc plan limits.wires c
+LeavesHaveNone soc limits lists claim plan =
+    (done : ℕ) (c : Case) (leaf : LeafValue) → KeepsLeaf soc limits lists claim done c leaf → AnyLeafHolds soc limits lists claim c leaf → NoPlan soc plan limits.wires c
 
-first_enough : (soc : SocValue) (limits : LimitsValue) (lists : List ListValue) (claim : ℕ) (n : NodeCase) (xs ys : List NodeCase) → AreEnough soc limits lists claim (n ∷ (xs ++ ys)) → AreEnough soc limits lists claim xs
+-- each node is as it should be, whatever work is before it
+abbrev pub AreEnoughAlone : SocValue → LimitsValue → List ListValue → (claim : ℕ) → List NodeCase → Type 0
+AreEnoughAlone soc limits lists claim nodes = (k : ℕ) (x : NodeCase) → slice_get nodes k ≡ Some x → (done : ℕ) × IsEnough soc limits lists claim done x
+
+first_enough : (soc : SocValue) (limits : LimitsValue) (lists : List ListValue) (claim : ℕ) (n : NodeCase) (xs ys : List NodeCase) → AreEnoughAlone soc limits lists claim (n ∷ (xs ++ ys)) → AreEnoughAlone soc limits lists claim xs
 first_enough soc limits lists claim n xs ys enough k x at = enough (suc k) x (in_append_left xs ys k x at)
 
-second_enough : (soc : SocValue) (limits : LimitsValue) (lists : List ListValue) (claim : ℕ) (n : NodeCase) (xs ys : List NodeCase) → AreEnough soc limits lists claim (n ∷ (xs ++ ys)) → AreEnough soc limits lists claim ys
+second_enough : (soc : SocValue) (limits : LimitsValue) (lists : List ListValue) (claim : ℕ) (n : NodeCase) (xs ys : List NodeCase) → AreEnoughAlone soc limits lists claim (n ∷ (xs ++ ys)) → AreEnoughAlone soc limits lists claim ys
 second_enough soc limits lists claim n xs ys enough k x at = let r = in_append_right xs ys k x at in enough (suc r.0) x r.1
 
-pub tree_none : (soc : SocValue) (limits : LimitsValue) (lists : List ListValue) (claim : ℕ) (plan : PlanValue) → LeavesHaveNone soc limits lists claim plan →
-    (tree : CaseTree) (c : Case) → AreEnough soc limits lists claim (cases_of soc limits.wires c tree) → NoPlan soc plan limits.wires c
+alone_none : (soc : SocValue) (limits : LimitsValue) (lists : List ListValue) (claim : ℕ) (plan : PlanValue) → LeavesHaveNone soc limits lists claim plan →
+    (tree : CaseTree) (c : Case) → AreEnoughAlone soc limits lists claim (cases_of soc limits.wires c tree) → NoPlan soc plan limits.wires c
 unfolding cases_of
-tree_none soc limits lists claim plan leaves (Leaf weights) c enough f rank top ranked is =
-    let here : IsEnough soc limits lists claim (in_case (tightened limits.wires c) (OfSum weights)) = enough 0 (in_case (tightened limits.wires c) (OfSum weights)) refl in
-    leaves (tightened limits.wires c) weights here.rule here.holds f rank top ranked (tightened_in limits.wires f rank (has_tam_at soc) c ranked.falls ranked.fits is)
-tree_none soc limits lists claim plan leaves (Branches split a b) c enough f rank top ranked is =
-    let d : Case = tightened limits.wires c in
-    let here : IsEnough soc limits lists claim (in_case (tightened limits.wires c) (OfSplit split)) = enough 0 (in_case (tightened limits.wires c) (OfSplit split)) refl in
+alone_none soc limits lists claim plan leaves (Leaf leaf) c enough f rank top ranked is =
+    let own = enough 0 (in_case (tightened limits.wires c) (OfLeaf leaf)) refl in
+    let here : IsEnough soc limits lists claim own.0 (in_case (tightened limits.wires c) (OfLeaf leaf)) = own.1 in
+    leaves own.0 (tightened limits.wires c) leaf here.rule here.holds f rank top ranked (tightened_in limits.wires f rank (has_tam_at soc) c ranked.falls ranked.fits is)
+alone_none soc limits lists claim plan leaves (Branches split a b) c enough f rank top ranked is =
+    let own = enough 0 (in_case (tightened limits.wires c) (OfSplit split)) refl in
+    let here : IsEnough soc limits lists claim own.0 (in_case (tightened limits.wires c) (OfSplit split)) = own.1 in
     let first = first_enough soc limits lists claim (in_case (tightened limits.wires c) (OfSplit split)) (cases_of soc limits.wires (first_case soc limits.wires (tightened limits.wires c) split) a) (cases_of soc limits.wires (second_case soc limits.wires (tightened limits.wires c) split) b) enough in
     let second = second_enough soc limits lists claim (in_case (tightened limits.wires c) (OfSplit split)) (cases_of soc limits.wires (first_case soc limits.wires (tightened limits.wires c) split) a) (cases_of soc limits.wires (second_case soc limits.wires (tightened limits.wires c) split) b) enough in
     split_none soc plan limits.wires (tightened limits.wires c) split here.rule
-    (tree_none soc limits lists claim plan leaves a (first_case soc limits.wires (tightened limits.wires c) split) first)
-    (tree_none soc limits lists claim plan leaves b (second_case soc limits.wires (tightened limits.wires c) split) second)
+    (alone_none soc limits lists claim plan leaves a (first_case soc limits.wires (tightened limits.wires c) split) first)
+    (alone_none soc limits lists claim plan leaves b (second_case soc limits.wires (tightened limits.wires c) split) second)
     f rank top ranked (tightened_in limits.wires f rank (has_tam_at soc) c ranked.falls ranked.fits is)
+
+pub tree_none : (soc : SocValue) (limits : LimitsValue) (lists : List ListValue) (claim : ℕ) (plan : PlanValue) → LeavesHaveNone soc limits lists claim plan →
+    (tree : CaseTree) (c : Case) → AreEnough soc limits lists claim (cases_of soc limits.wires c tree) → NoPlan soc plan limits.wires c
+tree_none soc limits lists claim plan leaves tree c enough =
+    alone_none soc limits lists claim plan leaves tree c (λ k x at. (work_of_all limits.wires claim (take k (cases_of soc limits.wires c tree)), enough k x at))

@@ -1,9 +1,10 @@
 -- How the splits that are under way change, node by node.
-use Rattle.std.proofs.Common.{◌≡◌, ◌⊎◌, ℕ, zero, suc, ◌+◌, ◌<◌, Bool, true, false, Some, List, [], ◌∷◌, ◌++◌, length, map, drop, get_or, refl, sym, ap, ◌∙◌, subst, arith, inl, inr, append_assoc, append-nil}
+use Rattle.std.proofs.Common.{◌≡◌, ◌⊎◌, ℕ, zero, suc, ◌+◌, ◌<◌, Bool, true, false, Some, List, [], ◌∷◌, ◌++◌, length, map, drop, take, get_or, refl, sym, ap, ◌∙◌, subst, arith, inl, inr, append_assoc, append-nil}
 use Rattle.std.specs.Prelude.{Option, option_map, slice_get, slice_set, MatchBool, Ok, Err}
 use Rattle.std.proofs.lemmas.Bool.{cases_lt}
-use Rattle.std.proofs.lemmas.List.{get_or-set_same, get_or-set_other, length-map, map-append}
-use Rattle.std.proofs.lemmas.Option.{slice_get-get_or, slice_get-map}
+use Rattle.std.proofs.lemmas.List.Sums.{sum_by_push}
+use Rattle.std.proofs.lemmas.List.{get_or-set_same, get_or-set_other, length-map, map-append, take_more}
+use Rattle.std.proofs.lemmas.Option.{slice_get-get_or, slice_get-map, slice_get_within, get_or_from_slice_get}
 use Rattle.std.proofs.Math.Seq.{drop-cons}
 use Rattle.soc_model.specs.Chips.{SocValue}
 use Rattle.bus_proofs.specs.declared.ProofFault.{ProofFault}
@@ -12,13 +13,13 @@ use Rattle.bus_proofs.specs.declared.basis.Basis.{Basis}
 use Rattle.bus_proofs.specs.declared.case.CaseRoom.{CaseRoom}
 use Rattle.bus_proofs.specs.declared.case.Mark.{Mark}
 use Rattle.bus_proofs.specs.declared.walk.OpenSplit.{OpenSplit}
-use Rattle.proof_model.specs.Proofs.{WeightsValue, SplitValue, OfWide, OfPlace, NodeValue, OfSplit, OfSum, CaseTree, Leaf, Branches, nodes_of}
+use Rattle.proof_model.specs.Proofs.{LeafValue, SplitValue, OfWide, OfPlace, NodeValue, OfSplit, OfLeaf, CaseTree, Leaf, Branches, nodes_of}
 use Rattle.bus_proofs.specs.Cases.{Case, Interval, interval_of, known_ranks, narrow, placed_on, tightened, with_rank, case_by, first_case, second_case, NodeCase, in_case, cases_of, root_case, KeepsSplit}
-use Rattle.bus_proofs.specs.Bounds.{IsEnough, HasFault, KeepsNode, NodeHolds, all_cases}
+use Rattle.bus_proofs.specs.Bounds.{HasFault, KeepsNode, NodeHolds, all_cases, work_of_all}
 use Rattle.bus_proofs.specs.CaseRooms.{HasCase, IsCaseOf, IsFurther, IsMark}
 use Rattle.bus_proofs.specs.Trails.{IsFew}
 use Rattle.bus_proofs.specs.Bases.{chip_of, limits_of, lists_of, claim_of, proof_of}
-use Rattle.bus_proofs.specs.Walks.{no_turn, turn_at, split_case, branch_later, IsRoomFor, IsNodeAt, IsWideNow, IsPlaceAt, IsForked, IsTurn, IsLaterThen, IsWithin, Awaits, Begins, GoesOn, IsHere, IsFork, Follows, IsAt, IsBegun, IsSecond, IsJudged}
+use Rattle.bus_proofs.specs.Walks.{no_turn, turn_at, split_case, branch_later, IsRoomFor, IsNodeAt, IsWideNow, IsPlaceAt, IsForked, IsTurn, IsLaterThen, IsWithin, Awaits, Begins, GoesOn, IsHere, IsFork, Follows, IsAt, IsBegun, IsSecond, IsJudged, IsEnoughFor, node_work}
 use Rattle.bus_proofs.proofs.Trails.{few_at}
 use Rattle.bus_proofs.proofs.RoomSteps.{further_none, further_then, room_next, with_rank_within}
 
@@ -256,8 +257,8 @@ front_from : (g : Basis) (root : CaseRoom) (turns : List OpenSplit) (depth : ℕ
     x ∷ left ≡ cases_of (chip_of g) (limits_of g).wires c tree ++ rest → Awaits g root turns depth room rest →
     IsFront g root turns depth room (tightened (limits_of g).wires c) x left
 unfolding cases_of
-front_from g root turns depth room c x left rest (Leaf weights) e h =
-    let same : x ≡ in_case (tightened (limits_of g).wires c) (OfSum weights) = cc in
+front_from g root turns depth room c x left rest (Leaf leaf) e h =
+    let same : x ≡ in_case (tightened (limits_of g).wires c) (OfLeaf leaf) = cc in
     let tails : left ≡ rest = cc in
     record {
       within = ap (λ (n : NodeCase). n.within) same;
@@ -313,32 +314,54 @@ split_goes g root turns turns' depth next a d place x left split node is at begu
           (sym is) (begun.awaits fork.second fork.rest fork.awaits);
     })
 
-pub leaf_awaits : (g : Basis) (root : CaseRoom) (turns : List OpenSplit) (depth : ℕ) (a : CaseRoom) (place : ℕ) (x : NodeCase) (left : List NodeCase) (weights : WeightsValue) →
-    IsNodeAt g place (OfSum weights) → IsAt g root turns depth a place x left → Awaits g root turns depth a left
-leaf_awaits g root turns depth a place x left weights node at =
-    subst (λ (n : NodeValue). Follows g root turns depth a x.within n left) (one_node g place x.node (OfSum weights) at.node node) at.follows
+pub leaf_awaits : (g : Basis) (root : CaseRoom) (turns : List OpenSplit) (depth : ℕ) (a : CaseRoom) (place : ℕ) (x : NodeCase) (left : List NodeCase) (leaf : LeafValue) →
+    IsNodeAt g place (OfLeaf leaf) → IsAt g root turns depth a place x left → Awaits g root turns depth a left
+leaf_awaits g root turns depth a place x left leaf node at =
+    subst (λ (n : NodeValue). Follows g root turns depth a x.within n left) (one_node g place x.node (OfLeaf leaf) at.node node) at.follows
 
 -- ---- what is answered of it
 
 node_is : (x : NodeCase) (n : NodeValue) → x.node ≡ n → in_case x.within n ≡ x
 node_is x n e = ap (in_case x.within) (sym e)
 
-pub split_judged : (g : Basis) (root : CaseRoom) (turns : List OpenSplit) (depth next : ℕ) (a : CaseRoom) (place : ℕ) (x : NodeCase) (left : List NodeCase) (split : SplitValue) →
-    IsNodeAt g place (OfSplit split) → IsAt g root turns depth a place x left → KeepsSplit (chip_of g) (limits_of g).wires x.within split → IsJudged {X = ℕ} g place x (Ok next)
-split_judged g root turns depth next a place x left split node at rule =
-    let enough : IsEnough (chip_of g) (limits_of g) (lists_of g) (claim_of g) (in_case x.within (OfSplit split)) = record { rule = rule; holds = tt } in
-    subst (IsEnough (chip_of g) (limits_of g) (lists_of g) (claim_of g)) (node_is x (OfSplit split) (one_node g place x.node (OfSplit split) at.node node)) enough
+pub split_judged : (g : Basis) (root : CaseRoom) (turns : List OpenSplit) (depth next done : ℕ) (a : CaseRoom) (place : ℕ) (x : NodeCase) (left : List NodeCase) (split : SplitValue) →
+    IsNodeAt g place (OfSplit split) → IsAt g root turns depth a place x left → KeepsSplit (chip_of g) (limits_of g).wires x.within split → IsJudged {X = ℕ} g done place x (Ok next)
+split_judged g root turns depth next done a place x left split node at rule =
+    let enough : IsEnoughFor g done (in_case x.within (OfSplit split)) = record { rule = rule; holds = tt } in
+    subst (IsEnoughFor g done) (node_is x (OfSplit split) (one_node g place x.node (OfSplit split) at.node node)) enough
 
-pub leaf_enough : (g : Basis) (root : CaseRoom) (turns : List OpenSplit) (depth next : ℕ) (a : CaseRoom) (place : ℕ) (x : NodeCase) (left : List NodeCase) (weights : WeightsValue) →
-    IsNodeAt g place (OfSum weights) → IsAt g root turns depth a place x left → IsJudged {X = Unit {0}} g place (in_case x.within (OfSum weights)) (Ok tt) → IsJudged {X = ℕ} g place x (Ok next)
-leaf_enough g root turns depth next a place x left weights node at judged =
-    subst (IsEnough (chip_of g) (limits_of g) (lists_of g) (claim_of g)) (node_is x (OfSum weights) (one_node g place x.node (OfSum weights) at.node node)) judged
+-- a split has no work
+pub split_work : (g : Basis) (root : CaseRoom) (turns : List OpenSplit) (depth done : ℕ) (a : CaseRoom) (place : ℕ) (x : NodeCase) (left : List NodeCase) (split : SplitValue) →
+    IsNodeAt g place (OfSplit split) → IsAt g root turns depth a place x left → done ≡ done + node_work g x
+split_work g root turns depth done a place x left split node at =
+    subst (λ (n : NodeCase). done ≡ done + node_work g n) (node_is x (OfSplit split) (one_node g place x.node (OfSplit split) at.node node)) (omega arith)
+
+pub leaf_enough : (g : Basis) (root : CaseRoom) (turns : List OpenSplit) (depth next done : ℕ) (a : CaseRoom) (place : ℕ) (x : NodeCase) (left : List NodeCase) (leaf : LeafValue) →
+    IsNodeAt g place (OfLeaf leaf) → IsAt g root turns depth a place x left → IsJudged {X = Unit {0}} g done place (in_case x.within (OfLeaf leaf)) (Ok tt) → IsJudged {X = ℕ} g done place x (Ok next)
+leaf_enough g root turns depth next done a place x left leaf node at judged =
+    subst (IsEnoughFor g done) (node_is x (OfLeaf leaf) (one_node g place x.node (OfLeaf leaf) at.node node)) judged
+
+-- so where it isn't as it should be
+pub leaf_faulty : (g : Basis) (root : CaseRoom) (turns : List OpenSplit) (depth done : ℕ) (a : CaseRoom) (place : ℕ) (x : NodeCase) (left : List NodeCase) (leaf : LeafValue) (fault : ProofFault) →
+    IsNodeAt g place (OfLeaf leaf) → IsAt g root turns depth a place x left → IsJudged {X = Unit {0}} g done place (in_case x.within (OfLeaf leaf)) (Err fault) → IsJudged {X = ℕ} g done place x (Err fault)
+leaf_faulty g root turns depth done a place x left leaf fault node at judged =
+    subst (λ (n : NodeCase). IsJudged {X = ℕ} g done place n (Err fault)) (node_is x (OfLeaf leaf) (one_node g place x.node (OfLeaf leaf) at.node node)) (by fault judged)
+  where
+    by : (fault : ProofFault) → IsJudged {X = Unit {0}} g done place (in_case x.within (OfLeaf leaf)) (Err fault) → IsJudged {X = ℕ} g done place (in_case x.within (OfLeaf leaf)) (Err fault)
+    by (BadList p) h = h
+    by (BadNode p) h = h
+    by (Less p c s) h = h
+
+pub leaf_work : (g : Basis) (root : CaseRoom) (turns : List OpenSplit) (depth done next : ℕ) (a : CaseRoom) (place : ℕ) (x : NodeCase) (left : List NodeCase) (leaf : LeafValue) →
+    IsNodeAt g place (OfLeaf leaf) → IsAt g root turns depth a place x left → next ≡ done + node_work g (in_case x.within (OfLeaf leaf)) → next ≡ done + node_work g x
+leaf_work g root turns depth done next a place x left leaf node at work =
+    subst (λ (n : NodeCase). next ≡ done + node_work g n) (node_is x (OfLeaf leaf) (one_node g place x.node (OfLeaf leaf) at.node node)) work
 
 -- ---- all nodes
 
 cases_nodes : (soc : SocValue) (w : ℕ) (c : Case) (t : CaseTree) → map (λ (n : NodeCase). n.node) (cases_of soc w c t) ≡ nodes_of t
 unfolding cases_of
-cases_nodes soc w c (Leaf weights) = refl
+cases_nodes soc w c (Leaf leaf) = refl
 cases_nodes soc w c (Branches split a b) =
     ap (λ (l : List NodeValue). OfSplit split ∷ l)
     (map-append (λ (n : NodeCase). n.node) (cases_of soc w (first_case soc w (tightened w c) split) a) (cases_of soc w (second_case soc w (tightened w c) split) b)
@@ -383,10 +406,24 @@ next_is g root turns depth room place t same within further goes =
         ap (λ (l : List NodeValue). slice_get l place) (sym nodes) ∙ slice_get-map (λ (n : NodeCase). n.node) cases place ∙ ap (option_map (λ (n : NodeCase). n.node)) there in
         by cases (get_or cases place (in_case root_case (OfSplit (OfWide 0 0)))) there node (subst (GoesOn g root turns depth room) split at)
 
+-- the work of the nodes before a place
+abbrev pub work_before : Basis → List NodeCase → (place : ℕ) → ℕ
+work_before g cases place = work_of_all (limits_of g).wires (claim_of g) (take place cases)
+
+pub work_more : (g : Basis) (cases : List NodeCase) (place : ℕ) (n : NodeCase) → slice_get cases place ≡ Some n → work_before g cases (place + 1) ≡ work_before g cases place + node_work g n
+work_more g cases place n there =
+    let within : place < length cases = slice_get_within cases place n there in
+    let is : get_or cases place n ≡ n = get_or_from_slice_get cases place n n there in
+    ap (work_of_all (limits_of g).wires (claim_of g)) (take_more cases place n within ∙ ap (λ (m : NodeCase). take place cases ++ m ∷ []) is)
+    ∙ sum_by_push (λ (m : NodeCase). node_work g m) (take place cases) n
+
+-- the nodes before a place are as they should be
+abbrev pub AreEnoughBefore : Basis → List NodeCase → (place : ℕ) → Type 0
+AreEnoughBefore g cases place = (q : ℕ) (m : NodeCase) → q < place → slice_get cases q ≡ Some m → IsEnoughFor g (work_before g cases q) m
+
 -- the fault of the first node that has one
 pub faulty : (g : Basis) (cases : List NodeCase) (place : ℕ) (n : NodeCase) (fault : ProofFault) → slice_get cases place ≡ Some n →
-    ((q : ℕ) (m : NodeCase) → q < place → slice_get cases q ≡ Some m → IsEnough (chip_of g) (limits_of g) (lists_of g) (claim_of g) m) →
-    IsJudged {X = ℕ} g place n (Err fault) → HasFault (chip_of g) (limits_of g) (lists_of g) (claim_of g) cases fault
+    AreEnoughBefore g cases place → IsJudged {X = ℕ} g (work_before g cases place) place n (Err fault) → HasFault (chip_of g) (limits_of g) (lists_of g) (claim_of g) cases fault
 faulty g cases place n (BadList p) there earlier h = h
 faulty g cases place n (BadNode p) there earlier h =
     subst (λ (k : ℕ). HasFault (chip_of g) (limits_of g) (lists_of g) (claim_of g) cases (BadNode k)) (sym h.0)
@@ -401,24 +438,22 @@ faulty g cases place n (Less p c s) there earlier h =
         breaks = λ e. short.less (subst (NodeHolds (chip_of g) (limits_of g) (lists_of g) (claim_of g) n.within) h.2.1 e.holds);
         earlier = λ q m less at. earlier q m less at;
       };
-      rule = subst (KeepsNode (chip_of g) (limits_of g) (lists_of g) n.within) (sym h.2.1) short.rule;
-      weights = h.2.0;
-      leaf = h.2.1;
+      rule = subst (KeepsNode (chip_of g) (limits_of g) (lists_of g) (claim_of g) (work_before g cases place) n.within) (sym h.2.1) short.rule;
+      leaf = h.2.0;
+      leaf_is = h.2.1;
       claimed_is = h.1;
       shown_is = short.shown_is;
     })
 
 pub enough_more : (g : Basis) (cases : List NodeCase) (place : ℕ) (n : NodeCase) → slice_get cases place ≡ Some n →
-    ((q : ℕ) (m : NodeCase) → q < place → slice_get cases q ≡ Some m → IsEnough (chip_of g) (limits_of g) (lists_of g) (claim_of g) m) →
-    IsEnough (chip_of g) (limits_of g) (lists_of g) (claim_of g) n → (q : ℕ) (m : NodeCase) → q < place + 1 → slice_get cases q ≡ Some m →
-    IsEnough (chip_of g) (limits_of g) (lists_of g) (claim_of g) m
+    AreEnoughBefore g cases place → IsEnoughFor g (work_before g cases place) n → AreEnoughBefore g cases (place + 1)
 enough_more g cases place n there earlier here q m less at = elim (cases_lt q place) [
   | inl before ↦ earlier q m before at
   | inr last ↦ this (let same : place ≡ q = omega (arith, less, last) in same)
 ]
   where
-    this : place ≡ q → IsEnough (chip_of g) (limits_of g) (lists_of g) (claim_of g) m
+    this : place ≡ q → IsEnoughFor g (work_before g cases q) m
     this same =
         let at' : slice_get cases q ≡ Some n = rw same at there in
         let one : n ≡ m = cc in
-        subst (IsEnough (chip_of g) (limits_of g) (lists_of g) (claim_of g)) one here
+        subst (λ (k : ℕ). IsEnoughFor g (work_before g cases k) m) same (subst (IsEnoughFor g (work_before g cases place)) one here)

@@ -1,14 +1,16 @@
 -- Accepted proofs, and what a proof that isn't accepted shows.
-use Rattle.std.specs.Prelude.{◌≡◌, ℕ, List}
+use Rattle.std.specs.Prelude.{◌≡◌, ℕ, List, take}
+use Rattle.std.specs.List.{sum_by}
 use Rattle.soc_model.specs.Chips.{SocValue}
 use Rattle.plan_model.specs.Plans.{LimitsValue}
 use Rattle.plan_model.specs.Rules.{Each, IsFirstBreach}
 use Rattle.bus_proofs.specs.declared.ProofFault.{ProofFault}
 use Rattle.bus_proofs.specs.declared.ProofFault.TheVariants.{BadList, BadNode, Less}
-use Rattle.proof_model.specs.Proofs.{ListValue, WeightsValue, NodeValue, OfSplit, OfSum, CaseTree, nodes_of, ProofValue}
+use Rattle.proof_model.specs.Proofs.{ListValue, LeafValue, OfSum, OfPack, NodeValue, OfSplit, OfLeaf, CaseTree, nodes_of, ProofValue}
 use Rattle.bus_proofs.specs.Cases.{Case, root_case, NodeCase, cases_of, KeepsSplit}
 use Rattle.bus_proofs.specs.Lists.{KeepsList}
 use Rattle.bus_proofs.specs.Leaves.{IsSum, LeafHolds, leaf_shows}
+use Rattle.bus_proofs.specs.PackLeaves.{IsPack, PackHolds, pack_work}
 
 -- a list keeps its rule, whatever lists are before it
 abbrev pub KeptBehind : SocValue → LimitsValue → (earlier : List ListValue) → ListValue → Type 0
@@ -18,24 +20,51 @@ KeptBehind soc limits earlier list = KeepsList soc limits list
 abbrev pub AreKept : SocValue → LimitsValue → List ListValue → Type 0
 AreKept soc limits lists = Each (KeptBehind soc limits) lists
 
+-- ---- nodes
+
+-- the work of a node in its case: that of a leaf of prices
+abbrev pub work_of_node : (w claim : ℕ) → Case → NodeValue → ℕ
+work_of_node w claim c (OfSplit split) = 0
+work_of_node w claim c (OfLeaf (OfSum weights)) = 0
+work_of_node w claim c (OfLeaf (OfPack pricing)) = pack_work w claim c pricing
+
+-- the work of some nodes
+abbrev pub work_of_all : (w claim : ℕ) → List NodeCase → ℕ
+work_of_all w claim nodes = sum_by (λ (n : NodeCase). work_of_node w claim n.within n.node) nodes
+
+-- the leaf keeps its rule in its case, where the leaves before it have the work `done`
+abbrev pub KeepsLeaf : SocValue → LimitsValue → List ListValue → (claim done : ℕ) → Case → LeafValue → Type 0
+KeepsLeaf soc limits lists claim done c (OfSum weights) = IsSum lists c weights
+KeepsLeaf soc limits lists claim done c (OfPack pricing) = IsPack soc limits.wires lists claim done c pricing
+
+-- it holds
+abbrev pub AnyLeafHolds : SocValue → LimitsValue → List ListValue → (claim : ℕ) → Case → LeafValue → Type 0
+AnyLeafHolds soc limits lists claim c (OfSum weights) = LeafHolds soc limits lists claim c weights
+AnyLeafHolds soc limits lists claim c (OfPack pricing) = PackHolds soc limits lists claim c pricing
+
+-- the cycles that it shows where it doesn't: a leaf of prices shows none
+abbrev pub any_leaf_shows : SocValue → LimitsValue → List ListValue → (claim : ℕ) → Case → LeafValue → ℕ
+any_leaf_shows soc limits lists claim c (OfSum weights) = leaf_shows soc limits lists claim c weights
+any_leaf_shows soc limits lists claim c (OfPack pricing) = 0
+
 -- the node keeps its rule in its case
-abbrev pub KeepsNode : SocValue → LimitsValue → List ListValue → Case → NodeValue → Type 0
-KeepsNode soc limits lists c (OfSplit split) = KeepsSplit soc limits.wires c split
-KeepsNode soc limits lists c (OfSum weights) = IsSum lists c weights
+abbrev pub KeepsNode : SocValue → LimitsValue → List ListValue → (claim done : ℕ) → Case → NodeValue → Type 0
+KeepsNode soc limits lists claim done c (OfSplit split) = KeepsSplit soc limits.wires c split
+KeepsNode soc limits lists claim done c (OfLeaf leaf) = KeepsLeaf soc limits lists claim done c leaf
 
 -- it holds where it is a leaf
 abbrev pub NodeHolds : SocValue → LimitsValue → List ListValue → (claim : ℕ) → Case → NodeValue → Type 0
 NodeHolds soc limits lists claim c (OfSplit split) = Unit {0}
-NodeHolds soc limits lists claim c (OfSum weights) = LeafHolds soc limits lists claim c weights
+NodeHolds soc limits lists claim c (OfLeaf leaf) = AnyLeafHolds soc limits lists claim c leaf
 
 -- so a node as it should be
-pub record IsEnough (soc : SocValue) (limits : LimitsValue) (lists : List ListValue) (claim : ℕ) (n : NodeCase) : Type 0 where
-  pub rule : KeepsNode soc limits lists n.within n.node
+pub record IsEnough (soc : SocValue) (limits : LimitsValue) (lists : List ListValue) (claim done : ℕ) (n : NodeCase) : Type 0 where
+  pub rule : KeepsNode soc limits lists claim done n.within n.node
   pub holds : NodeHolds soc limits lists claim n.within n.node
 
--- whatever nodes are before it
+-- behind the nodes before it
 abbrev pub EnoughBehind : SocValue → LimitsValue → List ListValue → (claim : ℕ) → (earlier : List NodeCase) → NodeCase → Type 0
-EnoughBehind soc limits lists claim earlier n = IsEnough soc limits lists claim n
+EnoughBehind soc limits lists claim earlier n = IsEnough soc limits lists claim (work_of_all limits.wires claim earlier) n
 
 -- each node is as it should be
 abbrev pub AreEnough : SocValue → LimitsValue → List ListValue → (claim : ℕ) → List NodeCase → Type 0
@@ -45,23 +74,28 @@ AreEnough soc limits lists claim nodes = Each (EnoughBehind soc limits lists cla
 abbrev pub IsFirstLess : SocValue → LimitsValue → List ListValue → (claim : ℕ) → List NodeCase → ℕ → NodeCase → Type 0
 IsFirstLess soc limits lists claim nodes place n = IsFirstBreach (EnoughBehind soc limits lists claim) nodes place n
 
+-- the node at the place keeps its rule behind those before it
+abbrev pub KeepsNodeAt : SocValue → LimitsValue → List ListValue → (claim : ℕ) → List NodeCase → (place : ℕ) → NodeCase → Type 0
+KeepsNodeAt soc limits lists claim nodes place n =
+    KeepsNode soc limits lists claim (work_of_all limits.wires claim (take place nodes)) n.within n.node
+
 -- it breaks its rule
 pub record IsBadNode (soc : SocValue) (limits : LimitsValue) (lists : List ListValue)
     (claim : ℕ) (nodes : List NodeCase) (place : ℕ) : Type 0 where
   pub n : NodeCase
   pub first : IsFirstLess soc limits lists claim nodes place n
-  pub broken : KeepsNode soc limits lists n.within n.node → ⊥
+  pub broken : KeepsNodeAt soc limits lists claim nodes place n → ⊥
 
 -- it keeps its rule, and is a leaf that doesn't hold, which shows `shown` cycles
 pub record IsLessNode (soc : SocValue) (limits : LimitsValue) (lists : List ListValue)
     (claim : ℕ) (nodes : List NodeCase) (place claimed shown : ℕ) : Type 0 where
   pub n : NodeCase
   pub first : IsFirstLess soc limits lists claim nodes place n
-  pub rule : KeepsNode soc limits lists n.within n.node
-  pub weights : WeightsValue
-  pub leaf : n.node ≡ OfSum weights
+  pub rule : KeepsNodeAt soc limits lists claim nodes place n
+  pub leaf : LeafValue
+  pub leaf_is : n.node ≡ OfLeaf leaf
   pub claimed_is : claimed ≡ claim
-  pub shown_is : shown ≡ leaf_shows soc limits lists claim n.within weights
+  pub shown_is : shown ≡ any_leaf_shows soc limits lists claim n.within leaf
 
 -- the fault of some nodes
 abbrev pub HasFault : SocValue → LimitsValue → List ListValue → (claim : ℕ) → List NodeCase → ProofFault → Type 0

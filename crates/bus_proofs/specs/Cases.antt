@@ -6,7 +6,7 @@ use Rattle.soc_model.specs.Lookups.{module_place}
 use Rattle.soc_model.specs.SoundChips.{AllDiffer}
 use Rattle.plan_model.specs.Certificates.{has_tam_at, HasTamTest}
 pub use Rattle.bus_proofs.specs.declared.widths.Interval.{Interval}
-use Rattle.proof_model.specs.Proofs.{SplitValue, OfWide, OfPlace, NodeValue, OfSplit, OfSum, CaseTree, Leaf, Branches}
+use Rattle.proof_model.specs.Proofs.{SplitValue, OfWide, OfPlace, NodeValue, OfSplit, OfLeaf, CaseTree, Leaf, Branches}
 
 -- from the one to the other
 abbrev pub interval : (low high : ℕ) → Interval
@@ -135,7 +135,7 @@ in_case c node = record { node = node; within = c }
 
 -- the nodes of a tree, each with its case, which it tightens first
 unfoldable pub cases_of : SocValue → (w : ℕ) → Case → CaseTree → List NodeCase
-cases_of soc w c (Leaf weights) = in_case (tightened w c) (OfSum weights) ∷ []
+cases_of soc w c (Leaf leaf) = in_case (tightened w c) (OfLeaf leaf) ∷ []
 cases_of soc w c (Branches split first second) =
     in_case (tightened w c) (OfSplit split)
     ∷ (cases_of soc w (first_case soc w (tightened w c) split) first ++ cases_of soc w (second_case soc w (tightened w c) split) second)

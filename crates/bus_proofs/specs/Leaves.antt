@@ -1,4 +1,4 @@
--- Leaves: the buses that a module may be on in a case, what each costs at the weights of the leaf, and when a leaf holds.
+-- Leaves of weights: the buses that a module may be on in a case, what each costs at the weights of the leaf, and when a leaf holds.
 use Rattle.std.specs.Prelude.{◌≡◌, ℕ, zero, suc, ◌+◌, ◌-◌, ◌*◌, ◌<◌, ◌≤◌, ◌⊎◌, Bool, true, false, ◌&&◌, not, min, max, MatchOption, Option, None, Some, List, [], ◌++◌, length, map, nat_eq, nat_lt, slice_get, slice_index, if◌then◌else◌}
 use Rattle.std.specs.List.{All, sum, sum_by, filter, flat_map, range_with_len}
 use Rattle.soc_model.specs.Chips.{SocValue}
@@ -19,10 +19,14 @@ IsKnownList known (OfTurnsOn rank tests) = rank < known
 IsKnownList known (OfCrowd most tests) = Unit {0}
 IsKnownList known (OfPower near) = Unit {0}
 
+-- lists by their places: the proof has each
+abbrev pub AreNamedLists : List ListValue → Case → List (ℕ × ℕ) → Type 0
+AreNamedLists lists c uses = All (λ (o : ℕ × ℕ). MatchOption (slice_get lists o.0) ⊥ (IsKnownList (known_ranks c))) uses
+
 -- the weights of a leaf: of known ranks, and of lists that the proof has
 pub record IsSum (lists : List ListValue) (c : Case) (weights : WeightsValue) : Type 0 where
   pub few : length weights.ranks ≤ known_ranks c
-  pub named : All (λ (o : ℕ × ℕ). MatchOption (slice_get lists o.0) ⊥ (IsKnownList (known_ranks c))) weights.lists
+  pub named : AreNamedLists lists c weights.lists
 
 -- ---- the buses that a module may be on
 

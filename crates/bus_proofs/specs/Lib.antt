@@ -2,6 +2,7 @@ pub mod Cases
 pub mod Rankings
 pub mod Lists
 pub mod Leaves
+pub mod PackLeaves
 pub mod Bounds
 pub mod Laws
 pub mod Trails
@@ -15,5 +16,6 @@ pub mod Bases
 pub mod LeafCosts
 pub mod LeafSlots
 pub mod LeafAnswers
+pub mod PackBuses
 pub mod Walks
 pub mod ProofRooms

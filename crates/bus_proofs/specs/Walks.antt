@@ -1,5 +1,5 @@
 -- How the check goes over the nodes of a proof: the splits whose second branch is to come, or is under way.
-use Rattle.std.specs.Prelude.{◌≡◌, ◌⊎◌, ℕ, zero, suc, ◌+◌, ◌^◌, ◌<◌, ◌≤◌, false, MatchBool, Some, Result, Ok, Err, List, [], ◌∷◌, ◌++◌, length, slice_get, slice_index, slice_index_or}
+use Rattle.std.specs.Prelude.{◌≡◌, ◌⊎◌, ℕ, zero, suc, ◌+◌, ◌^◌, ◌<◌, ◌≤◌, max, false, MatchBool, Some, Result, Ok, Err, List, [], ◌∷◌, ◌++◌, length, slice_get, slice_index, slice_index_or}
 use Rattle.std.specs.List.{All}
 use Rattle.soc_model.specs.Chips.{SocValue}
 use Rattle.soc_model.specs.Lookups.{module_place}
@@ -11,9 +11,9 @@ use Rattle.bus_proofs.specs.declared.basis.Basis.{Basis}
 use Rattle.bus_proofs.specs.declared.case.CaseRoom.{CaseRoom}
 use Rattle.bus_proofs.specs.declared.leaf.LeafRoom.{LeafRoom}
 use Rattle.bus_proofs.specs.declared.walk.OpenSplit.{OpenSplit}
-use Rattle.proof_model.specs.Proofs.{WeightsValue, SplitValue, OfWide, OfPlace, NodeValue, OfSplit, OfSum, CaseTree}
+use Rattle.proof_model.specs.Proofs.{LeafValue, OfSum, OfPack, SplitValue, OfWide, OfPlace, NodeValue, OfSplit, OfLeaf, CaseTree}
 use Rattle.bus_proofs.specs.Cases.{Case, known_ranks, with_rank, wide, placed_off, case_by, first_case, second_case, NodeCase, cases_of, IsWide, IsPlace, KeepsSplit}
-use Rattle.bus_proofs.specs.Bounds.{AreEnough, HasFault, IsEnough, KeepsNode}
+use Rattle.bus_proofs.specs.Bounds.{AreEnough, HasFault, IsEnough, KeepsNode, work_of_node}
 use Rattle.bus_proofs.specs.CaseRooms.{HasCase, IsCaseOf, IsFurther, IsMark}
 use Rattle.bus_proofs.specs.Bases.{chip_of, limits_of, lists_of, claim_of, proof_of}
 use Rattle.bus_proofs.specs.LeafAnswers.{HasLeafSpace, IsCaseFor, IsShort}
@@ -30,14 +30,20 @@ pub record IsRoomFor (g : Basis) (room : CaseRoom) : Type 0 where
 abbrev pub IsNodeAt : Basis → (place : ℕ) → NodeValue → Type 0
 IsNodeAt g place n = slice_get (proof_of g).nodes place ≡ Some n
 
--- the room has space for the lists of a leaf, and these are no more than may be
-pub record FitsLeaf (g : Basis) (leaf : LeafRoom) (weights : WeightsValue) : Type 0 where
-  pub few : length weights.lists ≤ 2 ^ 24
-  pub space : HasLeafSpace g leaf
+-- how many lists a leaf names, or modules, where these are more
+abbrev pub named_in : LeafValue → ℕ
+named_in (OfSum weights) = length weights.lists
+named_in (OfPack pricing) = max (length pricing.lists) (length pricing.prices)
+
+-- the room has space for the lists and the modules of a leaf, and these are no more than may be
+pub record FitsLeaf (g : Basis) (room : LeafRoom) (leaf : LeafValue) : Type 0 where
+  pub few : named_in leaf ≤ 2 ^ 24
+  pub places : named_in leaf ≤ length room.pack.bus.places.items
+  pub space : HasLeafSpace g room
 
 -- it has for each leaf of the proof
 abbrev pub FitsLeaves : Basis → LeafRoom → Type 0
-FitsLeaves g leaf = (place : ℕ) (weights : WeightsValue) → IsNodeAt g place (OfSum weights) → FitsLeaf g leaf weights
+FitsLeaves g room = (place : ℕ) (leaf : LeafValue) → IsNodeAt g place (OfLeaf leaf) → FitsLeaf g room leaf
 
 -- ---- the rules of splits
 
@@ -159,7 +165,7 @@ pub record IsFork (g : Basis) (root : CaseRoom) (turns : List OpenSplit) (depth 
 -- what is left behind a node
 abbrev pub Follows : Basis → (root : CaseRoom) → List OpenSplit → (depth : ℕ) → CaseRoom → Case → NodeValue → List NodeCase → Type 0
 Follows g root turns depth room c (OfSplit split) left = IsFork g root turns depth room c split left
-Follows g root turns depth room c (OfSum weights) left = Awaits g root turns depth room left
+Follows g root turns depth room c (OfLeaf leaf) left = Awaits g root turns depth room left
 
 -- the room has the case of the node at the place, tightened, and then the nodes `left` come
 pub record IsAt (g : Basis) (root : CaseRoom) (turns : List OpenSplit) (depth : ℕ) (room : CaseRoom) (place : ℕ) (x : NodeCase)
@@ -186,13 +192,24 @@ pub record IsSecond (g : Basis) (before new : CaseRoom) (c : Case) (split : Spli
 
 -- ---- what is answered
 
+-- a node as it should be, and its rule, where the leaves before it have the work `done`
+abbrev pub IsEnoughFor : Basis → (done : ℕ) → NodeCase → Type 0
+IsEnoughFor g done n = IsEnough (chip_of g) (limits_of g) (lists_of g) (claim_of g) done n
+
+abbrev pub KeepsRuleFor : Basis → (done : ℕ) → NodeCase → Type 0
+KeepsRuleFor g done n = KeepsNode (chip_of g) (limits_of g) (lists_of g) (claim_of g) done n.within n.node
+
 -- the node at the place is as it should be, or the fault says how it isn't
-abbrev pub IsJudged : {X : Type 0} → Basis → (place : ℕ) → NodeCase → Result X ProofFault → Type 0
-IsJudged g place n (Ok _) = IsEnough (chip_of g) (limits_of g) (lists_of g) (claim_of g) n
-IsJudged g place n (Err (BadList p)) = ⊥
-IsJudged g place n (Err (BadNode p)) = (p ≡ place) × (KeepsNode (chip_of g) (limits_of g) (lists_of g) n.within n.node → ⊥)
-IsJudged g place n (Err (Less p claimed shown)) = (p ≡ place) × (claimed ≡ claim_of g) ×
-    ((weights : WeightsValue) × (n.node ≡ OfSum weights) × IsShort g n.within weights shown)
+abbrev pub IsJudged : {X : Type 0} → Basis → (done place : ℕ) → NodeCase → Result X ProofFault → Type 0
+IsJudged g done place n (Ok _) = IsEnoughFor g done n
+IsJudged g done place n (Err (BadList p)) = ⊥
+IsJudged g done place n (Err (BadNode p)) = (p ≡ place) × (KeepsRuleFor g done n → ⊥)
+IsJudged g done place n (Err (Less p claimed shown)) = (p ≡ place) × (claimed ≡ claim_of g) ×
+    ((leaf : LeafValue) × (n.node ≡ OfLeaf leaf) × IsShort g done n.within leaf shown)
+
+-- the work of the node
+abbrev pub node_work : Basis → NodeCase → ℕ
+node_work g n = work_of_node (limits_of g).wires (claim_of g) n.within n.node
 
 -- each of some nodes is as it should be, or the first that isn't has this fault
 abbrev pub IsChecked : Basis → List NodeCase → Result (Unit {0}) ProofFault → Type 0

@@ -6,10 +6,12 @@ ghost use Rattle.plan_model.specs.Views.{limits_value};
 ghost use Rattle.plan_model.specs.Rules.{IsBound};
 ghost use Rattle.plan_model.specs.SoundLimits.{IsSoundLimits};
 ghost use Rattle.live_tests.specs.Resolved.{IsResolved};
-ghost use Rattle.proof_model.specs.Proofs.{WeightsValue, OfSum, node_value, proof_value};
+ghost use Rattle.bus_proofs.specs.declared.basis.Basis.{Basis};
+ghost use Rattle.proof_model.specs.Proofs.{LeafValue, OfLeaf, node_value, proof_value};
 ghost use Rattle.proof_model.specs.Sayable.{MayBeSaid};
 ghost use Rattle.bus_proofs.specs.Bounds.{IsAccepted, IsProofFault};
 ghost use Rattle.bus_proofs.specs.Bases.{chip_of, limits_of, proof_of};
+ghost use Rattle.bus_proofs.specs.Walks.{FitsLeaves, named_in};
 ghost use Rattle.bus_proofs.specs.ProofRooms.{IsProofRoom};
 
 use crate::ProofFault;
@@ -59,20 +61,21 @@ const NO_TURN: OpenSplit = OpenSplit {
     second: false,
 };
 
-/// How many lists a node weighs.
+/// How many lists a node names, or modules, where these are more.
 fn uses_of(node: &Node) -> usize
-    ensures { (weights : WeightsValue) → node_value node.now ≡ OfSum weights → result ≡ length weights.lists }
+    ensures { (leaf : LeafValue) → node_value node.now ≡ OfLeaf leaf → result ≡ named_in leaf }
 {
     match node {
         Node::Sum { weights } => weights.lists.len(),
+        Node::Pack { pricing } => pricing.lists.len().max(pricing.prices.len()),
         _ => 0,
     }
 }
 
-/// The most lists that a leaf weighs.
+/// The most lists or modules that a leaf names.
 fn most_uses(nodes: &[Node]) -> usize
-    ensures { (place : ℕ) (weights : WeightsValue) → slice_get (map node_value nodes.now) place ≡ Some (OfSum weights) →
-        length weights.lists ≤ result }
+    ensures { (place : ℕ) (leaf : LeafValue) → slice_get (map node_value nodes.now) place ≡ Some (OfLeaf leaf) →
+        named_in leaf ≤ result }
 {
     let mut most = 0;
     for place in 0..nodes.len() {
@@ -82,8 +85,8 @@ fn most_uses(nodes: &[Node]) -> usize
 }
 
 impl<'a> ProofRoom<'a> {
-    /// Room for checking this proof over this chip under these limits. `NoMemory` where there is none, or where a leaf weighs
-    /// more than 16,777,216 lists, as no text of the greatest length does.
+    /// Room for checking this proof over this chip under these limits. `NoMemory` where there is none, or where a leaf names
+    /// more than 16,777,216 lists or modules, as no text of the greatest length does.
     pub fn new(
         alloc: Global,
         soc: &'a Soc,
@@ -129,7 +132,7 @@ impl<'a> ProofRoom<'a> {
         }
         let basis = Basis::new(alloc, soc, limits, resolved, proof)?;
         let case = CaseRoom::new(alloc, soc.modules.len(), limits.wires, RANKS_MOST)?;
-        let leaf = LeafRoom::new(alloc, &basis)?;
+        let leaf = LeafRoom::new(alloc, &basis, uses)?;
         let turns = Vec::from_elem(alloc, NO_TURN, proof.nodes.len())?;
         Ok(ProofRoom {
             basis,
@@ -138,6 +141,14 @@ impl<'a> ProofRoom<'a> {
             turns,
         })
     }
+}
+
+/// No work is noted yet.
+fn begin_work(leaf: &mut LeafRoom)
+    ensures leaves { (g : Basis) → FitsLeaves g leaf.old → FitsLeaves g leaf.new }
+    ensures work { leaf.new.pack.work ≡ 0 }
+{
+    leaf.pack.work = 0;
 }
 
 /// The check over a room in the case of the root, which it has again at the end.
@@ -158,6 +169,7 @@ fn check_in(
         });
     }
     let root = case.mark();
+    begin_work(leaf);
     let checked = check_nodes(basis, case, leaf, turns);
     case.undo(root);
     checked

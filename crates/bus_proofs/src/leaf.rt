@@ -1,7 +1,7 @@
 //! Whether a leaf keeps its rule and holds, and what it shows.
 ghost use Rattle.std.specs.Prelude.{◌≡◌, ◌^◌, ◌≤◌, ℕ, IfOk, true, false, length, map};
 ghost use Rattle.std.specs.List.{All};
-ghost use Rattle.proof_model.specs.Proofs.{list_value, weights_value};
+ghost use Rattle.proof_model.specs.Proofs.{OfSum, list_value, weights_value};
 ghost use Rattle.bus_proofs.specs.Leaves.{IsKnownList};
 ghost use Rattle.bus_proofs.specs.LeafCosts.{IsWeighed};
 ghost use Rattle.bus_proofs.specs.LeafSlots.{IsNamed, IsWeighedAnswer};
@@ -15,6 +15,7 @@ use crate::basis::Basis;
 use crate::case::CaseRoom;
 use crate::leaf_costs::{Weighed, self_cost, weigh_leaf};
 use crate::leaf_sums::{conclusion, sum_of_least, worth_of_cycle};
+use crate::pack_room::PackRoom;
 use crate::widths::{is_empty, known_ranks};
 use outside::NoMemory;
 use proof_model::{TestList, Weights};
@@ -35,16 +36,30 @@ pub(crate) enum LeafAnswer {
 #[derive(Drop)]
 pub(crate) struct LeafRoom {
     pub weighed: Weighed,
+    /// No weights.
+    pub nothing: Weights,
+    pub pack: PackRoom,
 }
 
 impl LeafRoom {
-    /// Room for the leaves of a proof. `NoMemory` where there is none.
-    pub fn new(alloc: Global, basis: &Basis<'_>) -> Result<LeafRoom, NoMemory>
+    /// Room for the leaves of a proof, each of which names at most `most` modules. `NoMemory` where there is none.
+    pub fn new(alloc: Global, basis: &Basis<'_>, most: usize) -> Result<LeafRoom, NoMemory>
         requires basis { IsBasis basis.now }
-        ensures { IfOk result (HasLeafSpace basis.now) }
+        ensures space { IfOk result (HasLeafSpace basis.now) }
+        ensures places { IfOk result (λ room. length room.pack.bus.places.items ≡ most) }
     {
         let weighed = Weighed::new(alloc, basis)?;
-        Ok(LeafRoom { weighed })
+        let pack = PackRoom::new(alloc, basis.limits.wires as usize, most)?;
+        let nothing = Weights {
+            wire: 0,
+            ranks: Vec::new(alloc),
+            lists: Vec::new(alloc),
+        };
+        Ok(LeafRoom {
+            weighed,
+            nothing,
+            pack,
+        })
     }
 }
 
@@ -73,7 +88,7 @@ fn is_named(lists: &[TestList], known: usize, place: u64) -> bool
 }
 
 /// Whether all lists that a leaf weighs are there and may be weighed.
-fn are_named(lists: &[TestList], known: usize, uses: &[(u64, u64)]) -> bool
+pub(crate) fn are_named(lists: &[TestList], known: usize, uses: &[(u64, u64)]) -> bool
     ensures yes { result ≡ true → All (IsNamed (map list_value lists.now) known) uses.now }
     ensures no { result ≡ false → All (IsNamed (map list_value lists.now) known) uses.now → ⊥ }
 {
@@ -127,8 +142,10 @@ pub(crate) fn check_leaf(
     requires weights { AreWeights (weights_value weights.now) }
     requires few { length weights.now.lists.items ≤ 2 ^ 24 }
     requires space { HasLeafSpace basis.now room.old }
-    ensures answer { (c : Case) → IsCaseOf case.now c → IsLeafAnswer basis.now c (weights_value weights.now) result }
+    ensures answer { (c : Case) → IsCaseOf case.now c →
+        IsLeafAnswer basis.now room.old.pack.work c (OfSum (weights_value weights.now)) result }
     ensures space { HasLeafSpace basis.now room.new }
+    ensures pack { room.new.pack ≡ room.old.pack }
 {
     let known = known_ranks(&case.widths);
     if known < weights.ranks.len() {
@@ -140,6 +157,6 @@ pub(crate) fn check_leaf(
     if is_empty(&case.widths) {
         return LeafAnswer::Holds;
     }
-    weigh_leaf(basis, weights, &mut room.weighed);
+    weigh_leaf(basis, &weights.lists, &mut room.weighed);
     weighed_leaf(basis, case, weights, &room.weighed)
 }

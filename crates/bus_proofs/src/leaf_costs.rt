@@ -7,7 +7,7 @@ ghost use Rattle.plan_model.specs.Bounds.{sum_below};
 ghost use Rattle.plan_model.specs.Plans.{power_of_id, step_power};
 ghost use Rattle.plan_model.specs.SoundLimits.{Grow};
 ghost use Rattle.plan_model.specs.Views.{limits_value};
-ghost use Rattle.proof_model.specs.Proofs.{WeightsValue, weights_value};
+ghost use Rattle.proof_model.specs.Proofs.{WeightsValue};
 ghost use Rattle.bus_proofs.specs.Lists.{IsNear, counted as the_counted, power_use as the_power_use, use_of};
 ghost use Rattle.bus_proofs.specs.Leaves.{cost, is_rank as the_rank, self_use, slot, weighed};
 ghost use Rattle.bus_proofs.specs.ListTables.{role_at as the_role};
@@ -20,7 +20,7 @@ use crate::lists::{counted, room_of};
 use crate::test_table::{TestPlace, TestTable};
 use outside::NoMemory;
 use plan_model::Limits;
-use proof_model::{TestList, Weights};
+use proof_model::TestList;
 use soc_model::{Module, Test, module_at};
 use std::alloc::Global;
 
@@ -217,16 +217,17 @@ fn weigh_totals(basis: &Basis<'_>, room: &mut Weighed)
 }
 
 /// Makes ready what a leaf weighs. However often it names a list, the list's tests are gone over once.
-pub(crate) fn weigh_leaf(basis: &Basis<'_>, weights: &Weights, room: &mut Weighed)
+pub(crate) fn weigh_leaf(basis: &Basis<'_>, lists: &[(u64, u64)], room: &mut Weighed)
     requires basis { IsBasis basis.now }
     requires kept { AllKept basis.now }
-    requires uses { AreUses basis.now (weights_value weights.now) }
+    requires uses { (weights : WeightsValue) × (weights.lists ≡ lists.now) × AreUses basis.now weights }
     requires space { HasSpaceFor basis.now room.old }
-    ensures weighed { IsWeighed basis.now (weights_value weights.now) room.new }
+    ensures weighed { (weights : WeightsValue) → weights.lists ≡ lists.now → AreUses basis.now weights →
+        IsWeighed basis.now weights room.new }
     ensures space { HasSpaceFor basis.now room.new }
 {
     room.totals.fill(0);
-    add_up(&weights.lists, &mut room.totals);
+    add_up(lists, &mut room.totals);
     clear_weighed(room);
     weigh_totals(basis, room);
 }

@@ -82,7 +82,7 @@ fn rank_range(case: &CaseRoom, weights: &Weights, rank: usize) -> WidthRange
 }
 
 /// The greatest width of a bus of the rest.
-fn rest_high(case: &CaseRoom) -> u64
+pub(crate) fn rest_high(case: &CaseRoom) -> u64
     requires case { HasCase case.now }
     ensures { (c : Case) → IsCaseOf case.now c → result ≡ rest_high case.now.widths.wires c (known_ranks c) }
 {
@@ -110,7 +110,7 @@ fn rest_range(case: &CaseRoom, weights: &Weights) -> WidthRange
 }
 
 /// Whether the tests of the module take fewer cycles than claimed on a bus of a width.
-fn is_short(basis: &Basis<'_>, place: usize, width: u64) -> bool
+pub(crate) fn is_short(basis: &Basis<'_>, place: usize, width: u64) -> bool
     requires basis { IsBasis basis.now }
     requires place { place < length (chip_of basis.now).modules }
     requires some_wire { 1 ≤ width }

@@ -68,7 +68,7 @@ pub(crate) fn is_wide(case: &mut CaseRoom, rank: u64, width: u64) -> bool
 }
 
 /// The place of a module with a test over the wires.
-fn wired_place(basis: &Basis<'_>, number: u64) -> Option<usize>
+pub(crate) fn wired_place(basis: &Basis<'_>, number: u64) -> Option<usize>
     requires { IsBasis basis.now }
     ensures some { IfSome result (λ place. IsWiredAt (chip_of basis.now) number place) }
     ensures none { result ≡ None → HasTamTest (chip_of basis.now) number → ⊥ }

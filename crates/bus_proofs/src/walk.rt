@@ -1,23 +1,24 @@
 //! Goes over the nodes of a proof in the order of its text, with the case of each. Splits are kept in a list, so that nothing
 //! recurses over the nodes.
-ghost use Rattle.std.specs.Prelude.{◌≡◌, ◌+◌, ◌<◌, ◌≤◌, true, false, Some, List, IfOk, length, slice_get, slice_set};
+ghost use Rattle.std.specs.Prelude.{◌≡◌, ◌+◌, ◌<◌, ◌≤◌, ℕ, true, false, Some, List, IfOk, OnOk, length, slice_get, slice_set};
 ghost use Rattle.bus_proofs.specs.declared.case.CaseRoom.{CaseRoom};
 ghost use Rattle.bus_proofs.specs.declared.basis.Basis.{Basis};
-ghost use Rattle.proof_model.specs.Proofs.{WeightsValue, SplitValue, OfWide, OfPlace, OfSplit, OfSum, CaseTree, node_value, nodes_of, proof_value, weights_value};
+ghost use Rattle.proof_model.specs.Proofs.{LeafValue, SplitValue, OfWide, OfPlace, OfSplit, OfSum, OfPack, OfLeaf, CaseTree, node_value, nodes_of, proof_value, pricing_value, weights_value};
 ghost use Rattle.bus_proofs.specs.Cases.{Case, IsPlace, IsWide, NodeCase, in_case, root_case};
 ghost use Rattle.proof_model.specs.Sayable.{MayBeSaid};
 ghost use Rattle.bus_proofs.specs.Bounds.{all_cases};
 ghost use Rattle.bus_proofs.specs.CaseRooms.{IsCaseOf, IsFurther};
 ghost use Rattle.bus_proofs.specs.Bases.{IsBasis, AllKept, chip_of, limits_of, claim_of, proof_of};
 ghost use Rattle.bus_proofs.specs.LeafAnswers.{IsLeafAnswer};
-ghost use Rattle.bus_proofs.specs.Walks.{Awaits, FitsLeaves, GoesOn, IsAt, IsBegun, IsChecked, IsForked, IsHere, IsJudged, IsNodeAt, IsRoomFor, IsSecond, IsTurn, branch_later, turn_at};
+ghost use Rattle.bus_proofs.specs.Walks.{Awaits, FitsLeaves, GoesOn, IsAt, IsBegun, IsChecked, IsForked, IsHere, IsJudged, IsNodeAt, IsRoomFor, IsSecond, IsTurn, branch_later, node_work, turn_at};
 
 use crate::ProofFault;
 use crate::basis::Basis;
 use crate::case::{CaseRoom, Mark};
 use crate::leaf::{LeafAnswer, LeafRoom, check_leaf};
+use crate::pack::check_pack;
 use crate::nodes::{is_wide, placed};
-use proof_model::{Node, Proof, Weights};
+use proof_model::{Node, Pricing, Proof, Weights};
 use soc_model::place_of;
 
 /// A split of which a branch is under way.
@@ -154,7 +155,7 @@ fn take_second(basis: &Basis<'_>, case: &mut CaseRoom, node: &Node)
             rank,
             twins,
         } => off_ranks(basis, case, *module, *rank, twins),
-        Node::Sum { .. } => {}
+        Node::Sum { .. } | Node::Pack { .. } => {}
     }
 }
 
@@ -210,8 +211,9 @@ fn next_branch(
 
 /// The answer to what was found at the leaf at a place.
 fn judge_answer(claimed: u64, place: usize, answer: LeafAnswer) -> Result<(), ProofFault>
-    ensures { (g : Basis) (c : Case) (weights : WeightsValue) → claimed ≡ claim_of g → IsLeafAnswer g c weights answer →
-        IsJudged g place (in_case c (OfSum weights)) result }
+    ensures judged { (g : Basis) (done : ℕ) (c : Case) (leaf : LeafValue) → claimed ≡ claim_of g → IsLeafAnswer g done c leaf answer →
+        IsJudged g done place (in_case c (OfLeaf leaf)) result }
+    ensures broken { answer ≡ LeafAnswer.Broken → OnOk result ⊥ }
 {
     match answer {
         LeafAnswer::Broken => Err(ProofFault::BadNode { place }),
@@ -237,12 +239,39 @@ fn judge_leaf(
     requires said { MayBeSaid (proof_of basis.now) }
     requires room { IsRoomFor basis.now case.now }
     requires known { (c : Case) × IsCaseOf case.now c }
-    requires node { IsNodeAt basis.now place (OfSum (weights_value weights.now)) }
+    requires node { IsNodeAt basis.now place (OfLeaf (OfSum (weights_value weights.now))) }
     requires leaves { FitsLeaves basis.now leaf.old }
-    ensures judged { (c : Case) → IsCaseOf case.now c → IsJudged basis.now place (in_case c (OfSum (weights_value weights.now))) result }
+    ensures judged { (c : Case) → IsCaseOf case.now c →
+        IsJudged basis.now leaf.old.pack.work place (in_case c (OfLeaf (OfSum (weights_value weights.now)))) result }
     ensures leaves { FitsLeaves basis.now leaf.new }
+    ensures work { leaf.new.pack.work ≡ leaf.old.pack.work }
 {
     let answer = check_leaf(basis, case, weights, leaf);
+    judge_answer(basis.proof.claimed, place, answer)
+}
+
+/// Checks the leaf of prices at a place.
+fn judge_pack(
+    basis: &Basis<'_>,
+    place: usize,
+    case: &CaseRoom,
+    pricing: &Pricing,
+    leaf: &mut LeafRoom,
+) -> Result<(), ProofFault>
+    requires basis { IsBasis basis.now }
+    requires kept { AllKept basis.now }
+    requires said { MayBeSaid (proof_of basis.now) }
+    requires room { IsRoomFor basis.now case.now }
+    requires known { (c : Case) × IsCaseOf case.now c }
+    requires node { IsNodeAt basis.now place (OfLeaf (OfPack (pricing_value pricing.now))) }
+    requires leaves { FitsLeaves basis.now leaf.old }
+    ensures judged { (c : Case) → IsCaseOf case.now c →
+        IsJudged basis.now leaf.old.pack.work place (in_case c (OfLeaf (OfPack (pricing_value pricing.now)))) result }
+    ensures leaves { FitsLeaves basis.now leaf.new }
+    ensures work { (c : Case) → IsCaseOf case.now c → OnOk result
+        (leaf.new.pack.work ≡ leaf.old.pack.work + node_work basis.now (in_case c (OfLeaf (OfPack (pricing_value pricing.now))))) }
+{
+    let answer = check_pack(basis, case, pricing, leaf);
     judge_answer(basis.proof.claimed, place, answer)
 }
 
@@ -270,7 +299,10 @@ fn go_on(
         IsFurther root case.new }
     ensures judged { (root : CaseRoom) (x : NodeCase) (left : List NodeCase) →
         IsAt basis.now root turns.old at.depth case.old at.node x left →
-        IsJudged basis.now at.node x result }
+        IsJudged basis.now leaf.old.pack.work at.node x result }
+    ensures work { (root : CaseRoom) (x : NodeCase) (left : List NodeCase) →
+        IsAt basis.now root turns.old at.depth case.old at.node x left →
+        OnOk result (leaf.new.pack.work ≡ leaf.old.pack.work + node_work basis.now x) }
     ensures goes_on { (root : CaseRoom) (x : NodeCase) (left : List NodeCase) →
         IsAt basis.now root turns.old at.depth case.old at.node x left →
         IfOk result (λ next. GoesOn basis.now root turns.new next case.new left) }
@@ -293,6 +325,10 @@ fn go_on(
             Ok(at.depth + 1)
         }
         Node::Sum { weights } => match judge_leaf(basis, at.node, case, weights, leaf) {
+            Ok(()) => Ok(next_branch(basis, case, turns, at.depth)),
+            Err(fault) => Err(fault),
+        },
+        Node::Pack { pricing } => match judge_pack(basis, at.node, case, pricing, leaf) {
             Ok(()) => Ok(next_branch(basis, case, turns, at.depth)),
             Err(fault) => Err(fault),
         },
@@ -323,7 +359,10 @@ fn check_node(
         IsFurther root case.new }
     ensures judged { (root : CaseRoom) (x : NodeCase) (left : List NodeCase) →
         IsHere basis.now root turns.old at.depth case.old at.node x left →
-        IsJudged basis.now at.node x result }
+        IsJudged basis.now leaf.old.pack.work at.node x result }
+    ensures work { (root : CaseRoom) (x : NodeCase) (left : List NodeCase) →
+        IsHere basis.now root turns.old at.depth case.old at.node x left →
+        OnOk result (leaf.new.pack.work ≡ leaf.old.pack.work + node_work basis.now x) }
     ensures goes_on { (root : CaseRoom) (x : NodeCase) (left : List NodeCase) →
         IsHere basis.now root turns.old at.depth case.old at.node x left →
         IfOk result (λ next. GoesOn basis.now root turns.new next case.new left) }
@@ -346,6 +385,7 @@ pub(crate) fn check_nodes(
     requires room { IsRoomFor basis.now case.old }
     requires root { IsCaseOf case.old root_case }
     requires leaves { FitsLeaves basis.now leaf.old }
+    requires work { leaf.old.pack.work ≡ 0 }
     requires turns { length (proof_of basis.now).nodes ≤ length turns.old }
     ensures leaves { FitsLeaves basis.now leaf.new }
     ensures further { IsFurther case.old case.new }

@@ -1,4 +1,5 @@
-//! What a proof by cases on buses is: a claim in cycles, lists of tests, and a tree of cases whose leaves weigh wires, buses and lists.
+//! What a proof by cases on buses is: a claim in cycles, lists of tests, and a tree of cases whose leaves weigh
+//! wires, buses and lists, or price modules.
 //!
 //! Buses go by their ranks, the widest first, counted from 0; modules and tests by their numbers; widths are in wires. This crate
 //! has the types alone: `proof_text` reads and prints them, `bus_proofs` says what is accepted and what that shows, and
@@ -11,6 +12,8 @@ use soc_model::TestId;
 pub const LISTS_MOST: usize = 256;
 /// The greatest weight of a proof's text.
 pub const WEIGHT_MOST: u64 = 999_999_999;
+/// The greatest price of a proof's text.
+pub const PRICE_MOST: u64 = 999_999_999_999_999;
 
 /// A list of tests that a leaf may weigh: something of which they can use only a limited amount at one cycle.
 #[derive(Drop)]
@@ -36,6 +39,18 @@ pub struct Weights {
     pub lists: Vec<(u64, u64)>,
 }
 
+/// What a leaf pays for modules, and how it counts the time on a bus.
+#[derive(Drop)]
+pub struct Pricing {
+    /// The cycles of a cell, at least 1: a bus has as many cells as the cycles below the claim hold, and a module takes as many as
+    /// its time fills.
+    pub grain: u64,
+    /// Modules by their numbers, each with its price. One that isn't named has none.
+    pub prices: Vec<(u64, u64)>,
+    /// Lists by their places, each with its weight.
+    pub lists: Vec<(u64, u64)>,
+}
+
 /// A node of a tree of cases.
 #[derive(Drop)]
 pub enum Node {
@@ -53,6 +68,10 @@ pub enum Node {
     /// What all tests weigh is more than can go into `claimed - 1` cycles; `claimed` is the claim of the [`Proof`].
     Sum {
         weights: Weights,
+    },
+    /// The modules that fit together on buses, by their cells, are worth less than all prices; the claim is that of the [`Proof`].
+    Pack {
+        pricing: Pricing,
     },
 }
 

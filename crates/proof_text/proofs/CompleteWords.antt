@@ -13,15 +13,15 @@ use Rattle.keyword_text.specs.Lines.{line_tokens, tokens_of}
 use Rattle.keyword_text.specs.Machines.{IsReadWhole}
 use Rattle.keyword_text.proofs.Kept.{run_both}
 use Rattle.keyword_text.proofs.Listed.{tokens_append}
-use Rattle.proof_model.specs.declared.TheConstants.{LISTS_MOST, WEIGHT_MOST}
+use Rattle.proof_model.specs.declared.TheConstants.{LISTS_MOST, WEIGHT_MOST, PRICE_MOST}
 use Rattle.proof_text.specs.declared.tokens.Keyword.{Keyword}
 use Rattle.proof_text.specs.declared.tokens.Keyword.TheVariants as key
 use Rattle.proof_text.specs.declared.parts.ListKind.{ListKind}
 use Rattle.proof_text.specs.declared.parts.ListKind.TheVariants as kind
-use Rattle.proof_model.specs.Proofs.{ListValue, OfTurns, OfTurnsOn, OfCrowd, OfPower, WeightsValue, SplitValue, OfWide, OfPlace, NodeValue, OfSplit, OfSum, CaseTree, Leaf, Branches, nodes_of, ProofValue}
-use Rattle.proof_text.specs.ProofLines.{list_line, test_numbers, use_tokens, weight_tokens, node_line, proof_tokens}
-use Rattle.proof_model.specs.Sayable.{NamesTests, IsWeight, IsUse, AreWeights, HasWeights, MayBeSaid}
-use Rattle.proof_text.specs.Words.{DraftValue, PartValue, between, wants_list_rank, wants_most, wants_near, in_tests, wants_wide_rank, wants_module, in_place, wants_wire, in_ranks, in_lists, State, at, with_list, with_node, with_branches, with_rank, with_use, list_of, wire_of, next_if, if_both, begin_list, begin_wanted, begin, step_sum, is_use, step, whole_at, ended, proof_machine}
+use Rattle.proof_model.specs.Proofs.{ListValue, OfTurns, OfTurnsOn, OfCrowd, OfPower, WeightsValue, PricingValue, LeafValue, OfSum, OfPack, SplitValue, OfWide, OfPlace, NodeValue, OfSplit, OfLeaf, CaseTree, Leaf, Branches, nodes_of, ProofValue}
+use Rattle.proof_text.specs.ProofLines.{list_line, test_numbers, use_tokens, weight_tokens, price_numbers, price_tokens, node_line, proof_tokens}
+use Rattle.proof_model.specs.Sayable.{NamesTests, IsWeight, IsUse, IsPrice, AreWeights, ArePrices, LeafHasWeights, HasWeights, MayBeSaid}
+use Rattle.proof_text.specs.Words.{DraftValue, PartValue, between, wants_list_rank, wants_most, wants_near, in_tests, wants_wide_rank, wants_module, in_place, wants_wire, in_ranks, wants_grain, in_prices, in_lists, State, at, with_list, with_node, with_branches, with_rank, with_price, with_use, list_of, wire_of, grain_of, next_if, if_both, begin_list, begin_wanted, begin, step_leaf, is_use, step, whole_at, ended, proof_machine}
 
 -- the state after these words
 abbrev pub run : Option State → List (Token Keyword) → Option State
@@ -100,8 +100,11 @@ lists_read (l ∷ ls) s d may none few names =
 
 -- ---- weights
 
+small_if : (n most : ℕ) (s : State) → n ≤ most → next_if (nat_le n most) s ≡ Some s
+small_if n most s is = ap (λ b. next_if b s) (le-leb n most is)
+
 weight_if : (n : ℕ) (s : State) → IsWeight n → next_if (nat_le n WEIGHT_MOST) s ≡ Some s
-weight_if n s is = ap (λ b. next_if b s) (le-leb n WEIGHT_MOST is)
+weight_if n s is = small_if n WEIGHT_MOST s is
 
 ranks_read : (ns : List ℕ) (d : DraftValue) (w : WeightsValue) → All IsWeight ns → run (Some (at d (in_ranks w))) (map Number ns) ≡ Some (at d (in_ranks (record w { ranks = w.ranks ++ ns })))
 ranks_read [] d w are = ap (λ l. Some (at d (in_ranks (record w { ranks = l })))) (sym (append-nil w.ranks))
@@ -110,35 +113,68 @@ ranks_read (n ∷ ns) d w are =
     ∙ ranks_read ns d (with_rank w n) (All-tail IsWeight n ns are)
     ∙ ap (λ l. Some (at d (in_ranks (record w { ranks = l })))) (append_assoc w.ranks (n ∷ []) ns)
 
--- weights that may go on with those of lists, or end
-record MayUse (s : State) (d : DraftValue) (w : WeightsValue) : Type 0 where
-  goes : (k : Keyword) → step s (Key k) ≡ step_sum d w k (is_use k)
-  ends : ended s ≡ whole_at d.wanted (with_node d (OfSum w))
+prices_read : (ps : List (ℕ × ℕ)) (d : DraftValue) (p : PricingValue) → All IsPrice ps → run (Some (at d (in_prices p))) (map Number (flat_map price_numbers ps)) ≡ Some (at d (in_prices (record p { prices = p.prices ++ ps })))
+prices_read [] d p are = ap (λ l. Some (at d (in_prices (record p { prices = l })))) (sym (append-nil p.prices))
+prices_read (x ∷ xs) d p are =
+    ap (λ o. run o (map Number (flat_map price_numbers xs))) (small_if x.1 PRICE_MOST (at d (in_prices (with_price p x.0 x.1))) (All-head IsPrice x xs are))
+    ∙ prices_read xs d (with_price p x.0 x.1) (All-tail IsPrice x xs are)
+    ∙ ap (λ l. Some (at d (in_prices (record p { prices = l })))) (append_assoc p.prices (x ∷ []) xs)
 
-abbrev UsesRead : State → DraftValue → WeightsValue → List (ℕ × ℕ) → Type 0
-UsesRead s d w os = (e : State) × (run (Some s) (flat_map use_tokens os) ≡ Some e) × MayUse e d (record w { lists = w.lists ++ os })
+-- a leaf that may go on with the weights of lists, or end
+record MayUse (s : State) (d : DraftValue) (leaf : LeafValue) : Type 0 where
+  goes : (k : Keyword) → step s (Key k) ≡ step_leaf d leaf k (is_use k)
+  ends : ended s ≡ whole_at d.wanted (with_node d (OfLeaf leaf))
 
-uses_read : (os : List (ℕ × ℕ)) (s : State) (d : DraftValue) (w : WeightsValue) → MayUse s d w → All IsUse os → UsesRead s d w os
-uses_read [] s d w may are = (s, refl, subst (λ l. MayUse s d (record w { lists = l })) (sym (append-nil w.lists)) may)
-uses_read (o ∷ os) s d w may are =
-    let m : State = at d (in_lists (with_use w o.0 o.1)) in
-    let one : run (Some s) (use_tokens o) ≡ Some (at d (in_lists (with_use w o.0 o.1))) =
-    ap (λ x. run x (Number o.0 ∷ Number o.1 ∷ [])) (may.goes key.Of) ∙ weight_if o.1 (at d (in_lists (with_use w o.0 o.1))) (All-head IsUse o os are) in
-    let rest = uses_read os (at d (in_lists (with_use w o.0 o.1))) d (with_use w o.0 o.1) (record { goes = λ k. refl; ends = refl }) (All-tail IsUse o os are) in (
+-- the leaf with these lists more
+abbrev with_uses : LeafValue → List (ℕ × ℕ) → LeafValue
+with_uses (OfSum w) os = OfSum (record w { lists = w.lists ++ os })
+with_uses (OfPack p) os = OfPack (record p { lists = p.lists ++ os })
+
+no_uses : (leaf : LeafValue) → with_uses leaf [] ≡ leaf
+no_uses (OfSum w) = ap (λ l. OfSum (record w { lists = l })) (append-nil w.lists)
+no_uses (OfPack p) = ap (λ l. OfPack (record p { lists = l })) (append-nil p.lists)
+
+more_uses : (leaf : LeafValue) (o : ℕ × ℕ) (os : List (ℕ × ℕ)) → with_uses (with_use leaf o.0 o.1) os ≡ with_uses leaf (o ∷ os)
+more_uses (OfSum w) o os = ap (λ l. OfSum (record w { lists = l })) (append_assoc w.lists (o ∷ []) os)
+more_uses (OfPack p) o os = ap (λ l. OfPack (record p { lists = l })) (append_assoc p.lists (o ∷ []) os)
+
+abbrev UsesRead : State → DraftValue → LeafValue → List (ℕ × ℕ) → Type 0
+UsesRead s d leaf os = (e : State) × (run (Some s) (flat_map use_tokens os) ≡ Some e) × MayUse e d (with_uses leaf os)
+
+uses_read : (os : List (ℕ × ℕ)) (s : State) (d : DraftValue) (leaf : LeafValue) → MayUse s d leaf → All IsUse os → UsesRead s d leaf os
+uses_read [] s d leaf may are = (s, refl, subst (MayUse s d) (sym (no_uses leaf)) may)
+uses_read (o ∷ os) s d leaf may are =
+    let m : State = at d (in_lists (with_use leaf o.0 o.1)) in
+    let one : run (Some s) (use_tokens o) ≡ Some (at d (in_lists (with_use leaf o.0 o.1))) =
+    ap (λ x. run x (Number o.0 ∷ Number o.1 ∷ [])) (may.goes key.Of) ∙ weight_if o.1 (at d (in_lists (with_use leaf o.0 o.1))) (All-head IsUse o os are) in
+    let rest = uses_read os (at d (in_lists (with_use leaf o.0 o.1))) d (with_use leaf o.0 o.1) (record { goes = λ k. refl; ends = refl }) (All-tail IsUse o os are) in (
       rest.0,
-      run_both proof_machine s (at d (in_lists (with_use w o.0 o.1))) rest.0 (use_tokens o) (flat_map use_tokens os) one rest.1,
-      subst (λ l. MayUse rest.0 d (record w { lists = l })) (append_assoc w.lists (o ∷ []) os) rest.2,
+      run_both proof_machine s (at d (in_lists (with_use leaf o.0 o.1))) rest.0 (use_tokens o) (flat_map use_tokens os) one rest.1,
+      subst (MayUse rest.0 d) (more_uses leaf o os) rest.2,
     )
 
-weights_read : (w : WeightsValue) (d : DraftValue) → AreWeights w → (e : State) × (run (Some (at d wants_wire)) (weight_tokens w) ≡ Some e) × MayUse e d w
+weights_read : (w : WeightsValue) (d : DraftValue) → AreWeights w → (e : State) × (run (Some (at d wants_wire)) (weight_tokens w) ≡ Some e) × MayUse e d (OfSum w)
 weights_read w d are =
     let ranked : WeightsValue = record { wire = w.wire; ranks = w.ranks; lists = [] } in
     let m : State = at d (in_ranks ranked) in
-    let uses = uses_read w.lists m d ranked (record { goes = λ k. refl; ends = refl }) are.lists in
+    let uses = uses_read w.lists m d (OfSum ranked) (record { goes = λ k. refl; ends = refl }) are.lists in
     let ranks : run (Some (at d (in_ranks (wire_of w.wire)))) (map Number w.ranks) ≡ Some m = ranks_read w.ranks d (wire_of w.wire) are.ranks in (
       uses.0,
       ap (λ o. run o (map Number w.ranks ++ flat_map use_tokens w.lists)) (weight_if w.wire (at d (in_ranks (wire_of w.wire))) are.wire)
           ∙ run_both proof_machine (at d (in_ranks (wire_of w.wire))) m uses.0 (map Number w.ranks) (flat_map use_tokens w.lists) ranks uses.1,
+      uses.2,
+    )
+
+pricing_read : (p : PricingValue) (d : DraftValue) → ArePrices p → (e : State) × (run (Some (at d wants_grain)) (price_tokens p) ≡ Some e) × MayUse e d (OfPack p)
+pricing_read p d are =
+    let priced : PricingValue = record { grain = p.grain; prices = p.prices; lists = [] } in
+    let m : State = at d (in_prices priced) in
+    let uses = uses_read p.lists m d (OfPack priced) (record { goes = λ k. refl; ends = refl }) are.lists in
+    let numbers : List (Token Keyword) = map Number (flat_map price_numbers p.prices) in
+    let prices : run (Some (at d (in_prices (grain_of p.grain)))) numbers ≡ Some m = prices_read p.prices d (grain_of p.grain) are.prices in (
+      uses.0,
+      ap (λ o. run o (numbers ++ flat_map use_tokens p.lists)) (small_if 1 p.grain (at d (in_prices (grain_of p.grain))) are.grain)
+          ∙ run_both proof_machine (at d (in_prices (grain_of p.grain))) m uses.0 numbers (flat_map use_tokens p.lists) prices uses.1,
       uses.2,
     )
 
@@ -150,19 +186,28 @@ pub record GoesTo (s : State) (ts : List (Token Keyword)) (d : DraftValue) : Typ
   pub read : run (Some s) ts ≡ Some end
   pub may : MayGo end d
 
--- weights make a state where more may begin
-used_goes : (e : State) (d : DraftValue) (w : WeightsValue) → MayUse e d w → MayGo e (with_node d (OfSum w))
-used_goes e d w may = record { begins = λ k other. may.goes k ∙ ap (step_sum d w k) other; ends = may.ends }
+-- a leaf makes a state where more may begin
+used_goes : (e : State) (d : DraftValue) (leaf : LeafValue) → MayUse e d leaf → MayGo e (with_node d (OfLeaf leaf))
+used_goes e d leaf may = record { begins = λ k other. may.goes k ∙ ap (step_leaf d leaf k) other; ends = may.ends }
 
-leaf_read : (w : WeightsValue) (s : State) (d : DraftValue) (n : ℕ) → MayBegin s d → d.wanted ≡ suc n → AreWeights w → GoesTo s (line_tokens (node_line (OfSum w))) (with_node (record d { wanted = n }) (OfSum w))
-leaf_read w s d n may some are =
+leaf_read : (leaf : LeafValue) (s : State) (d : DraftValue) (n : ℕ) → MayBegin s d → d.wanted ≡ suc n → LeafHasWeights leaf → GoesTo s (line_tokens (node_line (OfLeaf leaf))) (with_node (record d { wanted = n }) (OfLeaf leaf))
+leaf_read (OfSum w) s d n may some are =
     let m : State = at (record d { wanted = n }) wants_wire in
     let begun : step s (Key key.Sum) ≡ Some m = node_begun s d n key.Sum wants_wire may refl refl some in
     let rest = weights_read w (record d { wanted = n }) are in
     record {
       end = rest.0;
       read = ap (λ l. run (Some s) (Key key.Sum ∷ l)) (append-nil (weight_tokens w)) ∙ run_both proof_machine s m rest.0 (Key key.Sum ∷ []) (weight_tokens w) begun rest.1;
-      may = used_goes rest.0 (record d { wanted = n }) w rest.2;
+      may = used_goes rest.0 (record d { wanted = n }) (OfSum w) rest.2;
+    }
+leaf_read (OfPack p) s d n may some are =
+    let m : State = at (record d { wanted = n }) wants_grain in
+    let begun : step s (Key key.Pack) ≡ Some m = node_begun s d n key.Pack wants_grain may refl refl some in
+    let rest = pricing_read p (record d { wanted = n }) are in
+    record {
+      end = rest.0;
+      read = ap (λ l. run (Some s) (Key key.Pack ∷ l)) (append-nil (price_tokens p)) ∙ run_both proof_machine s m rest.0 (Key key.Pack ∷ []) (price_tokens p) begun rest.1;
+      may = used_goes rest.0 (record d { wanted = n }) (OfPack p) rest.2;
     }
 
 twins_read : (ns : List ℕ) (d : DraftValue) (m rank : ℕ) (twins : List ℕ) → run (Some (at d (in_place m rank twins))) (map Number ns) ≡ Some (at d (in_place m rank (twins ++ ns)))
@@ -203,9 +248,9 @@ front_all P (x ∷ a) b all =
     (All-cons P x a (All-head P x (a ++ b) all) rest.0, rest.1)
 
 pub tree_goes : (t : CaseTree) (s : State) (d : DraftValue) (n : ℕ) → MayBegin s d → d.wanted ≡ suc n → All HasWeights (nodes_of t) → GoesTo s (node_words (nodes_of t)) (with_nodes d (nodes_of t) n)
-tree_goes (Leaf w) s d n may some are =
-    let g = leaf_read w s d n may some (All-head HasWeights (OfSum w) [] are) in
-    record { end = g.end; read = ap (run (Some s)) (append-nil (line_tokens (node_line (OfSum w)))) ∙ g.read; may = g.may }
+tree_goes (Leaf leaf) s d n may some are =
+    let g = leaf_read leaf s d n may some (All-head HasWeights (OfLeaf leaf) [] are) in
+    record { end = g.end; read = ap (run (Some s)) (append-nil (line_tokens (node_line (OfLeaf leaf)))) ∙ g.read; may = g.may }
 tree_goes (Branches x a b) s d n may some are =
     let d1 : DraftValue = with_branches (record d { wanted = n }) (OfSplit x) in
     let parts = front_all HasWeights (nodes_of a) (nodes_of b) (All-tail HasWeights (OfSplit x) (nodes_of a ++ nodes_of b) are) in

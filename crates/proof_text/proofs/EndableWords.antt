@@ -9,8 +9,8 @@ use Rattle.proof_text.specs.declared.tokens.Keyword.{Keyword}
 use Rattle.proof_text.specs.declared.tokens.Keyword.TheVariants as key
 use Rattle.proof_text.specs.declared.parts.ListKind.{ListKind}
 use Rattle.proof_text.specs.declared.parts.ListKind.TheVariants as kind
-use Rattle.proof_model.specs.Proofs.{OfPower, WeightsValue, OfWide, OfPlace, NodeValue, OfSplit, OfSum}
-use Rattle.proof_text.specs.Words.{DraftValue, PartValue, wants_proof, wants_form, wants_bound, wants_claim, between, wants_list_rank, wants_most, wants_near, in_tests, wants_test, wants_wide_rank, wants_width, wants_module, wants_place_rank, in_place, wants_wire, in_ranks, wants_list, wants_list_weight, in_lists, State, at, with_list, with_node, with_branches, with_use, list_of, wire_of, step_sum, whole_at, proof_machine}
+use Rattle.proof_model.specs.Proofs.{OfPower, WeightsValue, PricingValue, LeafValue, OfSum, OfPack, OfWide, OfPlace, NodeValue, OfSplit, OfLeaf}
+use Rattle.proof_text.specs.Words.{DraftValue, PartValue, wants_proof, wants_form, wants_bound, wants_claim, between, wants_list_rank, wants_most, wants_near, in_tests, wants_test, wants_wide_rank, wants_width, wants_module, wants_place_rank, in_place, wants_wire, in_ranks, wants_grain, in_prices, wants_price, wants_list, wants_list_weight, in_lists, State, at, with_list, with_node, with_branches, with_price, with_use, list_of, wire_of, grain_of, step_leaf, whole_at, proof_machine}
 use Rattle.proof_text.proofs.SoundWords.{Holds, wanted_some}
 use Rattle.proof_text.proofs.CompleteWords.{MayBegin, MayGo, node_begun}
 
@@ -20,15 +20,18 @@ Ends s = MayEnd proof_machine PLAN_NUMBER_MOST s
 
 -- ---- a leaf for each node that is wanted
 
-ranks_go : (d : DraftValue) (w : WeightsValue) → MayGo (at d (in_ranks w)) (with_node d (OfSum w))
-ranks_go d w = record { begins = λ k other. ap (step_sum d w k) other; ends = refl }
+ranks_go : (d : DraftValue) (w : WeightsValue) → MayGo (at d (in_ranks w)) (with_node d (OfLeaf (OfSum w)))
+ranks_go d w = record { begins = λ k other. ap (step_leaf d (OfSum w) k) other; ends = refl }
 
-lists_go : (d : DraftValue) (w : WeightsValue) → MayGo (at d (in_lists w)) (with_node d (OfSum w))
-lists_go d w = record { begins = λ k other. ap (step_sum d w k) other; ends = refl }
+prices_go : (d : DraftValue) (p : PricingValue) → MayGo (at d (in_prices p)) (with_node d (OfLeaf (OfPack p)))
+prices_go d p = record { begins = λ k other. ap (step_leaf d (OfPack p) k) other; ends = refl }
+
+lists_go : (d : DraftValue) (leaf : LeafValue) → MayGo (at d (in_lists leaf)) (with_node d (OfLeaf leaf))
+lists_go d leaf = record { begins = λ k other. ap (step_leaf d leaf k) other; ends = refl }
 
 -- the draft with a leaf in place of a node that was wanted
 abbrev with_leaf : DraftValue → ℕ → DraftValue
-with_leaf d n = with_node (record d { wanted = n }) (OfSum (wire_of 0))
+with_leaf d n = with_node (record d { wanted = n }) (OfLeaf (OfSum (wire_of 0)))
 
 finish_leaf : (s : State) (d : DraftValue) (n : ℕ) → MayBegin s d → d.wanted ≡ suc n → Ends (at (record d { wanted = n }) (in_ranks (wire_of 0))) → Ends s
 finish_leaf s d n may some rest =
@@ -91,13 +94,22 @@ finish_place_rank d m = ends_by_zero _ (at d (in_place m 0 [])) refl (finish_pla
 
 -- a leaf
 finish_ranks : (d : DraftValue) (w : WeightsValue) → Ends (at d (in_ranks w))
-finish_ranks d w = finish_wanted d.wanted (at d (in_ranks w)) (with_node d (OfSum w)) (ranks_go d w) refl
+finish_ranks d w = finish_wanted d.wanted (at d (in_ranks w)) (with_node d (OfLeaf (OfSum w))) (ranks_go d w) refl
 
-finish_uses : (d : DraftValue) (w : WeightsValue) → Ends (at d (in_lists w))
-finish_uses d w = finish_wanted d.wanted (at d (in_lists w)) (with_node d (OfSum w)) (lists_go d w) refl
+finish_prices : (d : DraftValue) (p : PricingValue) → Ends (at d (in_prices p))
+finish_prices d p = finish_wanted d.wanted (at d (in_prices p)) (with_node d (OfLeaf (OfPack p))) (prices_go d p) refl
 
-finish_list_weight : (d : DraftValue) (w : WeightsValue) (list : ℕ) → Ends (at d (wants_list_weight w list))
-finish_list_weight d w list = ends_by_zero _ (at d (in_lists (with_use w list 0))) refl (finish_uses d (with_use w list 0))
+finish_grain : (d : DraftValue) → Ends (at d wants_grain)
+finish_grain d = ends_by_number _ (at d (in_prices (grain_of 1))) 1 (omega arith) refl (finish_prices d (grain_of 1))
+
+finish_price : (d : DraftValue) (p : PricingValue) (m : ℕ) → Ends (at d (wants_price p m))
+finish_price d p m = ends_by_zero _ (at d (in_prices (with_price p m 0))) refl (finish_prices d (with_price p m 0))
+
+finish_uses : (d : DraftValue) (leaf : LeafValue) → Ends (at d (in_lists leaf))
+finish_uses d leaf = finish_wanted d.wanted (at d (in_lists leaf)) (with_node d (OfLeaf leaf)) (lists_go d leaf) refl
+
+finish_list_weight : (d : DraftValue) (leaf : LeafValue) (list : ℕ) → Ends (at d (wants_list_weight leaf list))
+finish_list_weight d leaf list = ends_by_zero _ (at d (in_lists (with_use leaf list 0))) refl (finish_uses d (with_use leaf list 0))
 
 -- the head
 finish_claim : (d : DraftValue) → 1 ≤ d.wanted → Ends (at d wants_claim)
@@ -127,9 +139,12 @@ finish (wants_place_rank m) d ts h = finish_place_rank d m
 finish (in_place m rank twins) d ts h = finish_place d m rank twins
 finish wants_wire d ts h = ends_by_zero _ (at d (in_ranks (wire_of 0))) refl (finish_ranks d (wire_of 0))
 finish (in_ranks w) d ts h = finish_ranks d w
-finish (wants_list w) d ts h = ends_by_zero _ (at d (wants_list_weight w 0)) refl (finish_list_weight d w 0)
-finish (wants_list_weight w list) d ts h = finish_list_weight d w list
-finish (in_lists w) d ts h = finish_uses d w
+finish wants_grain d ts h = finish_grain d
+finish (in_prices p) d ts h = finish_prices d p
+finish (wants_price p m) d ts h = finish_price d p m
+finish (wants_list leaf) d ts h = ends_by_zero _ (at d (wants_list_weight leaf 0)) refl (finish_list_weight d leaf 0)
+finish (wants_list_weight leaf list) d ts h = finish_list_weight d leaf list
+finish (in_lists leaf) d ts h = finish_uses d leaf
 
 -- each state that words come to may still be ended
 pub may_end : (ts : List (Token Keyword)) (s : State) → Holds s.draft s.part ts → Ends s

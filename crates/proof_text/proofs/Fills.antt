@@ -8,7 +8,7 @@ fills_some : Fills nodes_of [] 0 → ⊥
 fills_some fills = let r = fills [] refl in by r.0 r.1
   where
     by : (t : CaseTree) → nodes_of t ≡ [] → ⊥
-    by (Leaf w) e = cc
+    by (Leaf leaf) e = cc
     by (Branches s a b) e = cc
 
 -- where there are no nodes, one is wanted

@@ -10,9 +10,9 @@ use Rattle.keyword_text.proofs.Listed.{text_append}
 use Rattle.keyword_text.proofs.Printed.{IsPrinted, are_printed, printed_lines}
 use Rattle.proof_text.specs.declared.tokens.Keyword.{Keyword}
 use Rattle.proof_text.specs.declared.tokens.Keyword.TheVariants as key
-use Rattle.proof_model.specs.Proofs.{WeightsValue, ProofValue}
+use Rattle.proof_model.specs.Proofs.{WeightsValue, PricingValue, ProofValue}
 use Rattle.proof_text.specs.Tokens.{spelling, proof_lexicon}
-use Rattle.proof_text.specs.ProofLines.{list_line, use_tokens, weight_tokens, node_line, head_lines, proof_lines, proof_tokens, proof_text}
+use Rattle.proof_text.specs.ProofLines.{list_line, use_tokens, weight_tokens, price_numbers, price_tokens, node_line, head_lines, proof_lines, proof_tokens, proof_text}
 use Rattle.proof_text.specs.TextLaws.{PrintedProofsAreRead}
 
 -- ---- each keyword is a word, and read back
@@ -28,6 +28,7 @@ key_back key.Power = refl
 key_back key.Wide = refl
 key_back key.Place = refl
 key_back key.Sum = refl
+key_back key.Pack = refl
 key_back key.Of = refl
 
 keys_printed : IsPrinted proof_lexicon spelling
@@ -53,22 +54,31 @@ proof_written p x v w is_x is_v is_w =
     ∙ append_assoc (text_of spelling (head_lines p.claimed)) (text_of spelling (map list_line p.lists)) (text_of spelling (map node_line p.nodes))
     ∙ sym (proof_text_parts p)
 
--- ---- the weights of a leaf
+-- ---- the weights and the prices of a leaf
 
 spaced_append : (ns : List ℕ) (ts : List (Token Keyword)) → spaced spelling (map Number ns ++ ts) ≡ spaced_numbers ns ++ spaced spelling ts
 spaced_append [] ts = refl
 spaced_append (n ∷ ns) ts = ap (λ l. (32 ∷ decimal n) ++ l) (spaced_append ns ts) ∙ sym (append_assoc (32 ∷ decimal n) (spaced_numbers ns) (spaced spelling ts))
 
--- what is written piece by piece
-weights_written : (w : WeightsValue) (old x v new : List ℕ) → x ≡ old ++ (32 ∷ decimal w.wire) → v ≡ x ++ spaced_numbers w.ranks → new ≡ v ++ spaced spelling (flat_map use_tokens w.lists) → new ≡ old ++ spaced spelling (weight_tokens w)
-weights_written w old x v new is_x is_v is_new =
-    let uses : List ℕ = spaced spelling (flat_map use_tokens w.lists) in
-    is_new ∙ ap (λ l. l ++ uses) (is_v ∙ ap (λ l. l ++ spaced_numbers w.ranks) is_x)
-    ∙ append_assoc (old ++ (32 ∷ decimal w.wire)) (spaced_numbers w.ranks) uses
-    ∙ append_assoc old (32 ∷ decimal w.wire) (spaced_numbers w.ranks ++ uses)
-    ∙ ap (λ l. old ++ ((32 ∷ decimal w.wire) ++ l)) (sym (spaced_append w.ranks (flat_map use_tokens w.lists)))
+-- a number, then numbers, then the weights of lists: what is written piece by piece
+abbrev leaf_tokens : (first : ℕ) → List ℕ → List (ℕ × ℕ) → List (Token Keyword)
+leaf_tokens first numbers lists = Number first ∷ (map Number numbers ++ flat_map use_tokens lists)
 
--- the same, where the last piece may not be written where memory runs out
+leaf_written : (first : ℕ) (numbers : List ℕ) (lists : List (ℕ × ℕ)) (old x v new : List ℕ) → x ≡ old ++ (32 ∷ decimal first) → v ≡ x ++ spaced_numbers numbers → new ≡ v ++ spaced spelling (flat_map use_tokens lists) → new ≡ old ++ spaced spelling (leaf_tokens first numbers lists)
+leaf_written first numbers lists old x v new is_x is_v is_new =
+    let uses : List ℕ = spaced spelling (flat_map use_tokens lists) in
+    is_new ∙ ap (λ l. l ++ uses) (is_v ∙ ap (λ l. l ++ spaced_numbers numbers) is_x)
+    ∙ append_assoc (old ++ (32 ∷ decimal first)) (spaced_numbers numbers) uses
+    ∙ append_assoc old (32 ∷ decimal first) (spaced_numbers numbers ++ uses)
+    ∙ ap (λ l. old ++ ((32 ∷ decimal first) ++ l)) (sym (spaced_append numbers (flat_map use_tokens lists)))
+
+-- so too where the last piece may not be written where memory runs out
+leaf_written_if : {E : Type 0} (first : ℕ) (numbers : List ℕ) (lists : List (ℕ × ℕ)) (old x v new : List ℕ) (result : Result (Unit {0}) E) → x ≡ old ++ (32 ∷ decimal first) → v ≡ x ++ spaced_numbers numbers → OnOk result (new ≡ v ++ spaced spelling (flat_map use_tokens lists)) → OnOk result (new ≡ old ++ spaced spelling (leaf_tokens first numbers lists))
+leaf_written_if first numbers lists old x v new (Ok done) is_x is_v is_new = leaf_written first numbers lists old x v new is_x is_v is_new
+leaf_written_if first numbers lists old x v new (Err fault) is_x is_v is_new = tt
+
 pub weights_written_if : {E : Type 0} (w : WeightsValue) (old x v new : List ℕ) (result : Result (Unit {0}) E) → x ≡ old ++ (32 ∷ decimal w.wire) → v ≡ x ++ spaced_numbers w.ranks → OnOk result (new ≡ v ++ spaced spelling (flat_map use_tokens w.lists)) → OnOk result (new ≡ old ++ spaced spelling (weight_tokens w))
-weights_written_if w old x v new (Ok done) is_x is_v is_new = weights_written w old x v new is_x is_v is_new
-weights_written_if w old x v new (Err fault) is_x is_v is_new = tt
+weights_written_if w old x v new result is_x is_v is_new = leaf_written_if w.wire w.ranks w.lists old x v new result is_x is_v is_new
+
+pub prices_written_if : {E : Type 0} (p : PricingValue) (old x v new : List ℕ) (result : Result (Unit {0}) E) → x ≡ old ++ (32 ∷ decimal p.grain) → v ≡ x ++ spaced_numbers (flat_map price_numbers p.prices) → OnOk result (new ≡ v ++ spaced spelling (flat_map use_tokens p.lists)) → OnOk result (new ≡ old ++ spaced spelling (price_tokens p))
+prices_written_if p old x v new result is_x is_v is_new = leaf_written_if p.grain (flat_map price_numbers p.prices) p.lists old x v new result is_x is_v is_new

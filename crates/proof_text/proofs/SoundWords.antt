@@ -15,16 +15,16 @@ use Rattle.keyword_text.proofs.Kept as kept
 use Rattle.keyword_text.proofs.Kept.{kept_by_words, kept_holds}
 use Rattle.keyword_text.proofs.Listed.{tokens_push, numbers_push, word_pushed}
 use Rattle.keyword_text.proofs.Trees.{Fills, fills_none, fills_leaf, fills_split, fills_whole, fills_as}
-use Rattle.proof_model.specs.declared.TheConstants.{LISTS_MOST, WEIGHT_MOST}
+use Rattle.proof_model.specs.declared.TheConstants.{LISTS_MOST, WEIGHT_MOST, PRICE_MOST}
 use Rattle.proof_text.specs.declared.tokens.Keyword.{Keyword}
 use Rattle.proof_text.specs.declared.tokens.Keyword.TheVariants as key
 use Rattle.proof_text.specs.declared.parts.ListKind.{ListKind}
 use Rattle.proof_text.specs.declared.parts.ListKind.TheVariants as kind
-use Rattle.proof_model.specs.Proofs.{ListValue, OfPower, WeightsValue, OfWide, OfPlace, NodeValue, OfSplit, OfSum, Leaf, Branches, nodes_of, ProofValue}
-use Rattle.proof_text.specs.ProofLines.{list_line, test_numbers, use_tokens, weight_tokens, node_line, head_lines, proof_tokens}
-use Rattle.proof_model.specs.Sayable.{NamesTests, IsWeight, IsUse, AreWeights, HasWeights}
+use Rattle.proof_model.specs.Proofs.{ListValue, OfPower, WeightsValue, PricingValue, LeafValue, OfSum, OfPack, OfWide, OfPlace, NodeValue, OfSplit, OfLeaf, Leaf, Branches, nodes_of, ProofValue}
+use Rattle.proof_text.specs.ProofLines.{list_line, test_numbers, use_tokens, weight_tokens, price_numbers, price_tokens, node_line, head_lines, proof_tokens}
+use Rattle.proof_model.specs.Sayable.{NamesTests, IsWeight, IsUse, IsPrice, AreWeights, ArePrices, LeafHasWeights, HasWeights}
 use Rattle.proof_text.specs.Grammar.{proof_grammar}
-use Rattle.proof_text.specs.Words.{DraftValue, PartValue, wants_proof, wants_form, wants_bound, wants_claim, between, wants_list_rank, wants_most, wants_near, in_tests, wants_test, wants_wide_rank, wants_width, wants_module, wants_place_rank, in_place, wants_wire, in_ranks, wants_list, wants_list_weight, in_lists, State, at, with_list, with_node, with_branches, with_rank, with_use, list_of, wire_of, next_if, if_both, step_number, begin_list, begin_wanted, begin, end_tests, is_use, step_sum, begin_proof, begin_bound, begun, step_key, whole_at, ended_by, ended, proof_machine}
+use Rattle.proof_text.specs.Words.{DraftValue, PartValue, wants_proof, wants_form, wants_bound, wants_claim, between, wants_list_rank, wants_most, wants_near, in_tests, wants_test, wants_wide_rank, wants_width, wants_module, wants_place_rank, in_place, wants_wire, in_ranks, wants_grain, in_prices, wants_price, wants_list, wants_list_weight, in_lists, State, at, with_list, with_node, with_branches, with_rank, with_price, with_use, list_of, wire_of, grain_of, next_if, if_both, step_number, begin_list, begin_wanted, begin, end_tests, is_use, step_leaf, begin_proof, begin_bound, begun, step_key, whole_at, ended_by, ended, proof_machine}
 use Rattle.proof_text.proofs.Fills.{some_wanted}
 
 -- how far a text has come
@@ -63,9 +63,12 @@ open_nodes (wants_place_rank m) = 1
 open_nodes (in_place m rank twins) = 1
 open_nodes wants_wire = 1
 open_nodes (in_ranks w) = 1
-open_nodes (wants_list w) = 1
-open_nodes (wants_list_weight w list) = 1
-open_nodes (in_lists w) = 1
+open_nodes wants_grain = 1
+open_nodes (in_prices p) = 1
+open_nodes (wants_price p m) = 1
+open_nodes (wants_list leaf) = 1
+open_nodes (wants_list_weight leaf list) = 1
+open_nodes (in_lists leaf) = 1
 open_nodes p = 0
 
 -- the lines of the whole parts
@@ -81,6 +84,13 @@ front at_nodes d = body d
 -- the words of the weights that were read
 abbrev pub sum_words : WeightsValue → List (Token Keyword)
 sum_words w = Key key.Sum ∷ weight_tokens w
+
+abbrev pub pack_words : PricingValue → List (Token Keyword)
+pack_words p = Key key.Pack ∷ price_tokens p
+
+abbrev pub leaf_words : LeafValue → List (Token Keyword)
+leaf_words (OfSum w) = sum_words w
+leaf_words (OfPack p) = pack_words p
 
 -- the words of the part that comes next
 abbrev pub part_tokens : PartValue → List (Token Keyword)
@@ -101,16 +111,21 @@ part_tokens (wants_place_rank m) = Key key.Place ∷ Number m ∷ []
 part_tokens (in_place m rank twins) = Key key.Place ∷ Number m ∷ Number rank ∷ map Number twins
 part_tokens wants_wire = Key key.Sum ∷ []
 part_tokens (in_ranks w) = sum_words w
-part_tokens (wants_list w) = sum_words w ++ Key key.Of ∷ []
-part_tokens (wants_list_weight w list) = sum_words w ++ (Key key.Of ∷ Number list ∷ [])
-part_tokens (in_lists w) = sum_words w
+part_tokens wants_grain = Key key.Pack ∷ []
+part_tokens (in_prices p) = pack_words p
+part_tokens (wants_price p m) = pack_words p ++ Number m ∷ []
+part_tokens (wants_list leaf) = leaf_words leaf ++ Key key.Of ∷ []
+part_tokens (wants_list_weight leaf list) = leaf_words leaf ++ (Key key.Of ∷ Number list ∷ [])
+part_tokens (in_lists leaf) = leaf_words leaf
 
--- weights that may be, and none of lists while those of ranks may come
+-- weights and prices that may be, and none of lists while those of ranks or of modules may come
 abbrev pub Weighed : PartValue → Type 0
 Weighed (in_ranks w) = AreWeights w × (w.lists ≡ [])
-Weighed (wants_list w) = AreWeights w
-Weighed (wants_list_weight w list) = AreWeights w
-Weighed (in_lists w) = AreWeights w
+Weighed (in_prices p) = ArePrices p × (p.lists ≡ [])
+Weighed (wants_price p m) = ArePrices p × (p.lists ≡ [])
+Weighed (wants_list leaf) = LeafHasWeights leaf
+Weighed (wants_list_weight leaf list) = LeafHasWeights leaf
+Weighed (in_lists leaf) = LeafHasWeights leaf
 Weighed p = Unit {0}
 
 -- the whole parts may be said
@@ -165,8 +180,9 @@ whole : (ts : List (Token Keyword)) (d : DraftValue) → ts ≡ tokens_of (body 
 whole ts d read = read ∙ sym (append-nil (tokens_of (body d)))
 
 -- the words of lists and nodes, with what follows their keyword
-sum_line : (w : WeightsValue) → line_tokens (node_line (OfSum w)) ≡ sum_words w
-sum_line w = ap (λ l. Key key.Sum ∷ l) (append-nil (weight_tokens w))
+leaf_line : (leaf : LeafValue) → line_tokens (node_line (OfLeaf leaf)) ≡ leaf_words leaf
+leaf_line (OfSum w) = ap (λ l. Key key.Sum ∷ l) (append-nil (weight_tokens w))
+leaf_line (OfPack p) = ap (λ l. Key key.Pack ∷ l) (append-nil (price_tokens p))
 
 test_pushed : (which : ListKind) (tests : List TestId) (m n : ℕ) →
     line_tokens (list_line (list_of which (tests ++ record { «module» = m; test = n } ∷ []))) ≡ (line_tokens (list_line (list_of which tests)) ++ Number m ∷ []) ++ Number n ∷ []
@@ -192,11 +208,30 @@ rank_pushed w n none = ap (λ l. Key key.Sum ∷ Number w.wire ∷ l) (plain (w.
     plain : (ns : List ℕ) → map Number ns ++ flat_map use_tokens w.lists ≡ map Number ns
     plain ns = ap (λ o. map Number ns ++ flat_map use_tokens o) none ∙ append-nil (map Number ns)
 
-use_pushed : (w : WeightsValue) (list n : ℕ) → sum_words (with_use w list n) ≡ (sum_words w ++ (Key key.Of ∷ Number list ∷ [])) ++ Number n ∷ []
-use_pushed w list n =
-    ap (λ l. Key key.Sum ∷ Number w.wire ∷ (map Number w.ranks ++ l)) (flat_map-append use_tokens w.lists ((list, n) ∷ []))
-    ∙ ap (λ l. Key key.Sum ∷ Number w.wire ∷ l) (sym (append_assoc (map Number w.ranks) (flat_map use_tokens w.lists) (use_tokens (list, n) ++ [])))
-    ∙ sym (append_assoc (sum_words w) (Key key.Of ∷ Number list ∷ []) (Number n ∷ []))
+price_pushed : (p : PricingValue) (m n : ℕ) → p.lists ≡ [] → pack_words (with_price p m n) ≡ (pack_words p ++ Number m ∷ []) ++ Number n ∷ []
+price_pushed p m n none =
+    ap (λ l. Key key.Pack ∷ Number p.grain ∷ l)
+    (plain (p.prices ++ (m, n) ∷ []) ∙ ap (map Number) (flat_map-append price_numbers p.prices ((m, n) ∷ []))
+    ∙ map-append Number (flat_map price_numbers p.prices) (m ∷ n ∷ []) ∙ ap (λ l. l ++ (Number m ∷ Number n ∷ [])) (sym (plain p.prices)))
+    ∙ sym (append_assoc (pack_words p) (Number m ∷ []) (Number n ∷ []))
+  where
+    numbers : List (ℕ × ℕ) → List (Token Keyword)
+    numbers ps = map Number (flat_map price_numbers ps)
+
+    plain : (ps : List (ℕ × ℕ)) → numbers ps ++ flat_map use_tokens p.lists ≡ numbers ps
+    plain ps = ap (λ o. numbers ps ++ flat_map use_tokens o) none ∙ append-nil (numbers ps)
+
+-- one more use behind some first words
+use_behind : (first ts : List (Token Keyword)) (lists : List (ℕ × ℕ)) (list n : ℕ) → first ++ (ts ++ flat_map use_tokens (lists ++ (list, n) ∷ [])) ≡ ((first ++ (ts ++ flat_map use_tokens lists)) ++ (Key key.Of ∷ Number list ∷ [])) ++ Number n ∷ []
+use_behind first ts lists list n =
+    ap (λ l. first ++ (ts ++ l)) (flat_map-append use_tokens lists ((list, n) ∷ []))
+    ∙ ap (λ l. first ++ l) (sym (append_assoc ts (flat_map use_tokens lists) (use_tokens (list, n) ++ [])))
+    ∙ sym (append_assoc first (ts ++ flat_map use_tokens lists) (use_tokens (list, n) ++ []))
+    ∙ sym (append_assoc (first ++ (ts ++ flat_map use_tokens lists)) (Key key.Of ∷ Number list ∷ []) (Number n ∷ []))
+
+use_pushed : (leaf : LeafValue) (list n : ℕ) → leaf_words (with_use leaf list n) ≡ (leaf_words leaf ++ (Key key.Of ∷ Number list ∷ [])) ++ Number n ∷ []
+use_pushed (OfSum w) list n = use_behind (Key key.Sum ∷ Number w.wire ∷ []) (map Number w.ranks) w.lists list n
+use_pushed (OfPack p) list n = use_behind (Key key.Pack ∷ Number p.grain ∷ []) (map Number (flat_map price_numbers p.prices)) p.lists list n
 
 -- ---- keywords
 
@@ -231,6 +266,7 @@ begins key.Power d ts h = list_begins wants_near key.Power d ts h (λ none few. 
 begins key.Wide d ts h = node_begins d.wanted wants_wide_rank key.Wide d ts h refl (λ m fills. record { ordered = tt; read = ap (λ l. l ++ Key key.Wide ∷ []) h.read; fills = fills; weighed = tt; proper = proper_as d m h.proper })
 begins key.Place d ts h = node_begins d.wanted wants_module key.Place d ts h refl (λ m fills. record { ordered = tt; read = ap (λ l. l ++ Key key.Place ∷ []) h.read; fills = fills; weighed = tt; proper = proper_as d m h.proper })
 begins key.Sum d ts h = node_begins d.wanted wants_wire key.Sum d ts h refl (λ m fills. record { ordered = tt; read = ap (λ l. l ++ Key key.Sum ∷ []) h.read; fills = fills; weighed = tt; proper = proper_as d m h.proper })
+begins key.Pack d ts h = node_begins d.wanted wants_grain key.Pack d ts h refl (λ m fills. record { ordered = tt; read = ap (λ l. l ++ Key key.Pack ∷ []) h.read; fills = fills; weighed = tt; proper = proper_as d m h.proper })
 begins key.Proof d ts h = tt
 begins key.Bound d ts h = tt
 begins key.Of d ts h = tt
@@ -253,12 +289,12 @@ split_whole d n ts fills has proper read =
     record { read = read ∙ node_pushed d n; fills = fills; proper = record { few = proper.few; lists = proper.lists; nodes = All-push HasWeights d.nodes n proper.nodes has } }
 
 -- one more leaf
-leaf_whole : (d : DraftValue) (w : WeightsValue) (ts : List (Token Keyword)) → Fills nodes_of d.nodes (1 + d.wanted) → AreWeights w → AreProper d → ts ≡ tokens_of (body d) ++ sum_words w → IsWhole (with_node d (OfSum w)) ts
-leaf_whole d w ts fills are proper read =
+leaf_whole : (d : DraftValue) (leaf : LeafValue) (ts : List (Token Keyword)) → Fills nodes_of d.nodes (1 + d.wanted) → LeafHasWeights leaf → AreProper d → ts ≡ tokens_of (body d) ++ leaf_words leaf → IsWhole (with_node d (OfLeaf leaf)) ts
+leaf_whole d leaf ts fills are proper read =
     record {
-      read = read ∙ ap (λ l. tokens_of (body d) ++ l) (sym (sum_line w)) ∙ node_pushed d (OfSum w);
-      fills = fills_leaf nodes_of (Leaf w) d.nodes (OfSum w) refl (1 + d.wanted) d.wanted (omega arith) fills;
-      proper = record { few = proper.few; lists = proper.lists; nodes = All-push HasWeights d.nodes (OfSum w) proper.nodes are };
+      read = read ∙ ap (λ l. tokens_of (body d) ++ l) (sym (leaf_line leaf)) ∙ node_pushed d (OfLeaf leaf);
+      fills = fills_leaf nodes_of (Leaf leaf) d.nodes (OfLeaf leaf) refl (1 + d.wanted) d.wanted (omega arith) fills;
+      proper = record { few = proper.few; lists = proper.lists; nodes = All-push HasWeights d.nodes (OfLeaf leaf) proper.nodes are };
     }
 
 -- such a part goes on where more may follow
@@ -277,9 +313,9 @@ tests_end which [] d k ts h = tt
 tests_end which (test ∷ tests) d k ts h =
     begins k (with_list d (list_of which (test ∷ tests))) ts (list_whole d (list_of which (test ∷ tests)) ts h.ordered h.fills h.proper (names_some which test tests) h.read)
 
-sum_goes : (k : Keyword) (d : DraftValue) (w : WeightsValue) (ts : List (Token Keyword)) → ts ≡ tokens_of (body d) ++ sum_words w → Fills nodes_of d.nodes (1 + d.wanted) → AreWeights w → AreProper d → HoldsNext (step_sum d w k (is_use k)) (ts ++ Key k ∷ [])
-sum_goes key.Of d w ts read fills are proper = record { ordered = tt; read = word_pushed ts _ _ (tokens_of (body d)) (Key key.Of) read refl; fills = fills; weighed = are; proper = proper }
-sum_goes k d w ts read fills are proper = begins k (with_node d (OfSum w)) ts (leaf_whole d w ts fills are proper read)
+leaf_goes : (k : Keyword) (d : DraftValue) (leaf : LeafValue) (ts : List (Token Keyword)) → ts ≡ tokens_of (body d) ++ leaf_words leaf → Fills nodes_of d.nodes (1 + d.wanted) → LeafHasWeights leaf → AreProper d → HoldsNext (step_leaf d leaf k (is_use k)) (ts ++ Key k ∷ [])
+leaf_goes key.Of d leaf ts read fills are proper = record { ordered = tt; read = word_pushed ts _ _ (tokens_of (body d)) (Key key.Of) read refl; fills = fills; weighed = are; proper = proper }
+leaf_goes k d leaf ts read fills are proper = begins k (with_node d (OfLeaf leaf)) ts (leaf_whole d leaf ts fills are proper read)
 
 proof_begins : (k : Keyword) (d : DraftValue) (ts : List (Token Keyword)) → Holds d wants_proof ts → HoldsNext (begun d (begin_proof k)) (ts ++ Key k ∷ [])
 proof_begins key.Proof d ts h = record { ordered = h.ordered; read = word_pushed ts _ _ [] (Key key.Proof) h.read refl; fills = h.fills; weighed = tt; proper = h.proper }
@@ -298,8 +334,9 @@ key_holds (in_tests which tests) d k ts h = tests_end which tests d k ts h
 key_holds (in_place m rank twins) d k ts h =
     begins k (with_branches d (OfSplit (OfPlace m rank twins))) ts
     (split_whole d (OfSplit (OfPlace m rank twins)) ts (fills_split nodes_of (Branches (OfPlace m rank twins)) d.nodes (OfSplit (OfPlace m rank twins)) (λ a b. refl) (1 + d.wanted) (d.wanted + 2) (omega arith) (omega arith) h.fills) tt h.proper h.read)
-key_holds (in_ranks w) d k ts h = sum_goes k d w ts h.read h.fills h.weighed.0 h.proper
-key_holds (in_lists w) d k ts h = sum_goes k d w ts h.read h.fills h.weighed h.proper
+key_holds (in_ranks w) d k ts h = leaf_goes k d (OfSum w) ts h.read h.fills h.weighed.0 h.proper
+key_holds (in_prices p) d k ts h = leaf_goes k d (OfPack p) ts h.read h.fills h.weighed.0 h.proper
+key_holds (in_lists leaf) d k ts h = leaf_goes k d leaf ts h.read h.fills h.weighed h.proper
 key_holds p d k ts h = tt
 
 -- ---- numbers
@@ -308,13 +345,22 @@ key_holds p d k ts h = tt
 pub wanted_some : (d : DraftValue) → d.nodes ≡ [] → Fills nodes_of d.nodes (0 + d.wanted) → 1 ≤ d.wanted
 wanted_some d none fills = some_wanted d.nodes d.wanted none (fills_as nodes_of d.nodes (0 + d.wanted) d.wanted (omega arith) fills)
 
--- a weight that isn't too great
-weight_holds : (d : DraftValue) (p : PartValue) (n : ℕ) (ts : List (Token Keyword)) → (IsWeight n → Holds d p ts) → HoldsNext (next_if (nat_le n WEIGHT_MOST) (at d p)) ts
-weight_holds d p n ts holds = by (nat_le n WEIGHT_MOST) refl
+-- a number that isn't too great
+small_holds : (d : DraftValue) (p : PartValue) (n most : ℕ) (ts : List (Token Keyword)) → (n ≤ most → Holds d p ts) → HoldsNext (next_if (nat_le n most) (at d p)) ts
+small_holds d p n most ts holds = by (nat_le n most) refl
   where
-    by : (b : Bool) → nat_le n WEIGHT_MOST ≡ b → HoldsNext (next_if b (at d p)) ts
-    by true e = holds (leb-true n WEIGHT_MOST e)
+    by : (b : Bool) → nat_le n most ≡ b → HoldsNext (next_if b (at d p)) ts
+    by true e = holds (leb-true n most e)
     by false e = tt
+
+-- a weight that isn't
+weight_holds : (d : DraftValue) (p : PartValue) (n : ℕ) (ts : List (Token Keyword)) → (IsWeight n → Holds d p ts) → HoldsNext (next_if (nat_le n WEIGHT_MOST) (at d p)) ts
+weight_holds d p n ts holds = small_holds d p n WEIGHT_MOST ts holds
+
+-- one more list of a leaf, whose weight may be
+use_weighed : (leaf : LeafValue) (list n : ℕ) → LeafHasWeights leaf → IsWeight n → LeafHasWeights (with_use leaf list n)
+use_weighed (OfSum w) list n are is = record { wire = are.wire; ranks = are.ranks; lists = All-push IsUse w.lists (list, n) are.lists is }
+use_weighed (OfPack p) list n are is = record { grain = are.grain; prices = are.prices; lists = All-push IsUse p.lists (list, n) are.lists is }
 
 number_holds : (p : PartValue) (d : DraftValue) (n : ℕ) (ts : List (Token Keyword)) → Holds d p ts → HoldsNext (step_number d p n) (ts ++ Number n ∷ [])
 number_holds wants_form d n ts h = by (nat_eq n 1) refl
@@ -361,15 +407,28 @@ number_holds (in_ranks w) d n ts h =
       weighed = (record { wire = h.weighed.0.wire; ranks = All-push IsWeight w.ranks n h.weighed.0.ranks is; lists = h.weighed.0.lists }, h.weighed.1);
       proper = h.proper;
     })
-number_holds (wants_list w) d n ts h =
-    record { ordered = tt; read = word_pushed ts _ _ (tokens_of (body d)) (Number n) h.read (sym (append_assoc (sum_words w) (Key key.Of ∷ []) (Number n ∷ []))); fills = h.fills; weighed = h.weighed; proper = h.proper }
-number_holds (wants_list_weight w list) d n ts h =
-    weight_holds d (in_lists (with_use w list n)) n (ts ++ Number n ∷ [])
+number_holds wants_grain d n ts h =
+    small_holds d (in_prices (grain_of n)) 1 n (ts ++ Number n ∷ [])
+    (λ is. record { ordered = tt; read = word_pushed ts _ _ (tokens_of (body d)) (Number n) h.read refl; fills = h.fills; weighed = (record { grain = is; prices = All-nil IsPrice; lists = All-nil IsUse }, refl); proper = h.proper })
+number_holds (in_prices p) d n ts h = record { ordered = tt; read = word_pushed ts _ _ (tokens_of (body d)) (Number n) h.read refl; fills = h.fills; weighed = h.weighed; proper = h.proper }
+number_holds (wants_price p m) d n ts h =
+    small_holds d (in_prices (with_price p m n)) n PRICE_MOST (ts ++ Number n ∷ [])
     (λ is. record {
       ordered = tt;
-      read = word_pushed ts _ _ (tokens_of (body d)) (Number n) h.read (use_pushed w list n);
+      read = word_pushed ts _ _ (tokens_of (body d)) (Number n) h.read (price_pushed p m n h.weighed.1);
       fills = h.fills;
-      weighed = record { wire = h.weighed.wire; ranks = h.weighed.ranks; lists = All-push IsUse w.lists (list, n) h.weighed.lists is };
+      weighed = (record { grain = h.weighed.0.grain; prices = All-push IsPrice p.prices (m, n) h.weighed.0.prices is; lists = h.weighed.0.lists }, h.weighed.1);
+      proper = h.proper;
+    })
+number_holds (wants_list leaf) d n ts h =
+    record { ordered = tt; read = word_pushed ts _ _ (tokens_of (body d)) (Number n) h.read (sym (append_assoc (leaf_words leaf) (Key key.Of ∷ []) (Number n ∷ []))); fills = h.fills; weighed = h.weighed; proper = h.proper }
+number_holds (wants_list_weight leaf list) d n ts h =
+    weight_holds d (in_lists (with_use leaf list n)) n (ts ++ Number n ∷ [])
+    (λ is. record {
+      ordered = tt;
+      read = word_pushed ts _ _ (tokens_of (body d)) (Number n) h.read (use_pushed leaf list n);
+      fills = h.fills;
+      weighed = use_weighed leaf list n h.weighed is;
       proper = h.proper;
     })
 number_holds p d n ts h = tt
@@ -397,8 +456,9 @@ whole_said zero d ts p h none e =
 whole_said (suc n) d ts p h some e = absurd cc
 
 part_said : (p : PartValue) (d : DraftValue) (ts : List (Token Keyword)) (v : ProofValue) → Holds d p ts → ended_by d p ≡ Some v → IsSaid proof_grammar ts v
-part_said (in_ranks w) d ts v h e = whole_said d.wanted (with_node d (OfSum w)) ts v (leaf_whole d w ts h.fills h.weighed.0 h.proper h.read) refl e
-part_said (in_lists w) d ts v h e = whole_said d.wanted (with_node d (OfSum w)) ts v (leaf_whole d w ts h.fills h.weighed h.proper h.read) refl e
+part_said (in_ranks w) d ts v h e = whole_said d.wanted (with_node d (OfLeaf (OfSum w))) ts v (leaf_whole d (OfSum w) ts h.fills h.weighed.0 h.proper h.read) refl e
+part_said (in_prices p) d ts v h e = whole_said d.wanted (with_node d (OfLeaf (OfPack p))) ts v (leaf_whole d (OfPack p) ts h.fills h.weighed.0 h.proper h.read) refl e
+part_said (in_lists leaf) d ts v h e = whole_said d.wanted (with_node d (OfLeaf leaf)) ts v (leaf_whole d leaf ts h.fills h.weighed h.proper h.read) refl e
 part_said p d ts v h e = absurd cc
 
 -- words that may end are those of their proof

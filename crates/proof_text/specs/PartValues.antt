@@ -3,10 +3,12 @@ use Rattle.std.specs.Prelude.{◌≡◌, map, Option, None, Some, Result, Ok, Er
 use Rattle.outside.specs.declared.reading.Stop.{Stop}
 use Rattle.outside.specs.declared.reading.Stop.TheVariants.{Refused, NoMemory}
 use Rattle.proof_text.specs.declared.parts.Draft.{Draft}
+use Rattle.proof_text.specs.declared.parts.Leaf.{Leaf}
+use Rattle.proof_text.specs.declared.parts.Leaf.TheVariants.{Sum, Pack}
 use Rattle.proof_text.specs.declared.parts.Part.{Part}
 use Rattle.proof_text.specs.declared.parts.Part.TheVariants as read
-use Rattle.proof_model.specs.Proofs.{list_value, weights_value, node_value}
-use Rattle.proof_text.specs.Words.{DraftValue, PartValue, wants_proof, wants_form, wants_bound, wants_claim, between, wants_list_rank, wants_most, wants_near, in_tests, wants_test, wants_wide_rank, wants_width, wants_module, wants_place_rank, in_place, wants_wire, in_ranks, wants_list, wants_list_weight, in_lists, State, at}
+use Rattle.proof_model.specs.Proofs.{list_value, weights_value, pricing_value, LeafValue, OfSum, OfPack, node_value}
+use Rattle.proof_text.specs.Words.{DraftValue, PartValue, wants_proof, wants_form, wants_bound, wants_claim, between, wants_list_rank, wants_most, wants_near, in_tests, wants_test, wants_wide_rank, wants_width, wants_module, wants_place_rank, in_place, wants_wire, in_ranks, wants_grain, in_prices, wants_price, wants_list, wants_list_weight, in_lists, State, at}
 
 abbrev pub draft_value : Draft → DraftValue
 draft_value d = record {
@@ -15,6 +17,10 @@ draft_value d = record {
   nodes = map node_value d.nodes.items;
   wanted = d.wanted;
 }
+
+abbrev pub leaf_value : Leaf → LeafValue
+leaf_value (Sum weights) = OfSum (weights_value weights)
+leaf_value (Pack pricing) = OfPack (pricing_value pricing)
 
 abbrev pub part_value : Part → PartValue
 part_value read.WantsProof = wants_proof
@@ -34,9 +40,12 @@ part_value (read.WantsPlaceRank m) = wants_place_rank m
 part_value (read.InPlace m rank twins) = in_place m rank twins.items
 part_value read.WantsWire = wants_wire
 part_value (read.InRanks w) = in_ranks (weights_value w)
-part_value (read.WantsList w) = wants_list (weights_value w)
-part_value (read.WantsListWeight w list) = wants_list_weight (weights_value w) list
-part_value (read.InLists w) = in_lists (weights_value w)
+part_value read.WantsGrain = wants_grain
+part_value (read.InPrices p) = in_prices (pricing_value p)
+part_value (read.WantsPrice p m) = wants_price (pricing_value p) m
+part_value (read.WantsList leaf) = wants_list (leaf_value leaf)
+part_value (read.WantsListWeight leaf list) = wants_list_weight (leaf_value leaf) list
+part_value (read.InLists leaf) = in_lists (leaf_value leaf)
 
 -- The next part is this one; or there is none.
 abbrev pub Begins : Option PartValue → Result (Unit {0}) Stop → Part → Type 0

@@ -7,7 +7,7 @@ use Rattle.keyword_text.specs.declared.tokens.Token.TheVariants.{Key, Number}
 use Rattle.keyword_text.specs.Lines.{Line, line, tokens_of, text_of}
 use Rattle.proof_text.specs.declared.tokens.Keyword.{Keyword}
 use Rattle.proof_text.specs.declared.tokens.Keyword.TheVariants as key
-use Rattle.proof_model.specs.Proofs.{ListValue, OfTurns, OfTurnsOn, OfCrowd, OfPower, WeightsValue, OfWide, OfPlace, NodeValue, OfSplit, OfSum, ProofValue}
+use Rattle.proof_model.specs.Proofs.{ListValue, OfTurns, OfTurnsOn, OfCrowd, OfPower, WeightsValue, PricingValue, OfSum, OfPack, OfWide, OfPlace, NodeValue, OfSplit, OfLeaf, ProofValue}
 use Rattle.proof_text.specs.Tokens.{spelling}
 
 -- a line with a list of numbers at its end
@@ -32,10 +32,19 @@ use_tokens o = Key key.Of ∷ Number o.0 ∷ Number o.1 ∷ []
 abbrev pub weight_tokens : WeightsValue → List (Token Keyword)
 weight_tokens w = Number w.wire ∷ (map Number w.ranks ++ flat_map use_tokens w.lists)
 
+-- the numbers of a price
+abbrev pub price_numbers : ℕ × ℕ → List ℕ
+price_numbers p = p.0 ∷ p.1 ∷ []
+
+-- the words of prices behind `Pack`
+abbrev pub price_tokens : PricingValue → List (Token Keyword)
+price_tokens p = Number p.grain ∷ (map Number (flat_map price_numbers p.prices) ++ flat_map use_tokens p.lists)
+
 abbrev pub node_line : NodeValue → Line Keyword
 node_line (OfSplit (OfWide rank width)) = line key.Wide (Number rank ∷ Number width ∷ [])
 node_line (OfSplit (OfPlace m rank twins)) = listing key.Place (Number m ∷ Number rank ∷ []) twins
-node_line (OfSum w) = line key.Sum (weight_tokens w)
+node_line (OfLeaf (OfSum w)) = line key.Sum (weight_tokens w)
+node_line (OfLeaf (OfPack p)) = line key.Pack (price_tokens p)
 
 -- the form, and the claim
 abbrev pub head_lines : ℕ → List (Line Keyword)

@@ -16,11 +16,12 @@ spelling key.Power = codes "Power"
 spelling key.Wide = codes "Wide"
 spelling key.Place = codes "Place"
 spelling key.Sum = codes "Sum"
+spelling key.Pack = codes "Pack"
 spelling key.Of = codes "Of"
 
 abbrev pub keywords : List Keyword
 keywords =
-    key.Proof ∷ key.Bound ∷ key.Turns ∷ key.TurnsOn ∷ key.Crowd ∷ key.Power ∷ key.Wide ∷ key.Place ∷ key.Sum ∷ key.Of ∷ []
+    key.Proof ∷ key.Bound ∷ key.Turns ∷ key.TurnsOn ∷ key.Crowd ∷ key.Power ∷ key.Wide ∷ key.Place ∷ key.Sum ∷ key.Pack ∷ key.Of ∷ []
 
 -- the keywords, and the range of a proof's numbers
 abbrev pub proof_lexicon : Lexicon Keyword

@@ -5,12 +5,12 @@ use Rattle.soc_model.specs.declared.TestId.{TestId}
 use Rattle.keyword_text.specs.declared.tokens.Token.{Token}
 use Rattle.keyword_text.specs.declared.tokens.Token.TheVariants.{Key, Number}
 use Rattle.keyword_text.specs.Machines.{Machine}
-use Rattle.proof_model.specs.declared.TheConstants.{LISTS_MOST, WEIGHT_MOST}
+use Rattle.proof_model.specs.declared.TheConstants.{LISTS_MOST, WEIGHT_MOST, PRICE_MOST}
 use Rattle.proof_text.specs.declared.tokens.Keyword.{Keyword}
 use Rattle.proof_text.specs.declared.tokens.Keyword.TheVariants as key
 use Rattle.proof_text.specs.declared.parts.ListKind.{ListKind}
 use Rattle.proof_text.specs.declared.parts.ListKind.TheVariants as kind
-use Rattle.proof_model.specs.Proofs.{ListValue, OfTurns, OfTurnsOn, OfCrowd, OfPower, WeightsValue, OfWide, OfPlace, NodeValue, OfSplit, OfSum, ProofValue}
+use Rattle.proof_model.specs.Proofs.{ListValue, OfTurns, OfTurnsOn, OfCrowd, OfPower, WeightsValue, PricingValue, LeafValue, OfSum, OfPack, OfWide, OfPlace, NodeValue, OfSplit, OfLeaf, ProofValue}
 
 -- the claim, the lists and the nodes that were read whole, and how many nodes are still to begin
 pub record DraftValue : Type 0 where
@@ -38,9 +38,12 @@ pub data PartValue : Type 0 where
   in_place : ℕ → ℕ → List ℕ → PartValue
   wants_wire : PartValue
   in_ranks : WeightsValue → PartValue
-  wants_list : WeightsValue → PartValue
-  wants_list_weight : WeightsValue → ℕ → PartValue
-  in_lists : WeightsValue → PartValue
+  wants_grain : PartValue
+  in_prices : PricingValue → PartValue
+  wants_price : PricingValue → ℕ → PartValue
+  wants_list : LeafValue → PartValue
+  wants_list_weight : LeafValue → ℕ → PartValue
+  in_lists : LeafValue → PartValue
 
 pub record State : Type 0 where
   pub draft : DraftValue
@@ -67,8 +70,12 @@ with_branches d n = record d { nodes = d.nodes ++ n ∷ []; wanted = d.wanted + 
 abbrev pub with_rank : WeightsValue → ℕ → WeightsValue
 with_rank w n = record w { ranks = w.ranks ++ n ∷ [] }
 
-abbrev pub with_use : WeightsValue → (list weight : ℕ) → WeightsValue
-with_use w list weight = record w { lists = w.lists ++ (list, weight) ∷ [] }
+abbrev pub with_price : PricingValue → (number price : ℕ) → PricingValue
+with_price p number price = record p { prices = p.prices ++ (number, price) ∷ [] }
+
+abbrev pub with_use : LeafValue → (list weight : ℕ) → LeafValue
+with_use (OfSum w) list weight = OfSum (record w { lists = w.lists ++ (list, weight) ∷ [] })
+with_use (OfPack p) list weight = OfPack (record p { lists = p.lists ++ (list, weight) ∷ [] })
 
 abbrev pub list_of : ListKind → List TestId → ListValue
 list_of kind.Turns tests = OfTurns tests
@@ -77,6 +84,9 @@ list_of (kind.Crowd most) tests = OfCrowd most tests
 
 abbrev pub wire_of : ℕ → WeightsValue
 wire_of n = record { wire = n; ranks = []; lists = [] }
+
+abbrev pub grain_of : ℕ → PricingValue
+grain_of n = record { grain = n; prices = []; lists = [] }
 
 -- ---- numbers
 
@@ -106,9 +116,12 @@ step_number d (wants_place_rank m) n = Some (at d (in_place m n []))
 step_number d (in_place m rank twins) n = Some (at d (in_place m rank (twins ++ n ∷ [])))
 step_number d wants_wire n = next_if (nat_le n WEIGHT_MOST) (at d (in_ranks (wire_of n)))
 step_number d (in_ranks w) n = next_if (nat_le n WEIGHT_MOST) (at d (in_ranks (with_rank w n)))
-step_number d (wants_list w) n = Some (at d (wants_list_weight w n))
-step_number d (wants_list_weight w list) n = next_if (nat_le n WEIGHT_MOST) (at d (in_lists (with_use w list n)))
-step_number d (in_lists w) n = None
+step_number d wants_grain n = next_if (nat_le 1 n) (at d (in_prices (grain_of n)))
+step_number d (in_prices p) n = Some (at d (wants_price p n))
+step_number d (wants_price p m) n = next_if (nat_le n PRICE_MOST) (at d (in_prices (with_price p m n)))
+step_number d (wants_list leaf) n = Some (at d (wants_list_weight leaf n))
+step_number d (wants_list_weight leaf list) n = next_if (nat_le n WEIGHT_MOST) (at d (in_lists (with_use leaf list n)))
+step_number d (in_lists leaf) n = None
 
 -- ---- keywords
 
@@ -133,6 +146,7 @@ begin d key.Power = begin_list d wants_near
 begin d key.Wide = begin_node d wants_wide_rank
 begin d key.Place = begin_node d wants_module
 begin d key.Sum = begin_node d wants_wire
+begin d key.Pack = begin_node d wants_grain
 begin d key.Proof = None
 begin d key.Bound = None
 begin d key.Of = None
@@ -146,10 +160,10 @@ abbrev pub is_use : Keyword → Bool
 is_use key.Of = true
 is_use k = false
 
--- weights go on with those of lists
-abbrev pub step_sum : DraftValue → WeightsValue → Keyword → Bool → Option State
-step_sum d w k true = Some (at d (wants_list w))
-step_sum d w k false = begin (with_node d (OfSum w)) k
+-- a leaf goes on with the weights of lists
+abbrev pub step_leaf : DraftValue → LeafValue → Keyword → Bool → Option State
+step_leaf d leaf k true = Some (at d (wants_list leaf))
+step_leaf d leaf k false = begin (with_node d (OfLeaf leaf)) k
 
 abbrev pub begin_proof : Keyword → Option PartValue
 begin_proof key.Proof = Some wants_form
@@ -180,10 +194,13 @@ step_key d wants_module k = None
 step_key d (wants_place_rank m) k = None
 step_key d (in_place m rank twins) k = begin (with_branches d (OfSplit (OfPlace m rank twins))) k
 step_key d wants_wire k = None
-step_key d (in_ranks w) k = step_sum d w k (is_use k)
-step_key d (wants_list w) k = None
-step_key d (wants_list_weight w list) k = None
-step_key d (in_lists w) k = step_sum d w k (is_use k)
+step_key d (in_ranks w) k = step_leaf d (OfSum w) k (is_use k)
+step_key d wants_grain k = None
+step_key d (in_prices p) k = step_leaf d (OfPack p) k (is_use k)
+step_key d (wants_price p m) k = None
+step_key d (wants_list leaf) k = None
+step_key d (wants_list_weight leaf list) k = None
+step_key d (in_lists leaf) k = step_leaf d leaf k (is_use k)
 
 abbrev pub step : State → Token Keyword → Option State
 step s (Number n) = step_number s.draft s.part n
@@ -197,8 +214,9 @@ whole_at (suc n) d = None
 
 -- the proof, where the words end here: its last node is a leaf
 abbrev pub ended_by : DraftValue → PartValue → Option ProofValue
-ended_by d (in_ranks w) = whole_at d.wanted (with_node d (OfSum w))
-ended_by d (in_lists w) = whole_at d.wanted (with_node d (OfSum w))
+ended_by d (in_ranks w) = whole_at d.wanted (with_node d (OfLeaf (OfSum w)))
+ended_by d (in_prices p) = whole_at d.wanted (with_node d (OfLeaf (OfPack p)))
+ended_by d (in_lists leaf) = whole_at d.wanted (with_node d (OfLeaf leaf))
 ended_by d part = None
 
 abbrev pub ended : State → Option ProofValue

@@ -1,6 +1,6 @@
 //! What was read of a proof, up to some word of its text.
 
-use proof_model::{Node, TestList, Weights};
+use proof_model::{Node, Pricing, TestList, Weights};
 use soc_model::TestId;
 
 /// The claim, the lists and the nodes that were read whole.
@@ -19,6 +19,13 @@ pub enum ListKind {
     Turns,
     TurnsOn { rank: u64 },
     Crowd { most: u64 },
+}
+
+/// A leaf, of which more lists may come.
+#[derive(Drop)]
+pub enum Leaf {
+    Sum { weights: Weights },
+    Pack { pricing: Pricing },
 }
 
 /// What was read of the part that comes next.
@@ -75,18 +82,29 @@ pub enum Part {
     InRanks {
         weights: Weights,
     },
-    /// Weights and the word `Of`: the place of a list comes.
-    WantsList {
-        weights: Weights,
+    /// The word `Pack`: the cycles of a cell come.
+    WantsGrain,
+    /// The cycles of a cell and prices, which may go on.
+    InPrices {
+        pricing: Pricing,
     },
-    /// Weights and the place of a list: the list's weight comes.
+    /// Prices and the module of one more: that price comes.
+    WantsPrice {
+        pricing: Pricing,
+        module: u64,
+    },
+    /// A leaf and the word `Of`: the place of a list comes.
+    WantsList {
+        leaf: Leaf,
+    },
+    /// A leaf and the place of a list: the list's weight comes.
     WantsListWeight {
-        weights: Weights,
+        leaf: Leaf,
         list: u64,
     },
-    /// Weights, of which the last is that of a list: more lists may come.
+    /// A leaf, whose last number is the weight of a list: more lists may come.
     InLists {
-        weights: Weights,
+        leaf: Leaf,
     },
 }
 

@@ -2,14 +2,14 @@
 ghost use Rattle.std.specs.Prelude.{◌≡◌, ◌++◌, map, OnOk, IfOk};
 ghost use Rattle.std.specs.List.{flat_map};
 ghost use Rattle.keyword_text.specs.Lines.{spaced, spaced_numbers, line_text, text_of};
-ghost use Rattle.proof_model.specs.Proofs.{list_value, weights_value, node_value, proof_value};
+ghost use Rattle.proof_model.specs.Proofs.{list_value, weights_value, pricing_value, node_value, proof_value};
 ghost use Rattle.proof_text.specs.Tokens.{spelling};
-ghost use Rattle.proof_text.specs.ProofLines.{test_numbers, use_tokens, list_line, weight_tokens, node_line, head_lines, proof_text};
+ghost use Rattle.proof_text.specs.ProofLines.{test_numbers, use_tokens, list_line, weight_tokens, price_numbers, price_tokens, node_line, head_lines, proof_text};
 ghost use Rattle.proof_text.specs.Answers.{IsReadAgain};
 
 use keyword_text::push_numbers;
 use outside::{NoMemory, extend, push_spaced};
-use proof_model::{Node, Proof, TestList, Weights};
+use proof_model::{Node, Pricing, Proof, TestList, Weights};
 use soc_model::TestId;
 use std::alloc::Global;
 
@@ -70,6 +70,25 @@ fn push_weights(to: &mut Vec<u8>, weights: &Weights) -> Result<(), NoMemory>
     push_uses(to, weights.lists.as_slice())
 }
 
+/// Modules, each with its price, with a space before each number.
+fn push_prices(to: &mut Vec<u8>, prices: &[(u64, u64)]) -> Result<(), NoMemory>
+    ensures { OnOk result (to.new.items ≡ to.old.items ++ spaced_numbers (flat_map price_numbers prices.now)) }
+{
+    for price in prices {
+        push_spaced(to, price.0)?;
+        push_spaced(to, price.1)?;
+    }
+    Ok(())
+}
+
+fn push_pricing(to: &mut Vec<u8>, pricing: &Pricing) -> Result<(), NoMemory>
+    ensures { OnOk result (to.new.items ≡ to.old.items ++ spaced spelling (price_tokens (pricing_value pricing.now))) }
+{
+    push_spaced(to, pricing.grain)?;
+    push_prices(to, pricing.prices.as_slice())?;
+    push_uses(to, pricing.lists.as_slice())
+}
+
 fn push_node(to: &mut Vec<u8>, node: &Node) -> Result<(), NoMemory>
     ensures { OnOk result (to.new.items ≡ to.old.items ++ line_text spelling (node_line (node_value node.now))) }
 {
@@ -92,6 +111,10 @@ fn push_node(to: &mut Vec<u8>, node: &Node) -> Result<(), NoMemory>
         Node::Sum { weights } => {
             extend(to, b"Sum")?;
             push_weights(to, weights)?;
+        }
+        Node::Pack { pricing } => {
+            extend(to, b"Pack")?;
+            push_pricing(to, pricing)?;
         }
     }
     extend(to, b"\n")

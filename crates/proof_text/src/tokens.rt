@@ -13,11 +13,12 @@ pub enum Keyword {
     Wide,
     Place,
     Sum,
+    Pack,
     Of,
 }
 
 /// The keywords as they are spelled.
-pub static KEYWORDS: [Spelled<Keyword>; 10] = [
+pub static KEYWORDS: [Spelled<Keyword>; 11] = [
     Spelled {
         key: Keyword::Proof,
         word: b"Proof",
@@ -53,6 +54,10 @@ pub static KEYWORDS: [Spelled<Keyword>; 10] = [
     Spelled {
         key: Keyword::Sum,
         word: b"Sum",
+    },
+    Spelled {
+        key: Keyword::Pack,
+        word: b"Pack",
     },
     Spelled {
         key: Keyword::Of,

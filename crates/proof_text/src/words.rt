@@ -1,15 +1,15 @@
 //! Reads the words of a proof one by one.
 ghost use Rattle.std.specs.Prelude.{◌≡◌, ◌++◌, ◌∷◌, [], Ok, OnOk, OnErr};
 ghost use Rattle.keyword_text.specs.Reads.{Makes};
-ghost use Rattle.proof_model.specs.Proofs.{list_value, node_value, weights_value, proof_value};
-ghost use Rattle.proof_text.specs.PartValues.{draft_value, part_value, Begins, Steps};
-ghost use Rattle.proof_text.specs.Words.{at, start as state_at_first, with_list, with_node, with_branches, with_rank, with_use, list_of, begin as begins, begin_list as begins_list, begin_node as begins_node, begin_proof as begins_proof, begin_bound as begins_bound, step_number as steps_number, step_key as steps_key, step_sum as steps_sum, is_use as uses, step as steps, ended_by, wants_form, wants_wire, wants_list_weight as wants_weight, in_lists, in_tests};
+ghost use Rattle.proof_model.specs.Proofs.{OfLeaf, OfSum, OfPack, list_value, node_value, pricing_value, weights_value, proof_value};
+ghost use Rattle.proof_text.specs.PartValues.{draft_value, leaf_value, part_value, Begins, Steps};
+ghost use Rattle.proof_text.specs.Words.{at, start as state_at_first, with_list, with_node, with_branches, with_rank, with_price, with_use, list_of, begin as begins, begin_list as begins_list, begin_node as begins_node, begin_proof as begins_proof, begin_bound as begins_bound, step_number as steps_number, step_key as steps_key, step_leaf as steps_leaf, is_use as uses, step as steps, ended_by, wants_form, wants_wire, wants_grain, wants_price as wants_price_of, wants_list_weight as wants_weight, in_ranks, in_lists, in_tests};
 
-use crate::parts::{Draft, ListKind, Part};
+use crate::parts::{Draft, Leaf, ListKind, Part};
 use crate::tokens::Keyword;
 use keyword_text::Token;
 use outside::Stop;
-use proof_model::{LISTS_MOST, Node, Proof, TestList, WEIGHT_MOST, Weights};
+use proof_model::{LISTS_MOST, Node, PRICE_MOST, Pricing, Proof, TestList, WEIGHT_MOST, Weights};
 use soc_model::TestId;
 use std::alloc::Global;
 use std::mem::replace;
@@ -71,11 +71,22 @@ fn push_rank(weights: &mut Weights, weight: u64) -> Result<(), Stop>
     Ok(())
 }
 
-fn push_use(weights: &mut Weights, list: u64, weight: u64) -> Result<(), Stop>
-    ensures ok { OnOk result (weights_value weights.new ≡ with_use (weights_value weights.old) list weight) }
+fn push_price(pricing: &mut Pricing, number: u64, price: u64) -> Result<(), Stop>
+    ensures ok { OnOk result (pricing_value pricing.new ≡ with_price (pricing_value pricing.old) number price) }
     ensures err { OnErr result (result ≡ Err Stop.NoMemory) }
 {
-    weights.lists.push((list, weight))?;
+    pricing.prices.push((number, price))?;
+    Ok(())
+}
+
+fn push_use(leaf: &mut Leaf, list: u64, weight: u64) -> Result<(), Stop>
+    ensures ok { OnOk result (leaf_value leaf.new ≡ with_use (leaf_value leaf.old) list weight) }
+    ensures err { OnErr result (result ≡ Err Stop.NoMemory) }
+{
+    match leaf {
+        Leaf::Sum { weights } => weights.lists.push((list, weight))?,
+        Leaf::Pack { pricing } => pricing.lists.push((list, weight))?,
+    }
     Ok(())
 }
 
@@ -132,6 +143,7 @@ fn begin_part(alloc: Global, draft: &mut Draft, part: &mut Part, key: Keyword) -
         Keyword::Wide => begin_node(draft, part, Part::WantsWideRank),
         Keyword::Place => begin_node(draft, part, Part::WantsModule),
         Keyword::Sum => begin_node(draft, part, Part::WantsWire),
+        Keyword::Pack => begin_node(draft, part, Part::WantsGrain),
         Keyword::Proof | Keyword::Bound | Keyword::Of => Err(Stop::Refused),
     }
 }
@@ -185,20 +197,30 @@ fn is_use(key: Keyword) -> bool
     matches!(key, Keyword::Of)
 }
 
-/// A keyword after weights.
-fn step_sum(
+/// The node of a leaf.
+fn node_of_leaf(leaf: Leaf) -> Node
+    ensures { node_value result ≡ OfLeaf (leaf_value leaf) }
+{
+    match leaf {
+        Leaf::Sum { weights } => Node::Sum { weights },
+        Leaf::Pack { pricing } => Node::Pack { pricing },
+    }
+}
+
+/// A keyword after a leaf, of which more lists may come.
+fn step_leaf(
     alloc: Global,
     draft: &mut Draft,
     part: &mut Part,
-    weights: Weights,
+    leaf: Leaf,
     key: Keyword,
 ) -> Result<(), Stop>
-    ensures { Steps (steps_sum (draft_value draft.old) (weights_value weights) key (uses key)) result part.new draft.new }
+    ensures { Steps (steps_leaf (draft_value draft.old) (leaf_value leaf) key (uses key)) result part.new draft.new }
 {
     if is_use(key) {
-        return go_on(part, Part::WantsList { weights });
+        return go_on(part, Part::WantsList { leaf });
     }
-    push_node(draft, Node::Sum { weights })?;
+    push_node(draft, node_of_leaf(leaf))?;
     begin_part(alloc, draft, part, key)
 }
 
@@ -226,6 +248,22 @@ fn no_weights(alloc: Global) -> Weights {
         wire: 0,
         ranks: Vec::new(alloc),
         lists: Vec::new(alloc),
+    }
+}
+
+/// Prices that stand where some are taken away.
+fn no_prices(alloc: Global) -> Pricing {
+    Pricing {
+        grain: 1,
+        prices: Vec::new(alloc),
+        lists: Vec::new(alloc),
+    }
+}
+
+/// A leaf that stands where one is taken away.
+fn no_leaf(alloc: Global) -> Leaf {
+    Leaf::Sum {
+        weights: no_weights(alloc),
     }
 }
 
@@ -257,9 +295,17 @@ fn step_key(alloc: Global, draft: &mut Draft, part: &mut Part, key: Keyword) -> 
             };
             end_place(alloc, draft, part, place, key)
         }
-        Part::InRanks { weights } | Part::InLists { weights } => {
+        Part::InRanks { weights } => {
             let weights = replace(weights, no_weights(alloc));
-            step_sum(alloc, draft, part, weights, key)
+            step_leaf(alloc, draft, part, Leaf::Sum { weights }, key)
+        }
+        Part::InPrices { pricing } => {
+            let pricing = replace(pricing, no_prices(alloc));
+            step_leaf(alloc, draft, part, Leaf::Pack { pricing }, key)
+        }
+        Part::InLists { leaf } => {
+            let leaf = replace(leaf, no_leaf(alloc));
+            step_leaf(alloc, draft, part, leaf, key)
         }
         Part::WantsForm
         | Part::WantsClaim
@@ -272,6 +318,8 @@ fn step_key(alloc: Global, draft: &mut Draft, part: &mut Part, key: Keyword) -> 
         | Part::WantsModule
         | Part::WantsPlaceRank { .. }
         | Part::WantsWire
+        | Part::WantsGrain
+        | Part::WantsPrice { .. }
         | Part::WantsList { .. }
         | Part::WantsListWeight { .. } => Err(Stop::Refused),
     }
@@ -326,21 +374,53 @@ fn step_wire(alloc: Global, draft: &Draft, part: &mut Part, wire: u64) -> Result
     go_on(part, Part::InRanks { weights })
 }
 
+/// The cycles of a cell, of which there is one at least.
+fn step_grain(alloc: Global, draft: &Draft, part: &mut Part, grain: u64) -> Result<(), Stop>
+    ensures { Steps (steps_number (draft_value draft.now) wants_grain grain) result part.new draft.now }
+{
+    if grain < 1 {
+        return Err(Stop::Refused);
+    }
+    let pricing = Pricing {
+        grain,
+        prices: Vec::new(alloc),
+        lists: Vec::new(alloc),
+    };
+    go_on(part, Part::InPrices { pricing })
+}
+
+/// The price of a module.
+fn step_price(
+    draft: &Draft,
+    part: &mut Part,
+    mut pricing: Pricing,
+    number: u64,
+    price: u64,
+) -> Result<(), Stop>
+    ensures { Steps (steps_number (draft_value draft.now) (wants_price_of (pricing_value pricing) number) price) result part.new draft.now }
+{
+    if price > PRICE_MOST {
+        return Err(Stop::Refused);
+    }
+    push_price(&mut pricing, number, price)?;
+    go_on(part, Part::InPrices { pricing })
+}
+
 /// The weight of a list.
 fn step_use(
     draft: &Draft,
     part: &mut Part,
-    mut weights: Weights,
+    mut leaf: Leaf,
     list: u64,
     weight: u64,
 ) -> Result<(), Stop>
-    ensures { Steps (steps_number (draft_value draft.now) (wants_weight (weights_value weights) list) weight) result part.new draft.now }
+    ensures { Steps (steps_number (draft_value draft.now) (wants_weight (leaf_value leaf) list) weight) result part.new draft.now }
 {
     if weight > WEIGHT_MOST {
         return Err(Stop::Refused);
     }
-    push_use(&mut weights, list, weight)?;
-    go_on(part, Part::InLists { weights })
+    push_use(&mut leaf, list, weight)?;
+    go_on(part, Part::InLists { leaf })
 }
 
 /// A number as the next word. What goes on is changed where it stands.
@@ -403,14 +483,24 @@ fn step_number(alloc: Global, draft: &mut Draft, part: &mut Part, n: u64) -> Res
             }
             push_rank(weights, n)
         }
-        Part::WantsList { weights } => {
-            let weights = replace(weights, no_weights(alloc));
-            go_on(part, Part::WantsListWeight { weights, list: n })
+        Part::WantsGrain => step_grain(alloc, draft, part, n),
+        Part::InPrices { pricing } => {
+            let pricing = replace(pricing, no_prices(alloc));
+            go_on(part, Part::WantsPrice { pricing, module: n })
         }
-        Part::WantsListWeight { weights, list } => {
+        Part::WantsPrice { pricing, module } => {
+            let module = *module;
+            let pricing = replace(pricing, no_prices(alloc));
+            step_price(draft, part, pricing, module, n)
+        }
+        Part::WantsList { leaf } => {
+            let leaf = replace(leaf, no_leaf(alloc));
+            go_on(part, Part::WantsListWeight { leaf, list: n })
+        }
+        Part::WantsListWeight { leaf, list } => {
             let list = *list;
-            let weights = replace(weights, no_weights(alloc));
-            step_use(draft, part, weights, list, n)
+            let leaf = replace(leaf, no_leaf(alloc));
+            step_use(draft, part, leaf, list, n)
         }
         Part::WantsProof | Part::WantsBound | Part::Between | Part::InLists { .. } => {
             Err(Stop::Refused)
@@ -433,14 +523,14 @@ pub fn step_token(
     }
 }
 
-/// The proof of a draft whose last node has these weights, where no more nodes are wanted.
-fn whole(mut draft: Draft, weights: Weights) -> Result<Proof, Stop>
-    ensures { Makes proof_value (ended_by (draft_value draft) (in_lists (weights_value weights))) result }
+/// The proof of a draft whose last node is this leaf, where no more nodes are wanted.
+fn whole(mut draft: Draft, leaf: Leaf) -> Result<Proof, Stop>
+    ensures { Makes proof_value (ended_by (draft_value draft) (in_lists (leaf_value leaf))) result }
 {
     if draft.wanted > 0 {
         return Err(Stop::Refused);
     }
-    push_node(&mut draft, Node::Sum { weights })?;
+    push_node(&mut draft, node_of_leaf(leaf))?;
     Ok(Proof {
         claimed: draft.claimed,
         lists: draft.lists,
@@ -448,12 +538,14 @@ fn whole(mut draft: Draft, weights: Weights) -> Result<Proof, Stop>
     })
 }
 
-/// The proof whose words end here: its last node is a leaf, whose weights go on to the end.
+/// The proof whose words end here: its last node is a leaf, which goes on to the end.
 pub fn end_proof(draft: Draft, part: Part) -> Result<Proof, Stop>
     ensures { Makes proof_value (ended_by (draft_value draft) (part_value part)) result }
 {
     match part {
-        Part::InRanks { weights } | Part::InLists { weights } => whole(draft, weights),
+        Part::InRanks { weights } => whole(draft, Leaf::Sum { weights }),
+        Part::InPrices { pricing } => whole(draft, Leaf::Pack { pricing }),
+        Part::InLists { leaf } => whole(draft, leaf),
         _ => Err(Stop::Refused),
     }
 }

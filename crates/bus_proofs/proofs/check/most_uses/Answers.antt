@@ -1,7 +1,7 @@
 use Rattle.std.proofs.Common.{map, arith}
 use Rattle.std.proofs.lemmas.List.{length-map}
 use Rattle.std.proofs.lemmas.Option.{slice_get_within}
-use Rattle.proof_model.specs.Proofs.{OfSum, node_value}
+use Rattle.proof_model.specs.Proofs.{OfLeaf, node_value}
 use Rattle.bus_proofs.proofs.ProofChecks.{uses_more}
 use Rattle.bus_proofs.proofs.check.most_uses.Goals as goal
 
@@ -13,4 +13,4 @@ loop-place-preserved c =
 pub returns : goal.returns
 returns c = λ q w at.
     c.loop-place.invariant q w
-    (omega (arith, slice_get_within (map node_value c.args.nodes.now) q (OfSum w) at, length-map c.args.nodes.now node_value, c.loop-place-test.false)) at
+    (omega (arith, slice_get_within (map node_value c.args.nodes.now) q (OfLeaf w) at, length-map c.args.nodes.now node_value, c.loop-place-test.false)) at

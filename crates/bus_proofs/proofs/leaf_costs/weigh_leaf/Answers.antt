@@ -1,7 +1,6 @@
-use Rattle.std.proofs.Common.{◌≡◌, length, ap, subst, ◌∙◌, arith}
+use Rattle.std.proofs.Common.{◌≡◌, length, ap, sym, subst, ◌∙◌, arith}
 use Rattle.std.proofs.lemmas.List.{with_items_is}
 use Rattle.std.specs.Vec.{vec_len}
-use Rattle.proof_model.specs.Proofs.{weights_value}
 use Rattle.bus_proofs.specs.Bases.{lists_of}
 use Rattle.bus_proofs.specs.LeafCosts.{AreTotals}
 use Rattle.bus_proofs.proofs.Totals.{totals_zero, small_uses, few_for, weighed_room}
@@ -12,14 +11,15 @@ add_up-requires-clause-none c = totals_zero c.deref_mut.result.now (vec_len c.ar
 
 pub weigh_totals-requires-clause-few : goal.weigh_totals-requires-clause-few
 weigh_totals-requires-clause-few c =
+    let w = c.requires.uses.0 in
     let own = ap (λ v. v.items) c.clear_weighed.ensures.totals ∙ with_items_is c.fill.new.self c.add_up.new.totals (omega (arith, c.add_up.ensures.long, c.deref_mut.ensures.len)) in
     let long : length c.add_up.new.totals ≡ length (lists_of c.args.basis.now) = omega (arith, c.add_up.ensures.long, c.deref_mut.ensures.len, c.fill.ensures.len, c.args.room.now.totals.ok.0, c.requires.space.totals) in
-    let are : AreTotals c.args.weights.now.lists.items c.add_up.new.totals = subst (λ os. AreTotals os c.add_up.new.totals) c.deref.ensures.value c.add_up.ensures.totals in
-    few_for c.args.weights.now.lists.items c.add_up.new.totals c.clear_weighed.new.room.totals.items (length (lists_of c.args.basis.now)) own long (small_uses (weights_value c.args.weights.now) c.requires.uses.small) c.requires.uses.few are
+    let are : AreTotals (c.requires.uses.0).lists c.add_up.new.totals = subst (λ os. AreTotals os c.add_up.new.totals) (sym c.requires.uses.1) c.add_up.ensures.totals in
+    few_for (c.requires.uses.0).lists c.add_up.new.totals c.clear_weighed.new.room.totals.items (length (lists_of c.args.basis.now)) own long (small_uses c.requires.uses.0 (c.requires.uses.2).small) (c.requires.uses.2).few are
 
 pub returns-clause-weighed : goal.returns-clause-weighed
-returns-clause-weighed c =
+returns-clause-weighed c = λ w same uses.
     let own = ap (λ v. v.items) c.clear_weighed.ensures.totals ∙ with_items_is c.fill.new.self c.add_up.new.totals (omega (arith, c.add_up.ensures.long, c.deref_mut.ensures.len)) in
     let long : length c.add_up.new.totals ≡ length (lists_of c.args.basis.now) = omega (arith, c.add_up.ensures.long, c.deref_mut.ensures.len, c.fill.ensures.len, c.args.room.now.totals.ok.0, c.requires.space.totals) in
-    let are : AreTotals c.args.weights.now.lists.items c.add_up.new.totals = subst (λ os. AreTotals os c.add_up.new.totals) c.deref.ensures.value c.add_up.ensures.totals in
-    weighed_room c.args.basis.now (weights_value c.args.weights.now) c.add_up.new.totals c.clear_weighed.new.room.totals.items c.weigh_totals.new.room own long c.requires.uses are c.weigh_totals.ensures.made
+    let are : AreTotals w.lists c.add_up.new.totals = subst (λ os. AreTotals os c.add_up.new.totals) (sym same) c.add_up.ensures.totals in
+    weighed_room c.args.basis.now w c.add_up.new.totals c.clear_weighed.new.room.totals.items c.weigh_totals.new.room own long uses are c.weigh_totals.ensures.made

@@ -32,3 +32,8 @@ pub returns-clause-goes_on : goal.returns-clause-goes_on
 returns-clause-goes_on c = λ root x left here.
     c.go_on.ensures.goes_on root x left
     (at_here c.args.basis.now root c.args.turns.now c.args.at.depth c.args.case.now c.tighten.new.self c.args.at.node x left c.requires.room c.tighten.ensures.further c.tighten.ensures.case here)
+
+pub returns-clause-work : goal.returns-clause-work
+returns-clause-work c = λ root x left here.
+    c.go_on.ensures.work root x left
+    (at_here c.args.basis.now root c.args.turns.now c.args.at.depth c.args.case.now c.tighten.new.self c.args.at.node x left c.requires.room c.tighten.ensures.further c.tighten.ensures.case here)

@@ -1,12 +1,13 @@
 use Rattle.std.proofs.Common.{◌≡◌, ◌+◌, ℕ, suc, drop, subst, arith}
+use Rattle.std.specs.Prelude.{Err}
 use Rattle.std.proofs.lemmas.List.{length-map}
 use Rattle.std.proofs.lemmas.Option.{slice_get_within}
 use Rattle.proof_model.specs.Proofs.{node_value}
 use Rattle.bus_proofs.specs.Bounds.{all_cases}
 use Rattle.bus_proofs.specs.Bases.{chip_of, limits_of}
-use Rattle.bus_proofs.specs.Walks.{GoesOn}
+use Rattle.bus_proofs.specs.Walks.{GoesOn, IsEnoughFor, IsJudged}
 use Rattle.bus_proofs.proofs.RoomSteps.{further_none}
-use Rattle.bus_proofs.proofs.WalkSteps.{cases_long, enough_more, faulty, next_is, starts}
+use Rattle.bus_proofs.proofs.WalkSteps.{cases_long, enough_more, faulty, next_is, starts, work_more}
 use Rattle.bus_proofs.proofs.walk.check_nodes.Goals as goal
 
 pub loop-node-init : goal.loop-node-init
@@ -17,6 +18,7 @@ loop-node-init c = record {
   further = further_none c.args.case.now;
   goes = λ t e. starts c.args.basis.now c.args.turns.now c.args.case.now t c.requires.root;
   enough = λ t e q n less. absurd (omega (arith, less));
+  work = λ t e. c.requires.work;
 }
 
 pub check_node-requires-clause-here : goal.check_node-requires-clause-here
@@ -33,7 +35,8 @@ pub returns-in-Err-clause-checked : goal.returns-in-Err-clause-checked
 returns-in-Err-clause-checked c = λ t e.
     let k = next_is c.args.basis.now c.args.case.now c.loop-node.turns c.loop-node.depth c.loop-node.case c.loop-node.node t e (omega (arith, c.loop-node-test.true, c.len-node-end.ensures, length-map c.args.basis.now.proof.now.nodes.items node_value)) c.loop-node.invariant.further (c.loop-node.invariant.goes t e) in
     faulty c.args.basis.now (all_cases (chip_of c.args.basis.now) (limits_of c.args.basis.now) t) c.loop-node.node k.x c.in-Err.fault k.there (c.loop-node.invariant.enough t e)
-    (c.in-Err.ensures.judged c.args.case.now k.x (drop (suc c.loop-node.node) (all_cases (chip_of c.args.basis.now) (limits_of c.args.basis.now) t)) k.here)
+    (subst (λ (w : ℕ). IsJudged {X = ℕ} c.args.basis.now w c.loop-node.node k.x (Err c.in-Err.fault)) (c.loop-node.invariant.work t e)
+    (c.in-Err.ensures.judged c.args.case.now k.x (drop (suc c.loop-node.node) (all_cases (chip_of c.args.basis.now) (limits_of c.args.basis.now) t)) k.here))
 
 pub loop-node-preserved : goal.loop-node-preserved
 loop-node-preserved c = record {
@@ -51,7 +54,14 @@ loop-node-preserved c = record {
   enough = λ t e.
       let k = next_is c.args.basis.now c.args.case.now c.loop-node.turns c.loop-node.depth c.loop-node.case c.loop-node.node t e (omega (arith, c.loop-node-test.true, c.len-node-end.ensures, length-map c.args.basis.now.proof.now.nodes.items node_value)) c.loop-node.invariant.further (c.loop-node.invariant.goes t e) in
       enough_more c.args.basis.now (all_cases (chip_of c.args.basis.now) (limits_of c.args.basis.now) t) c.loop-node.node k.x k.there (c.loop-node.invariant.enough t e)
-      (c.in-Ok.ensures.judged c.args.case.now k.x (drop (suc c.loop-node.node) (all_cases (chip_of c.args.basis.now) (limits_of c.args.basis.now) t)) k.here);
+      (subst (λ (w : ℕ). IsEnoughFor c.args.basis.now w k.x) (c.loop-node.invariant.work t e)
+      (c.in-Ok.ensures.judged c.args.case.now k.x (drop (suc c.loop-node.node) (all_cases (chip_of c.args.basis.now) (limits_of c.args.basis.now) t)) k.here));
+  work = λ t e.
+      let k = next_is c.args.basis.now c.args.case.now c.loop-node.turns c.loop-node.depth c.loop-node.case c.loop-node.node t e (omega (arith, c.loop-node-test.true, c.len-node-end.ensures, length-map c.args.basis.now.proof.now.nodes.items node_value)) c.loop-node.invariant.further (c.loop-node.invariant.goes t e) in
+      let now = c.in-Ok.ensures.work c.args.case.now k.x (drop (suc c.loop-node.node) (all_cases (chip_of c.args.basis.now) (limits_of c.args.basis.now) t)) k.here in
+      let before = c.loop-node.invariant.work t e in
+      let more = work_more c.args.basis.now (all_cases (chip_of c.args.basis.now) (limits_of c.args.basis.now) t) c.loop-node.node k.x k.there in
+      omega (arith, now, before, more);
 }
 
 pub returns-clause-checked : goal.returns-clause-checked

@@ -1,11 +1,10 @@
-use Rattle.std.proofs.Common.{◌≡◌, ◌<◌, ◌≤◌, ℕ, Some, drop}
-use Rattle.std.specs.Prelude.{slice_get}
+use Rattle.std.proofs.Common.{◌≡◌, ◌≤◌, drop}
 use Rattle.proof_model.specs.Proofs.{CaseTree, nodes_of}
-use Rattle.bus_proofs.specs.Cases.{NodeCase}
-use Rattle.bus_proofs.specs.Bounds.{IsEnough, all_cases}
+use Rattle.bus_proofs.specs.Bounds.{all_cases}
 use Rattle.bus_proofs.specs.CaseRooms.{IsFurther}
-use Rattle.bus_proofs.specs.Bases.{chip_of, limits_of, lists_of, claim_of, proof_of}
+use Rattle.bus_proofs.specs.Bases.{chip_of, limits_of, proof_of}
 use Rattle.bus_proofs.specs.Walks.{FitsLeaves, GoesOn, IsRoomFor}
+use Rattle.bus_proofs.proofs.WalkSteps.{AreEnoughBefore, work_before}
 use Rattle.bus_proofs.proofs.walk.check_nodes.Given as goal
 
 abbrev pub invariant-loop-node : goal.invariant-loop-node
@@ -16,6 +15,6 @@ invariant-loop-node l = record {
   further : IsFurther l.initial.case l.case;
   goes : (t : CaseTree) → nodes_of t ≡ (proof_of l.basis).nodes →
       GoesOn l.basis l.initial.case l.turns l.depth l.case (drop l.node (all_cases (chip_of l.basis) (limits_of l.basis) t));
-  enough : (t : CaseTree) → nodes_of t ≡ (proof_of l.basis).nodes → (q : ℕ) (n : NodeCase) → q < l.node →
-      slice_get (all_cases (chip_of l.basis) (limits_of l.basis) t) q ≡ Some n → IsEnough (chip_of l.basis) (limits_of l.basis) (lists_of l.basis) (claim_of l.basis) n;
+  enough : (t : CaseTree) → nodes_of t ≡ (proof_of l.basis).nodes → AreEnoughBefore l.basis (all_cases (chip_of l.basis) (limits_of l.basis) t) l.node;
+  work : (t : CaseTree) → nodes_of t ≡ (proof_of l.basis).nodes → l.leaf.pack.work ≡ work_before l.basis (all_cases (chip_of l.basis) (limits_of l.basis) t) l.node;
 }

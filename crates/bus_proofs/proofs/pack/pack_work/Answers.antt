@@ -1,0 +1,12 @@
+use Rattle.std.proofs.Common.{refl, sym, ap, ◌∙◌}
+use Rattle.std.specs.Prelude.{if◌then◌else◌}
+use Rattle.proof_model.specs.Proofs.{pricing_value}
+use Rattle.bus_proofs.specs.PackLeaves.{work_in}
+use Rattle.bus_proofs.proofs.PackRules.{some_is}
+use Rattle.bus_proofs.proofs.pack.pack_work.Goals as goal
+
+pub returns : goal.returns
+returns c = record {
+  work = λ k claim of cells. c.work_in.ensures.work k claim of cells
+      ∙ sym (ap (λ b. if b then 0 else work_in c.args.case.now.widths.wires claim k (pricing_value c.args.pricing.now)) (some_is c.args.case.now.widths.wires k (c.if-is_empty.ensures.no refl k (sym of.intervals))));
+}

@@ -1,0 +1,55 @@
+//! The room for checking leaves of prices.
+ghost use Rattle.std.specs.Prelude.{◌≡◌, ◌+◌, ◌≤◌, length, IfOk};
+ghost use Rattle.bus_proofs.specs.PackLeaves.{CELLS_MOST};
+
+use outside::NoMemory;
+use std::alloc::Global;
+
+/// The most cells of a bus.
+pub(crate) const PACK_CELLS_MOST: u64 = 4096;
+/// The most work of all leaves of prices of a text.
+pub(crate) const PACK_WORK_MOST: u64 = 17_179_869_184;
+
+/// Room for what modules are worth on one bus.
+#[derive(Drop)]
+pub(crate) struct BusRoom {
+    /// For each number of cells the most that modules are worth there.
+    pub cells: Vec<u64>,
+    /// The places in the chip of the modules that a leaf prices.
+    pub places: Vec<usize>,
+}
+
+/// Room for checking leaves of prices.
+#[derive(Drop)]
+pub(crate) struct PackRoom {
+    pub bus: BusRoom,
+    /// For each number of wires the most that all buses are worth on so many.
+    pub wires: Vec<u128>,
+    /// What one bus is worth, by its wires beyond the least.
+    pub worth: Vec<u64>,
+    /// The work of the leaves so far.
+    pub work: u64,
+}
+
+impl PackRoom {
+    /// Room for leaves over so many wires, each of which prices at most `most` modules. `NoMemory` where there is none.
+    pub fn new(alloc: Global, wires: usize, most: usize) -> Result<PackRoom, NoMemory>
+        requires { wires ≤ 256 }
+        ensures cells { IfOk result (λ room. length room.bus.cells.items ≡ CELLS_MOST + 1) }
+        ensures wires { IfOk result (λ room. length room.wires.items ≡ wires + 1) }
+        ensures worth { IfOk result (λ room. length room.worth.items ≡ wires + 1) }
+        ensures places { IfOk result (λ room. length room.bus.places.items ≡ most) }
+        ensures work { IfOk result (λ room. room.work ≡ 0) }
+    {
+        let cells = Vec::from_elem(alloc, 0, PACK_CELLS_MOST as usize + 1)?;
+        let places = Vec::from_elem(alloc, 0, most)?;
+        let worth = Vec::from_elem(alloc, 0, wires + 1)?;
+        let row = Vec::from_elem(alloc, 0, wires + 1)?;
+        Ok(PackRoom {
+            bus: BusRoom { cells, places },
+            wires: row,
+            worth,
+            work: 0,
+        })
+    }
+}

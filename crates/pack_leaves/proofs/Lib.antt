@@ -1,0 +1,4 @@
+pub mod Sums
+pub mod Loads
+pub mod Rows
+pub mod Shares
