@@ -1,56 +1,6 @@
-# What is said of an answer on standard error, and help on refusals. This file is taken in by `soctest` at the top of the repository,
-# which has `say`, `called`, `help` and what was read of the words.
+# What is said of an answer on standard error. This file is taken in by `soctest` at the top of the repository, after `words.bash` and
+# `refusals.bash`.
 # shellcheck shell=bash
-
-# ---- refusals
-
-# The words by which help finds a refusal: those before its first number or the first name of a test. A rule belongs to the plan.
-refusal_words() {
-    local word found=''
-    for word; do
-        case $word in
-        refused) ;;
-        F[0-9]*) found=" plan $word" ;;
-        *[0-9]*) break ;;
-        *) found+=" $word" ;;
-        esac
-    done
-    echo "${found# }"
-}
-
-# the items of the page of refusals that have a form with these words at its head
-refusals_of() {
-    awk -v words="$1" '
-        function end_item(    head) {
-            head = item
-            gsub(/\n +/, " ", head)
-            sub(/`: .*/, "` ", head)
-            gsub(/`refused /, "`", head)
-            gsub(/`/, " ` ", head)
-            if (index(head, " ` " words " ")) printf "%s", item
-            item = ""
-        }
-        /^- `/ { end_item(); item = $0 "\n"; next }
-        item != "" && /^  / { item = item $0 "\n"; next }
-        { end_item() }
-        END { end_item() }' "$refusals"
-}
-
-# help on the refusals that begin with these words, or on all
-show_refusals() {
-    local words text
-    words=$(refusal_words "$@")
-    if [ $# -eq 0 ]; then
-        show_text "$refusals"
-        return
-    fi
-    text=$(refusals_of "$words")
-    if [ -z "$words" ] || [ -z "$text" ]; then
-        say "there is no refusal ${*@Q}; $called help refused has all"
-        return 2
-    fi
-    show_text <(echo "$text")
-}
 
 # the words that a text of each form begins with, and what it is
 form_by_word() {
@@ -98,8 +48,6 @@ name_help() {
     say "$called help refused${words:+ $words} says what to look at"
 }
 
-# ---- files
-
 # names the first file that can't be read, and says why where that can be seen
 show_unread_file() {
     local name file why
@@ -130,8 +78,6 @@ show_empty_chip() {
     LC_ALL=C sed 's/#.*//' <"$file" | tr -s ' \t\r\n:,;' '\n' | grep -aix -A 1 patterns | grep -q '[1-9]' ||
         say "no test in $file has a pattern, so that there is nothing to plan"
 }
-
-# ---- any answer
 
 # says more of an answer of this status to a command, and returns the status
 explain() {

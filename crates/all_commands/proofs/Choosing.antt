@@ -1,7 +1,7 @@
 -- What holds of the top call that is chosen holds of the command.
 use Rattle.std.proofs.Common.{◌≡◌, ℕ, List, Option, None, Some, subst, sym}
 use Rattle.outside.specs.Held.{Files}
-use Rattle.commands.specs.Commands.{CommandValue, Print, Widths, Plan, Check, Chart, Vectors, Sample, Locate, Tree, Split, Shift, Improve, Picture, Simulate, Bound, Prove, Data, Retarget}
+use Rattle.commands.specs.Commands.{CommandValue, Print, Widths, Plan, Check, Chart, Vectors, Sample, Locate, Tree, Split, Shift, Improve, Picture, Simulate, Bound, Prove, Data, Retarget, Stil, Vcd, Verilog, Report, PictureWithProof}
 use Rattle.commands.specs.Procedures.{Procedure, asked}
 use Rattle.commands.specs.TopCalls.{top_call_of}
 use Rattle.commands.specs.Ends.{IsCommand, MayAnswer, Ends, EndsByWords, Complete, Finishes}
@@ -52,6 +52,11 @@ ends_by_command (Some (Bound soc limits proof)) sink_failed end by_words = by_wo
 ends_by_command (Some (Prove soc limits plan nodes)) sink_failed end by_words = by_words
 ends_by_command (Some (Data soc seed)) sink_failed end by_words = by_words
 ends_by_command (Some (Retarget soc limits plan «data»)) sink_failed end by_words = by_words
+ends_by_command (Some (Stil soc limits plan «data»)) sink_failed end by_words = by_words
+ends_by_command (Some (Vcd soc limits plan «data»)) sink_failed end by_words = by_words
+ends_by_command (Some (Verilog soc limits plan «data»)) sink_failed end by_words = by_words
+ends_by_command (Some (Report soc limits plan)) sink_failed end by_words = by_words
+ends_by_command (Some (PictureWithProof soc limits plan proof)) sink_failed end by_words = by_words
 
 pub by_words_chosen : (by : TopCall) (command : Option CommandValue) → by ≡ top_call_of command → (sink_failed : Type 0) (end : Status) →
     EndsByWords (asked (procedure_by by) command) sink_failed end → EndsByCommand command sink_failed end

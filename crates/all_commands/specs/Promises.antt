@@ -16,6 +16,8 @@ use Rattle.bound_checker.specs.Headlines.{Headline as HeadlineOfBound}
 use Rattle.bound_prover.specs.Headlines.{Headline as HeadlineOfProve}
 use Rattle.made_data.specs.Headlines.{Headline as HeadlineOfData}
 use Rattle.retargeter.specs.Headlines.{Headline as HeadlineOfRetarget}
+use Rattle.tester_programs.specs.Headlines.{Headline as HeadlineOfPrograms}
+use Rattle.plan_report.specs.Headlines.{Headline as HeadlineOfReport}
 use Rattle.bound_prover.specs.Reports.{MayReportOf as MayReportOfProve}
 use Rattle.bound_prover.specs.Requests.{IsQuiet as IsQuietProve}
 
@@ -31,6 +33,8 @@ HeadlineBy top_call.Bound command held old end new = HeadlineOfBound command hel
 HeadlineBy top_call.Prove command held old end new = HeadlineOfProve command held old end new
 HeadlineBy top_call.Data command held old end new = HeadlineOfData command held old end new
 HeadlineBy top_call.Retarget command held old end new = HeadlineOfRetarget command held old end new
+HeadlineBy top_call.Programs command held old end new = HeadlineOfPrograms command held old end new
+HeadlineBy top_call.Report command held old end new = HeadlineOfReport command held old end new
 
 -- the headline of each command is that of the top call that takes it
 unfoldable pub Headline : Option CommandValue → Option Files → Option (List ℕ) → Status →

@@ -15,6 +15,8 @@ use Rattle.bound_checker.specs.Requests.{procedure_of as of_bound}
 use Rattle.bound_prover.specs.Requests.{procedure_of as of_prove}
 use Rattle.made_data.specs.Requests.{procedure_of as of_data}
 use Rattle.retargeter.specs.Requests.{procedure_of as of_retarget}
+use Rattle.tester_programs.specs.Requests.{procedure_of as of_programs}
+use Rattle.plan_report.specs.Requests.{procedure_of as of_report}
 
 -- the procedures of a top call
 abbrev pub procedure_by : TopCall → CommandValue → Procedure
@@ -26,6 +28,8 @@ procedure_by top_call.Bound = of_bound
 procedure_by top_call.Prove = of_prove
 procedure_by top_call.Data = of_data
 procedure_by top_call.Retarget = of_retarget
+procedure_by top_call.Programs = of_programs
+procedure_by top_call.Report = of_report
 
 -- what words ask for: the procedure that the top call of their command has for it
 unfoldable pub requested : Option CommandValue → Procedure
@@ -41,6 +45,8 @@ fixes_text_by top_call.Bound command = true
 fixes_text_by top_call.Prove command = false
 fixes_text_by top_call.Data command = true
 fixes_text_by top_call.Retarget command = true
+fixes_text_by top_call.Programs command = true
+fixes_text_by top_call.Report command = true
 
 unfoldable pub fixes_text : Option CommandValue → Bool
 fixes_text command = fixes_text_by (top_call_of command) command

@@ -19,10 +19,12 @@ use made_data::make_data;
 use outside::{Shelf, Sink};
 use plan_improver::improve;
 use plan_picture::draw;
+use plan_report::report_plan;
 use plan_simulator::simulate;
 use retargeter::retarget;
 use soctest::soctest;
 use std::alloc::Global;
+use tester_programs::write_tester_program;
 
 /// Runs the command of these words over the files of a shelf, and writes its answer.
 ///
@@ -78,6 +80,8 @@ pub fn run_command<H: Shelf, K: Sink, T: Sink>(
         TopCall::Prove => prove_bound(alloc, words, shelf, out, progress),
         TopCall::Data => make_data(alloc, words, shelf, out),
         TopCall::Retarget => retarget(alloc, words, shelf, out),
+        TopCall::Programs => write_tester_program(alloc, words, shelf, out),
+        TopCall::Report => report_plan(alloc, words, shelf, out),
         TopCall::Soctest => soctest(alloc, words, shelf, out),
     }
 }

@@ -1,10 +1,10 @@
 -- Bytes in the columns of lines.
 use Rattle.std.proofs.Common.{◌≡◌, ◌≢◌, ℕ, zero, suc, ◌+◌, ◌-◌, ◌*◌, ◌%◌, ◌≤◌, ◌<◌, ◌⊎◌, Some, List, length, set, refl, ap, sym, subst, ◌∙◌, arith, inl, inr}
-use Rattle.std.specs.Prelude.{slice_get, slice_index}
+use Rattle.std.specs.Prelude.{slice_get}
 use Rattle.std.proofs.Math.Nat.{mul-le-mul_right}
 use Rattle.std.proofs.lemmas.List.{length-set}
 use Rattle.std.proofs.lemmas.Nat.{mod-mul-add}
-use Rattle.std.proofs.lemmas.Bool.{cases_eq}
+use Rattle.std.proofs.lemmas.Bool.{cases_eq, cases_lt}
 use Rattle.bit_machine.specs.Vectors.{byte_at, ArePutAcross, ArePutDown, AreOtherRowsKept, IsBlank, IsElsewhere}
 use Rattle.bit_machine.proofs.Assigning.{set_here, set_elsewhere}
 
@@ -110,11 +110,39 @@ up_more wires row n column b f g old now new h is same before one = record {
     rest r c (inr (inl above)) = inr (inl (omega (arith, above)))
     rest r c (inr (inr under)) = inr (inr (omega (arith, under)))
 
--- a byte of a walk that is put `place` lines above the last line
-pub walked_byte : (byte : ℕ → ℕ) (numbers : List ℕ) (last count place b : ℕ) → place < count → count ≤ last + 1 → b ≡ byte (slice_index numbers (last - (count - 1) + place)) → b ≡ byte (slice_index numbers (last - (count - (place + 1) + 0)))
-walked_byte byte numbers last count place b h back is =
-    let there : last - (count - 1) + place ≡ last - (count - (place + 1) + 0) = omega arith in
-    is ∙ ap (λ n. byte (slice_index numbers n)) there
+pub same_down : (wires r s m n column : ℕ) (f g : ℕ → ℕ) (old new : List ℕ) → r ≡ s → m ≡ n → ((i : ℕ) → f i ≡ g i) → ArePutDown wires r m column f old new → ArePutDown wires s n column g old new
+same_down wires r s m n column f g old new rows counts bytes is =
+    let own : ArePutDown wires r m column g old new = record { long = is.long; put = λ i h. is.put i h ∙ ap Some (bytes i); others = is.others } in
+    subst (λ x. ArePutDown wires x n column g old new) rows (subst (λ x. ArePutDown wires r x column g old new) counts own)
+
+-- more lines above those that were put
+pub up_block : (wires row m n column : ℕ) (f g h : ℕ → ℕ) (old now new : List ℕ) → column < 2 * wires + 2 → ((i : ℕ) → i < m → f i ≡ h i) → ((i : ℕ) → i < n → g i ≡ h (m + i)) → ArePutDown wires (row + m) n column g old now →
+    ArePutDown wires row m column f now new → ArePutDown wires row (m + n) column h old new
+up_block wires row m n column f g h old now new within upper lower before more = record {
+  long = more.long ∙ before.long;
+  put = λ i less. here i less (cases_lt i m);
+  others = λ r c h' elsewhere. more.others r c h' (first r c elsewhere) ∙ before.others r c h' (rest r c elsewhere);
+}
+  where
+    here : (i : ℕ) → i < m + n → (i < m) ⊎ (m ≤ i) → byte_at new wires (row + i) column ≡ Some (h i)
+    here i less (inl above) = more.put i above ∙ ap Some (upper i above)
+    here i less (inr under) =
+        let place : row + i ≡ row + m + (i - m) = omega (arith, under) in
+        let own : m + (i - m) ≡ i = omega (arith, under) in
+        let low : i - m < n = omega (arith, less, under) in
+        let kept : byte_at new wires (row + i) column ≡ byte_at now wires (row + i) column = more.others (row + i) column within (inr (inr (omega (arith, under)))) in
+        let there : byte_at now wires (row + i) column ≡ Some (g (i - m)) = subst (λ r. byte_at now wires r column ≡ Some (g (i - m))) (sym place) (before.put (i - m) low) in
+        kept ∙ there ∙ ap Some (lower (i - m) low ∙ ap h own)
+
+    first : (r c : ℕ) → IsElsewhere row (m + n) column r c → IsElsewhere row m column r c
+    first r c (inl other) = inl other
+    first r c (inr (inl above)) = inr (inl above)
+    first r c (inr (inr under)) = inr (inr (omega (arith, under)))
+
+    rest : (r c : ℕ) → IsElsewhere row (m + n) column r c → IsElsewhere (row + m) n column r c
+    rest r c (inl other) = inl other
+    rest r c (inr (inl above)) = inr (inl (omega (arith, above)))
+    rest r c (inr (inr under)) = inr (inr (omega (arith, under)))
 
 -- ---- beside one another
 

@@ -26,6 +26,7 @@ pub mod MadeLanes
 pub mod NewChips
 pub mod Stimuli
 pub mod HeldStimuli
+pub mod Digits
 pub mod Columns
 pub mod ShiftStretches
 pub mod LinesOfTests

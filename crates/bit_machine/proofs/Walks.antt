@@ -4,7 +4,7 @@ use Rattle.std.specs.Prelude.{slice_index}
 use Rattle.std.specs.List.{All, range_with_len}
 use Rattle.std.proofs.Math.Nat.{mod-add-mod}
 use Rattle.std.proofs.Math.Seq.{drop-append-add}
-use Rattle.std.proofs.lemmas.List.{drop_more, drop-append-le, drop_all, take_more, append-nil, length-append}
+use Rattle.std.proofs.lemmas.List.{drop_more, drop-append-le, drop-drop, drop_all, take_more, append-nil, length-append}
 use Rattle.std.proofs.lemmas.Grind.{flat_map-append}
 use Rattle.std.proofs.lemmas.List.Folds.{length-flat_map-take}
 use Rattle.std.proofs.lemmas.List.FromFn.{length-range_with_len}
@@ -14,7 +14,7 @@ use Rattle.bit_machine.specs.Chips.{has_odd_square}
 use Rattle.bit_machine.specs.Marks.{IsValue}
 use Rattle.bit_machine.specs.Packed.{is_set}
 use Rattle.bit_machine.specs.Paths.{made_from}
-use Rattle.bit_machine.specs.Numbers.{run_numbers, all_numbers, line_value, line_bit, bit_at_place, IsFull, IsWalk, HasNext, IsLineWord}
+use Rattle.bit_machine.specs.Numbers.{run_numbers, all_numbers, line_value, line_bit, bit_at_place, IsFirstValue, IsFull, IsWalk, HasNext, IsLineWord}
 use Rattle.bit_machine.specs.declared.made.Line.{Line}
 use Rattle.bit_machine.specs.declared.numbers.NumberRun.{NumberRun}
 use Rattle.bit_machine.specs.declared.numbers.Walk.{Walk}
@@ -159,6 +159,30 @@ walk_next runs values w n v more some is next =
     let f = first_of is.number w.left n (all_numbers (drop w.run runs)) more some is.rest_is in
     let fits = is.fits in
     record { number = is.number + 1; value = next is.number is.value (omega (arith, fits, some)); fits = omega (arith, fits, some); rest_is = f.1 }
+
+-- ---- some numbers of one run
+
+on_run : (runs : List NumberRun) (values : ℕ → ℕ) (w : Walk) (some : ℕ) (rest : List ℕ) → some ≤ w.left → (is : IsWalk runs values w rest) → drop some rest ≡ range_with_len (is.number + some) (w.left - some) ++ all_numbers (drop w.run runs)
+on_run runs values w some rest few is =
+    let long : length (range_with_len is.number w.left) ≡ w.left = length-range_with_len is.number w.left in
+    ap (drop some) is.rest_is ∙ drop-append-le some (range_with_len is.number w.left) (all_numbers (drop w.run runs)) (omega (arith, long, few)) ∙ ap (λ x. x ++ all_numbers (drop w.run runs)) (drop_range some is.number w.left few)
+
+pub walk_on : (runs : List NumberRun) (values : ℕ → ℕ) (w : Walk) (some v : ℕ) (rest : List ℕ) → some ≤ w.left → IsWalk runs values w rest → ((n : ℕ) → w.value ≡ values n → n + some < 2 ^ 64 → v ≡ values (n + some)) →
+    IsWalk runs values (record { run = w.run; left = w.left - some; value = v }) (drop some rest)
+walk_on runs values w some v rest few is next =
+    let fits = is.fits in
+    record { number = is.number + some; value = next is.number is.value (omega (arith, fits, few)); fits = omega (arith, fits, few); rest_is = on_run runs values w some rest few is }
+
+pub walk_first : (runs : List NumberRun) (values : ℕ → ℕ) (w : Walk) (some : ℕ) (rest : List ℕ) → some ≤ w.left → IsWalk runs values w rest → IsFirstValue values w.value some
+walk_first runs values w some rest few is = record { number = is.number; is = is.value; fits = let fits = is.fits in omega (arith, fits, few) }
+
+pub walk_number : (runs : List NumberRun) (values : ℕ → ℕ) (w : Walk) (numbers : List ℕ) (place j : ℕ) → place + j < length numbers → j < w.left → (is : IsWalk runs values w (drop place numbers)) → slice_index numbers (place + j) ≡ is.number + j
+walk_number runs values w numbers place j h less is =
+    let few : j ≤ w.left = omega arith in
+    let some : 1 ≤ w.left - j = omega (arith, less) in
+    let whole : get_or numbers (place + j) 0 ∷ drop (place + j + 1) numbers ≡ range_with_len (is.number + j) (w.left - j) ++ all_numbers (drop w.run runs) =
+    sym (drop_more numbers (place + j) 0 h) ∙ sym (drop-drop j place numbers) ∙ on_run runs values w j (drop place numbers) few is in
+    (first_of (is.number + j) (w.left - j) (get_or numbers (place + j) 0) (all_numbers (drop w.run runs)) (drop (place + j + 1) numbers) some whole).0
 
 -- ---- a word
 

@@ -26,6 +26,12 @@ line_value l n = (l.first + l.step * n) % 997
 abbrev pub line_bit : Line → ℕ → Bool
 line_bit l n = has_odd_square (line_value l n)
 
+-- it is the value of some number, and `count` numbers from that one on are a machine's
+pub record IsFirstValue (values : ℕ → ℕ) (value count : ℕ) : Type 0 where
+  pub number : ℕ
+  pub is : value ≡ values number
+  pub fits : number + count < 2 ^ 64
+
 -- the walk has these numbers before it, and the value of the first one
 pub record IsWalk (runs : List NumberRun) (values : ℕ → ℕ) (w : Walk) (rest : List ℕ) : Type 0 where
   pub number : ℕ

@@ -6,7 +6,7 @@ use soc_model::TestId;
 
 /// The bytes that stand for the bits of one pattern, by the numbers of the bits. Each byte is made from a value, and the value of a
 /// number from that of the number before it: so a run of numbers is gone over one by one.
-pub trait PatternBits {
+pub trait PatternBits: Copy {
     ghost is_sound: { Self → Type 0 };
 
     ghost value_of: { Self → ℕ → ℕ };

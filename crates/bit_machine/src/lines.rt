@@ -1,6 +1,6 @@
 //! Lines of text in columns: for each wire a digit and a mark, a space between them, and a line feed.
 ghost use Rattle.std.specs.Prelude.{◌≡◌, ℕ, ◌+◌, ◌*◌, ◌<◌, ◌≤◌, length};
-ghost use Rattle.bit_machine.specs.Vectors.{digit as bit_digit, AreOtherRowsKept, ArePutAcross, ArePutDown, IsBlank};
+ghost use Rattle.bit_machine.specs.Vectors.{AreOtherRowsKept, ArePutAcross, ArePutDown, IsBlank};
 
 /// A column of a line, in lines for `wires` wires.
 #[derive(Clone, Copy, Drop)]
@@ -8,13 +8,6 @@ pub struct Place {
     pub wires: usize,
     pub row: usize,
     pub column: usize,
-}
-
-/// `0` or `1`.
-pub fn digit(bit: bool) -> u8
-    ensures { result ≡ bit_digit bit }
-{
-    if bit { b'1' } else { b'0' }
 }
 
 /// Writes a byte into a column, `below` lines below a place.

@@ -2,7 +2,7 @@
 ghost use Rattle.std.specs.Prelude.{◌≡◌, ℕ, ◌+◌, ◌-◌, ◌*◌, ◌^◌, ◌<◌, ◌≤◌, ◌∷◌, List, false, drop, length, slice_index};
 ghost use Rattle.std.specs.List.{All};
 ghost use Rattle.bit_machine.specs.Marks.{IsValue};
-ghost use Rattle.bit_machine.specs.Numbers.{all_numbers, line_bit, IsWalk, HasNext, IsFull, IsLineWord};
+ghost use Rattle.bit_machine.specs.Numbers.{all_numbers, line_bit, IsFirstValue, IsWalk, HasNext, IsFull, IsLineWord};
 ghost use Rattle.bit_machine.specs.Packed.{is_set};
 ghost use Rattle.bit_machine.specs.Vectors.{ArePutDown};
 
@@ -126,6 +126,28 @@ fn word_of(runs: &[NumberRun], line: &Line, first: usize, count: usize) -> u64
     word
 }
 
+/// Writes the bytes of `count` numbers one after another into a column, one a line, by the value `first` of the first one: its byte stands
+/// in the last of these lines, that of the last number in the first. Answers the value of the number after them.
+fn put_run<B: PatternBits>(pattern: &B, first: u64, count: usize, text: &mut [u8], at: Place) -> u64
+    requires sound { B.is_sound pattern.now }
+    requires value { IsFirstValue (B.value_of pattern.now) first count }
+    requires narrow { at.wires ≤ 256 }
+    requires column { at.column < 2 * at.wires + 2 }
+    requires rows { (at.row + count) * (2 * at.wires + 2) ≤ length text.old }
+    ensures after { (n : ℕ) → first ≡ B.value_of pattern.now n → n + count < 2 ^ 64 → result ≡ B.value_of pattern.now (n + count) }
+    ensures put { (n : ℕ) → first ≡ B.value_of pattern.now n → n + count < 2 ^ 64 → ArePutDown at.wires at.row count at.column
+        (λ i. B.byte_of pattern.now (n + (count - 1 - i))) text.old text.new }
+{
+    // a copy of its own, which no write to the text can change
+    let bits = *pattern;
+    let mut value = first;
+    for place in 0..count {
+        put_byte(text, at, count - 1 - place, bits.byte(value));
+        value = bits.next(value);
+    }
+    value
+}
+
 /// Writes the bytes of `count` numbers into a column, one a line: that of the number at the place `last`, and then those of the numbers
 /// before it.
 fn put_back<B: PatternBits>(
@@ -149,9 +171,21 @@ fn put_back<B: PatternBits>(
 {
     let first = last - (count - 1);
     let mut walk = walk_from(runs, bits, first as u64);
-    for place in 0..count {
-        let value = next_value(runs, bits, &mut walk);
-        put_byte(text, at, count - 1 - place, bits.byte(value));
+    let mut above = count;
+    while above > 0 {
+        let here = refilled(runs, bits, walk);
+        let some = here.left.min(above as u64);
+        above -= some as usize;
+        let lines = Place {
+            row: at.row + above,
+            ..at
+        };
+        let value = put_run(bits, here.value, some as usize, text, lines);
+        walk = Walk {
+            run: here.run,
+            left: here.left - some,
+            value,
+        };
     }
 }
 

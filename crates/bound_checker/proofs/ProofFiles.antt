@@ -55,10 +55,10 @@ judged_proofs laws chip bounds = record {
   not_both = λ bytes v t says right refused. laws.no_fault chip bounds v refused.0 right refused.1;
 }
 
-proof_one : ProofLaws → (chip : SocValue) (bounds : LimitsValue) → SaysOne (SaysBound chip bounds)
+pub proof_one : ProofLaws → (chip : SocValue) (bounds : LimitsValue) → SaysOne (SaysBound chip bounds)
 proof_one laws chip bounds = judged_one SaysProof RefusesText (IsAccepted chip bounds) (RefusedProof chip bounds) (judged_proofs laws chip bounds)
 
-proof_refused_one : ProofLaws → (chip : SocValue) (bounds : LimitsValue) → RefusesOne (SaysBound chip bounds) (RefusesProof chip bounds)
+pub proof_refused_one : ProofLaws → (chip : SocValue) (bounds : LimitsValue) → RefusesOne (SaysBound chip bounds) (RefusesProof chip bounds)
 proof_refused_one laws chip bounds = judged_refused_one SaysProof RefusesText (IsAccepted chip bounds) (RefusedProof chip bounds) proof_line (judged_proofs laws chip bounds)
 
 bound_settled : ProofLaws → (proof : List ℕ) (chip : SocValue) (bounds : LimitsValue) → IsSettled true (with_proof proof chip bounds)

@@ -6,4 +6,5 @@ mod deciding;
 mod lines;
 mod top;
 
+pub use lines::{proof_fault_line, proof_line};
 pub use top::check_bound;

@@ -18,7 +18,7 @@ pub(crate) fn bound_line(alloc: Global, proof: &Proof) -> Result<Vec<u8>, NoMemo
 }
 
 /// `refused proof line` and the line.
-pub(crate) fn proof_line(alloc: Global, line: u64) -> Result<Vec<u8>, NoMemory>
+pub fn proof_line(alloc: Global, line: u64) -> Result<Vec<u8>, NoMemory>
     ensures text { IfOk result (λ text. text.items ≡ proof_line_text line) }
     ensures line { IfOk result (λ text. IsTrue (is_line text.items)) }
 {
@@ -26,7 +26,7 @@ pub(crate) fn proof_line(alloc: Global, line: u64) -> Result<Vec<u8>, NoMemory>
 }
 
 /// `refused proof` and the fault.
-pub(crate) fn proof_fault_line(alloc: Global, fault: ProofFault) -> Result<Vec<u8>, NoMemory>
+pub fn proof_fault_line(alloc: Global, fault: ProofFault) -> Result<Vec<u8>, NoMemory>
     ensures text { IfOk result (λ text. text.items ≡ proof_fault_text fault) }
     ensures line { IfOk result (λ text. IsTrue (is_line text.items)) }
 {

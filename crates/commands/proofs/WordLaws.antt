@@ -8,7 +8,7 @@ use Rattle.soc_model.specs.declared.TheConstants.{NUMBER_WORD_MOST}
 use Rattle.plan_model.specs.declared.TheConstants.{WIRES_MOST}
 use Rattle.commands.specs.declared.TheConstants.{NODES_MOST, TRIES_MOST}
 use Rattle.commands.specs.declared.Command.{Command}
-use Rattle.commands.specs.Commands.{CommandValue, command_value, Print, Widths, Plan, Check, Chart, Vectors, Sample, Locate, Tree, Split, Shift, Improve, Picture, Simulate, Bound, Prove, Data, Retarget, IsInRange, EachHasWords, command_of, widths_of, vectors_of, sample_of, split_of, improve_of, simulate_of, prove_of, data_of, with_one, with_two, with_three, with_four, with_five}
+use Rattle.commands.specs.Commands.{CommandValue, command_value, Print, Widths, Plan, Check, Chart, Vectors, Sample, Locate, Tree, Split, Shift, Improve, Picture, Simulate, Bound, Prove, Data, Retarget, Stil, Vcd, Verilog, Report, PictureWithProof, IsInRange, EachHasWords, command_of, widths_of, vectors_of, sample_of, split_of, improve_of, simulate_of, prove_of, data_of, with_one, with_two, with_three, with_four, with_five}
 
 word : (n : ℕ) → n ≤ NUMBER_WORD_MOST → number_of (decimal n) NUMBER_WORD_MOST ≡ Some n
 word n small = number_of-decimal n NUMBER_WORD_MOST (omega arith) small
@@ -43,6 +43,11 @@ each_has_words (Bound soc limits proof) range = refl
 each_has_words (Prove soc limits plan nodes) range = ap (prove_of soc limits plan) (number_of-decimal nodes NODES_MOST (omega arith) range.1) ∙ prove_in_range soc limits plan nodes range.0
 each_has_words (Data soc seed) range = ap (data_of soc) (word seed range)
 each_has_words (Retarget soc limits plan «data») range = refl
+each_has_words (Stil soc limits plan «data») range = refl
+each_has_words (Vcd soc limits plan «data») range = refl
+each_has_words (Verilog soc limits plan «data») range = refl
+each_has_words (Report soc limits plan) range = refl
+each_has_words (PictureWithProof soc limits plan proof) range = refl
 
 -- the numbers of a command that was parsed are in their ranges
 pub in_range : (result : Option Command) (asked : Option CommandValue) → option_map command_value result ≡ asked → IfSome result (λ c. IsInRange (command_value c)) → IfSome asked IsInRange

@@ -28,6 +28,11 @@ pub data CommandValue : Type 0 where
   Prove : (soc limits plan : List ℕ) → (nodes : ℕ) → CommandValue
   Data : (soc : List ℕ) → (seed : ℕ) → CommandValue
   Retarget : (soc limits plan «data» : List ℕ) → CommandValue
+  Stil : (soc limits plan «data» : List ℕ) → CommandValue
+  Vcd : (soc limits plan «data» : List ℕ) → CommandValue
+  Verilog : (soc limits plan «data» : List ℕ) → CommandValue
+  Report : (soc limits plan : List ℕ) → CommandValue
+  PictureWithProof : (soc limits plan proof : List ℕ) → CommandValue
 
 abbrev pub command_value : Command → CommandValue
 command_value (command.Print soc) = Print soc.now
@@ -48,6 +53,11 @@ command_value (command.Bound soc limits proof) = Bound soc.now limits.now proof.
 command_value (command.Prove soc limits plan nodes) = Prove soc.now limits.now plan.now nodes
 command_value (command.Data soc seed) = Data soc.now seed
 command_value (command.Retarget soc limits plan «data») = Retarget soc.now limits.now plan.now «data».now
+command_value (command.Stil soc limits plan «data») = Stil soc.now limits.now plan.now «data».now
+command_value (command.Vcd soc limits plan «data») = Vcd soc.now limits.now plan.now «data».now
+command_value (command.Verilog soc limits plan «data») = Verilog soc.now limits.now plan.now «data».now
+command_value (command.Report soc limits plan) = Report soc.now limits.now plan.now
+command_value (command.PictureWithProof soc limits plan proof) = PictureWithProof soc.now limits.now plan.now proof.now
 
 -- the numbers of a command are in their ranges
 abbrev pub IsInRange : CommandValue → Type 0
@@ -69,6 +79,11 @@ IsInRange (Bound soc limits proof) = Unit {0}
 IsInRange (Prove soc limits plan nodes) = (1 ≤ nodes) × (nodes ≤ NODES_MOST)
 IsInRange (Data soc seed) = seed ≤ NUMBER_WORD_MOST
 IsInRange (Retarget soc limits plan «data») = Unit {0}
+IsInRange (Stil soc limits plan «data») = Unit {0}
+IsInRange (Vcd soc limits plan «data») = Unit {0}
+IsInRange (Verilog soc limits plan «data») = Unit {0}
+IsInRange (Report soc limits plan) = Unit {0}
+IsInRange (PictureWithProof soc limits plan proof) = Unit {0}
 
 -- ---- from words to a command
 
@@ -133,6 +148,7 @@ with_three word soc limits last =
     if pointwise nat_eq word (codes "check") then Some (Check soc limits last)
     else if pointwise nat_eq word (codes "chart") then Some (Chart soc limits last)
     else if pointwise nat_eq word (codes "picture") then Some (Picture soc limits last)
+    else if pointwise nat_eq word (codes "report") then Some (Report soc limits last)
     else if pointwise nat_eq word (codes "tree") then Some (Tree soc limits last)
     else if pointwise nat_eq word (codes "bound") then Some (Bound soc limits last)
     else if pointwise nat_eq word (codes "split") then split_of soc limits (number_of last NUMBER_WORD_MOST)
@@ -147,6 +163,10 @@ with_four word soc limits plan last =
     else if pointwise nat_eq word (codes "shift") then Some (Shift soc limits plan last)
     else if pointwise nat_eq word (codes "prove") then prove_of soc limits plan (number_of last NODES_MOST)
     else if pointwise nat_eq word (codes "retarget") then Some (Retarget soc limits plan last)
+    else if pointwise nat_eq word (codes "stil") then Some (Stil soc limits plan last)
+    else if pointwise nat_eq word (codes "vcd") then Some (Vcd soc limits plan last)
+    else if pointwise nat_eq word (codes "verilog") then Some (Verilog soc limits plan last)
+    else if pointwise nat_eq word (codes "picture") then Some (PictureWithProof soc limits plan last)
     else None
 
 -- with five more words
@@ -158,8 +178,9 @@ with_five word soc limits plan tries seed =
 -- `print SOC`, `widths SOC WIRES`, `plan SOC LIMITS`, `check SOC LIMITS PLAN`, `chart SOC LIMITS PLAN`,
 -- `vectors SOC LIMITS PLAN SEED`, `sample N SEED`, `locate SOC LIMITS PLAN LOG`, `tree SOC LIMITS TREE`, `split SOC LIMITS MOST`,
 -- `shift SOC LIMITS PLAN PROGRAM`, `improve SOC LIMITS PLAN TRIES SEED`, `picture SOC LIMITS PLAN`,
--- `simulate SOC LIMITS PLAN SEED`, `bound SOC LIMITS PROOF`, `prove SOC LIMITS PLAN NODES`, `data SOC SEED` and
--- `retarget SOC LIMITS PLAN DATA`; no other words are a command
+-- `simulate SOC LIMITS PLAN SEED`, `bound SOC LIMITS PROOF`, `prove SOC LIMITS PLAN NODES`, `data SOC SEED`,
+-- `retarget SOC LIMITS PLAN DATA`, `stil SOC LIMITS PLAN DATA`, `vcd SOC LIMITS PLAN DATA`, `verilog SOC LIMITS PLAN DATA`,
+-- `report SOC LIMITS PLAN` and `picture SOC LIMITS PLAN PROOF`; no other words are a command
 unfoldable pub command_of : List (List ℕ) → Option CommandValue
 command_of (word ∷ soc ∷ []) = with_one word soc
 command_of (word ∷ first ∷ last ∷ []) = with_two word first last
@@ -190,6 +211,11 @@ words_of (Bound soc limits proof) = codes "bound" ∷ soc ∷ limits ∷ proof �
 words_of (Prove soc limits plan nodes) = codes "prove" ∷ soc ∷ limits ∷ plan ∷ decimal nodes ∷ []
 words_of (Data soc seed) = codes "data" ∷ soc ∷ decimal seed ∷ []
 words_of (Retarget soc limits plan «data») = codes "retarget" ∷ soc ∷ limits ∷ plan ∷ «data» ∷ []
+words_of (Stil soc limits plan «data») = codes "stil" ∷ soc ∷ limits ∷ plan ∷ «data» ∷ []
+words_of (Vcd soc limits plan «data») = codes "vcd" ∷ soc ∷ limits ∷ plan ∷ «data» ∷ []
+words_of (Verilog soc limits plan «data») = codes "verilog" ∷ soc ∷ limits ∷ plan ∷ «data» ∷ []
+words_of (Report soc limits plan) = codes "report" ∷ soc ∷ limits ∷ plan ∷ []
+words_of (PictureWithProof soc limits plan proof) = codes "picture" ∷ soc ∷ limits ∷ plan ∷ proof ∷ []
 
 -- Each command has words that ask for it.
 abbrev pub EachHasWords : Type 0

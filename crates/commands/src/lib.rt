@@ -151,6 +151,40 @@ pub enum Command<'a> {
         plan: &'a str,
         data: &'a str,
     },
+    /// What `retarget` writes, with the controls of the wrappers, as a pattern of STIL.
+    Stil {
+        soc: &'a str,
+        limits: &'a str,
+        plan: &'a str,
+        data: &'a str,
+    },
+    /// What `retarget` writes, with the controls of the wrappers, as a value change dump.
+    Vcd {
+        soc: &'a str,
+        limits: &'a str,
+        plan: &'a str,
+        data: &'a str,
+    },
+    /// What `retarget` writes, with the controls of the wrappers, as a test bench in Verilog.
+    Verilog {
+        soc: &'a str,
+        limits: &'a str,
+        plan: &'a str,
+        data: &'a str,
+    },
+    /// What holds up the cycles of a plan that is accepted, as text.
+    Report {
+        soc: &'a str,
+        limits: &'a str,
+        plan: &'a str,
+    },
+    /// The picture of a plan that is accepted, with the bound of a proof that is accepted: `picture` with one file more.
+    PictureWithProof {
+        soc: &'a str,
+        limits: &'a str,
+        plan: &'a str,
+        proof: &'a str,
+    },
 }
 
 /// How a call ended. Its number is the status of the program.

@@ -25,6 +25,10 @@ pub enum TopCall {
     Data,
     /// That of `retarget`.
     Retarget,
+    /// That of `stil`, `vcd` and `verilog`.
+    Programs,
+    /// That of `report`.
+    Report,
 }
 
 /// The top call that takes these words, by the command that they are.
@@ -33,12 +37,16 @@ pub fn top_call(words: &[String]) -> TopCall
 {
     match command_of(words) {
         Some(Command::Improve { .. }) => TopCall::Improve,
-        Some(Command::Picture { .. }) => TopCall::Picture,
+        Some(Command::Picture { .. } | Command::PictureWithProof { .. }) => TopCall::Picture,
         Some(Command::Simulate { .. }) => TopCall::Simulate,
         Some(Command::Bound { .. }) => TopCall::Bound,
         Some(Command::Prove { .. }) => TopCall::Prove,
         Some(Command::Data { .. }) => TopCall::Data,
         Some(Command::Retarget { .. }) => TopCall::Retarget,
+        Some(Command::Stil { .. } | Command::Vcd { .. } | Command::Verilog { .. }) => {
+            TopCall::Programs
+        }
+        Some(Command::Report { .. }) => TopCall::Report,
         Some(
             Command::Print { .. }
             | Command::Widths { .. }

@@ -173,6 +173,13 @@ fn three<'a>(word: &str, soc: &'a str, limits: &'a str, last: &'a str) -> Option
             plan: last,
         });
     }
+    if word == "report" {
+        return Some(Command::Report {
+            soc,
+            limits,
+            plan: last,
+        });
+    }
     if word == "tree" {
         return Some(Command::Tree {
             soc,
@@ -248,6 +255,38 @@ fn four<'a>(
             limits,
             plan,
             data: last,
+        });
+    }
+    if word == "stil" {
+        return Some(Command::Stil {
+            soc,
+            limits,
+            plan,
+            data: last,
+        });
+    }
+    if word == "vcd" {
+        return Some(Command::Vcd {
+            soc,
+            limits,
+            plan,
+            data: last,
+        });
+    }
+    if word == "verilog" {
+        return Some(Command::Verilog {
+            soc,
+            limits,
+            plan,
+            data: last,
+        });
+    }
+    if word == "picture" {
+        return Some(Command::PictureWithProof {
+            soc,
+            limits,
+            plan,
+            proof: last,
         });
     }
     None

@@ -24,16 +24,19 @@ planned_bus : (soc : SocValue) (plan : PlanValue) (i : ℕ) (t : PlannedTest) �
 unfolding planned_test
 planned_bus soc plan i t o = ap (λ (t : PlannedTest). t.bus) o.is
 
-pub bus_there : (soc : SocValue) (limits : LimitsValue) (plan : PlanValue) → IsGood soc limits plan → (i : ℕ) (t : PlannedTest) → IsAt (planned soc plan) i t → t.tam ≡ true → (r : ℕ × ℕ) × (slice_get (bus_wires plan) t.bus ≡ Some r)
-bus_there soc limits plan good i t at tam =
+-- and the bus of a test over the wires has wires
+pub bus_wide : (soc : SocValue) (limits : LimitsValue) (plan : PlanValue) → IsGood soc limits plan → (i : ℕ) (t : PlannedTest) → IsAt (planned soc plan) i t → t.tam ≡ true → 1 ≤ slice_index (widths plan) t.bus
+bus_wide soc limits plan good i t at tam =
     let o : Origin soc plan i t = origin soc plan i t at in
     let own : o.l.test.tam ≡ true = sym (planned_tam plan o.l.place o.l.core o.l.test) ∙ ap (λ (t : PlannedTest). t.tam) o.is ∙ tam in
     let w : Wrapped plan o.l.core o.l.test = wrapped soc limits plan good o.l.place o.n o.l.core o.l.test o.module_at o.test_at own in
     let fits = (good Wrappers).0 w.n w.w w.at in
     let on : length (w.w).chains ≤ slice_index (widths plan) (bus_place o.l.core.number 0 plan.buses) = rw w.module_is at fits.on_wires in
     let bus : bus_place o.l.core.number 0 plan.buses ≡ t.bus = planned_bus soc plan i t o in
-    let wide : 1 ≤ slice_index (widths plan) t.bus = subst (λ b. 1 ≤ slice_index (widths plan) b) bus (omega (arith, fits.some_chain, on)) in
-    wires_there 0 (widths plan) t.bus wide
+    subst (λ b. 1 ≤ slice_index (widths plan) b) bus (omega (arith, fits.some_chain, on))
+
+pub bus_there : (soc : SocValue) (limits : LimitsValue) (plan : PlanValue) → IsGood soc limits plan → (i : ℕ) (t : PlannedTest) → IsAt (planned soc plan) i t → t.tam ≡ true → (r : ℕ × ℕ) × (slice_get (bus_wires plan) t.bus ≡ Some r)
+bus_there soc limits plan good i t at tam = wires_there 0 (widths plan) t.bus (bus_wide soc limits plan good i t at tam)
 
 -- a placed test with the bus that it has where it is one over the wires
 abbrev placed_over : PlannedTest → Bool → PlacedTest

@@ -22,7 +22,7 @@ use Rattle.picture.specs.Rectangles.{bus_wires, covers, drawn_test, over_bus, ov
 use Rattle.picture.proofs.AllDrawn.{bus_there}
 
 -- the wires of a bus
-wires_at : (first : ℕ) (ws : List ℕ) (b : ℕ) (r : ℕ × ℕ) → slice_get (wires_from first ws) b ≡ Some r → (r.0 ≡ first + sum (take b ws)) × (r.1 ≡ r.0 + slice_index ws b)
+pub wires_at : (first : ℕ) (ws : List ℕ) (b : ℕ) (r : ℕ × ℕ) → slice_get (wires_from first ws) b ≡ Some r → (r.0 ≡ first + sum (take b ws)) × (r.1 ≡ r.0 + slice_index ws b)
 wires_at first [] b r at = absurd cc
 wires_at first (w ∷ ws) zero r at =
     let same : (first, first + w) ≡ r = cc in

@@ -7,4 +7,6 @@ pub mod PartsOfPlans
 pub mod Readable
 pub mod SelfTests
 pub mod Starts
+mod StartsCounted
+pub mod ToldApart
 pub mod BusWires

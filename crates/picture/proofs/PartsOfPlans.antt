@@ -18,9 +18,10 @@ use Rattle.live_tests.specs.Placed.{placed_of, placed_tests}
 use Rattle.power_events.specs.Events.{HasSteps, profile_place, steps_from}
 use Rattle.power_events.specs.Loads.{drawn, drawn_by, load_steps}
 use Rattle.picture.specs.declared.Parts.{Parts}
+use Rattle.picture.specs.declared.sections.BoundMark.{BoundMark}
 use Rattle.picture.specs.Laws.{AreParts}
 use Rattle.picture.specs.Panels.{below, wires_panel}
-use Rattle.picture.specs.PictureText.{bottom_of, frame_text, head_text, inner_text, lanes_of, lanes_text, limit_text, lines_text, load_text, picture_text, plan_steps, power_text, self_tests, wires_text}
+use Rattle.picture.specs.PictureText.{bottom_of, frame_text, head_text, inner_text, lanes_of, lanes_text, limit_text, lines_text, load_text, picture_with, plan_steps, power_text, self_tests, wires_text}
 use Rattle.picture.specs.Rectangles.{between, bus_wires, laned, wired}
 use Rattle.picture.specs.Scale.{scale_text}
 use Rattle.picture.proofs.Joining.{behind}
@@ -71,10 +72,10 @@ same_power top cycles (Some most) steps steps' same = ap (λ l. load_text top cy
 pub wired_by : (soc : SocValue) (limits : LimitsValue) (plan : PlanValue) (parts : Parts) → AreParts soc limits plan parts → parts.wired.items ≡ wired (between parts.firsts.items) (placed_tests soc plan)
 wired_by soc limits plan parts p = p.wired_are ∙ ap (λ b. wired b (placed_tests soc plan)) (sym p.buses)
 
-pub inner_is : (soc : SocValue) (limits : LimitsValue) (plan : PlanValue) (parts : Parts) (power : Option ℕ) (cycles bound end : ℕ) (t5 t4 t3 t2 t1 t0 : List ℕ) → AreParts soc limits plan parts → power ≡ limits.power → cycles ≡ plan.cycles → bound ≡ plan.bound.cycles → end ≡ below parts.lanes →
-    t1 ≡ t0 ++ wires_text soc parts.wires (between parts.firsts.items) (placed_tests soc plan) → t2 ≡ t1 ++ lanes_text soc parts.lanes parts.laned.items → t3 ≡ t2 ++ power_text (end + 24) cycles power parts.steps.items → t4 ≡ t3 ++ scale_text cycles parts.bottom → t5 ≡ t4 ++ lines_text cycles bound parts.bottom → t5 ≡ t0 ++ inner_text soc limits plan
+pub inner_is : (soc : SocValue) (limits : LimitsValue) (plan : PlanValue) (parts : Parts) (power : Option ℕ) (mark : BoundMark) (cycles end : ℕ) (t5 t4 t3 t2 t1 t0 : List ℕ) → AreParts soc limits plan parts → power ≡ limits.power → cycles ≡ plan.cycles → end ≡ below parts.lanes →
+    t1 ≡ t0 ++ wires_text soc parts.wires (between parts.firsts.items) (placed_tests soc plan) → t2 ≡ t1 ++ lanes_text soc parts.lanes parts.laned.items → t3 ≡ t2 ++ power_text (end + 24) cycles power parts.steps.items → t4 ≡ t3 ++ scale_text cycles parts.bottom → t5 ≡ t4 ++ lines_text cycles mark parts.bottom → t5 ≡ t0 ++ inner_text soc limits plan mark
 unfolding inner_text
-inner_is soc limits plan parts power cycles bound end t5 t4 t3 t2 t1 t0 p power_is cycles_is bound_is end_is e1 e2 e3 e4 e5 =
+inner_is soc limits plan parts power mark cycles end t5 t4 t3 t2 t1 t0 p power_is cycles_is end_is e1 e2 e3 e4 e5 =
     let lanes = lanes_of soc limits plan in
     let bottom = bottom_of (below lanes) plan.cycles limits.power in
     let w : wires_text soc parts.wires (between parts.firsts.items) (placed_tests soc plan) ≡ wires_text soc (wires_panel plan.cycles limits.wires) (bus_wires plan) (placed_tests soc plan) =
@@ -85,20 +86,19 @@ inner_is soc limits plan parts power cycles bound end t5 t4 t3 t2 t1 t0 p power_
     ap (λ v. power_text (v + 24) cycles power parts.steps.items) top ∙ ap (λ v. power_text (below lanes + 24) v power parts.steps.items) cycles_is ∙ ap (λ v. power_text (below lanes + 24) plan.cycles v parts.steps.items) power_is
     ∙ same_power (below lanes + 24) plan.cycles limits.power parts.steps.items (plan_steps soc limits plan) p.steps in
     let m : scale_text cycles parts.bottom ≡ scale_text plan.cycles bottom = ap (λ v. scale_text v parts.bottom) cycles_is ∙ ap (scale_text plan.cycles) p.bottom in
-    let n : lines_text cycles bound parts.bottom ≡ lines_text plan.cycles plan.bound.cycles bottom =
-    ap (λ v. lines_text v bound parts.bottom) cycles_is ∙ ap (λ v. lines_text plan.cycles v parts.bottom) bound_is ∙ ap (lines_text plan.cycles plan.bound.cycles) p.bottom in
+    let n : lines_text cycles mark parts.bottom ≡ lines_text plan.cycles mark bottom = ap (λ v. lines_text v mark parts.bottom) cycles_is ∙ ap (lines_text plan.cycles mark) p.bottom in
     let w' = wires_text soc (wires_panel plan.cycles limits.wires) (bus_wires plan) (placed_tests soc plan) in
     let l' = lanes_text soc lanes (laned [] (self_tests soc plan)) in
     let s' = power_text (below lanes + 24) plan.cycles limits.power (plan_steps soc limits plan) in
     let m' = scale_text plan.cycles bottom in
-    let n' = lines_text plan.cycles plan.bound.cycles bottom in
+    let n' = lines_text plan.cycles mark bottom in
     behind t5 t1 t0 w' (l' ++ (s' ++ (m' ++ n'))) (behind t5 t2 t1 l' (s' ++ (m' ++ n')) (behind t5 t3 t2 s' (m' ++ n') (behind t5 t4 t3 m' n' (e5 ∙ ap (λ v. t4 ++ v) n) (e4 ∙ ap (λ v. t3 ++ v) m)) (e3 ∙ ap (λ v. t2 ++ v) s)) (e2 ∙ ap (λ v. t1 ++ v) l)) (e1 ∙ ap (λ v. t0 ++ v) w)
 
 -- the frame, what is in it, and the end
-pub picture_is : (soc : SocValue) (limits : LimitsValue) (plan : PlanValue) (parts : Parts) (t0 t1 t2 t3 t4 : List ℕ) → AreParts soc limits plan parts → t0 ≡ [] → t1 ≡ t0 ++ head_text (parts.bottom + 24) → t2 ≡ t1 ++ frame_text parts.wires →
-    t3 ≡ t2 ++ (if nat_eq plan.cycles 0 then [] else inner_text soc limits plan) → t4 ≡ t3 ++ codes "</svg>\n" → t4 ≡ picture_text soc limits plan
-picture_is soc limits plan parts t0 t1 t2 t3 t4 p none head frame inner end =
-    let within = (if nat_eq plan.cycles 0 then [] else inner_text soc limits plan) in
+pub picture_is : (soc : SocValue) (limits : LimitsValue) (plan : PlanValue) (mark : BoundMark) (parts : Parts) (t0 t1 t2 t3 t4 : List ℕ) → AreParts soc limits plan parts → t0 ≡ [] → t1 ≡ t0 ++ head_text (parts.bottom + 24) → t2 ≡ t1 ++ frame_text parts.wires →
+    t3 ≡ t2 ++ (if nat_eq plan.cycles 0 then [] else inner_text soc limits plan mark) → t4 ≡ t3 ++ codes "</svg>\n" → t4 ≡ picture_with soc limits plan mark
+picture_is soc limits plan mark parts t0 t1 t2 t3 t4 p none head frame inner end =
+    let within = (if nat_eq plan.cycles 0 then [] else inner_text soc limits plan mark) in
     let rest = within ++ codes "</svg>\n" in
     behind t4 t1 t0 (head_text (parts.bottom + 24)) (frame_text parts.wires ++ rest) (behind t4 t2 t1 (frame_text parts.wires) rest (behind t4 t3 t2 within (codes "</svg>\n") end inner) frame) head
     ∙ ap (λ l. l ++ (head_text (parts.bottom + 24) ++ (frame_text parts.wires ++ rest))) none

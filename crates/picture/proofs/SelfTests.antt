@@ -42,11 +42,11 @@ all_moved (t ∷ ts) n starts =
 
 -- ---- in lanes
 
-laned_tests : (ends : List ℕ) (ts : List PlacedTest) → map drawn_test (laned ends ts) ≡ ts
+pub laned_tests : (ends : List ℕ) (ts : List PlacedTest) → map drawn_test (laned ends ts) ≡ ts
 laned_tests ends [] = refl
 laned_tests ends (t ∷ ts) = ap (λ l. t ∷ l) (laned_tests (with_end ends (free_lane ends t.start) t.end) ts)
 
-in_lanes : (ends : List ℕ) (ts : List PlacedTest) (i : ℕ) (d : Drawn) → slice_get (laned ends ts) i ≡ Some d → IsInLane d
+pub in_lanes : (ends : List ℕ) (ts : List PlacedTest) (i : ℕ) (d : Drawn) → slice_get (laned ends ts) i ≡ Some d → IsInLane d
 in_lanes ends [] i d at = absurd cc
 in_lanes ends (t ∷ ts) zero d at =
     let lane = free_lane ends t.start in

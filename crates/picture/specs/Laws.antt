@@ -1,5 +1,5 @@
 -- What a picture is drawn from, and what holds of its rectangles and steps.
-use Rattle.std.specs.Prelude.{◌≡◌, ℕ, ◌+◌, ◌≤◌, ◌^◌, Bool, ◌&&◌, not, nat_eq, Some, List, [], length, map, slice_get}
+use Rattle.std.specs.Prelude.{◌≡◌, ℕ, ◌+◌, ◌≤◌, ◌<◌, ◌≢◌, ◌⊎◌, ◌^◌, Bool, ◌&&◌, not, nat_eq, Some, List, [], length, map, slice_get}
 use Rattle.std.specs.List.{filter}
 use Rattle.std.specs.List.Sorted.{IsPermutation}
 use Rattle.soc_model.specs.Chips.{SocValue}
@@ -10,6 +10,7 @@ use Rattle.live_tests.specs.declared.placed.PlacedTest.{PlacedTest}
 use Rattle.live_tests.specs.Placed.{placed_of, placed_tests}
 use Rattle.picture.specs.declared.Parts.{Parts}
 use Rattle.picture.specs.declared.panels.Drawn.{Drawn}
+use Rattle.picture.specs.Fills.{band, fill_of}
 use Rattle.picture.specs.Panels.{below, wires_panel}
 use Rattle.picture.specs.Scale.{mark_step, marks_by}
 use Rattle.picture.specs.PictureText.{bottom_of, lanes_of, plan_steps, self_tests}
@@ -36,6 +37,22 @@ IsInLane d = (lane : ℕ) × (d ≡ drawn_over d.test lane (lane + 1))
 pub record AreLaned (drawn : List Drawn) (tests : List PlacedTest) : Type 0 where
   pub once : IsPermutation (filter is_self tests) (map drawn_test drawn)
   pub in_lanes : (i : ℕ) (d : Drawn) → slice_get drawn i ≡ Some d → IsInLane d
+
+-- of rectangles one that comes next after another one in its band: it starts later, and none of the band starts between them
+pub record ComesNext (drawn : List Drawn) (d e : Drawn) : Type 0 where
+  pub same_band : band e ≡ band d
+  pub later : d.rectangle.start < e.rectangle.start
+  pub none_between : (k : ℕ) (f : Drawn) → slice_get drawn k ≡ Some f → band f ≡ band d → d.rectangle.start < f.rectangle.start →
+      e.rectangle.start ≤ f.rectangle.start
+
+-- next to each other in time in one band, or at any times in two bands beside each other
+abbrev pub AreNeighbours : List Drawn → (d e : Drawn) → Type 0
+AreNeighbours drawn d e = ComesNext drawn d e ⊎ (band e ≡ band d + 1)
+
+-- neighbours never have one fill
+abbrev pub AreToldApart : List Drawn → Type 0
+AreToldApart drawn = (i j : ℕ) (d e : Drawn) → slice_get drawn i ≡ Some d → slice_get drawn j ≡ Some e → AreNeighbours drawn d e →
+    fill_of drawn e ≢ fill_of drawn d
 
 -- under a limit no step is above it
 abbrev pub StaysWithin : LimitsValue → List (ℕ × ℕ) → Type 0

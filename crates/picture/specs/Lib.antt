@@ -1,5 +1,6 @@
 pub mod Panels
 pub mod Rectangles
+pub mod Fills
 pub mod Marks
 pub mod Scale
 pub mod PictureText

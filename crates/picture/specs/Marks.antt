@@ -1,5 +1,5 @@
 -- The parts of a picture's text: rectangles, labels, and what they say.
-use Rattle.std.specs.Prelude.{ℕ, ◌+◌, ◌-◌, ◌*◌, ◌/◌, ◌%◌, Bool, ◌&&◌, Option, None, Some, List, [], ◌∷◌, ◌++◌, length, nat_eq, nat_le, slice_get, codes, decimal, take, if◌then◌else◌}
+use Rattle.std.specs.Prelude.{ℕ, ◌+◌, ◌-◌, ◌*◌, ◌/◌, Bool, ◌&&◌, Option, None, Some, List, [], ◌∷◌, ◌++◌, length, nat_eq, nat_le, slice_get, codes, decimal, take, if◌then◌else◌}
 use Rattle.std.specs.List.{flat_map}
 use Rattle.outside.specs.Decimal.{dotted_numbers}
 use Rattle.soc_model.specs.declared.TestId.{TestId}
@@ -8,6 +8,7 @@ use Rattle.live_tests.specs.declared.placed.PlacedTest.{PlacedTest}
 use Rattle.picture.specs.declared.panels.Outline.{Outline}
 use Rattle.picture.specs.declared.panels.Panel.{Panel}
 use Rattle.picture.specs.declared.panels.Drawn.{Drawn}
+use Rattle.picture.specs.Fills.{fill_of}
 use Rattle.picture.specs.Panels.{outline_of}
 
 -- the sides of a rectangle, behind the name of its class
@@ -62,9 +63,9 @@ id_size id = length (decimal id.module) + length (decimal id.test) + 1
 abbrev pub has_room : Outline → (characters : ℕ) → Bool
 has_room o characters = nat_le (7 * characters) o.width && is_high o
 
--- one of four fills, by the place of the module
-abbrev pub fill : (place : ℕ) → List ℕ
-fill place = (97 + place % 4) ∷ []
+-- the name of a fill, `a` to `d`
+abbrev pub fill_name : (fill : ℕ) → List ℕ
+fill_name fill = (97 + fill) ∷ []
 
 -- what the picture says of a test: its module, with the name of that, and its number, the cycle at which it starts, and the first one
 -- after it
@@ -74,8 +75,8 @@ title_text name t = codes "<title>module " ++ (decimal t.id.module
     ++ (codes ": start " ++ (decimal t.start ++ (codes ", end " ++ (decimal t.end ++ codes "</title></rect>\n"))))))))
 
 -- the rectangle of a test
-unfoldable pub box_text : Outline → (name : List ℕ) → PlacedTest → List ℕ
-box_text o name t = codes "<rect class='" ++ (fill t.place ++ (sides o ++ title_text name t))
+unfoldable pub box_text : Outline → (fill : ℕ) → (name : List ℕ) → PlacedTest → List ℕ
+box_text o fill name t = codes "<rect class='" ++ (fill_name fill ++ (sides o ++ title_text name t))
 
 -- its label
 unfoldable pub test_label : Outline → TestId → (name : List ℕ) → List ℕ
@@ -89,11 +90,15 @@ label_text o id name =
     else if has_room o (id_size id) then test_label o id [] else []
 
 -- the test of a module of that name
-abbrev pub named_test : Outline → (name : List ℕ) → PlacedTest → List ℕ
-named_test o name t = box_text o name t ++ label_text o t.id name
+abbrev pub named_test : Outline → (fill : ℕ) → (name : List ℕ) → PlacedTest → List ℕ
+named_test o fill name t = box_text o fill name t ++ label_text o t.id name
 
-abbrev pub test_text : SocValue → Panel → Drawn → List ℕ
-test_text soc p d = named_test (outline_of p d.rectangle) (name_at soc d.test.place) d.test
+-- one of these rectangles
+abbrev pub test_text : SocValue → Panel → List Drawn → Drawn → List ℕ
+test_text soc p drawn d = named_test (outline_of p d.rectangle) (fill_of drawn d) (name_at soc d.test.place) d.test
+
+abbrev pub test_texts : SocValue → Panel → List Drawn → List ℕ
+test_texts soc p drawn = flat_map (test_text soc p drawn) drawn
 
 -- ---- buses
 

@@ -1,5 +1,5 @@
 -- The text of a picture: one SVG image with the wires, the self tests, and what is drawn under a limit on power.
-use Rattle.std.specs.Prelude.{ℕ, ◌+◌, ◌-◌, Option, None, Some, List, [], ◌++◌, length, nat_eq, nat_le, codes, decimal, if◌then◌else◌}
+use Rattle.std.specs.Prelude.{ℕ, ◌+◌, ◌-◌, Bool, true, false, Option, None, Some, List, [], ◌++◌, length, nat_eq, nat_le, codes, decimal, if◌then◌else◌}
 use Rattle.std.specs.List.{filter, flat_map}
 use Rattle.soc_model.specs.Chips.{SocValue}
 use Rattle.plan_model.specs.Plans.{PlanValue, LimitsValue, planned, power_at}
@@ -8,8 +8,9 @@ use Rattle.live_tests.specs.declared.placed.PlacedTest.{PlacedTest}
 use Rattle.live_tests.specs.Placed.{placed_tests}
 use Rattle.picture.specs.declared.panels.Panel.{Panel}
 use Rattle.picture.specs.declared.panels.Drawn.{Drawn}
+use Rattle.picture.specs.declared.sections.BoundMark.{BoundMark}
 use Rattle.picture.specs.Panels.{below, column, lanes_panel, scaled, wires_panel}
-use Rattle.picture.specs.Marks.{bus_texts, label_at, label_end, test_text}
+use Rattle.picture.specs.Marks.{bus_texts, label_at, label_end, test_texts}
 use Rattle.picture.specs.Scale.{scale_text}
 use Rattle.picture.specs.Rectangles.{bus_wires, by_start, is_self, lane_ends, laned, wired}
 
@@ -38,13 +39,13 @@ frame_text p = codes "<rect class='w' x='120' y='40' width='1000' height='"
 -- ---- the wires and the lanes
 
 unfoldable pub wires_text : SocValue → Panel → List (ℕ × ℕ) → List PlacedTest → List ℕ
-wires_text soc p buses tests = bus_texts p 0 buses ++ flat_map (test_text soc p) (wired buses tests)
+wires_text soc p buses tests = bus_texts p 0 buses ++ test_texts soc p (wired buses tests)
 
 abbrev pub lanes_name : (lanes top : ℕ) → List ℕ
 lanes_name lanes top = if nat_eq lanes 0 then [] else label_at (codes "e") 114 (top + 12) ++ codes "self tests</text>\n"
 
 unfoldable pub lanes_text : SocValue → Panel → List Drawn → List ℕ
-lanes_text soc p drawn = lanes_name p.rows p.top ++ flat_map (test_text soc p) drawn
+lanes_text soc p drawn = lanes_name p.rows p.top ++ test_texts soc p drawn
 
 -- ---- what is drawn
 
@@ -79,18 +80,22 @@ power_text top cycles (Some most) steps = load_text top cycles most steps ++ lim
 abbrev pub bound_side : (x : ℕ) → List ℕ
 bound_side x = if nat_le 620 x then label_at (codes "e") (x - 4) 32 else label_at (codes "s") (x + 4) 32
 
-unfoldable pub bound_text : (x bound : ℕ) → List ℕ
-bound_text x bound = bound_side x ++ (codes "bound " ++ (decimal bound ++ label_end))
+-- the words before that number: which bound it is, that of the plan or the claim of a proof
+abbrev pub bound_words : (of_proof : Bool) → List ℕ
+bound_words of_proof = if of_proof then codes "bound by proof " else codes "bound "
+
+unfoldable pub bound_text : (x : ℕ) → BoundMark → List ℕ
+bound_text x mark = bound_side x ++ (bound_words mark.of_proof ++ (decimal mark.cycles ++ label_end))
 
 -- that of the bound at a place, both down to the end of the picture
-unfoldable pub lines_at : (x cycles bound bottom : ℕ) → List ℕ
-lines_at x cycles bound bottom =
+unfoldable pub lines_at : (x cycles : ℕ) → BoundMark → (bottom : ℕ) → List ℕ
+lines_at x cycles mark bottom =
     codes "<path class='l' d='M1120 16V" ++ (decimal bottom
     ++ (codes "M" ++ (decimal x ++ (codes " 32V" ++ (decimal bottom ++ (codes "'/>\n" ++
-    (label_at (codes "e") 1116 16 ++ (codes "cycles " ++ (decimal cycles ++ (label_end ++ bound_text x bound))))))))))
+    (label_at (codes "e") 1116 16 ++ (codes "cycles " ++ (decimal cycles ++ (label_end ++ bound_text x mark))))))))))
 
-abbrev pub lines_text : (cycles bound bottom : ℕ) → List ℕ
-lines_text cycles bound bottom = lines_at (column bound cycles) cycles bound bottom
+abbrev pub lines_text : (cycles : ℕ) → BoundMark → (bottom : ℕ) → List ℕ
+lines_text cycles mark bottom = lines_at (column mark.cycles cycles) cycles mark bottom
 
 -- ---- the whole
 
@@ -111,19 +116,27 @@ abbrev pub bottom_of : (end cycles : ℕ) → Option ℕ → ℕ
 bottom_of end cycles None = end
 bottom_of end cycles (Some most) = if nat_eq cycles 0 then end else end + 124
 
--- all but the frame
-unfoldable pub inner_text : SocValue → LimitsValue → PlanValue → List ℕ
-inner_text soc limits plan =
+-- all but the frame, with the mark of a bound
+unfoldable pub inner_text : SocValue → LimitsValue → PlanValue → BoundMark → List ℕ
+inner_text soc limits plan mark =
     let lanes = lanes_of soc limits plan in
     let bottom = bottom_of (below lanes) plan.cycles limits.power in
     wires_text soc (wires_panel plan.cycles limits.wires) (bus_wires plan) (placed_tests soc plan) ++
     (lanes_text soc lanes (laned [] (self_tests soc plan)) ++
     (power_text (below lanes + 24) plan.cycles limits.power (plan_steps soc limits plan) ++
-    (scale_text plan.cycles bottom ++ lines_text plan.cycles plan.bound.cycles bottom)))
+    (scale_text plan.cycles bottom ++ lines_text plan.cycles mark bottom)))
 
 -- The frame, and in a plan of any cycles what is in it; the numbers of the scale have 24 units below all else.
-abbrev pub picture_text : SocValue → LimitsValue → PlanValue → List ℕ
-picture_text soc limits plan =
+abbrev pub picture_with : SocValue → LimitsValue → PlanValue → BoundMark → List ℕ
+picture_with soc limits plan mark =
     head_text (bottom_of (below (lanes_of soc limits plan)) plan.cycles limits.power + 24) ++
     (frame_text (wires_panel plan.cycles limits.wires) ++
-    ((if nat_eq plan.cycles 0 then [] else inner_text soc limits plan) ++ codes "</svg>\n"))
+    ((if nat_eq plan.cycles 0 then [] else inner_text soc limits plan mark) ++ codes "</svg>\n"))
+
+-- with the plan's own bound
+abbrev pub picture_text : SocValue → LimitsValue → PlanValue → List ℕ
+picture_text soc limits plan = picture_with soc limits plan (record { cycles = plan.bound.cycles; of_proof = false })
+
+-- with the claim of a proof in its place
+abbrev pub picture_of_claim : SocValue → LimitsValue → PlanValue → (claim : ℕ) → List ℕ
+picture_of_claim soc limits plan claim = picture_with soc limits plan (record { cycles = claim; of_proof = true })

@@ -15,9 +15,10 @@ ghost use Rattle.live_tests.specs.declared.placed.PlacedTest.{PlacedTest as the_
 ghost use Rattle.power_events.specs.Events.{HasSteps};
 ghost use Rattle.power_events.specs.Loads.{drawn_by, load_steps};
 ghost use Rattle.picture.specs.Laws.{AreParts, AreTestsOf};
-ghost use Rattle.picture.specs.PictureText.{bottom_of as the_bottom, inner_text, picture_text, wires_text};
+ghost use Rattle.picture.specs.PictureText.{bottom_of as the_bottom, inner_text, picture_of_claim, picture_text, picture_with, wires_text};
 ghost use Rattle.picture.specs.Rectangles.{between, wired as the_wired};
 
+mod fills;
 mod laws;
 mod marks;
 mod panels;
@@ -34,7 +35,7 @@ use plan_model::{Limits, Plan, good_without_limits};
 use power_events::power_steps;
 use rectangles::{lane_count, self_lanes, wired};
 use scale::push_scale;
-use sections::{push_frame, push_head, push_lanes, push_lines, push_power};
+use sections::{BoundMark, push_frame, push_head, push_lanes, push_lines, push_power};
 use soc_model::Soc;
 use std::alloc::Global;
 
@@ -139,6 +140,7 @@ fn parts_of(alloc: Global, soc: &Soc, limits: &Limits, plan: &Plan) -> Result<Pa
 /// Appends the buses and the tests over their wires.
 #[tactic(auto, unfolding(crate::specs::PictureText::wires_text))]
 fn push_wires(
+    alloc: Global,
     text: &mut Vec<u8>,
     soc: &Soc,
     panel: &Panel,
@@ -149,35 +151,68 @@ fn push_wires(
         OnOk result (text.new.items ≡ text.old.items ++ wires_text (soc_value soc.now) panel.now (between firsts.now) tests) }
 {
     push_buses(text, panel, firsts)?;
-    push_tests(text, soc, panel, drawn)
+    push_tests(alloc, text, soc, panel, drawn)
 }
 
 /// Appends all that is in the frame.
 fn push_inner(
+    alloc: Global,
     text: &mut Vec<u8>,
     soc: &Soc,
     parts: &Parts,
     power: Option<u64>,
     cycles: u64,
-    bound: u64,
+    mark: BoundMark,
 ) -> Result<(), NoMemory>
     requires lanes { parts.now.lanes.top + parts.now.lanes.height ≤ 2 ^ 33 }
     requires small { parts.now.bottom ≤ 2 ^ 34 }
     ensures { (limits : LimitsValue) (plan : PlanValue) → AreParts (soc_value soc.now) limits plan parts.now → power ≡ limits.power →
-        cycles ≡ plan.cycles → bound ≡ plan.bound.cycles → OnOk result
-        (text.new.items ≡ text.old.items ++ inner_text (soc_value soc.now) limits plan) }
+        cycles ≡ plan.cycles → OnOk result (text.new.items ≡ text.old.items ++ inner_text (soc_value soc.now) limits plan mark) }
 {
-    push_wires(text, soc, &parts.wires, &parts.firsts, &parts.wired)?;
-    push_lanes(text, soc, &parts.lanes, &parts.laned)?;
+    push_wires(alloc, text, soc, &parts.wires, &parts.firsts, &parts.wired)?;
+    push_lanes(alloc, text, soc, &parts.lanes, &parts.laned)?;
     push_power(text, below(&parts.lanes) + 24, cycles, power, &parts.steps)?;
     push_scale(text, cycles, parts.bottom)?;
-    push_lines(text, cycles, bound, parts.bottom)
+    push_lines(text, cycles, mark, parts.bottom)
+}
+
+/// The picture of a good plan with the mark of a bound.
+fn print_with(
+    alloc: Global,
+    soc: &Soc,
+    limits: &Limits,
+    plan: &Plan,
+    mark: BoundMark,
+) -> Result<Vec<u8>, NoMemory>
+    requires sound { IsSoundChip (soc_value soc.now) }
+    requires sound_limits { IsSoundLimits (soc_value soc.now) (limits_value limits.now) }
+    requires good { IsGood (soc_value soc.now) (limits_value limits.now) (plan_value plan.now) }
+    ensures { IfOk result (λ text. text.items ≡ picture_with (soc_value soc.now) (limits_value limits.now) (plan_value plan.now) mark) }
+{
+    let parts = parts_of(alloc, soc, limits, plan)?;
+    let mut text = Vec::new(alloc);
+    push_head(&mut text, parts.bottom + 24)?;
+    push_frame(&mut text, &parts.wires)?;
+    if plan.cycles != 0 {
+        push_inner(
+            alloc,
+            &mut text,
+            soc,
+            &parts,
+            limits.power,
+            plan.cycles,
+            mark,
+        )?;
+    }
+    extend(&mut text, b"</svg>\n")?;
+    Ok(text)
 }
 
 /// The picture of a good plan of a sound chip under sound limits, as SVG of 1,140 units from left to right. The wires stand below
 /// each other, with the frames of their buses, and beside each its place and how many wires it has; a rectangle for each test
 /// lies over the wires of its bus, from its start to its end, with its numbers and the name of its module in its title, and in it
-/// where there is room; a name shows at most 64 characters. Below are the self tests, by their starts, each in the first lane that
+/// where there is room; a name shows at most 64 characters. Tests next to each other in time on a bus, and tests on buses beside each
+/// other, have different fills, and so with lanes. Below are the self tests, by their starts, each in the first lane that
 /// is free then; and, where power has a limit, the steps of what all tests draw, under the line of the limit. Thin lines stand at
 /// round cycles, with a scale of their numbers below all. Lines with numbers mark the last cycle and the bound. A plan of 0 cycles
 /// is the frame alone.
@@ -193,20 +228,31 @@ pub fn print_picture(
     requires good { IsGood (soc_value soc.now) (limits_value limits.now) (plan_value plan.now) }
     ensures text { IfOk result (λ text. text.items ≡ picture_text (soc_value soc.now) (limits_value limits.now) (plan_value plan.now)) }
 {
-    let parts = parts_of(alloc, soc, limits, plan)?;
-    let mut text = Vec::new(alloc);
-    push_head(&mut text, parts.bottom + 24)?;
-    push_frame(&mut text, &parts.wires)?;
-    if plan.cycles != 0 {
-        push_inner(
-            &mut text,
-            soc,
-            &parts,
-            limits.power,
-            plan.cycles,
-            plan.bound.cycles,
-        )?;
-    }
-    extend(&mut text, b"</svg>\n")?;
-    Ok(text)
+    let mark = BoundMark {
+        cycles: plan.bound.cycles,
+        of_proof: false,
+    };
+    print_with(alloc, soc, limits, plan, mark)
+}
+
+/// The picture of a good plan, as [`print_picture`] draws it, with a claim of a proof, in cycles, in the place of the plan's own bound.
+/// `NoMemory` where there is none.
+pub fn print_picture_of_claim(
+    alloc: Global,
+    soc: &Soc,
+    limits: &Limits,
+    plan: &Plan,
+    claim: u64,
+) -> Result<Vec<u8>, NoMemory>
+    requires sound { IsSoundChip (soc_value soc.now) }
+    requires sound_limits { IsSoundLimits (soc_value soc.now) (limits_value limits.now) }
+    requires good { IsGood (soc_value soc.now) (limits_value limits.now) (plan_value plan.now) }
+    ensures text { IfOk result (λ text. text.items
+        ≡ picture_of_claim (soc_value soc.now) (limits_value limits.now) (plan_value plan.now) claim) }
+{
+    let mark = BoundMark {
+        cycles: claim,
+        of_proof: true,
+    };
+    print_with(alloc, soc, limits, plan, mark)
 }

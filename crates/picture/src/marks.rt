@@ -1,16 +1,21 @@
 //! The parts of a picture's text: rectangles, labels, and what they say.
-ghost use Rattle.std.specs.Prelude.{◌≡◌, [], ◌++◌, ◌≤◌, ◌<◌, ◌^◌, length, decimal, codes, nat_eq, take, OnOk, if◌then◌else◌};
+ghost use Rattle.std.specs.Prelude.{◌≡◌, [], ◌++◌, ◌≤◌, ◌<◌, ◌^◌, List, length, decimal, codes, nat_eq, take, OnOk, if◌then◌else◌};
 ghost use Rattle.std.specs.List.{flat_map};
+ghost use Rattle.std.specs.List.Sorted.{IsNonDecreasing};
 ghost use Rattle.soc_model.specs.Chips.{soc_value};
-ghost use Rattle.picture.specs.Marks.{box_text, bus_frame, bus_label as the_bus_label, bus_name, bus_text, bus_texts, escaped, fill, has_room as the_room, id_size as the_id_size, is_high as the_high, label_at, label_end, label_text, middle as the_middle, name_at as the_name, named_test, shown, sides, spaced_name, test_label, test_text, title_text};
+ghost use Rattle.picture.specs.Marks.{box_text, bus_frame, bus_label as the_bus_label, bus_name, bus_text, bus_texts, escaped, fill_name, has_room as the_room, id_size as the_id_size, is_high as the_high, label_at, label_end, label_text, middle as the_middle, name_at as the_name, named_test, shown, sides, spaced_name, test_label, test_text, test_texts, title_text};
+ghost use Rattle.picture.specs.declared.panels.Drawn.{Drawn as the_rectangle};
+ghost use Rattle.picture.specs.Fills.{AreStarts};
 ghost use Rattle.picture.specs.Rectangles.{between};
 
+use crate::fills::{fill_of, sorted_starts};
 use crate::panels::{Drawn, Outline, Panel, Rectangle, outline_of};
 use crate::rectangles::bus_count;
 use itoa::Buffer;
 use live_tests::PlacedTest;
 use outside::{NoMemory, extend, push, push_dotted, push_number};
 use soc_model::{Soc, TestId, module_at};
+use std::alloc::Global;
 
 /// The most characters of a name that are shown.
 const NAME_MOST: usize = 64;
@@ -175,11 +180,12 @@ fn push_spaced_name(text: &mut Vec<u8>, name: &[u8]) -> Result<(), NoMemory>
     push_shown(text, name)
 }
 
-/// Appends one of four fills, by the place of a module.
-fn push_fill(text: &mut Vec<u8>, place: usize) -> Result<(), NoMemory>
-    ensures { OnOk result (text.new.items ≡ text.old.items ++ fill place) }
+/// Appends the name of a fill.
+fn push_fill(text: &mut Vec<u8>, fill: u8) -> Result<(), NoMemory>
+    requires { fill < 4 }
+    ensures { OnOk result (text.new.items ≡ text.old.items ++ fill_name fill) }
 {
-    push(text, b'a' + (place % 4) as u8)
+    push(text, b'a' + fill)
 }
 
 /// Appends what the picture says of a test of a module of that name.
@@ -200,13 +206,15 @@ fn push_title(text: &mut Vec<u8>, name: &[u8], test: &PlacedTest) -> Result<(), 
 fn push_box(
     text: &mut Vec<u8>,
     outline: &Outline,
+    fill: u8,
     name: &[u8],
     test: &PlacedTest,
 ) -> Result<(), NoMemory>
-    ensures { OnOk result (text.new.items ≡ text.old.items ++ box_text outline.now name.now test.now) }
+    requires { fill < 4 }
+    ensures { OnOk result (text.new.items ≡ text.old.items ++ box_text outline.now fill name.now test.now) }
 {
     extend(text, b"<rect class='")?;
-    push_fill(text, test.place)?;
+    push_fill(text, fill)?;
     push_sides(text, outline)?;
     push_title(text, name, test)
 }
@@ -253,35 +261,48 @@ fn push_label_within(
 fn push_named_test(
     text: &mut Vec<u8>,
     outline: &Outline,
+    fill: u8,
     name: &[u8],
     test: &PlacedTest,
 ) -> Result<(), NoMemory>
-    ensures { OnOk result (text.new.items ≡ text.old.items ++ named_test outline.now name.now test.now) }
+    requires { fill < 4 }
+    ensures { OnOk result (text.new.items ≡ text.old.items ++ named_test outline.now fill name.now test.now) }
 {
-    push_box(text, outline, name, test)?;
+    push_box(text, outline, fill, name, test)?;
     push_label_within(text, outline, test.id, name)
 }
 
-/// Appends a test of a chip in a panel.
-fn push_test(text: &mut Vec<u8>, soc: &Soc, panel: &Panel, drawn: &Drawn) -> Result<(), NoMemory>
-    ensures { OnOk result (text.new.items ≡ text.old.items ++ test_text (soc_value soc.now) panel.now drawn.now) }
+/// Appends a test of a chip in a panel, among those whose rectangles have these starts.
+fn push_test(
+    text: &mut Vec<u8>,
+    soc: &Soc,
+    panel: &Panel,
+    starts: &[u128],
+    one: &Drawn,
+) -> Result<(), NoMemory>
+    requires { IsNonDecreasing starts.now }
+    ensures { (drawn : List the_rectangle) → AreStarts drawn starts.now →
+        OnOk result (text.new.items ≡ text.old.items ++ test_text (soc_value soc.now) panel.now drawn one.now) }
 {
-    let outline = outline_of(panel, &drawn.rectangle);
-    let name = name_at(soc, drawn.test.place);
-    push_named_test(text, &outline, name, &drawn.test)
+    let outline = outline_of(panel, &one.rectangle);
+    let fill = fill_of(starts, one);
+    let name = name_at(soc, one.test.place);
+    push_named_test(text, &outline, fill, name, &one.test)
 }
 
 /// Appends tests of a chip in a panel.
 pub fn push_tests(
+    alloc: Global,
     text: &mut Vec<u8>,
     soc: &Soc,
     panel: &Panel,
     drawn: &[Drawn],
 ) -> Result<(), NoMemory>
-    ensures { OnOk result (text.new.items ≡ text.old.items ++ flat_map (test_text (soc_value soc.now) panel.now) drawn.now) }
+    ensures { OnOk result (text.new.items ≡ text.old.items ++ test_texts (soc_value soc.now) panel.now drawn.now) }
 {
+    let starts = sorted_starts(alloc, drawn)?;
     for one in drawn {
-        push_test(text, soc, panel, one)?;
+        push_test(text, soc, panel, &starts, one)?;
     }
     Ok(())
 }

@@ -2,12 +2,20 @@
 ghost use Rattle.std.specs.Prelude.{◌≡◌, ◌++◌, ◌≤◌, ◌^◌, OnOk};
 ghost use Rattle.std.specs.List.{flat_map};
 ghost use Rattle.soc_model.specs.Chips.{soc_value};
-ghost use Rattle.picture.specs.PictureText.{bound_side, bound_text, frame_text, head_text, lanes_name, lanes_text, limit_text, lines_at, lines_text, load_line as the_load_line, load_text, power_text, step_text, style_text};
+ghost use Rattle.picture.specs.PictureText.{bound_side, bound_text, bound_words, frame_text, head_text, lanes_name, lanes_text, limit_text, lines_at, lines_text, load_line as the_load_line, load_text, power_text, step_text, style_text};
 
 use crate::marks::{end_label, push_entry, push_label, push_tests};
 use crate::panels::{Drawn, Panel, column, scaled};
 use outside::{NoMemory, extend, push_number};
 use soc_model::Soc;
+use std::alloc::Global;
+
+/// A bound that is marked in a picture, in cycles: that of the plan, or the claim of a proof.
+#[derive(Clone, Copy, Drop)]
+pub struct BoundMark {
+    pub cycles: u64,
+    pub of_proof: bool,
+}
 
 /// Appends how the classes look.
 fn push_style(text: &mut Vec<u8>) -> Result<(), NoMemory>
@@ -76,6 +84,7 @@ fn push_lanes_name(text: &mut Vec<u8>, lanes: u64, top: u32) -> Result<(), NoMem
 /// Appends the self tests in their lanes.
 #[tactic(auto, unfolding(crate::specs::PictureText::lanes_text))]
 pub fn push_lanes(
+    alloc: Global,
     text: &mut Vec<u8>,
     soc: &Soc,
     panel: &Panel,
@@ -84,7 +93,7 @@ pub fn push_lanes(
     ensures { OnOk result (text.new.items ≡ text.old.items ++ lanes_text (soc_value soc.now) panel.now drawn.now) }
 {
     push_lanes_name(text, panel.rows, panel.top)?;
-    push_tests(text, soc, panel, drawn)
+    push_tests(alloc, text, soc, panel, drawn)
 }
 
 /// Where a load stands, up to 100 units below the line of the limit at `top`.
@@ -196,15 +205,26 @@ fn push_side(text: &mut Vec<u8>, x: u64) -> Result<(), NoMemory>
     }
 }
 
+/// Appends which bound a number is.
+fn push_words(text: &mut Vec<u8>, of_proof: bool) -> Result<(), NoMemory>
+    ensures { OnOk result (text.new.items ≡ text.old.items ++ bound_words of_proof) }
+{
+    if of_proof {
+        return extend(text, b"bound by proof ");
+    }
+    extend(text, b"bound ")
+}
+
 /// Appends the label of the bound.
 #[tactic(auto, unfolding(crate::specs::PictureText::bound_text))]
-fn push_bound(text: &mut Vec<u8>, x: u64, bound: u64) -> Result<(), NoMemory>
+fn push_bound(text: &mut Vec<u8>, x: u64, mark: BoundMark) -> Result<(), NoMemory>
     requires left { 120 ≤ x }
     requires right { x ≤ 1120 }
-    ensures { OnOk result (text.new.items ≡ text.old.items ++ bound_text x bound) }
+    ensures { OnOk result (text.new.items ≡ text.old.items ++ bound_text x mark) }
 {
     push_side(text, x)?;
-    push_entry(text, b"bound ", bound)?;
+    push_words(text, mark.of_proof)?;
+    push_number(text, u128::from(mark.cycles))?;
     end_label(text)
 }
 
@@ -214,12 +234,12 @@ fn push_lines_at(
     text: &mut Vec<u8>,
     x: u64,
     cycles: u64,
-    bound: u64,
+    mark: BoundMark,
     bottom: u64,
 ) -> Result<(), NoMemory>
     requires left { 120 ≤ x }
     requires right { x ≤ 1120 }
-    ensures { OnOk result (text.new.items ≡ text.old.items ++ lines_at x cycles bound bottom) }
+    ensures { OnOk result (text.new.items ≡ text.old.items ++ lines_at x cycles mark bottom) }
 {
     push_entry(text, b"<path class='l' d='M1120 16V", bottom)?;
     push_entry(text, b"M", x)?;
@@ -228,12 +248,17 @@ fn push_lines_at(
     push_label(text, b"e", 1116, 16)?;
     push_entry(text, b"cycles ", cycles)?;
     end_label(text)?;
-    push_bound(text, x, bound)
+    push_bound(text, x, mark)
 }
 
 /// Appends the lines of the last cycle and of the bound, down to the end of the picture, with their numbers.
-pub fn push_lines(text: &mut Vec<u8>, cycles: u64, bound: u64, bottom: u64) -> Result<(), NoMemory>
-    ensures { OnOk result (text.new.items ≡ text.old.items ++ lines_text cycles bound bottom) }
+pub fn push_lines(
+    text: &mut Vec<u8>,
+    cycles: u64,
+    mark: BoundMark,
+    bottom: u64,
+) -> Result<(), NoMemory>
+    ensures { OnOk result (text.new.items ≡ text.old.items ++ lines_text cycles mark bottom) }
 {
-    push_lines_at(text, column(bound, cycles), cycles, bound, bottom)
+    push_lines_at(text, column(mark.cycles, cycles), cycles, mark, bottom)
 }

@@ -21,7 +21,7 @@ use Rattle.commands.specs.Answers.{Answers}
 use Rattle.commands.specs.Ends.{MayAnswer, Ends}
 use Rattle.commands.specs.Trusted.{IsChipIn, AreLimitsIn, IsMade, IsTrustworthy}
 use Rattle.commands.proofs.Trusted.{TrustLaws, stage_done, both_done, accepted, accepted_good, made, not_refused, done_answer}
-use Rattle.commands.specs.Commands.{CommandValue, IsInRange, Print, Widths, Plan, Check, Chart, Vectors, Sample, Locate, Tree, Split, Shift, Improve, Picture, Simulate, Bound, Prove, Data, Retarget}
+use Rattle.commands.specs.Commands.{CommandValue, IsInRange, Print, Widths, Plan, Check, Chart, Vectors, Sample, Locate, Tree, Split, Shift, Improve, Picture, Simulate, Bound, Prove, Data, Retarget, Stil, Vcd, Verilog, Report, PictureWithProof}
 use Rattle.soctest.specs.Samples.{sample_limits, sample_text}
 use Rattle.soctest.specs.Texts.{accepted_line}
 use Rattle.soctest.specs.LogReadings.{RefusesFails, with_log}
@@ -93,6 +93,11 @@ trusted laws reads files (Bound soc limits proof) range text old new answer put 
 trusted laws reads files (Prove soc limits plan nodes) range text old new answer put = not_here text answer
 trusted laws reads files (Data soc seed) range text old new answer put = not_here text answer
 trusted laws reads files (Retarget soc limits plan «data») range text old new answer put = not_here text answer
+trusted laws reads files (Stil soc limits plan «data») range text old new answer put = not_here text answer
+trusted laws reads files (Vcd soc limits plan «data») range text old new answer put = not_here text answer
+trusted laws reads files (Verilog soc limits plan «data») range text old new answer put = not_here text answer
+trusted laws reads files (Report soc limits plan) range text old new answer put = not_here text answer
+trusted laws reads files (PictureWithProof soc limits plan proof) range text old new answer put = not_here text answer
 
 pub headline : TrustLaws → SpotsAreReads → (command : Option CommandValue) → IfSome command IsInRange → (held : Option Files) (sb sa kb ka : ℕ) (old new : Option (List ℕ)) (end : Status) →
     Ends (MayAnswer (asked procedure_of command) held sb sa) kb ka old end new → Headline command held old end new

@@ -15,7 +15,7 @@ use Rattle.commands.specs.Procedures.{Procedure, Unless, asked, done_with}
 use Rattle.commands.specs.Settled.{IsSettled, FilesSayOneThing}
 use Rattle.commands.proofs.Settled.{done_once, left_open}
 use Rattle.commands.proofs.Completeness.{settled_chip, settled_both, settled_all}
-use Rattle.commands.specs.Commands.{CommandValue, Print, Widths, Plan, Check, Chart, Vectors, Sample, Locate, Tree, Split, Shift, Improve, Picture, Simulate, Bound, Prove, Data, Retarget}
+use Rattle.commands.specs.Commands.{CommandValue, Print, Widths, Plan, Check, Chart, Vectors, Sample, Locate, Tree, Split, Shift, Improve, Picture, Simulate, Bound, Prove, Data, Retarget, Stil, Vcd, Verilog, Report, PictureWithProof}
 use Rattle.commands.specs.Texts.{run_refusal}
 use Rattle.soctest.specs.Texts.{accepted_line}
 use Rattle.soctest.specs.WidthsText.{widths_text}
@@ -59,6 +59,11 @@ settled laws (Bound soc limits proof) = tt
 settled laws (Prove soc limits plan nodes) = tt
 settled laws (Data soc seed) = tt
 settled laws (Retarget soc limits plan «data») = tt
+settled laws (Stil soc limits plan «data») = tt
+settled laws (Vcd soc limits plan «data») = tt
+settled laws (Verilog soc limits plan «data») = tt
+settled laws (Report soc limits plan) = tt
+settled laws (PictureWithProof soc limits plan proof) = tt
 
 -- and so has what any words ask for
 pub settled_asked : Laws → (command : Option CommandValue) → IsSettled (fixes_text command) (asked procedure_of command)

@@ -18,7 +18,7 @@ use Rattle.commands.specs.declared.Status.{Status}
 use Rattle.commands.specs.declared.Status.TheVariants.{Done}
 use Rattle.commands.specs.Readings.{IsRead}
 use Rattle.commands.specs.Trusted.{IsChipIn, AreLimitsIn, IsPlanIn, IsMade, IsTrustworthy}
-use Rattle.commands.specs.Commands.{CommandValue, Print, Widths, Plan, Check, Chart, Vectors, Sample, Locate, Tree, Split, Shift, Improve, Picture, Simulate, Bound, Prove, Data, Retarget}
+use Rattle.commands.specs.Commands.{CommandValue, Print, Widths, Plan, Check, Chart, Vectors, Sample, Locate, Tree, Split, Shift, Improve, Picture, Simulate, Bound, Prove, Data, Retarget, Stil, Vcd, Verilog, Report, PictureWithProof}
 use Rattle.soctest.specs.Texts.{accepted_line}
 use Rattle.soctest.specs.Samples.{sample_limits, sample_text}
 use Rattle.soctest.specs.LocateText.{locate_text}
@@ -73,6 +73,11 @@ Trusts (Bound soc limits proof) files old new = ⊥
 Trusts (Prove soc limits plan nodes) files old new = ⊥
 Trusts (Data soc seed) files old new = ⊥
 Trusts (Retarget soc limits plan «data») files old new = ⊥
+Trusts (Stil soc limits plan «data») files old new = ⊥
+Trusts (Vcd soc limits plan «data») files old new = ⊥
+Trusts (Verilog soc limits plan «data») files old new = ⊥
+Trusts (Report soc limits plan) files old new = ⊥
+Trusts (PictureWithProof soc limits plan proof) files old new = ⊥
 
 -- The headline, for each command, where the shelf tells what it holds.
 abbrev pub Headline : Option CommandValue → Option Files → Option (List ℕ) → Status → Option (List ℕ) → Type 0

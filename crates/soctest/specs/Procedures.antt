@@ -11,7 +11,7 @@ use Rattle.width_tree.specs.Trees.{TreeValue}
 use Rattle.bit_machine.specs.Chips.{made_content}
 use Rattle.tester_vectors.specs.VectorText.{too_many, vector_text}
 use Rattle.commands.specs.Texts.{run_refusal}
-use Rattle.commands.specs.Commands.{CommandValue, Print, Widths, Plan, Check, Chart, Vectors, Sample, Locate, Tree, Split, Shift, Improve, Picture, Simulate, Bound, Prove, Data, Retarget}
+use Rattle.commands.specs.Commands.{CommandValue, Print, Widths, Plan, Check, Chart, Vectors, Sample, Locate, Tree, Split, Shift, Improve, Picture, Simulate, Bound, Prove, Data, Retarget, Stil, Vcd, Verilog, Report, PictureWithProof}
 use Rattle.sample_maker.specs.Samples.{made_chip}
 use Rattle.sample_maker.specs.declared.TheConstants.{SAMPLE_MODULES_MOST}
 use Rattle.soctest.specs.Samples.{sample_limits, sample_line, sample_text}
@@ -84,6 +84,11 @@ procedure_of (Bound soc limits proof) = NoCommand
 procedure_of (Prove soc limits plan nodes) = NoCommand
 procedure_of (Data soc seed) = NoCommand
 procedure_of (Retarget soc limits plan «data») = NoCommand
+procedure_of (Stil soc limits plan «data») = NoCommand
+procedure_of (Vcd soc limits plan «data») = NoCommand
+procedure_of (Verilog soc limits plan «data») = NoCommand
+procedure_of (Report soc limits plan) = NoCommand
+procedure_of (PictureWithProof soc limits plan proof) = NoCommand
 
 -- the files fix the text of an answer; that of `plan`, `sample` and `split` may be of any plan that the planner may make
 abbrev pub fixes_text : Option CommandValue → Bool
@@ -106,3 +111,8 @@ fixes_text (Some (Bound soc limits proof)) = true
 fixes_text (Some (Prove soc limits plan nodes)) = true
 fixes_text (Some (Data soc seed)) = true
 fixes_text (Some (Retarget soc limits plan «data»)) = true
+fixes_text (Some (Stil soc limits plan «data»)) = true
+fixes_text (Some (Vcd soc limits plan «data»)) = true
+fixes_text (Some (Verilog soc limits plan «data»)) = true
+fixes_text (Some (Report soc limits plan)) = true
+fixes_text (Some (PictureWithProof soc limits plan proof)) = true

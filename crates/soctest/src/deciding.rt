@@ -381,7 +381,12 @@ pub fn decide<H: Shelf>(alloc: Global, words: &[String], shelf: &mut H) -> Endin
             | Command::Bound { .. }
             | Command::Prove { .. }
             | Command::Data { .. }
-            | Command::Retarget { .. },
+            | Command::Retarget { .. }
+            | Command::Stil { .. }
+            | Command::Vcd { .. }
+            | Command::Verilog { .. }
+            | Command::Report { .. }
+            | Command::PictureWithProof { .. },
         )
         | None => Ending::Decided(bad_words(alloc)),
     }

@@ -326,3 +326,83 @@ returns-in-Retarget-clause-reported g c =
 pub returns-in-Retarget-clause-headline : goal.returns-in-Retarget-clause-headline
 returns-in-Retarget-clause-headline g c =
     headline_chosen top_call.Retarget (command_of (map string_bytes c.args.words.now)) (sym c.in-Retarget.is ∙ c.top_call.ensures) (g.H.Shelf.held c.args.shelf.now) (g.K.Sink.written c.args.out.now) c.retarget.result (g.K.Sink.written c.retarget.new.out) c.retarget.ensures.headline
+
+pub returns-in-Programs-clause-ends : goal.returns-in-Programs-clause-ends
+returns-in-Programs-clause-ends g c =
+    ends_chosen top_call.Programs (command_of (map string_bytes c.args.words.now)) (sym c.in-Programs.is ∙ c.top_call.ensures) (g.H.Shelf.held c.args.shelf.now) (g.H.Shelf.faults c.args.shelf.now) (g.H.Shelf.faults c.write_tester_program.new.shelf) (g.K.Sink.faults c.args.out.now) (g.K.Sink.faults c.write_tester_program.new.out) (g.K.Sink.written c.args.out.now) c.write_tester_program.result (g.K.Sink.written c.write_tester_program.new.out) c.write_tester_program.ensures.ends
+
+pub returns-in-Programs-clause-one_line : goal.returns-in-Programs-clause-one_line
+returns-in-Programs-clause-one_line g c =
+    c.write_tester_program.ensures.one_line
+
+pub returns-in-Programs-clause-by_words : goal.returns-in-Programs-clause-by_words
+returns-in-Programs-clause-by_words g c =
+    by_words_chosen top_call.Programs (command_of (map string_bytes c.args.words.now)) (sym c.in-Programs.is ∙ c.top_call.ensures) (Rose (g.K.Sink.faults c.args.out.now) (g.K.Sink.faults c.write_tester_program.new.out)) c.write_tester_program.result c.write_tester_program.ensures.by_words
+
+pub returns-in-Programs-clause-bad_words : goal.returns-in-Programs-clause-bad_words
+returns-in-Programs-clause-bad_words g c =
+    c.write_tester_program.ensures.bad_words
+
+pub returns-in-Programs-clause-untouched : goal.returns-in-Programs-clause-untouched
+returns-in-Programs-clause-untouched g c =
+    λ none. c.write_tester_program.ensures.untouched (asks_nothing (procedure_by top_call.Programs) (command_of (map string_bytes c.args.words.now)) none)
+
+pub returns-in-Programs-clause-complete : goal.returns-in-Programs-clause-complete
+returns-in-Programs-clause-complete g c =
+    complete_chosen top_call.Programs (command_of (map string_bytes c.args.words.now)) (sym c.in-Programs.is ∙ c.top_call.ensures) (g.H.Shelf.held c.args.shelf.now) (Rose (g.H.Shelf.faults c.args.shelf.now) (g.H.Shelf.faults c.write_tester_program.new.shelf)) (Rose (g.K.Sink.faults c.args.out.now) (g.K.Sink.faults c.write_tester_program.new.out)) (g.K.Sink.written c.args.out.now) c.write_tester_program.result (g.K.Sink.written c.write_tester_program.new.out) c.write_tester_program.ensures.complete
+
+pub returns-in-Programs-clause-finishes : goal.returns-in-Programs-clause-finishes
+returns-in-Programs-clause-finishes g c =
+    finishes_chosen top_call.Programs (command_of (map string_bytes c.args.words.now)) (sym c.in-Programs.is ∙ c.top_call.ensures) (g.H.Shelf.held c.args.shelf.now) (Rose (g.H.Shelf.faults c.args.shelf.now) (g.H.Shelf.faults c.write_tester_program.new.shelf)) (Rose (g.K.Sink.faults c.args.out.now) (g.K.Sink.faults c.write_tester_program.new.out)) c.write_tester_program.result c.write_tester_program.ensures.finishes
+
+pub returns-in-Programs-clause-quiet : goal.returns-in-Programs-clause-quiet
+returns-in-Programs-clause-quiet g c =
+    λ quiet. refl
+
+pub returns-in-Programs-clause-reported : goal.returns-in-Programs-clause-reported
+returns-in-Programs-clause-reported g c =
+    reported_chosen top_call.Programs (command_of (map string_bytes c.args.words.now)) (sym c.in-Programs.is ∙ c.top_call.ensures) (g.T.Sink.written c.args.progress.now) (g.T.Sink.written c.args.progress.now) refl
+
+pub returns-in-Programs-clause-headline : goal.returns-in-Programs-clause-headline
+returns-in-Programs-clause-headline g c =
+    headline_chosen top_call.Programs (command_of (map string_bytes c.args.words.now)) (sym c.in-Programs.is ∙ c.top_call.ensures) (g.H.Shelf.held c.args.shelf.now) (g.K.Sink.written c.args.out.now) c.write_tester_program.result (g.K.Sink.written c.write_tester_program.new.out) c.write_tester_program.ensures.headline
+
+pub returns-in-Report-clause-ends : goal.returns-in-Report-clause-ends
+returns-in-Report-clause-ends g c =
+    ends_chosen top_call.Report (command_of (map string_bytes c.args.words.now)) (sym c.in-Report.is ∙ c.top_call.ensures) (g.H.Shelf.held c.args.shelf.now) (g.H.Shelf.faults c.args.shelf.now) (g.H.Shelf.faults c.report_plan.new.shelf) (g.K.Sink.faults c.args.out.now) (g.K.Sink.faults c.report_plan.new.out) (g.K.Sink.written c.args.out.now) c.report_plan.result (g.K.Sink.written c.report_plan.new.out) c.report_plan.ensures.ends
+
+pub returns-in-Report-clause-one_line : goal.returns-in-Report-clause-one_line
+returns-in-Report-clause-one_line g c =
+    c.report_plan.ensures.one_line
+
+pub returns-in-Report-clause-by_words : goal.returns-in-Report-clause-by_words
+returns-in-Report-clause-by_words g c =
+    by_words_chosen top_call.Report (command_of (map string_bytes c.args.words.now)) (sym c.in-Report.is ∙ c.top_call.ensures) (Rose (g.K.Sink.faults c.args.out.now) (g.K.Sink.faults c.report_plan.new.out)) c.report_plan.result c.report_plan.ensures.by_words
+
+pub returns-in-Report-clause-bad_words : goal.returns-in-Report-clause-bad_words
+returns-in-Report-clause-bad_words g c =
+    c.report_plan.ensures.bad_words
+
+pub returns-in-Report-clause-untouched : goal.returns-in-Report-clause-untouched
+returns-in-Report-clause-untouched g c =
+    λ none. c.report_plan.ensures.untouched (asks_nothing (procedure_by top_call.Report) (command_of (map string_bytes c.args.words.now)) none)
+
+pub returns-in-Report-clause-complete : goal.returns-in-Report-clause-complete
+returns-in-Report-clause-complete g c =
+    complete_chosen top_call.Report (command_of (map string_bytes c.args.words.now)) (sym c.in-Report.is ∙ c.top_call.ensures) (g.H.Shelf.held c.args.shelf.now) (Rose (g.H.Shelf.faults c.args.shelf.now) (g.H.Shelf.faults c.report_plan.new.shelf)) (Rose (g.K.Sink.faults c.args.out.now) (g.K.Sink.faults c.report_plan.new.out)) (g.K.Sink.written c.args.out.now) c.report_plan.result (g.K.Sink.written c.report_plan.new.out) c.report_plan.ensures.complete
+
+pub returns-in-Report-clause-finishes : goal.returns-in-Report-clause-finishes
+returns-in-Report-clause-finishes g c =
+    finishes_chosen top_call.Report (command_of (map string_bytes c.args.words.now)) (sym c.in-Report.is ∙ c.top_call.ensures) (g.H.Shelf.held c.args.shelf.now) (Rose (g.H.Shelf.faults c.args.shelf.now) (g.H.Shelf.faults c.report_plan.new.shelf)) (Rose (g.K.Sink.faults c.args.out.now) (g.K.Sink.faults c.report_plan.new.out)) c.report_plan.result c.report_plan.ensures.finishes
+
+pub returns-in-Report-clause-quiet : goal.returns-in-Report-clause-quiet
+returns-in-Report-clause-quiet g c =
+    λ quiet. refl
+
+pub returns-in-Report-clause-reported : goal.returns-in-Report-clause-reported
+returns-in-Report-clause-reported g c =
+    reported_chosen top_call.Report (command_of (map string_bytes c.args.words.now)) (sym c.in-Report.is ∙ c.top_call.ensures) (g.T.Sink.written c.args.progress.now) (g.T.Sink.written c.args.progress.now) refl
+
+pub returns-in-Report-clause-headline : goal.returns-in-Report-clause-headline
+returns-in-Report-clause-headline g c =
+    headline_chosen top_call.Report (command_of (map string_bytes c.args.words.now)) (sym c.in-Report.is ∙ c.top_call.ensures) (g.H.Shelf.held c.args.shelf.now) (g.K.Sink.written c.args.out.now) c.report_plan.result (g.K.Sink.written c.report_plan.new.out) c.report_plan.ensures.headline

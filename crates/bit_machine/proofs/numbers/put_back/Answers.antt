@@ -1,34 +1,66 @@
-use Rattle.std.proofs.Common.{◌≡◌, ℕ, ◌+◌, ◌-◌, ◌<◌, ap, subst, length, drop, arith}
+use Rattle.std.proofs.Common.{◌≡◌, ℕ, ◌+◌, ◌-◌, ◌^◌, ◌<◌, ◌≤◌, ◌∙◌, refl, ap, sym, subst, List, length, drop, arith}
 use Rattle.std.specs.Prelude.{slice_index}
-use Rattle.std.proofs.lemmas.List.{drop_more}
+use Rattle.std.proofs.lemmas.List.{drop-drop}
 use Rattle.bit_machine.specs.Numbers.{all_numbers, IsWalk}
 use Rattle.bit_machine.specs.Vectors.{ArePutDown}
-use Rattle.bit_machine.proofs.Columns.{up_more, walked_byte}
-use Rattle.bit_machine.proofs.Walks.{has_next}
+use Rattle.bit_machine.specs.declared.numbers.Walk.{Walk}
+use Rattle.bit_machine.proofs.Columns.{same_down, up_block}
+use Rattle.bit_machine.proofs.Walks.{has_next, walk_first, walk_number, walk_on}
 use Rattle.bit_machine.proofs.numbers.put_back.Goals as goal
 
-pub next_value-value-requires-clause-next : goal.next_value-value-requires-clause-next
-next_value-value-requires-clause-next g c =
-    has_next c.args.runs.now (g.B.PatternBits.value_of c.args.bits.now) c.loop-place.walk (c.args.last - (c.args.count - 1) + c.loop-place.place) (omega (arith, c.loop-place-test.true, c.requires.within, c.requires.back)) c.loop-place.invariant.walk
+pub refilled-here-requires-clause-next : goal.refilled-here-requires-clause-next
+refilled-here-requires-clause-next g c =
+    has_next c.args.runs.now (g.B.PatternBits.value_of c.args.bits.now) c.loop-above.walk (c.args.last + 1 - c.loop-above.above) (omega (arith, c.loop-above-test.true, c.requires.within)) c.loop-above.invariant.walk
 
-pub loop-place-preserved : goal.loop-place-preserved
-loop-place-preserved g c =
+pub put_run-value-requires-clause-value : goal.put_run-value-requires-clause-value
+put_run-value-requires-clause-value g c =
+    let few : c.min-some.result ≤ c.refilled-here.result.left = omega (arith, c.min-some.ensures) in
+    walk_first c.args.runs.now (g.B.PatternBits.value_of c.args.bits.now) c.refilled-here.result c.min-some.result (drop (c.args.last + 1 - c.loop-above.above) (all_numbers c.args.runs.now)) few (c.refilled-here.ensures.walk _ c.loop-above.invariant.walk)
+
+pub loop-above-preserved : goal.loop-above-preserved
+loop-above-preserved g c =
     let values : ℕ → ℕ = g.B.PatternBits.value_of c.args.bits.now in
-    let first : ℕ = c.args.last - (c.args.count - 1) in
-    let below : ℕ = c.args.count - (c.loop-place.place + 1) in
-    let byte : ℕ → ℕ = λ (i : ℕ). g.B.PatternBits.byte_of c.args.bits.now (slice_index (all_numbers c.args.runs.now) (c.args.last - i)) in
-    let here : first + c.loop-place.place < length (all_numbers c.args.runs.now) = omega (arith, c.loop-place-test.true, c.requires.within, c.requires.back) in
-    let walk = subst (IsWalk c.args.runs.now values c.loop-place.walk) (drop_more (all_numbers c.args.runs.now) (first + c.loop-place.place) 0 here) c.loop-place.invariant.walk in
-    let on : first + c.loop-place.place + 1 ≡ first + (c.loop-place.place + 1) = omega arith in
-    let above : c.args.at.row + (c.args.count - c.loop-place.place) ≡ c.args.at.row + below + 1 = omega (arith, c.loop-place-test.true) in
-    let row : c.args.at.row + (c.args.count - 1 - c.loop-place.place) ≡ c.args.at.row + below = omega arith in
+    let byte : ℕ → ℕ = g.B.PatternBits.byte_of c.args.bits.now in
+    let numbers : List ℕ = all_numbers c.args.runs.now in
+    let here : Walk = c.refilled-here.result in
+    let some : ℕ = c.min-some.result in
+    let above : ℕ = c.loop-above.above in
+    let place : ℕ = c.args.last + 1 - above in
+    let few : some ≤ here.left = omega (arith, c.min-some.ensures) in
+    let fewer : some ≤ above = omega (arith, c.min-some.ensures) in
+    let most : above ≤ c.args.count = c.loop-above.invariant.few in
+    let is : IsWalk c.args.runs.now values here (drop place numbers) = c.refilled-here.ensures.walk _ c.loop-above.invariant.walk in
+    let fits : is.number + some < 2 ^ 64 = let fits = is.fits in omega (arith, fits, few) in
+    let on : place + some ≡ c.args.last + 1 - (above - some) = omega (arith, fewer, most, c.requires.back) in
+    let under : c.args.at.row + above ≡ c.args.at.row + (above - some) + some = omega (arith, fewer) in
+    let total : some + (c.args.count - above) ≡ c.args.count - (above - some) = omega (arith, fewer, most) in
     record {
-      walk = subst (λ n. IsWalk c.args.runs.now values c.next_value-value.new.walk (drop n (all_numbers c.args.runs.now))) on (c.next_value-value.ensures.walk _ _ walk);
-      text =
-          up_more c.args.at.wires (c.args.at.row + below) c.loop-place.place c.args.at.column c.byte.result (λ (i : ℕ). byte (c.args.count - c.loop-place.place + i)) (λ (i : ℕ). byte (below + i))
-          c.args.text.now c.loop-place.text c.put_byte.new.text c.requires.column
-          (walked_byte (g.B.PatternBits.byte_of c.args.bits.now) (all_numbers c.args.runs.now) c.args.last c.args.count c.loop-place.place c.byte.result c.loop-place-test.true c.requires.back (c.byte.ensures _ (c.next_value-value.ensures.value _ _ walk)))
-          (λ i less. let e : c.args.count - c.loop-place.place + i ≡ below + (i + 1) = omega (arith, c.loop-place-test.true) in ap byte e)
-          (subst (λ (r : ℕ). ArePutDown c.args.at.wires r c.loop-place.place c.args.at.column (λ (i : ℕ). byte (c.args.count - c.loop-place.place + i)) c.args.text.now c.loop-place.text) above c.loop-place.invariant.text)
-          (subst (λ (r : ℕ). ArePutDown c.args.at.wires r 1 c.args.at.column (λ (i : ℕ). c.byte.result) c.loop-place.text c.put_byte.new.text) row c.put_byte.ensures);
+      few = omega (arith, most);
+      walk = subst (λ n. IsWalk c.args.runs.now values (record { run = here.run; left = here.left - some; value = c.put_run-value.result }) (drop n numbers)) on
+          (subst (IsWalk c.args.runs.now values (record { run = here.run; left = here.left - some; value = c.put_run-value.result })) (drop-drop some place numbers)
+          (walk_on c.args.runs.now values here some c.put_run-value.result (drop place numbers) few is c.put_run-value.ensures.after));
+      text = same_down c.args.at.wires (c.args.at.row + (above - some)) (c.args.at.row + (above - some)) (some + (c.args.count - above)) (c.args.count - (above - some)) c.args.at.column
+          (λ (i : ℕ). byte (slice_index numbers (c.args.last - (above - some + i)))) (λ (i : ℕ). byte (slice_index numbers (c.args.last - (above - some + i)))) c.args.text.now c.put_run-value.new.text
+          refl total (λ i. refl)
+          (up_block c.args.at.wires (c.args.at.row + (above - some)) some (c.args.count - above) c.args.at.column
+          (λ (i : ℕ). byte (is.number + (some - 1 - i))) (λ (i : ℕ). byte (slice_index numbers (c.args.last - (above + i)))) (λ (i : ℕ). byte (slice_index numbers (c.args.last - (above - some + i))))
+          c.args.text.now c.loop-above.text c.put_run-value.new.text c.requires.column
+          (λ i less.
+          let there : place + (some - 1 - i) ≡ c.args.last - (above - some + i) = omega (arith, less, fewer, most, c.requires.back) in
+          let within : place + (some - 1 - i) < length numbers = omega (arith, less, fewer, most, c.requires.back, c.requires.within) in
+          ap byte (sym (walk_number c.args.runs.now values here numbers place (some - 1 - i) within (omega (arith, less, few)) is)) ∙ ap (λ n. byte (slice_index numbers n)) there)
+          (λ i less. let same : c.args.last - (above + i) ≡ c.args.last - (above - some + (some + i)) = omega (arith, fewer) in ap (λ n. byte (slice_index numbers n)) same)
+          (subst (λ (r : ℕ). ArePutDown c.args.at.wires r (c.args.count - above) c.args.at.column (λ (i : ℕ). byte (slice_index numbers (c.args.last - (above + i)))) c.args.text.now c.loop-above.text) under c.loop-above.invariant.text)
+          (c.put_run-value.ensures.put is.number is.value fits));
     }
+
+pub returns : goal.returns
+returns g c =
+    let byte : ℕ → ℕ = g.B.PatternBits.byte_of c.args.bits.now in
+    let numbers : List ℕ = all_numbers c.args.runs.now in
+    let above : ℕ = c.loop-above.above in
+    let none : above ≡ 0 = omega (arith, c.loop-above-test.false) in
+    same_down c.args.at.wires (c.args.at.row + above) c.args.at.row (c.args.count - above) c.args.count c.args.at.column
+    (λ (i : ℕ). byte (slice_index numbers (c.args.last - (above + i)))) (λ (i : ℕ). byte (slice_index numbers (c.args.last - i))) c.args.text.now c.loop-above.text
+    (omega (arith, none)) (omega (arith, none)) (λ i. let same : c.args.last - (above + i) ≡ c.args.last - i = omega (arith, none) in ap (λ n. byte (slice_index numbers n)) same)
+    c.loop-above.invariant.text

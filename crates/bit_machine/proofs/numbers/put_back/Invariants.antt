@@ -1,11 +1,15 @@
-use Rattle.std.proofs.Common.{ℕ, ◌+◌, ◌-◌, drop}
+use Rattle.std.proofs.Common.{ℕ, ◌+◌, ◌-◌, ◌≤◌, drop}
 use Rattle.std.specs.Prelude.{slice_index}
 use Rattle.bit_machine.specs.Numbers.{all_numbers, IsWalk}
 use Rattle.bit_machine.specs.Vectors.{ArePutDown}
 use Rattle.bit_machine.proofs.numbers.put_back.Given as goal
 
-abbrev pub invariant-loop-place : goal.invariant-loop-place
-invariant-loop-place g l = record {
-  walk : IsWalk l.runs (g.B.PatternBits.value_of l.bits) l.walk (drop (l.first + l.place) (all_numbers l.runs));
-  text : ArePutDown l.at.wires (l.at.row + (l.count - l.place)) l.place l.at.column (λ (i : ℕ). g.B.PatternBits.byte_of l.bits (slice_index (all_numbers l.runs) (l.last - (l.count - l.place + i)))) l.initial.text l.text;
+abbrev pub invariant-loop-above : goal.invariant-loop-above
+invariant-loop-above g l = record {
+  few : l.above ≤ l.count;
+  walk : IsWalk l.runs (g.B.PatternBits.value_of l.bits) l.walk (drop (l.last + 1 - l.above) (all_numbers l.runs));
+  text : ArePutDown l.at.wires (l.at.row + l.above) (l.count - l.above) l.at.column (λ (i : ℕ). g.B.PatternBits.byte_of l.bits (slice_index (all_numbers l.runs) (l.last - (l.above + i)))) l.initial.text l.text;
 }
+
+abbrev pub decreases-loop-above : goal.decreases-loop-above
+decreases-loop-above g l = l.above

@@ -5,4 +5,4 @@ use Rattle.picture.specs.Marks.{test_text}
 use Rattle.picture.proofs.marks.push_tests.Given as goal
 
 abbrev pub invariant-loop-one : goal.invariant-loop-one
-invariant-loop-one l = l.text.items ≡ l.initial.text.items ++ flat_map (test_text (soc_value l.soc) l.panel) (take l.one-index l.drawn)
+invariant-loop-one l = l.text.items ≡ l.initial.text.items ++ flat_map (test_text (soc_value l.soc) l.panel l.drawn) (take l.one-index l.drawn)

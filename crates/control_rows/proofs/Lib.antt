@@ -1,0 +1,4 @@
+pub mod Marking
+pub mod Operations
+pub mod Placed
+pub mod Told

@@ -1,0 +1,102 @@
+//! The rows of the controls of a plan.
+ghost use Rattle.std.specs.Prelude.{◌≡◌, ℕ, ◌+◌, ◌*◌, ◌^◌, ◌<◌, length, map, slice_range, IfOk};
+ghost use Rattle.soc_model.specs.Chips.{SocValue, live_tests, soc_value};
+ghost use Rattle.soc_model.specs.SoundChips.{IsSoundChip};
+ghost use Rattle.plan_model.specs.Plans.{PlanValue};
+ghost use Rattle.plan_model.specs.Rules.{IsGoodAlone};
+ghost use Rattle.plan_model.specs.Views.{plan_value};
+ghost use Rattle.controls.specs.Controls.{control_row, controls};
+ghost use Rattle.control_rows.specs.Columns.{own_columns};
+ghost use Rattle.control_rows.specs.Tests.{AreControlRows, HaveRowRoom, controlled_live};
+
+use crate::columns::{ModuleColumns, put_test, put_zeros};
+use crate::placing::{ControlledTest, controlled_tests};
+use controls::{controls_of, tam_modules};
+use live_tests::{PlanIndex, PlannedChip};
+use outside::NoMemory;
+use plan_model::Plan;
+use soc_model::Soc;
+use std::alloc::Global;
+
+/// The controls of a good plan at each cycle. A row is what they are at one cycle, each as a digit, in the order of
+/// [`controls::controls_of`].
+#[derive(Drop)]
+pub struct ControlRows {
+    /// The live tests, in the order of the chip.
+    tests: Vec<ControlledTest>,
+    /// How many modules have a live test over the wires.
+    modules: usize,
+    /// How many controls there are.
+    columns: usize,
+}
+
+impl ControlRows {
+    /// The rows of a good plan of a sound chip. All memory is taken here: `NoMemory` where there is none.
+    pub fn new(alloc: Global, soc: &Soc, plan: &Plan) -> Result<ControlRows, NoMemory>
+        requires sound { IsSoundChip (soc_value soc.now) }
+        requires good { IsGoodAlone (soc_value soc.now) (plan_value plan.now) }
+        ensures { IfOk result (AreControlRows (soc_value soc.now) (plan_value plan.now)) }
+    {
+        let numbers = tam_modules(alloc, soc)?;
+        let list = controls_of(alloc, soc)?;
+        let tests = placed_tests(alloc, soc, plan)?;
+        Ok(ControlRows {
+            tests,
+            modules: numbers.len(),
+            columns: list.len(),
+        })
+    }
+
+    /// How many controls there are: the digits of a row.
+    pub fn count(&self) -> usize
+        ensures { (soc : SocValue) (plan : PlanValue) → AreControlRows soc plan self.now → result ≡ length (controls soc) }
+    {
+        self.columns
+    }
+
+    /// Writes the rows of `count` cycles from one on, one behind another from the text's first byte on. What stands behind them is kept
+    /// in its length alone.
+    pub fn put_rows(&self, text: &mut [u8], from: u64, count: u64)
+        requires room { HaveRowRoom self.now count text.old }
+        requires fits { from + count < 2 ^ 64 }
+        ensures long { length text.new ≡ length text.old }
+        ensures rows { (soc : SocValue) (plan : PlanValue) → AreControlRows soc plan self.now → (r : ℕ) → r < count →
+            slice_range text.new (r * length (controls soc)) (r * length (controls soc) + length (controls soc))
+            ≡ control_row soc plan (from + r) }
+    {
+        let columns = self.columns;
+        put_zeros(text, count as usize * columns);
+        for place in 0..self.tests.len() {
+            let test = &self.tests[place];
+            let own = self.own_columns(test);
+            put_test(text, columns, test, place, own, from, count);
+        }
+    }
+
+    /// The columns of the controls of a test's module.
+    fn own_columns(&self, test: &ControlledTest) -> ModuleColumns
+        requires { length self.now.tests.items + self.now.modules + test.now.before < 2 ^ 64 }
+        ensures { result ≡ own_columns (length self.now.tests.items) self.now.modules test.now.before }
+    {
+        let shifts = self.tests.len();
+        ModuleColumns {
+            shift: shifts + test.before,
+            capture: shifts + self.modules + test.before,
+        }
+    }
+}
+
+/// The live tests of a chip as a good plan places them. The plan's index goes when all are placed.
+fn placed_tests(alloc: Global, soc: &Soc, plan: &Plan) -> Result<Vec<ControlledTest>, NoMemory>
+    requires sound { IsSoundChip (soc_value soc.now) }
+    requires good { IsGoodAlone (soc_value soc.now) (plan_value plan.now) }
+    ensures { IfOk result (λ tests. tests.items
+        ≡ map (controlled_live (soc_value soc.now) (plan_value plan.now)) (live_tests (soc_value soc.now))) }
+{
+    let index = PlanIndex::new(alloc, plan)?;
+    let chip = PlannedChip { soc, index: &index };
+    let tests = controlled_tests(alloc, &chip);
+    // dropped by a call: the end of the scope would drop each of its parts, and be proved for each
+    drop(index);
+    tests
+}

@@ -1,0 +1,4 @@
+pub mod ProgramText
+pub mod RowBlocks
+pub mod Sources
+pub mod UnderWay

@@ -1,0 +1,2 @@
+pub mod StilText
+pub mod StilForms

@@ -1,0 +1,97 @@
+-- How what is asked for is answered: there is one answer to each file, and what is written is right.
+use Rattle.std.proofs.Common.{◌≡◌, ℕ, List, Option, Some, true, refl, subst}
+use Rattle.std.specs.FinMap.{get}
+use Rattle.outside.specs.Held.{Files, Appended}
+use Rattle.soc_model.specs.Chips.{SocValue}
+use Rattle.soc_model.specs.SoundChips.{IsSoundChip}
+use Rattle.plan_model.specs.Plans.{LimitsValue, PlanValue}
+use Rattle.soc_reader.specs.ChipForm.{SaysChip}
+use Rattle.soc_reader.proofs.ChipsSaid.{sound_chip}
+use Rattle.plan_text.specs.Answers.{SaysPlan}
+use Rattle.test_data.specs.DataWords.{EntryValue, SaysData}
+use Rattle.test_data.specs.Agreement.{Suits}
+use Rattle.test_data.proofs.AgreeingContents.{agreeing}
+use Rattle.test_data.proofs.SuitedData.{suits}
+use Rattle.commands.specs.declared.FileKind.TheVariants.{Soc, Limits, Plan, Data}
+use Rattle.commands.specs.declared.Status.{Status}
+use Rattle.commands.specs.declared.Status.TheVariants.{Done}
+use Rattle.commands.specs.Answers.{Answers}
+use Rattle.commands.specs.Commands.{CommandValue, Stil, Vcd, Verilog}
+use Rattle.commands.specs.Ends.{MayAnswer, Ends}
+use Rattle.commands.specs.Procedures.{Procedure, asked, done_with, with_accepted}
+use Rattle.commands.specs.Readings.{IsRead, SaysLimits, SaysAccepted, RefusesPlan}
+use Rattle.commands.specs.Settled.{IsSettled, FilesSayOneThing}
+use Rattle.commands.proofs.Completeness.{settled_all}
+use Rattle.commands.proofs.Settled.{done_once}
+use Rattle.commands.proofs.Trusted.{TrustLaws, both_done, done_answer, not_refused, read_as_well, stage_done}
+use Rattle.retargeter.specs.Contents.{data_content, data_marks}
+use Rattle.retargeter.specs.DataTexts.{retarget_text}
+use Rattle.tester_programs.specs.Headlines.{IsProgrammed, Headline}
+use Rattle.retargeter.specs.Readings.{SaysSuiting, RefusesData}
+use Rattle.retargeter.specs.Requests.{long_refusal}
+use Rattle.tester_programs.specs.declared.ending.Language.{Language}
+use Rattle.tester_programs.specs.declared.ending.Language.TheVariants as language
+use Rattle.tester_programs.specs.Languages.{tester_program, data_row}
+use Rattle.tester_programs.specs.Requests.{procedure_of, program_procedure, with_data_program, with_program}
+use Rattle.control_laws.proofs.Saying.{run_the_plan}
+use Rattle.cycle_texts.proofs.VectorRows.{vectors_shown}
+use Rattle.retargeter.proofs.DataFiles.{data_one, data_refused_one}
+use Rattle.retargeter.proofs.RetargetTexts.{runs_with_data}
+
+-- the files fix the text
+settled : FilesSayOneThing → (language : Language) (soc limits plan name : List ℕ) → IsSettled true (program_procedure language soc limits plan name)
+settled laws language soc limits plan name =
+    settled_all laws true soc limits plan (with_data_program language name) (λ chip bounds value. (data_one chip, data_refused_one chip, λ es. done_once true (tester_program language chip value es)))
+
+pub settled_asked : FilesSayOneThing → (command : Option CommandValue) → IsSettled true (asked procedure_of command)
+settled_asked laws (Some (Stil soc limits plan name)) = settled laws language.Stil soc limits plan name
+settled_asked laws (Some (Vcd soc limits plan name)) = settled laws language.Vcd soc limits plan name
+settled_asked laws (Some (Verilog soc limits plan name)) = settled laws language.Verilog soc limits plan name
+settled_asked laws other = tt
+
+programmed : TrustLaws → (language : Language) (files : Files) (soc limits plan name text : List ℕ) (old new : Option (List ℕ)) → Answers (program_procedure language soc limits plan name) files Done text → Appended old text new → IsProgrammed language files soc limits plan name old new
+programmed laws language files soc limits plan name text old new answer put =
+    let b = both_done files soc limits text (λ chip bounds. with_accepted chip bounds plan (with_data_program language name chip bounds)) answer in
+    let c = stage_done Plan (SaysAccepted b.0 b.1) (RefusesPlan b.0 b.1) (λ value. Answers (with_data_program language name b.0 b.1 value) files) (get files plan) text b.4 in
+    let d = stage_done Data (SaysSuiting b.0) (RefusesData b.0) (λ es. Answers (with_program language b.0 c.0 es) files) (get files name) text c.2 in
+    let done = not_refused files (long_refusal c.0) (done_with (tester_program language b.0 c.0 d.0)) text d.2 in
+    go b.0 b.1 c.0 d.0 b.2 b.3 c.1 d.1 done.1
+  where
+    go : (chip : SocValue) (bounds : LimitsValue) (value : PlanValue) (es : List EntryValue) → IsRead Soc SaysChip (get files soc) chip → IsRead Limits (SaysLimits chip) (get files limits) bounds → IsRead Plan (SaysAccepted chip bounds) (get files plan) value → IsRead Data (SaysSuiting chip) (get files name) es →
+        text ≡ tester_program language chip value es → IsProgrammed language files soc limits plan name old new
+    go chip bounds value es a b c d is =
+        let sound : IsSoundChip chip = sound_chip a.bytes chip a.says in
+        let suited : Suits chip es = suits chip es sound d.says.1 in
+        record {
+          chip = chip;
+          bounds = bounds;
+          value = value;
+          es = es;
+          chip_is = a;
+          limits_are = b;
+          plan_is = read_as_well Plan (SaysAccepted chip bounds) SaysPlan (get files plan) value (λ bytes says. says.0) c;
+          data_is = read_as_well Data (SaysSuiting chip) SaysData (get files name) es (λ bytes says. says.0) d;
+          suits = suited;
+          some = agreeing chip es sound suited;
+          right = λ content. laws.right chip bounds value content c.says.1.0;
+          bound = laws.bound chip bounds value.bound b.says.sound.some_wire c.says.1.1;
+          runs = runs_with_data chip bounds value es sound c.says.1.0 suited;
+          rows = vectors_shown chip value (data_content chip es) (data_marks chip es);
+          controlled = run_the_plan chip bounds value sound c.says.1.0;
+          written = subst (λ t. Appended old t new) is put;
+        }
+
+-- what a call that asks for this ends with is promised of it
+headline_of : TrustLaws → (language : Language) (command : Option CommandValue) (asks : CommandValue) (held : Option Files) (sb sa kb ka : ℕ) (old new : Option (List ℕ)) (end : Status) (files : Files) (soc limits plan name : List ℕ) → Ends (MayAnswer (asked procedure_of command) held sb sa) kb ka old end new → held ≡ Some files → command ≡ Some asks → procedure_of asks ≡ program_procedure language soc limits plan name → end ≡ Done →
+    IsProgrammed language files soc limits plan name old new
+headline_of laws language command asks held sb sa kb ka old new end files soc limits plan name ends is named same done =
+    let a = done_answer (asked procedure_of command) held sb sa kb ka old new end files ends is done in
+    let answer : Answers (procedure_of asks) files Done a.0 = subst (λ (q : Option CommandValue). Answers (asked procedure_of q) files Done a.0) named a.1 in
+    programmed laws language files soc limits plan name a.0 old new (subst (λ (p : Procedure). Answers p files Done a.0) same answer) a.2
+
+pub headline : TrustLaws → (command : Option CommandValue) (held : Option Files) (sb sa kb ka : ℕ) (old new : Option (List ℕ)) (end : Status) → Ends (MayAnswer (asked procedure_of command) held sb sa) kb ka old end new → Headline command held old end new
+headline laws command held sb sa kb ka old new end ends = record {
+  stil = λ files soc limits plan name is named done. headline_of laws language.Stil command (Stil soc limits plan name) held sb sa kb ka old new end files soc limits plan name ends is named refl done;
+  vcd = λ files soc limits plan name is named done. headline_of laws language.Vcd command (Vcd soc limits plan name) held sb sa kb ka old new end files soc limits plan name ends is named refl done;
+  verilog = λ files soc limits plan name is named done. headline_of laws language.Verilog command (Verilog soc limits plan name) held sb sa kb ka old new end files soc limits plan name ends is named refl done;
+}

@@ -1,0 +1,4 @@
+mod ShortRuns
+mod Programs
+pub mod ProgramEndings
+pub mod Answering

@@ -1,0 +1,4 @@
+pub mod Languages
+pub mod Requests
+pub mod ProgramEndings
+pub mod Headlines

@@ -1,0 +1,196 @@
+//! The end of a call: a verdict that is written at once, or a program for a tester that is written as it is made.
+ghost use Rattle.std.specs.Prelude.{◌≡◌, ◌≤◌, None, length};
+ghost use Rattle.soc_model.specs.Chips.{soc_value};
+ghost use Rattle.soc_model.specs.SoundChips.{IsSoundChip};
+ghost use Rattle.plan_model.specs.Rules.{IsGoodAlone};
+ghost use Rattle.plan_model.specs.Views.{plan_value};
+ghost use Rattle.bit_machine.specs.Chips.{wires_of};
+ghost use Rattle.commands.specs.Ends.{WritesUnless, MakesPuts};
+ghost use Rattle.controls.specs.Controls.{controls};
+ghost use Rattle.cycle_forms.specs.declared.TheConstants.{CYCLE_MOST};
+ghost use Rattle.cycle_texts.specs.ProgramText.{program_text};
+ghost use Rattle.retargeter.specs.Contents.{data_content, data_marks};
+ghost use Rattle.tester_programs.specs.Languages.{tester_program};
+ghost use Rattle.tester_programs.specs.ProgramEndings.{IsRunnable, WritesEnding, PutsEnding};
+
+use commands::{Accepted, Status, Verdict, write_verdict};
+use cycle_forms::CycleForm;
+use cycle_texts::write_program;
+use outside::Sink;
+use plan_model::{Plan, good_without_limits};
+use retargeter::DataContents;
+use soc_model::Soc;
+use std::alloc::Global;
+use stil_text::StilForm;
+use test_data::TestData;
+use tester_vectors::LinesOutcome;
+use vcd_text::VcdForm;
+use verilog_text::VerilogForm;
+
+/// A language of programs for testers, or of what else reads them.
+#[derive(Clone, Copy, PartialEq, Eq, Debug)]
+pub enum Language {
+    /// STIL (IEEE 1450-1999), which the software of testers reads.
+    Stil,
+    /// A value change dump (IEEE 1364), which a waveform viewer reads.
+    Vcd,
+    /// A test bench in Verilog (IEEE 1364), which a simulator reads.
+    Verilog,
+}
+
+/// How a call ends.
+#[derive(Drop)]
+pub enum ProgramEnding {
+    /// All is decided, with the text.
+    Decided(Verdict),
+    /// An accepted plan is to be written in a language, with the contents of test data.
+    Program {
+        language: Language,
+        all: Accepted,
+        test_data: TestData,
+    },
+}
+
+/// Writes a plan with the contents of test data in a form, as it is made. All memory is taken before the first byte.
+fn write_in_form<F: CycleForm, K: Sink>(
+    alloc: Global,
+    soc: &Soc,
+    plan: &Plan,
+    test_data: &TestData,
+    form: &F,
+    out: &mut K,
+) -> Status
+    requires sound { IsSoundChip (soc_value soc.now) }
+    requires good { IsGoodAlone (soc_value soc.now) (plan_value plan.now) }
+    requires narrow { wires_of (plan_value plan.now) ≤ 256 }
+    requires cycles { (plan_value plan.now).cycles ≤ CYCLE_MOST }
+    requires wires { F.wires_of form.now ≡ wires_of (plan_value plan.now) }
+    requires controls { F.controls_of form.now ≡ length (controls (soc_value soc.now)) }
+    ensures faults_never_fall { K.faults out.old ≤ K.faults out.new }
+    ensures written { WritesUnless None (program_text (F.head_of form.now) (F.part_of form.now) (F.tail_of form.now)
+        (soc_value soc.now) (plan_value plan.now) (data_content (soc_value soc.now) test_data.now)
+        (data_marks (soc_value soc.now) test_data.now))
+        (K.faults out.old) (K.faults out.new) (K.written out.old) result (K.written out.new) }
+    ensures puts { MakesPuts K.is_put out.old result out.new }
+{
+    let contents = DataContents { test_data };
+    match write_program(alloc, soc, plan, &contents, form, out) {
+        LinesOutcome::Written => Status::Done,
+        LinesOutcome::WriteFault => Status::WriteFault,
+        LinesOutcome::NoMemory => Status::NoMemory,
+    }
+}
+
+/// Writes a plan with the contents of test data in STIL.
+fn write_stil<K: Sink>(
+    alloc: Global,
+    soc: &Soc,
+    plan: &Plan,
+    test_data: &TestData,
+    out: &mut K,
+) -> Status
+    requires sound { IsSoundChip (soc_value soc.now) }
+    requires good { IsGoodAlone (soc_value soc.now) (plan_value plan.now) }
+    requires narrow { wires_of (plan_value plan.now) ≤ 256 }
+    requires cycles { (plan_value plan.now).cycles ≤ CYCLE_MOST }
+    ensures faults_never_fall { K.faults out.old ≤ K.faults out.new }
+    ensures written { WritesUnless None (tester_program Language.Stil (soc_value soc.now) (plan_value plan.now) test_data.now)
+        (K.faults out.old) (K.faults out.new) (K.written out.old) result (K.written out.new) }
+    ensures puts { MakesPuts K.is_put out.old result out.new }
+{
+    match StilForm::new(alloc, soc, plan) {
+        Ok(form) => write_in_form(alloc, soc, plan, test_data, &form, out),
+        Err(_) => Status::NoMemory,
+    }
+}
+
+/// Writes a plan with the contents of test data as a value change dump.
+fn write_vcd<K: Sink>(
+    alloc: Global,
+    soc: &Soc,
+    plan: &Plan,
+    test_data: &TestData,
+    out: &mut K,
+) -> Status
+    requires sound { IsSoundChip (soc_value soc.now) }
+    requires good { IsGoodAlone (soc_value soc.now) (plan_value plan.now) }
+    requires narrow { wires_of (plan_value plan.now) ≤ 256 }
+    requires cycles { (plan_value plan.now).cycles ≤ CYCLE_MOST }
+    ensures faults_never_fall { K.faults out.old ≤ K.faults out.new }
+    ensures written { WritesUnless None (tester_program Language.Vcd (soc_value soc.now) (plan_value plan.now) test_data.now)
+        (K.faults out.old) (K.faults out.new) (K.written out.old) result (K.written out.new) }
+    ensures puts { MakesPuts K.is_put out.old result out.new }
+{
+    match VcdForm::new(alloc, soc, plan) {
+        Ok(form) => write_in_form(alloc, soc, plan, test_data, &form, out),
+        Err(_) => Status::NoMemory,
+    }
+}
+
+/// Writes a plan with the contents of test data as a test bench in Verilog.
+fn write_verilog<K: Sink>(
+    alloc: Global,
+    soc: &Soc,
+    plan: &Plan,
+    test_data: &TestData,
+    out: &mut K,
+) -> Status
+    requires sound { IsSoundChip (soc_value soc.now) }
+    requires good { IsGoodAlone (soc_value soc.now) (plan_value plan.now) }
+    requires narrow { wires_of (plan_value plan.now) ≤ 256 }
+    requires cycles { (plan_value plan.now).cycles ≤ CYCLE_MOST }
+    ensures faults_never_fall { K.faults out.old ≤ K.faults out.new }
+    ensures written { WritesUnless None (tester_program Language.Verilog (soc_value soc.now) (plan_value plan.now) test_data.now)
+        (K.faults out.old) (K.faults out.new) (K.written out.old) result (K.written out.new) }
+    ensures puts { MakesPuts K.is_put out.old result out.new }
+{
+    match VerilogForm::new(alloc, soc, plan) {
+        Ok(form) => write_in_form(alloc, soc, plan, test_data, &form, out),
+        Err(_) => Status::NoMemory,
+    }
+}
+
+/// Writes a plan with the contents of test data in a language.
+fn write_in_language<K: Sink>(
+    alloc: Global,
+    language: Language,
+    soc: &Soc,
+    plan: &Plan,
+    test_data: &TestData,
+    out: &mut K,
+) -> Status
+    requires sound { IsSoundChip (soc_value soc.now) }
+    requires good { IsGoodAlone (soc_value soc.now) (plan_value plan.now) }
+    requires narrow { wires_of (plan_value plan.now) ≤ 256 }
+    requires cycles { (plan_value plan.now).cycles ≤ CYCLE_MOST }
+    ensures faults_never_fall { K.faults out.old ≤ K.faults out.new }
+    ensures written { WritesUnless None (tester_program language (soc_value soc.now) (plan_value plan.now) test_data.now)
+        (K.faults out.old) (K.faults out.new) (K.written out.old) result (K.written out.new) }
+    ensures puts { MakesPuts K.is_put out.old result out.new }
+{
+    match language {
+        Language::Stil => write_stil(alloc, soc, plan, test_data, out),
+        Language::Vcd => write_vcd(alloc, soc, plan, test_data, out),
+        Language::Verilog => write_verilog(alloc, soc, plan, test_data, out),
+    }
+}
+
+/// Writes what a call ends with, and answers its status.
+pub fn write_ending<K: Sink>(alloc: Global, ending: ProgramEnding, out: &mut K) -> Status
+    requires { IsRunnable ending }
+    ensures faults_never_fall { K.faults out.old ≤ K.faults out.new }
+    ensures written { WritesEnding ending (K.faults out.old) (K.faults out.new) (K.written out.old) result (K.written out.new) }
+    ensures puts { PutsEnding K.is_put ending out.old result out.new }
+{
+    match ending {
+        ProgramEnding::Decided(verdict) => write_verdict(verdict, out),
+        ProgramEnding::Program {
+            language,
+            all,
+            test_data,
+        } => {
+            good_without_limits();
+            write_in_language(alloc, language, &all.soc, &all.plan, &test_data, out)
+        }
+    }
+}

@@ -1,0 +1,2 @@
+pub mod VerilogText
+pub mod VerilogForms
