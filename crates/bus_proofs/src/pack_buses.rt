@@ -25,7 +25,7 @@ use proof_model::Pricing;
 
 /// A bus by its rank, with its width in wires. A rank that isn't known is of the rest.
 #[derive(Clone, Copy)]
-pub(crate) struct Bus {
+pub(crate) struct RankBus {
     pub rank: usize,
     pub width: u64,
 }
@@ -67,7 +67,7 @@ fn may_be(case: &CaseRoom, place: usize, rank: usize) -> bool
 }
 
 /// Whether the module at a place has a slot on a bus.
-fn has_slot(basis: &Basis<'_>, case: &CaseRoom, place: usize, bus: Bus) -> bool
+fn has_slot(basis: &Basis<'_>, case: &CaseRoom, place: usize, bus: RankBus) -> bool
     requires basis { IsBasis basis.now }
     requires case { HasCase case.now }
     requires of { IsCaseFor basis.now case.now }
@@ -103,7 +103,7 @@ fn net_worth(
     weighed: &Weighed,
     case: &CaseRoom,
     item: PricedModule,
-    bus: Bus,
+    bus: RankBus,
 ) -> u64
     requires basis { IsBasis basis.now }
     requires kept { AllKept basis.now }
@@ -154,7 +154,7 @@ fn add_priced(
     case: &CaseRoom,
     grain: u64,
     row: &mut [u64],
-    bus: Bus,
+    bus: RankBus,
     item: PricedModule,
 )
     requires leaf { IsPackSetting basis.now case.now weighed.now grain }
@@ -187,7 +187,7 @@ fn bus_most(
     case: &CaseRoom,
     pricing: &Pricing,
     room: &mut BusRoom,
-    bus: Bus,
+    bus: RankBus,
 ) -> u64
     requires leaf { IsPackLeaf basis.now case.now weighed.now (pricing_value pricing.now) }
     requires room { IsBusRoom basis.now (pricing_value pricing.now) room.old }
@@ -221,7 +221,7 @@ fn note_worths(
     case: &CaseRoom,
     pricing: &Pricing,
     room: &mut PackRoom,
-    least: Bus,
+    least: RankBus,
     span: u64,
 )
     requires leaf { IsPackLeaf basis.now case.now weighed.now (pricing_value pricing.now) }
@@ -236,7 +236,7 @@ fn note_worths(
     ensures places { room.new.bus.places ≡ room.old.bus.places }
 {
     for more in 0..span as usize + 1 {
-        let bus = Bus {
+        let bus = RankBus {
             rank: least.rank,
             width: least.width + more as u64,
         };
@@ -263,7 +263,7 @@ fn rest_row(
 {
     let known = known_ranks(&case.widths);
     let high = rest_high(case);
-    let none = Bus {
+    let none = RankBus {
         rank: known,
         width: 0,
     };
@@ -298,7 +298,7 @@ fn rank_row(
 {
     let interval = interval_at(&case.widths, rank);
     let span = interval.high.saturating_sub(interval.low);
-    let least = Bus {
+    let least = RankBus {
         rank,
         width: interval.low,
     };
@@ -318,8 +318,8 @@ pub(crate) fn most_filled(
     requires leaf { IsPackLeaf basis.now case.now weighed.now (pricing_value pricing.now) }
     requires room { IsBusesRoom basis.now (pricing_value pricing.now) room.old }
     requires some { (c : Case) → IsCaseOf case.now c → IsEmpty (limits_of basis.now).wires c → ⊥ }
-    ensures most { (c : Case) → IsCaseOf case.now c →
-        IsMostFilled (chip_of basis.now) (limits_of basis.now) (lists_of basis.now) (claim_of basis.now) c (pricing_value pricing.now) result }
+    ensures most { (c : Case) → IsCaseOf case.now c → IsMostFilled (chip_of basis.now) (limits_of basis.now)
+        (lists_of basis.now) (claim_of basis.now) c (pricing_value pricing.now) result }
     ensures small { result ≤ 600 * 10 ^ 18 }
     ensures room { IsBusesRoom basis.now (pricing_value pricing.now) room.new }
     ensures work { room.new.work ≡ room.old.work }
