@@ -1,5 +1,5 @@
 -- What is found at a leaf of prices, from what is found of its rule, its slots and its prices.
-use Rattle.std.proofs.Common.{◌≡◌, ℕ, ◌+◌, ◌*◌, ◌^◌, ◌≤◌, ◌<◌, Option, Some, None, List, [], length, get_or, refl, ap, arith, inl, inr}
+use Rattle.std.proofs.Common.{◌≡◌, ℕ, ◌+◌, ◌*◌, ◌^◌, ◌≤◌, ◌<◌, Option, Some, None, List, length, get_or, refl, ap, arith, inl, inr}
 use Rattle.std.specs.Prelude.{MatchOption, slice_get}
 use Rattle.std.specs.List.{All}
 use Rattle.std.proofs.lemmas.List.Elements.{All-nil}

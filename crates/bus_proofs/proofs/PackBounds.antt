@@ -1,13 +1,13 @@
 -- A leaf of prices that keeps its rule and holds: no good plan of fewer than the claimed cycles is in its case.
 use Rattle.std.proofs.Common.{◌≡◌, ℕ, zero, suc, ◌+◌, ◌-◌, ◌*◌, ◌/◌, ◌≤◌, ◌<◌, Bool, true, false, Option, Some, None, List, [], ◌∷◌, length, map, refl, sym, ap, ◌∙◌, subst, arith, inl, inr, mul-le-mul_left, mul_comm, mul-suc, take, ◌⊎◌}
 use Rattle.std.specs.Prelude.{slice_get, slice_index, nat_eq, nat_lt, ◌&&◌, if◌then◌else◌}
-use Rattle.std.specs.List.{All, sum, sum_by}
-use Rattle.std.proofs.lemmas.Bool.{cases_lt, cases_Bool, eqb-true, lt-ltb, le-ltb, and_parts, and_from, eq-eqb}
+use Rattle.std.specs.List.{sum, sum_by}
+use Rattle.std.proofs.lemmas.Bool.{cases_lt, cases_Bool, eqb-true, lt-ltb, le-ltb, and_parts, and_from}
 use Rattle.std.proofs.lemmas.List.{length-map, get_or_default, take_all}
 use Rattle.std.proofs.lemmas.List.Sums.{sum_by-cons}
 use Rattle.std.proofs.lemmas.Nat.{le-div}
 use Rattle.std.proofs.Math.Nat.{mul-add, mul-div-le}
-use Rattle.std.proofs.lemmas.Option.{slice_get-get_or, slice_get_within}
+use Rattle.std.proofs.lemmas.Option.{slice_get-get_or}
 use Rattle.soc_model.specs.Chips.{SocValue, LiveTest, live_tests}
 use Rattle.soc_model.specs.Lookups.{module_place}
 use Rattle.soc_model.proofs.Places.{slice_get-from_position}
@@ -16,19 +16,17 @@ use Rattle.plan_model.specs.Rules.{IsGood}
 use Rattle.soc_model.specs.SoundChips.{IsSoundChip}
 use Rattle.plan_model.specs.Bounds.{sum_below, is_of}
 use Rattle.plan_model.specs.Certificates.{on, passes, has_tam_at, HasTamTest}
-use Rattle.plan_model.proofs.CertificatesAreBounds.{some_place, place_or}
+use Rattle.plan_model.proofs.CertificatesAreBounds.{some_place}
 use Rattle.plan_model.proofs.Sums.{sum_by-le_at}
 use Rattle.plan_model.proofs.SumsOverCycles.{sum_below-same, sum_below-add, sum_below-le_by, le-indicator, sum_below-indices}
 use Rattle.packed_times.specs.Packed.{packed_time, packed_tam_time, self_test_time}
-use Rattle.pack_leaves.specs.Greatest.{IsGreatest}
-use Rattle.pack_leaves.specs.Knapsacks.{IsLoad, load_worth}
 use Rattle.pack_leaves.proofs.Sums.{sum_next, sum_none, differing-le}
-use Rattle.proof_model.specs.Proofs.{ListValue, PricingValue, WeightsValue, OfSum, OfPack}
+use Rattle.proof_model.specs.Proofs.{ListValue, PricingValue, OfSum, OfPack}
 use Rattle.bus_proofs.specs.Cases.{Case, known_ranks}
 use Rattle.bus_proofs.specs.Lists.{room_of}
 use Rattle.bus_proofs.specs.Bounds.{AreKept}
-use Rattle.bus_proofs.specs.Leaves.{module_use, self_use, weighed}
-use Rattle.bus_proofs.specs.PackLeaves.{ArePricedOnce, Filling, IsFilling, PaysTooMuch, bus_at, cells_of, cells_taken, filling_worth, has_slot, list_weights, may_be, net_worth, numbers_priced, place_called, price_at, price_sum, priced_place}
+use Rattle.bus_proofs.specs.Leaves.{weighed}
+use Rattle.bus_proofs.specs.PackLeaves.{ArePricedOnce, Filling, IsFilling, PaysTooMuch, cells_of, cells_taken, filling_worth, has_slot, list_weights, may_be, net_worth, numbers_priced, place_called, price_at, price_sum, priced_place}
 use Rattle.bus_proofs.proofs.Active.{time_of}
 use Rattle.bus_proofs.proofs.LeafAnswers.{wired_within}
 use Rattle.bus_proofs.proofs.LeafBounds.{IsTimed, Leafing, SomeWire, empty_none, load-le, module_uses-le, packed-le, planned_use, short-enough, slot_is, sums_none, uses-le, wired_module}

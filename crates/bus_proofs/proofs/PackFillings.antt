@@ -1,23 +1,22 @@
 -- The most that all buses are worth, from what wires are shared out to them.
-use Rattle.std.proofs.Common.{◌≡◌, ℕ, zero, suc, ◌+◌, ◌-◌, ◌≤◌, ◌<◌, Bool, true, false, Option, Some, None, List, [], ◌∷◌, length, refl, sym, ap, ◌∙◌, subst, arith, inl, inr, ◌⊎◌}
+use Rattle.std.proofs.Common.{◌≡◌, ℕ, zero, suc, ◌+◌, ◌-◌, ◌≤◌, ◌<◌, Bool, Some, None, List, [], ◌∷◌, length, refl, sym, ap, ◌∙◌, arith, inl, inr}
 use Rattle.std.specs.Prelude.{nat_lt, ◌&&◌, if◌then◌else◌}
-use Rattle.std.specs.List.{sum_by}
 use Rattle.std.proofs.lemmas.List.Sums.{sum_by-cons}
 use Rattle.std.proofs.lemmas.Bool.{cases_lt, lt-ltb, le-ltb}
 use Rattle.plan_model.specs.Bounds.{sum_below}
 use Rattle.plan_model.proofs.SumsOverCycles.{sum_below-same, sum_below-add, sum_below-le_by}
 use Rattle.pack_leaves.specs.Greatest.{IsGreatest}
-use Rattle.pack_leaves.specs.Knapsacks.{IsLoad, load_worth, most_worth}
+use Rattle.pack_leaves.specs.Knapsacks.{most_worth}
 use Rattle.pack_leaves.specs.Sharings.{Sharing, IsSharing, sharing_worth, IsMostShared}
 use Rattle.pack_leaves.proofs.Loads.{loads_are_most}
 use Rattle.pack_leaves.proofs.Sums.{sum_next, sum_none}
 use Rattle.proof_model.specs.Proofs.{PricingValue}
 use Rattle.bus_proofs.specs.declared.basis.Basis.{Basis}
-use Rattle.bus_proofs.specs.Cases.{Case, Interval, interval, interval_of, known_ranks, least_wires, low_at, high_at, spare, IsEmpty}
+use Rattle.bus_proofs.specs.Cases.{Case, Interval, interval_of, known_ranks, least_wires, low_at, high_at, spare, IsEmpty}
 use Rattle.bus_proofs.specs.Leaves.{slot, is_short, module_use, rest_high, weighed}
 use Rattle.bus_proofs.specs.Bases.{chip_of, limits_of, lists_of, claim_of}
 use Rattle.bus_proofs.specs.PackLeaves.{Filling, IsBusLoad, IsFilling, IsMostFilled, bus_worth, cells_of, cells_taken, filling_worth, has_slot, list_weights, net_worth, price_at, priced_place}
-use Rattle.bus_proofs.specs.PackBuses.{bus_most, most_of, rank_worth, rest_worth, span_at}
+use Rattle.bus_proofs.specs.PackBuses.{bus_most, rank_worth, rest_worth, span_at}
 use Rattle.bus_proofs.proofs.Intervals.{sum_below-first}
 
 -- ---- sums

@@ -1,13 +1,13 @@
 -- The rule of a leaf of prices, module by module, and how much there is to work out.
-use Rattle.std.proofs.Common.{◌≡◌, ℕ, zero, suc, ◌+◌, ◌-◌, ◌*◌, ◌≤◌, ◌<◌, Bool, true, false, min, Some, List, [], ◌∷◌, length, map, refl, sym, ap, ◌∙◌, subst, arith, inl, inr, ◌⊎◌, take, get_or}
-use Rattle.std.specs.Prelude.{slice_get, slice_index, slice_set, ◌||◌, nat_lt, if◌then◌else◌}
-use Rattle.std.specs.List.{All, list_any}
-use Rattle.std.proofs.lemmas.Bool.{cases_lt, cases_eq, cases_order, ltb-true, lt-ltb, le-ltb}
+use Rattle.std.proofs.Common.{◌≡◌, ℕ, zero, suc, ◌+◌, ◌≤◌, ◌<◌, Bool, true, false, Some, List, [], ◌∷◌, length, refl, sym, ap, ◌∙◌, subst, arith, inl, inr, ◌⊎◌}
+use Rattle.std.specs.Prelude.{slice_get, slice_index, slice_set, ◌||◌, nat_lt}
+use Rattle.std.specs.List.{list_any}
+use Rattle.std.proofs.lemmas.Bool.{cases_lt, cases_eq, cases_order, lt-ltb, le-ltb}
 use Rattle.std.proofs.lemmas.List.{get_or_default, get_or-set_same, get_or-set_other, length-map}
 use Rattle.std.proofs.lemmas.Option.{slice_get-get_or, slice_get_within, get_or_from_slice_get}
 use Rattle.soc_model.specs.Chips.{SocValue}
 use Rattle.plan_model.specs.Certificates.{HasTamTest}
-use Rattle.bus_proofs.specs.Cases.{Case, Interval, interval_of, known_ranks, least_wires, IsEmpty}
+use Rattle.bus_proofs.specs.Cases.{Case, Interval, interval_of, least_wires, IsEmpty}
 use Rattle.bus_proofs.specs.Leaves.{rest_high}
 use Rattle.bus_proofs.specs.PackLeaves.{ArePlaces, ArePricedOnce, IsNewPrice, is_empty_case, numbers_priced, place_called}
 

@@ -1,13 +1,12 @@
 -- What modules are worth on buses, module by module and rank by rank.
 use Rattle.std.proofs.Common.{◌≡◌, ℕ, zero, suc, ◌+◌, ◌-◌, ◌*◌, ◌^◌, ◌≤◌, ◌<◌, Bool, true, false, Option, List, [], ◌∷◌, length, map, refl, sym, ap, ◌∙◌, subst, arith, inl, inr, ◌⊎◌}
-use Rattle.std.specs.Prelude.{slice_get, slice_index, nat_lt, ◌&&◌, if◌then◌else◌}
+use Rattle.std.specs.Prelude.{slice_index, nat_lt, ◌&&◌, if◌then◌else◌}
 use Rattle.std.specs.List.{All}
-use Rattle.std.proofs.lemmas.Bool.{cases_lt, lt-ltb, le-ltb}
-use Rattle.std.proofs.lemmas.List.{get_or_default, get_or_past, length-map}
+use Rattle.std.proofs.lemmas.Bool.{cases_lt}
 use Rattle.soc_model.specs.Chips.{SocValue}
 use Rattle.plan_model.specs.Bounds.{sum_below}
 use Rattle.plan_model.proofs.SumsOverCycles.{sum_below-le, sum_below-one}
-use Rattle.pack_leaves.specs.Knapsacks.{most_worth, with_item}
+use Rattle.pack_leaves.specs.Knapsacks.{with_item}
 use Rattle.pack_leaves.specs.Sharings.{IsMostShared, IsWithRank, IsWithRest}
 use Rattle.pack_leaves.proofs.Loads.{worth_next, worth_none, worth-le}
 use Rattle.pack_leaves.proofs.Rows.{item_same}
@@ -66,7 +65,6 @@ net_is g c pricing place price rank width known uses net own less_is uses_is own
 pub item_is : (b : Bool) (time time' net net' : ℕ) (row : ℕ → ℕ) (x n : ℕ) → true ≡ b → time ≡ time' → net ≡ net' → n ≡ with_item true time net row x → n ≡ with_item b time' net' row x
 item_is b time time' net net' row x n b_is time_is net_is is =
     is ∙ ap (λ t. with_item true t net row x) time_is ∙ ap (λ m. with_item true time' m row x) net_is ∙ ap (λ c. with_item c time' net' row x) b_is
-
 
 -- a row of a bus with one module more
 pub row_more : (g : Basis) (c : Case) (pricing : PricingValue) (rank width item : ℕ) (place price : ℕ) (before after : ℕ → ℕ) (end : ℕ) →

@@ -1,5 +1,5 @@
 -- What is found at a leaf.
-use Rattle.std.specs.Prelude.{◌≡◌, ℕ, ◌+◌, ◌≤◌, List, [], length}
+use Rattle.std.specs.Prelude.{◌≡◌, ℕ, ◌+◌, ◌≤◌, [], length}
 use Rattle.std.specs.List.{All}
 use Rattle.bus_proofs.specs.declared.case.CaseRoom.{CaseRoom}
 use Rattle.bus_proofs.specs.declared.basis.Basis.{Basis}

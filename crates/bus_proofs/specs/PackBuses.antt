@@ -14,7 +14,7 @@ use Rattle.bus_proofs.specs.CaseRooms.{HasCase, IsCaseOf}
 use Rattle.bus_proofs.specs.Leaves.{module_use, rest_high, weighed}
 use Rattle.bus_proofs.specs.Bases.{IsBasis, AllKept, chip_of, limits_of, lists_of, claim_of}
 use Rattle.bus_proofs.specs.LeafCosts.{IsWeighed}
-use Rattle.bus_proofs.specs.LeafAnswers.{IsCaseFor, HasPackSpace}
+use Rattle.bus_proofs.specs.LeafAnswers.{IsCaseFor}
 use Rattle.bus_proofs.specs.PackLeaves.{ArePlaces, ArePricedOnce, bus_at, cells_of, cells_taken, has_slot, list_weights, net_worth, priced_place, CELLS_MOST}
 
 -- ---- one bus

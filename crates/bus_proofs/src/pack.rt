@@ -127,12 +127,7 @@ fn pack_work(case: &CaseRoom, pricing: &Pricing, cells: u64) -> u128
 }
 
 /// Whether a leaf keeps its rule, behind those whose work was noted. Then its own work is noted, and the places of its modules.
-fn keeps_rule(
-    basis: &Basis<'_>,
-    case: &CaseRoom,
-    pricing: &Pricing,
-    room: &mut PackRoom,
-) -> bool
+fn keeps_rule(basis: &Basis<'_>, case: &CaseRoom, pricing: &Pricing, room: &mut PackRoom) -> bool
     requires basis { IsBasis basis.now }
     requires case { HasCase case.now }
     requires of { IsCaseFor basis.now case.now }

@@ -16,8 +16,8 @@ use crate::ProofFault;
 use crate::basis::Basis;
 use crate::case::{CaseRoom, Mark};
 use crate::leaf::{LeafAnswer, LeafRoom, check_leaf};
-use crate::pack::check_pack;
 use crate::nodes::{is_wide, placed};
+use crate::pack::check_pack;
 use proof_model::{Node, Pricing, Proof, Weights};
 use soc_model::place_of;
 

@@ -1,6 +1,6 @@
 -- Item by item the greatest worth of a load is found.
 use Rattle.std.proofs.Common.{◌≡◌, ℕ, zero, suc, ◌+◌, ◌-◌, ◌<◌, ◌≤◌, Bool, true, false, max, refl, sym, ap, ◌∙◌, subst, arith, inl, inr}
-use Rattle.std.specs.Prelude.{nat_le, if◌then◌else◌}
+use Rattle.std.specs.Prelude.{if◌then◌else◌}
 use Rattle.std.proofs.lemmas.Bool.{cases_lt, cases_eq, le-leb, lt-leb}
 use Rattle.plan_model.specs.Bounds.{sum_below}
 use Rattle.pack_leaves.specs.Greatest.{IsGreatest}
@@ -113,10 +113,10 @@ next_most may time net i cells row each true into = elim (cases_lt cells (time i
       (skipped may time net i cells (row cells) (each cells) (λ taken load at. let f = last-fits may time i cells taken load at in absurd (omega (arith, f, many))))
   | inr fits ↦ elim (cases_lt (row cells) (net i + row (cells - time i))) [
     | inr less ↦ subst (IsMost may time net (suc i) cells) (sym (with-fits (time i) (net i) row cells fits ∙ max_first (row cells) (net i + row (cells - time i)) less))
-        (skipped may time net i cells (row cells) (each cells) (λ taken load at. 
-          let last : (if taken i then net i else 0) ≡ net i = ap (λ x. if x then net i else 0) at in
-          let rest : load_worth i net taken ≤ row (cells - time i) = (each (cells - time i)).most taken (front_load cells (cells - time i) i may time taken true at load (omega (arith, fits))) in
-          omega (arith, last, rest, less, sum_next (λ j. if taken j then net j else 0) i)))
+        (skipped may time net i cells (row cells) (each cells) (λ taken load at.
+        let last : (if taken i then net i else 0) ≡ net i = ap (λ x. if x then net i else 0) at in
+        let rest : load_worth i net taken ≤ row (cells - time i) = (each (cells - time i)).most taken (front_load cells (cells - time i) i may time taken true at load (omega (arith, fits))) in
+        omega (arith, last, rest, less, sum_next (λ j. if taken j then net j else 0) i)))
     | inl more ↦ subst (IsMost may time net (suc i) cells) (sym (with-fits (time i) (net i) row cells fits ∙ max_second (row cells) (net i + row (cells - time i)) (omega (arith, more))))
         (taken_in may time net i cells (row cells) (row (cells - time i)) into fits (each cells) (each (cells - time i)) (omega (arith, more)))
   ]

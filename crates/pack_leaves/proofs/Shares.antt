@@ -1,9 +1,8 @@
 -- Bus by bus the greatest worth of a sharing is found.
-use Rattle.std.proofs.Common.{◌≡◌, ℕ, zero, suc, ◌+◌, ◌-◌, ◌<◌, ◌≤◌, refl, sym, ap, ◌∙◌, subst, arith, inl, inr}
-use Rattle.std.proofs.lemmas.Bool.{cases_lt, cases_eq}
+use Rattle.std.proofs.Common.{◌≡◌, ℕ, zero, suc, ◌+◌, ◌-◌, ◌<◌, ◌≤◌, sym, ap, ◌∙◌, subst, arith, inl, inr}
+use Rattle.std.proofs.lemmas.Bool.{cases_eq}
 use Rattle.plan_model.specs.Bounds.{sum_below}
-use Rattle.pack_leaves.specs.Greatest.{IsGreatest}
-use Rattle.pack_leaves.specs.Sharings.{Sharing, IsSharing, sharing_worth, IsMostShared, IsWidth, with_bus, IsWithRank, IsWithRest}
+use Rattle.pack_leaves.specs.Sharings.{Sharing, IsSharing, sharing_worth, IsMostShared, IsWidth, IsWithRank, IsWithRest}
 use Rattle.pack_leaves.proofs.Sums.{sum_next, sum_none, put_at, put_same, put_other, put_behind}
 
 -- ---- buses of the rest
@@ -43,10 +42,10 @@ one_more rest high x width n is m = record {
   is = record {
     low = λ bus less. low bus less;
     fits = (let last = put_same m.widths m.buses width in let before = put_behind m.widths (λ i w. w) m.buses m.buses width (omega arith) in
-      omega (arith, last, before, m.is.fits, is.within, sum_next (put_at m.widths m.buses width) m.buses));
+        omega (arith, last, before, m.is.fits, is.within, sum_next (put_at m.widths m.buses width) m.buses));
   };
   reached = (let last : rest (put_at m.widths m.buses width m.buses) ≡ rest width = ap rest (put_same m.widths m.buses width) in let before = put_behind m.widths (λ i w. rest w) m.buses m.buses width (omega arith) in
-    let r = m.reached in omega (arith, last, before, r, sum_next (λ bus. rest (put_at m.widths m.buses width bus)) m.buses));
+      let r = m.reached in omega (arith, last, before, r, sum_next (λ bus. rest (put_at m.widths m.buses width bus)) m.buses));
 }
   where
     low : (bus : ℕ) → bus < suc m.buses → put_at m.widths m.buses width bus ≤ high
@@ -96,10 +95,10 @@ rank_most rest row ranks spans high known end filled x n within g =
         rest = f.is.rest;
         ranks = λ rank less. low f.best.ranks g.best f.is.ranks w.to rank less;
         fits = (let before = put_behind f.best.ranks (λ i d. d) known known g.best (omega arith) in
-          omega (arith, last, before, f.is.fits, w.within, sum_next (put_at f.best.ranks known g.best) known));
+            omega (arith, last, before, f.is.fits, w.within, sum_next (put_at f.best.ranks known g.best) known));
       };
       reached = (let before = put_behind f.best.ranks (λ i d. ranks i d) known known g.best (omega arith) in let r = f.reached in let t = g.reached in let e : ranks known (put_at f.best.ranks known g.best known) ≡ ranks known g.best = ap (ranks known) last in
-        omega (arith, before, r, t, e, sum_next (λ rank. ranks rank (put_at f.best.ranks known g.best rank)) known));
+          omega (arith, before, r, t, e, sum_next (λ rank. ranks rank (put_at f.best.ranks known g.best rank)) known));
       most = most;
     }
   where

@@ -1,4 +1,3 @@
-use Rattle.std.proofs.Common.{refl}
 use Rattle.bus_proofs.proofs.PackAnswers.{fits_begun}
 use Rattle.bus_proofs.proofs.check.begin_work.Goals as goal
 

@@ -1,10 +1,9 @@
-use Rattle.std.proofs.Common.{◌≡◌, ◌≤◌, refl, sym, ap, subst, ◌∙◌, arith, length}
+use Rattle.std.proofs.Common.{refl, sym, ap, subst, ◌∙◌, arith, length}
 use Rattle.proof_model.specs.Proofs.{pricing_value, WeightsValue}
-use Rattle.bus_proofs.specs.Bases.{claim_of, limits_of}
 use Rattle.bus_proofs.specs.Cases.{IsEmpty}
 use Rattle.bus_proofs.specs.LeafAnswers.{no_weights}
 use Rattle.bus_proofs.specs.PackLeaves.{list_weights}
-use Rattle.bus_proofs.proofs.PackAnswers.{found_no_bus, found_pays, found_short, no_uses, pack_uses}
+use Rattle.bus_proofs.proofs.PackAnswers.{found_no_bus, found_short, no_uses, pack_uses}
 use Rattle.bus_proofs.proofs.pack.check_pack.Goals as goal
 
 pub weigh_leaf-requires-clause-uses : goal.weigh_leaf-requires-clause-uses

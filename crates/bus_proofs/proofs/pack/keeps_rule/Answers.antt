@@ -1,7 +1,7 @@
-use Rattle.std.proofs.Common.{◌≡◌, ◌≤◌, ◌+◌, refl, ap, subst, ◌∙◌, arith, length}
+use Rattle.std.proofs.Common.{◌+◌, refl, ap, subst, ◌∙◌, arith, length}
 use Rattle.std.specs.List.{All}
 use Rattle.proof_model.specs.Proofs.{pricing_value}
-use Rattle.bus_proofs.specs.Bases.{chip_of, limits_of, lists_of, claim_of}
+use Rattle.bus_proofs.specs.Bases.{chip_of, lists_of, claim_of}
 use Rattle.bus_proofs.specs.LeafSlots.{IsNamed}
 use Rattle.bus_proofs.specs.PackLeaves.{ArePricedOnce, pack_work}
 use Rattle.bus_proofs.proofs.pack.keeps_rule.Goals as goal

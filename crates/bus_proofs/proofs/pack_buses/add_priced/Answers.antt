@@ -1,4 +1,4 @@
-use Rattle.std.proofs.Common.{◌≡◌, ◌-◌, ◌/◌, ◌<◌, ◌+◌, [], refl, arith}
+use Rattle.std.proofs.Common.{◌≡◌, ◌-◌, ◌/◌, [], refl, arith}
 use Rattle.std.specs.Prelude.{slice_index}
 use Rattle.bus_proofs.specs.Bases.{chip_of, claim_of}
 use Rattle.bus_proofs.specs.PackBuses.{net_at}

@@ -1,9 +1,9 @@
-use Rattle.std.proofs.Common.{◌≡◌, ◌≤◌, ◌<◌, ◌+◌, ◌-◌, ◌*◌, ◌^◌, ℕ, length, refl, sym, ap, subst, ◌∙◌, arith, inr}
+use Rattle.std.proofs.Common.{◌≡◌, ◌+◌, ◌*◌, ◌^◌, length, sym, ap, subst, ◌∙◌, arith}
 use Rattle.std.specs.Prelude.{slice_index}
 use Rattle.std.proofs.lemmas.List.{with_items_is}
 use Rattle.proof_model.specs.Proofs.{pricing_value}
 use Rattle.bus_proofs.specs.Bases.{limits_of}
-use Rattle.bus_proofs.specs.Cases.{Interval, high_at, interval, interval_of, known_ranks, low_at, spare}
+use Rattle.bus_proofs.specs.Cases.{Interval, high_at, interval, interval_of, low_at, spare}
 use Rattle.bus_proofs.specs.PackBuses.{IsWiresRow, bus_most, span_at}
 use Rattle.bus_proofs.proofs.PackSteps.{not_crossed, rank_rows, rank_small}
 use Rattle.bus_proofs.proofs.pack_buses.rank_row.Goals as goal

@@ -1,7 +1,7 @@
 use Rattle.std.proofs.Common.{◌+◌, ℕ, Some, List, refl, sym, ap, ◌∙◌}
 use Rattle.proof_model.specs.Proofs.{OfPlace, OfSplit, OfWide, OfSum, OfPack, node_value, pricing_value, weights_value}
 use Rattle.bus_proofs.proofs.RoomSteps.{further_then}
-use Rattle.bus_proofs.proofs.WalkSteps.{leaf_awaits, leaf_enough, leaf_faulty, leaf_work, split_goes, split_judged, split_work}
+use Rattle.bus_proofs.proofs.WalkSteps.{leaf_awaits, leaf_enough, split_goes, split_judged, split_work}
 use Rattle.bus_proofs.proofs.walk.go_on.Goals as goal
 
 pub returns-then-not-begin_wide-clause-further : goal.returns-then-not-begin_wide-clause-further
