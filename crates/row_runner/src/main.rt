@@ -7,11 +7,11 @@ mod comparing;
 mod keeping;
 mod proving;
 mod real_files;
-mod report;
+mod row_report;
 mod rows;
 mod runs;
 
-use crate::report::RowReport;
+use crate::row_report::RowReport;
 use crate::rows::take_file;
 use outside::{NoMemory, RealSink, put_all};
 use std::env;

@@ -4,7 +4,7 @@ use crate::comparing::{are_same, takes_fewer};
 use crate::keeping::keep_lines;
 use crate::proving::text_of_proved;
 use crate::real_files::{hold_data, run_of_real_files, what_a_load_answers};
-use crate::report::RowReport;
+use crate::row_report::RowReport;
 use crate::runs::run_of_command;
 use outside::{Loaded, NoMemory, RealShelf, Shelf, copied};
 use row_calls::{

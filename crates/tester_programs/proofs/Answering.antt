@@ -25,13 +25,12 @@ use Rattle.commands.proofs.Completeness.{settled_all}
 use Rattle.commands.proofs.Settled.{done_once}
 use Rattle.commands.proofs.Trusted.{TrustLaws, both_done, done_answer, not_refused, read_as_well, stage_done}
 use Rattle.retargeter.specs.Contents.{data_content, data_marks}
-use Rattle.retargeter.specs.DataTexts.{retarget_text}
 use Rattle.tester_programs.specs.Headlines.{IsProgrammed, Headline}
 use Rattle.retargeter.specs.Readings.{SaysSuiting, RefusesData}
 use Rattle.retargeter.specs.Requests.{long_refusal}
 use Rattle.tester_programs.specs.declared.ending.Language.{Language}
 use Rattle.tester_programs.specs.declared.ending.Language.TheVariants as language
-use Rattle.tester_programs.specs.Languages.{tester_program, data_row}
+use Rattle.tester_programs.specs.Languages.{tester_program}
 use Rattle.tester_programs.specs.Requests.{procedure_of, program_procedure, with_data_program, with_program}
 use Rattle.control_laws.proofs.Saying.{run_the_plan}
 use Rattle.cycle_texts.proofs.VectorRows.{vectors_shown}

@@ -1,5 +1,5 @@
 -- A run that isn't too long has few cycles.
-use Rattle.std.proofs.Common.{◌≡◌, ◌⊎◌, inl, inr, ℕ, ◌*◌, ◌≤◌, Bool, true, false, None, max, ap, sym, ◌∙◌, arith}
+use Rattle.std.proofs.Common.{◌≡◌, ◌⊎◌, inl, inr, ℕ, ◌*◌, ◌≤◌, true, false, None, max, arith}
 use Rattle.std.specs.Prelude.{nat_lt}
 use Rattle.std.proofs.Math.Nat.{mul-le-mul_left}
 use Rattle.std.proofs.lemmas.Bool.{cases_Bool, ltb-false}
@@ -8,9 +8,6 @@ use Rattle.bit_machine.specs.Chips.{wires_of}
 use Rattle.cycle_forms.specs.declared.TheConstants.{CYCLE_MOST}
 use Rattle.tester_vectors.specs.VectorText.{wire_cycles, more_than}
 use Rattle.retargeter.specs.declared.TheConstants.{LONG_RUN_MOST}
-
-within : (most cells : ℕ) (plan : PlanValue) → nat_lt most (wire_cycles plan) ≡ false → more_than most plan ≡ None → wire_cycles plan ≤ most
-within most cells plan test none = ltb-false most (wire_cycles plan) test
 
 pub few_cycles : (plan : PlanValue) → more_than LONG_RUN_MOST plan ≡ None → plan.cycles ≤ CYCLE_MOST
 few_cycles plan none = by (cases_Bool (nat_lt LONG_RUN_MOST (wire_cycles plan)))
