@@ -27,8 +27,8 @@ tell_progress() {
     done
 }
 
-# How many crates are proved side by side: one a processor, if there are 3.5 GB of memory for each. Most proofs take less than 3 GB,
-# that of proof_search takes 5. Left to itself, the toolchain counts on more for a large crate, which then waits for all others.
+# How many crates are proved side by side: one a processor, if there are 3.5 GB of memory for each. Most proofs take less than 3 GB.
+# Left to itself, the toolchain counts on more for a large crate, which then waits for all others.
 proofs_at_once() {
     local count held
     count=$(nproc 2>/dev/null) || count=1

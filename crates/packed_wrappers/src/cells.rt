@@ -1,10 +1,10 @@
 //! What is dealt over the chains of a wrapper: the scan chains of a mode of a module, and its cells.
 
-use crate::tables::{filled, item_or, put_item};
 use outside::{NoMemory, push};
 use soc_model::{Module, mode_chains};
 use std::alloc::Global;
 use std::cmp::Reverse;
+use tables::{filled, item_or, put_item};
 
 /// The scan chains of a mode of a module and its cells. Lengths are in cells.
 #[derive(Drop)]

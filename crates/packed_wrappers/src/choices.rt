@@ -5,10 +5,10 @@ ghost use Rattle.plan_model.specs.Listing.{module_size};
 
 use crate::cells::ModeCells;
 use crate::dealer::Dealer;
-use crate::tables::item_or;
 use outside::{NoMemory, push};
 use soc_model::{Module, is_of_mode};
 use std::alloc::Global;
+use tables::item_or;
 use wrapper_design::PathLengths;
 
 /// A wrapper that is taken.

@@ -3,9 +3,9 @@
 use crate::cells::ModeCells;
 use crate::dealing::Dealing;
 use crate::exchanges::ExchangeSearch;
-use crate::tables::{filled, item_or, put_item};
 use outside::NoMemory;
 use std::alloc::Global;
+use tables::{filled, item_or, put_item};
 
 /// Exchanges of a dealing, at most.
 const EXCHANGES_MOST: usize = 16;

@@ -1,9 +1,9 @@
 //! The scan chains of a mode dealt over wrapper chains: longest first, or in equal counts.
 
 use crate::cells::ModeCells;
-use crate::tables::{filled, item_or, put_item};
 use outside::NoMemory;
 use std::alloc::Global;
+use tables::{filled, item_or, put_item};
 
 /// Scan chains on wrapper chains.
 #[derive(Drop)]

@@ -2,7 +2,7 @@
 
 use crate::cells::ModeCells;
 use crate::dealing::Dealing;
-use crate::tables::NONE;
+use tables::NONE;
 
 /// The change that makes the two parts that it changes shortest.
 #[derive(Clone, Copy)]

@@ -27,7 +27,6 @@ mod dealer;
 mod dealing;
 mod exchanges;
 mod rows;
-mod tables;
 mod wrapping;
 
 use outside::NoMemory;

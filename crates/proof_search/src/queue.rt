@@ -1,17 +1,17 @@
 //! The open cases of a search, the weakest first.
 
-use crate::cuts::CaseCut;
-use crate::tables::{NONE, filled, item_or, put_item};
+use crate::divisions::Division;
 use outside::NoMemory;
 use std::alloc::Global;
+use tables::{NONE, filled, item_or, put_item};
 
 /// What is kept of each node of a tree.
 #[derive(Clone, Copy)]
-pub(crate) struct EnteringColumn {
+pub(crate) struct NodeEntry {
     /// The claim that its case is worth, in cycles.
     pub value: u64,
     /// How its case can be divided.
-    pub cut: CaseCut,
+    pub division: Division,
     /// The node that it is a branch of.
     pub parent: usize,
     /// Whether it is the second branch.
@@ -19,35 +19,36 @@ pub(crate) struct EnteringColumn {
 }
 
 /// A node of which nothing is known.
-pub(crate) const NO_ENTRY: EnteringColumn = EnteringColumn {
+pub(crate) const NO_ENTRY: NodeEntry = NodeEntry {
     value: 0,
-    cut: CaseCut::Nothing,
+    division: Division::Nothing,
     parent: 0,
     second: false,
 };
 
 /// A heap of open nodes: the one of the least value is the first, of equal ones the one that was made first.
 #[derive(Drop)]
-pub(crate) struct Queue {
+pub(crate) struct NodeQueue {
     heap: Vec<usize>,
     /// How many nodes are open.
     pub count: usize,
 }
 
 /// Whether a node comes before another one.
-fn is_before(entries: &[EnteringColumn], a: usize, b: usize) -> bool {
+fn is_before(entries: &[NodeEntry], a: usize, b: usize) -> bool {
     let x = item_or(entries, a, NO_ENTRY).value;
     let y = item_or(entries, b, NO_ENTRY).value;
     x < y || (x == y && a < b)
 }
 
-impl Queue {
+impl NodeQueue {
     /// Room for `nodes` open nodes. `NoMemory` where there is none.
-    pub fn new(alloc: Global, nodes: usize) -> Result<Queue, NoMemory> {
+    pub fn new(alloc: Global, nodes: usize) -> Result<NodeQueue, NoMemory> {
         let heap = filled(alloc, 0usize, nodes)?;
-        Ok(Queue { heap, count: 0 })
+        Ok(NodeQueue { heap, count: 0 })
     }
 
+    /// The node at a place of the heap.
     fn at(&self, place: usize) -> usize {
         item_or(&self.heap, place, NONE)
     }
@@ -61,7 +62,7 @@ impl Queue {
     }
 
     /// Adds an open node.
-    pub fn push(&mut self, entries: &[EnteringColumn], node: usize) {
+    pub fn push(&mut self, entries: &[NodeEntry], node: usize) {
         let mut at = self.count;
         self.count = at.saturating_add(1);
         for _ in 0..64 {
@@ -77,7 +78,7 @@ impl Queue {
     }
 
     /// The place below another one that comes first; where there is none, a place that is no less than `count`.
-    fn below(&self, entries: &[EnteringColumn], at: usize) -> usize {
+    fn below(&self, entries: &[NodeEntry], at: usize) -> usize {
         let left = at.saturating_mul(2).saturating_add(1);
         let right = left.saturating_add(1);
         if right < self.count && is_before(entries, self.at(right), self.at(left)) {
@@ -87,7 +88,7 @@ impl Queue {
     }
 
     /// Takes the first open node away.
-    pub fn drop_first(&mut self, entries: &[EnteringColumn]) {
+    pub fn drop_first(&mut self, entries: &[NodeEntry]) {
         self.count = self.count.saturating_sub(1);
         let node = self.at(self.count);
         let mut at: usize = 0;

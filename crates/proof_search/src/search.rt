@@ -5,26 +5,20 @@ ghost use Rattle.plan_model.specs.Views.{limits_value};
 ghost use Rattle.plan_model.specs.SoundLimits.{IsSoundLimits};
 ghost use Rattle.live_tests.specs.Resolved.{IsResolved};
 
-use crate::cases::RANKS_MOST;
-use crate::cuts::CaseCut;
-use crate::facts::Facts;
-use crate::lists::{Chosen, LISTS_MOST, Lists};
-use crate::powers::first_lists;
-use crate::printing::proof_of;
-use crate::queue::{EnteringColumn, NO_ENTRY, Queue};
-use crate::room::{WeighingRoom, Worth};
-use crate::slots::Slots;
-use crate::tables::{NONE, filled, item_or, put_item};
-use crate::text::TEXT_MOST;
-use crate::tree::{GrownTree, Names, Rule};
-use crate::uses::Powers;
-use crate::values::LeafChip;
+use crate::divisions::Division;
+use crate::queue::{NO_ENTRY, NodeEntry, NodeQueue};
+use crate::weighing::{CaseWeighing, CaseWorth};
+use case_tables::{LISTS_MOST, RANKS_MOST};
+use case_tree::{CaseTree, NodeRule, ProofNames, TEXT_MOST, proof_of};
+use chip_tables::tables_of;
+use leaf_values::LeafBasis;
 use live_tests::Resolved;
 use outside::{NoMemory, both};
 use plan_model::Limits;
 use proof_model::Proof;
 use soc_model::Soc;
 use std::alloc::Global;
+use tables::{NONE, filled, item_or, put_item};
 
 /// How often lists are looked for in the first case.
 const FIRST_ROUNDS: usize = 40;
@@ -43,12 +37,16 @@ const MORE_MOST: usize = 4;
 /// proof checked.
 #[derive(Drop)]
 pub struct Search {
-    chip: LeafChip,
-    room: WeighingRoom,
-    tree: GrownTree,
-    queue: Queue,
+    /// What all leaves ask.
+    basis: LeafBasis,
+    /// The case at hand, and what it is weighed with.
+    weighing: CaseWeighing,
+    /// The cases so far.
+    tree: CaseTree,
+    /// The open ones.
+    queue: NodeQueue,
     /// What is kept of each node.
-    entries: Vec<EnteringColumn>,
+    entries: Vec<NodeEntry>,
     /// Nodes on the way to one.
     path: Vec<usize>,
     /// A rank and its twins.
@@ -61,47 +59,20 @@ pub struct Search {
     done: bool,
 }
 
-/// The tables of a chip.
-fn chip_of(
+/// What all leaves ask of a chip.
+fn basis_of(
     alloc: Global,
     soc: &Soc,
     limits: &Limits,
     resolved: &Resolved,
     goal: u64,
-) -> Result<LeafChip, NoMemory>
+) -> Result<LeafBasis, NoMemory>
     requires sound { IsSoundChip (soc_value soc.now) }
     requires limits { IsSoundLimits (soc_value soc.now) (limits_value limits.now) }
     requires resolved { IsResolved (soc_value soc.now) limits.now resolved.now }
 {
-    let facts = Facts::new(alloc, soc, limits, resolved, goal)?;
-    with_tables(alloc, facts)
-}
-
-/// A chip with the tables that are made of its facts.
-fn with_tables(alloc: Global, facts: Facts) -> Result<LeafChip, NoMemory> {
-    let made = both(Slots::new(alloc, &facts), power_tables(alloc, &facts));
-    let (facts, (slots, (lists, powers))) = both(Ok(facts), made)?;
-    Ok(LeafChip {
-        facts,
-        slots,
-        powers,
-        lists,
-    })
-}
-
-/// The first lists, and what their tests use of them.
-fn power_tables(alloc: Global, facts: &Facts) -> Result<(Lists, Powers), NoMemory> {
-    let lists = power_lists(alloc, facts)?;
-    let powers = Powers::new(alloc, facts, &lists);
-    both(Ok(lists), powers)
-}
-
-/// The first lists, which are those of power.
-fn power_lists(alloc: Global, facts: &Facts) -> Result<Lists, NoMemory> {
-    let mut lists = Lists::new(alloc, facts)?;
-    let mut chosen = Chosen::new(alloc)?;
-    first_lists(alloc, facts, &mut lists, &mut chosen)?;
-    Ok(lists)
+    let chip = tables_of(alloc, soc, limits, resolved, goal)?;
+    LeafBasis::new(alloc, chip)
 }
 
 /// How many nodes there is room for.
@@ -118,9 +89,9 @@ fn front(list: &[usize], count: usize) -> &[usize] {
 }
 
 /// How many nodes a division adds.
-fn more_nodes(cut: CaseCut) -> usize {
-    match cut {
-        CaseCut::Rank { rank: _, width } => { if width > 0 { 4 } else { 2 } }
+fn more_nodes(division: Division) -> usize {
+    match division {
+        Division::Rank { rank: _, width } => { if width > 0 { 4 } else { 2 } }
         _ => 2,
     }
 }
@@ -140,9 +111,9 @@ impl Search {
         requires limits { IsSoundLimits (soc_value soc.now) (limits_value limits.now) }
         requires resolved { IsResolved (soc_value soc.now) limits.now resolved.now }
     {
-        let chip = chip_of(alloc, soc, limits, resolved, goal)?;
-        let room = WeighingRoom::new(alloc, &chip.facts);
-        let mut search = Search::with(alloc, chip, room, nodes)?;
+        let basis = basis_of(alloc, soc, limits, resolved, goal)?;
+        let weighing = CaseWeighing::new(alloc, &basis.chip);
+        let mut search = Search::with(alloc, basis, weighing, nodes)?;
         let begun = search.begin(alloc);
         let (search, ()) = both(Ok(search), begun)?;
         Ok(search)
@@ -151,22 +122,22 @@ impl Search {
     /// A search of no nodes yet. `NoMemory` where there is none.
     fn with(
         alloc: Global,
-        chip: LeafChip,
-        room: Result<WeighingRoom, NoMemory>,
+        basis: LeafBasis,
+        weighing: Result<CaseWeighing, NoMemory>,
         nodes: u64,
     ) -> Result<Search, NoMemory> {
         let most = room_for(nodes);
         let cases = both(
-            GrownTree::new(alloc, most, POOL_MOST),
-            Queue::new(alloc, most),
+            CaseTree::new(alloc, most, POOL_MOST),
+            NodeQueue::new(alloc, most),
         );
         let notes = both(filled(alloc, NO_ENTRY, most), filled(alloc, 0usize, most));
         let grown = both(both(cases, notes), filled(alloc, 0usize, RANKS_MOST));
-        let made = both(both(Ok(chip), room), grown)?;
-        let ((chip, room), (((tree, queue), (entries, path)), ranks)) = made;
+        let made = both(both(Ok(basis), weighing), grown)?;
+        let ((basis, weighing), (((tree, queue), (entries, path)), ranks)) = made;
         Ok(Search {
-            chip,
-            room,
+            basis,
+            weighing,
             tree,
             queue,
             entries,
@@ -181,21 +152,23 @@ impl Search {
 
     /// Makes the first node.
     fn begin(&mut self, alloc: Global) -> Result<(), NoMemory> {
-        let worth = self.room.weigh_first(alloc, &mut self.chip, FIRST_ROUNDS)?;
+        let worth = self
+            .weighing
+            .weigh_first(alloc, &mut self.basis, FIRST_ROUNDS)?;
         self.add(0, false, worth);
         self.note_claim();
         Ok(())
     }
 
     /// Adds the case at hand to the tree.
-    fn add(&mut self, parent: usize, second: bool, worth: Worth) {
-        let open = worth.value < self.chip.facts.goal;
+    fn add(&mut self, parent: usize, second: bool, worth: CaseWorth) {
+        let open = worth.value < self.basis.chip.goal;
         let from = if open { OPEN_DIGITS } else { 1 };
-        let digits = self.room.digits_at(&self.chip, worth.value, from);
+        let digits = self.weighing.digits_at(&self.basis, worth.value, from);
         let node = self.add_leaf(digits);
-        let entry = EnteringColumn {
+        let entry = NodeEntry {
             value: worth.value,
-            cut: worth.cut,
+            division: worth.division,
             parent,
             second,
         };
@@ -207,16 +180,16 @@ impl Search {
 
     /// Adds a leaf with the weights at hand.
     fn add_leaf(&mut self, digits: u32) -> usize {
-        let names = Names {
-            facts: &self.chip.facts,
-            lists: &self.chip.lists,
+        let names = ProofNames {
+            chip: &self.basis.chip,
+            lists: &self.basis.lists,
         };
-        self.tree.add(names, self.room.weights(), digits)
+        self.tree.add(names, self.weighing.weights(), digits)
     }
 
     /// Weighs the case at hand and adds it to the tree.
     fn weigh(&mut self, parent: usize, second: bool) {
-        let worth = self.room.weigh(&mut self.chip, ROUNDS);
+        let worth = self.weighing.weigh(&mut self.basis, ROUNDS);
         self.add(parent, second, worth);
     }
 
@@ -224,7 +197,7 @@ impl Search {
     fn least_value(&self) -> u64 {
         let first = self.queue.first();
         if first == NONE {
-            return self.chip.facts.goal;
+            return self.basis.chip.goal;
         }
         item_or(&self.entries, first, NO_ENTRY).value
     }
@@ -265,15 +238,15 @@ impl Search {
     /// Places a module in the case at hand.
     fn place(&mut self, module: usize, count: usize, second: bool) {
         let ranks = front(&self.ranks, count.saturating_add(1));
-        self.room.case.place(module, ranks, second);
+        self.weighing.case.place(module, ranks, second);
     }
 
     /// Makes the case at hand, which is that of a node, the one of a branch.
     fn enter(&mut self, node: usize, second: bool) {
         match self.tree.rule_at(node) {
-            Rule::Leaf => {}
-            Rule::Wide { rank, width } => self.room.case.wide(rank, width, second),
-            Rule::Place {
+            NodeRule::Leaf => {}
+            NodeRule::Wide { rank, width } => self.weighing.case.wide(rank, width, second),
+            NodeRule::Place {
                 module,
                 rank,
                 start,
@@ -287,14 +260,14 @@ impl Search {
 
     /// Makes the case of a node, tightened.
     fn make_case(&mut self, node: usize) {
-        self.room.case.clear_ranks();
+        self.weighing.case.clear_ranks();
         let count = self.take_path(node);
         for step in 0..count {
             let place = count.saturating_sub(step).saturating_sub(1);
             let entry = item_or(&self.entries, item_or(&self.path, place, 0), NO_ENTRY);
             self.enter(entry.parent, entry.second);
         }
-        self.room.case.tighten();
+        self.weighing.case.tighten();
     }
 
     /// Makes the case of a branch of a node, and weighs it.
@@ -315,11 +288,11 @@ impl Search {
 
     /// Adds a node without weights that will be divided.
     fn add_inner(&mut self, parent: usize) -> usize {
-        self.room.clear_weights();
+        self.weighing.clear_weights();
         let node = self.add_leaf(1);
-        let entry = EnteringColumn {
+        let entry = NodeEntry {
             value: 0,
-            cut: CaseCut::Nothing,
+            division: Division::Nothing,
             parent,
             second: false,
         };
@@ -345,8 +318,8 @@ impl Search {
     fn find_twins(&mut self, rank: usize) -> usize {
         put_item(&mut self.ranks, 0, rank);
         let mut count: usize = 0;
-        for other in 0..self.room.case.known {
-            if self.room.case.is_twin(rank, other) {
+        for other in 0..self.weighing.case.known {
+            if self.weighing.case.is_twin(rank, other) {
                 count = count.saturating_add(1);
                 put_item(&mut self.ranks, count, other);
             }
@@ -358,9 +331,9 @@ impl Search {
     fn divide_place(&mut self, node: usize, module: usize, rank: usize) {
         let count = self.find_twins(rank);
         let next = self.tree.made;
-        let names = Names {
-            facts: &self.chip.facts,
-            lists: &self.chip.lists,
+        let names = ProofNames {
+            chip: &self.basis.chip,
+            lists: &self.basis.lists,
         };
         let ranks = front(&self.ranks, count.saturating_add(1));
         self.tree
@@ -370,21 +343,21 @@ impl Search {
     }
 
     /// Divides a node.
-    fn divide_node(&mut self, node: usize, cut: CaseCut) {
+    fn divide_node(&mut self, node: usize, division: Division) {
         self.make_case(node);
-        self.room.above.take_low(&self.room.case);
-        self.tree.load(node, &mut self.room.above.weights);
-        match cut {
-            CaseCut::Nothing => {}
-            CaseCut::Width { rank, width } => self.divide_width(node, rank, width),
-            CaseCut::Rank { rank, width } => self.divide_rank(node, rank, width),
-            CaseCut::Place { module, rank } => self.divide_place(node, module, rank),
+        self.weighing.divided.take_low(&self.weighing.case);
+        self.tree.load(node, &mut self.weighing.divided.weights);
+        match division {
+            Division::Nothing => {}
+            Division::Width { rank, width } => self.divide_width(node, rank, width),
+            Division::Rank { rank, width } => self.divide_rank(node, rank, width),
+            Division::Place { module, rank } => self.divide_place(node, module, rank),
         }
     }
 
     /// Whether there is room for the nodes of a division.
-    fn has_room(&self, cut: CaseCut) -> bool {
-        let more = more_nodes(cut);
+    fn has_room(&self, division: Division) -> bool {
+        let more = more_nodes(division);
         let made = self.tree.made.saturating_add(more) as u64;
         if made > self.nodes || self.tree.length > TEXT_MOST {
             return false;
@@ -396,13 +369,13 @@ impl Search {
     /// Divides the weakest open case; the search is done where there is none, or it can't be divided.
     fn step(&mut self) {
         let node = self.queue.first();
-        let cut = item_or(&self.entries, node, NO_ENTRY).cut;
-        if cut == CaseCut::Nothing || !self.has_room(cut) {
+        let division = item_or(&self.entries, node, NO_ENTRY).division;
+        if division == Division::Nothing || !self.has_room(division) {
             self.done = true;
             return;
         }
         self.queue.drop_first(&self.entries);
-        self.divide_node(node, cut);
+        self.divide_node(node, division);
         self.note_claim();
     }
 
@@ -428,18 +401,18 @@ impl Search {
     /// Gives an open leaf the fewest digits with which it holds at the claim.
     fn shorten(&mut self, node: usize) {
         self.make_case(node);
-        self.tree.load(node, self.room.set_weights());
-        if self.room.take_case(&self.chip) {
-            let digits = self.room.digits_at(&self.chip, self.claim, 1);
-            self.tree.set_digits(node, self.room.weights(), digits);
+        self.tree.load(node, self.weighing.set_weights());
+        if self.weighing.take_case(&self.basis) {
+            let digits = self.weighing.digits_at(&self.basis, self.claim, 1);
+            self.tree.set_digits(node, self.weighing.weights(), digits);
         }
     }
 
     /// Gives each open leaf the fewest digits with which it holds at the claim.
     fn shorten_all(&mut self) {
         for node in 0..self.front {
-            let open = item_or(&self.entries, node, NO_ENTRY).value < self.chip.facts.goal;
-            if open && self.tree.rule_among(node, self.front) == Rule::Leaf {
+            let open = item_or(&self.entries, node, NO_ENTRY).value < self.basis.chip.goal;
+            if open && self.tree.rule_among(node, self.front) == NodeRule::Leaf {
                 self.shorten(node);
             }
         }
@@ -463,9 +436,9 @@ impl Search {
     /// Ends the search: the proof of the claim so far. `NoMemory` where there is none. (It takes the search, which is freed here:
     /// a caller that frees it is proved for each of its parts anew.)
     pub fn proof(self, alloc: Global) -> Result<Proof, NoMemory> {
-        let names = Names {
-            facts: &self.chip.facts,
-            lists: &self.chip.lists,
+        let names = ProofNames {
+            chip: &self.basis.chip,
+            lists: &self.basis.lists,
         };
         let proof = proof_of(alloc, &self.tree, names, self.claim, self.front);
         drop(self);
