@@ -1,5 +1,5 @@
 -- The buses of a sound architecture keep the rules of plans that speak of buses.
-use Rattle.std.proofs.Common.{◌≡◌, ℕ, ◌≤◌, ◌<◌, true, cond, nat_eq, Some, List, [], ◌∷◌, ◌++◌, length, get_or, map, take, refl, ap, ◌∙◌, sym, subst, arith, eq-eqb, option_map}
+use Rattle.std.proofs.Common.{◌≡◌, ℕ, ◌≤◌, ◌<◌, true, cond, nat_eq, Some, List, [], ◌∷◌, length, map, take, refl, ap, ◌∙◌, arith, eq-eqb}
 use Rattle.std.specs.Prelude.{slice_get, IsTrue}
 use Rattle.std.specs.List.{All, Contains, sum_by, flat_map}
 use Rattle.std.proofs.lemmas.Bool.{eqb-true}

@@ -1,5 +1,5 @@
 -- Where the search isn't cut off by its budget, one plan alone is one of the planner.
-use Rattle.std.proofs.Common.{◌≡◌, inl, inr, ℕ, Bool, true, false, Option, None, Some, List, [], ◌∷◌, map, reverse, arith, refl, sym, ap, ◌∙◌, subst}
+use Rattle.std.proofs.Common.{◌≡◌, inl, inr, ℕ, Bool, true, false, Option, None, Some, List, [], ◌∷◌, map, arith, refl, sym, ap, ◌∙◌}
 use Rattle.std.specs.Prelude.{slice_get, nat_lt}
 use Rattle.std.specs.List.{All}
 use Rattle.std.proofs.lemmas.Bool.{cases_order, cases_Bool, ltb-true}
@@ -15,7 +15,6 @@ use Rattle.plan_model.proofs.Lists.{at_contains}
 use Rattle.bound_certificate.specs.Best.{IsFirstGreatest, IsBefore, HasBefore, GoesBack, IsPrintedChain, IsForcedPart, IsBestBound, IsBestWith, by_need, up_to, winning, forced_or}
 use Rattle.bound_certificate.specs.Breaches.{IsBreachPlace}
 use Rattle.plan_model.specs.Certificates.{IsForcedItem}
-use Rattle.wrapper_design.specs.Design.{mode_of, design}
 use Rattle.width_table.specs.Times.{mode_time}
 use Rattle.width_table.proofs.LeastWidths.{chosen_unique}
 use Rattle.resource_table.specs.Jobs.{JobValue}
@@ -24,8 +23,8 @@ use Rattle.schedule_search.specs.Found.{IsFound}
 use Rattle.schedule_search.proofs.Agreeing.{same_cycles, same_order}
 use Rattle.schedule_search.proofs.CycleCounts.{same_placed}
 use Rattle.planner.specs.Jobs.{job_of}
-use Rattle.planner.specs.Wrapping.{bus_width, IsTableWrapper, IsWrapperOnBus}
-use Rattle.planner.specs.Schedules.{start_of, IsSchedule}
+use Rattle.planner.specs.Wrapping.{bus_width, IsWrapperOnBus}
+use Rattle.planner.specs.Schedules.{IsSchedule}
 use Rattle.planner.specs.Plans.{IsPlanned}
 
 -- ---- wrappers

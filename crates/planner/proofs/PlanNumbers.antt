@@ -4,7 +4,6 @@ use Rattle.std.specs.Prelude.{slice_get}
 use Rattle.std.specs.List.{All, Contains, list_all}
 use Rattle.std.proofs.lemmas.Bool.{and_parts}
 use Rattle.std.proofs.lemmas.List.Elements.{All-weaker, All-nil, All-cons}
-use Rattle.std.proofs.lemmas.Option.{slice_get-get_or}
 use Rattle.soc_model.specs.declared.TestId.{TestId}
 use Rattle.soc_model.specs.declared.TheConstants.{NUMBER_WORD_MOST}
 use Rattle.soc_model.specs.Chips.{ModuleValue, SocValue}
@@ -15,7 +14,7 @@ use Rattle.soc_model.proofs.Limits.{modules-small, module_chains-le}
 use Rattle.plan_model.specs.declared.ChainPlan.{ChainPlan}
 use Rattle.plan_model.specs.declared.Wrapper.{Wrapper}
 use Rattle.plan_model.specs.declared.TheConstants.{PLAN_NUMBER_MOST, START_MOST}
-use Rattle.plan_model.specs.Cells.{ChainValue, IsProper}
+use Rattle.plan_model.specs.Cells.{IsProper}
 use Rattle.soc_model.specs.Modes.{scan_lengths}
 use Rattle.plan_model.specs.Plans.{BusValue, WrapperValue, WhyValue, OfModule, OfPair, OfChain, OfArea, OfPower, OfForced, PlanValue, LimitsValue}
 use Rattle.plan_model.specs.Rules.{Each, StartsOnce, FitsWires, live_ids, listed}

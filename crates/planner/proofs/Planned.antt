@@ -6,7 +6,7 @@ use Rattle.std.proofs.lemmas.Bool.{cases_Bool, cases_lt, cases_order, eq-eqb, eq
 use Rattle.std.proofs.lemmas.List.Sums.{sum_by-cons}
 use Rattle.std.proofs.lemmas.Option.{slice_get-map, slice_get-get_or, slice_get_within, get_or_from_slice_get}
 use Rattle.soc_model.specs.declared.TestId.{TestId}
-use Rattle.soc_model.specs.Chips.{SocValue, LiveTest, live_tests, id_of, same_test, parent_place}
+use Rattle.soc_model.specs.Chips.{SocValue, LiveTest, live_tests, id_of, same_test}
 use Rattle.soc_model.proofs.Parents.{place-from_IsParent}
 use Rattle.plan_model.specs.Plans.{PlanValue, ProfileValue, LimitsValue, PlannedTest, step_power, planned, planned_test, of_first, end_of as end_of_planned, greatest, bus_place, chains_of, operations_of, is_active as is_active_planned, power_of as power_of_planned, power_at as power_at_planned}
 use Rattle.plan_model.specs.Right.{IsAt, Meet}

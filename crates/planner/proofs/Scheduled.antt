@@ -28,7 +28,7 @@ use Rattle.planner.specs.declared.schedule.Schedule.{Schedule}
 use Rattle.planner.specs.Jobs.{settled_parts, job_of}
 use Rattle.planner.specs.Schedules.{start_of, IsFoundList}
 use Rattle.planner.specs.Wirings.{plan_of, IsScheduled}
-use Rattle.planner.proofs.Planned.{IsLaid, keeps_times}
+use Rattle.planner.proofs.Planned.{keeps_times}
 
 -- ---- starts, one after another
 

@@ -3,7 +3,7 @@ use Rattle.std.specs.Prelude.{◌≡◌, ℕ, ◌≤◌, ◌^◌, List, map}
 use Rattle.std.specs.List.{All}
 use Rattle.soc_model.specs.declared.TestId.{TestId}
 use Rattle.soc_model.specs.Chips.{SocValue}
-use Rattle.plan_model.specs.Plans.{BusValue, WrapperValue, BoundValue, PlanValue, LimitsValue}
+use Rattle.plan_model.specs.Plans.{BusValue, BoundValue, PlanValue, LimitsValue}
 use Rattle.plan_model.specs.Views.{wrapper_value, bus_value}
 use Rattle.planner.specs.declared.wiring.Wiring.{Wiring}
 use Rattle.planner.specs.declared.schedule.Schedule.{Schedule}

@@ -1,4 +1,4 @@
-use Rattle.std.proofs.Common.{◌∙◌, sym, subst, map}
+use Rattle.std.proofs.Common.{sym, subst, map}
 use Rattle.plan_model.specs.Views.{bus_value}
 use Rattle.resource_table.specs.Jobs.{IsSoundJob}
 use Rattle.planner.specs.Sources.{chip_of, limits_of}

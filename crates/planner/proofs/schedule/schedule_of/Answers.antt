@@ -1,4 +1,4 @@
-use Rattle.std.proofs.Common.{◌≡◌, ◌∙◌, ℕ, map, refl, ap}
+use Rattle.std.proofs.Common.{◌≡◌, ◌∙◌, map, refl, ap}
 use Rattle.plan_model.specs.Views.{wrapper_value, bus_value}
 use Rattle.resource_table.specs.Jobs.{job_value}
 use Rattle.schedule_search.specs.SearchValues.{SearchValue}

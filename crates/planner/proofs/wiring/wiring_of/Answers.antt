@@ -1,5 +1,3 @@
-use Rattle.std.proofs.Common.{map}
-use Rattle.plan_model.specs.Views.{bus_value}
 use Rattle.planner.specs.Problems.{chip_of, limits_of}
 use Rattle.planner.proofs.WholePlans.{wired}
 use Rattle.planner.proofs.wiring.wiring_of.Goals as goal

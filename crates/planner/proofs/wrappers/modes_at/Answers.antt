@@ -1,12 +1,10 @@
-use Rattle.std.proofs.Common.{◌++◌, ℕ, Bool, true, List, [], map, take, sym, subst, arith}
+use Rattle.std.proofs.Common.{◌++◌, ℕ, true, map, take, arith}
 use Rattle.std.specs.List.{flat_map}
 use Rattle.std.proofs.lemmas.List.{length-map}
 use Rattle.soc_model.specs.declared.Module.{Module}
 use Rattle.soc_model.specs.Chips.{soc_value, module_value}
 use Rattle.plan_model.specs.Rules.{mode_pair}
 use Rattle.plan_model.specs.Views.{bus_value}
-use Rattle.planner.specs.declared.wrappers.UsedMode.{UsedMode}
-use Rattle.planner.specs.Wrapping.{AreUsedModes}
 use Rattle.planner.proofs.UsedModes.{pairs_in, no_modes, pairs_next, all_pairs, module_there}
 use Rattle.planner.proofs.wrappers.modes_at.Goals as goal
 
