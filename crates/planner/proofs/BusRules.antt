@@ -1,11 +1,11 @@
 -- The buses of a sound architecture keep the rules of plans that speak of buses.
-use Rattle.std.proofs.Common.{◌≡◌, ℕ, ◌≤◌, ◌<◌, true, cond, nat_eq, Some, List, [], ◌∷◌, ◌++◌, length, get_or, map, take, refl, ap, ◌∙◌, sym, subst, arith, eq-eqb, option_map}
+use Rattle.std.proofs.Common.{◌≡◌, ℕ, ◌≤◌, ◌<◌, true, cond, nat_eq, Some, List, [], ◌∷◌, length, map, take, refl, ap, ◌∙◌, arith, eq-eqb}
 use Rattle.std.specs.Prelude.{slice_get, IsTrue}
 use Rattle.std.specs.List.{All, Contains, sum_by, flat_map}
 use Rattle.std.proofs.lemmas.Bool.{eqb-true}
 use Rattle.std.proofs.lemmas.List.{map-append, length-map}
-use Rattle.std.proofs.lemmas.List.Sums.{sum_by-cons, sum_by-append}
-use Rattle.std.proofs.lemmas.Option.{get_or_from_slice_get, slice_get-get_or, slice_get-map}
+use Rattle.std.proofs.lemmas.List.Sums.{sum_by-cons, sum_by-append, sum_by_more_le}
+use Rattle.std.proofs.lemmas.Option.{get_or_from_slice_get, slice_get_within, slice_get-get_or, slice_get-map}
 use Rattle.soc_model.specs.Chips.{ModuleValue, SocValue, numbers}
 use Rattle.soc_model.specs.SoundChips.{AllDiffer}
 use Rattle.soc_model.proofs.Sums.{sum_by-map}
@@ -22,27 +22,13 @@ use Rattle.bus_model.specs.Sound.{IsSoundArch, times_listed, times_on_buses, wir
 use Rattle.bus_model.proofs.Times.{listed-in_range}
 use Rattle.planner.specs.Buses.{number_at, plan_bus, plan_buses}
 use Rattle.planner.specs.Wrapping.{bus_width}
-use Rattle.planner.proofs.Lists.{all_at, from_take, front-le-sum_by}
+use Rattle.resource_table.proofs.Places.{all_at, all_from}
+use Rattle.planner.proofs.Lists.{from_take}
 
--- ---- widths
-
-pub fit_wires : (table : TableValue) (limits : LimitsValue) (buses : List arch.BusValue) → IsSoundArch table buses → limits.wires ≡ table.wires → Each (FitsWires limits) (plan_buses table.soc buses)
-fit_wires table limits buses sound same n x at =
-    let b = from_map (plan_bus table.soc) buses n x at in
-    let wide : 1 ≤ (b.0).width = all_at (λ (bus : arch.BusValue). 1 ≤ bus.width) buses n b.0 sound.wide b.1 in
-    let here : (b.0).width ≡ x.width = ap (λ (v : BusValue). v.width) b.2 in
-    let front = front-le-sum_by (λ (v : BusValue). v.width) (plan_buses table.soc buses) n x at in
-    let all : sum_by (λ (v : BusValue). v.width) (plan_buses table.soc buses) ≡ wires_used buses = sum_by-map (λ (v : BusValue). v.width) (plan_bus table.soc) buses in
-    (omega arith, omega (arith, sound.fits))
-
--- ---- the places on all buses
+-- ---- the places on all buses, and the numbers at places
 
 abbrev pub all_places : List arch.BusValue → List ℕ
 all_places buses = flat_map (λ (b : arch.BusValue). b.places) buses
-
-pub numbers_listed : (soc : SocValue) (buses : List arch.BusValue) → flat_map (λ (v : BusValue). v.modules) (plan_buses soc buses) ≡ map (number_at soc) (all_places buses)
-numbers_listed soc [] = refl
-numbers_listed soc (b ∷ buses) = ap (λ (ns : List ℕ). map (number_at soc) b.places ++ ns) (numbers_listed soc buses) ∙ sym (map-append (number_at soc) b.places (all_places buses))
 
 times_all : (p : ℕ) (buses : List arch.BusValue) → times_listed p (all_places buses) ≡ times_on_buses p buses
 times_all p [] = refl
@@ -50,70 +36,74 @@ times_all p (b ∷ buses) =
     let ih : times_listed p (all_places buses) ≡ times_on_buses p buses = times_all p buses in
     sum_by-append (λ q. cond (nat_eq q p) 1 0) b.places (all_places buses) ∙ omega (arith, sum_by-cons (λ (bus : arch.BusValue). times_listed p bus.places) b buses)
 
--- each due place once, and no other
-pub once_all : (table : TableValue) (buses : List arch.BusValue) → IsSoundArch table buses → (p : ℕ) → times_listed p (all_places buses) ≡ due table p
-once_all table buses sound p = times_all p buses ∙ sound.once p
-
-pub all_in_range : (table : TableValue) (buses : List arch.BusValue) → IsTable table → IsSoundArch table buses → All (λ p. p < places_of table) (all_places buses)
-all_in_range table buses laws sound = listed-in_range table (all_places buses) laws (λ p. omega (arith, once_all table buses sound p))
-
--- the same bus by bus
-pub buses_in_range : (table : TableValue) (buses : List arch.BusValue) → IsTable table → IsSoundArch table buses → All (λ (bus : arch.BusValue). All (λ p. p < places_of table) bus.places) buses
-buses_in_range table buses laws sound i d h =
-    listed-in_range table (get_or buses i d).places laws (λ p. omega (arith, sound.once p, item-le-sum_by (λ (bus : arch.BusValue). times_listed p bus.places) buses i (get_or buses i d) (slice_get-get_or buses i d h)))
-
--- ---- the numbers at places
-
-pub number_there : (soc : SocValue) (p n : ℕ) → p < length soc.modules → number_at soc p ≡ n → slice_get (numbers soc) p ≡ Some n
-number_there soc p n h e =
-    let long : length (numbers soc) ≡ length soc.modules = length-map soc.modules (λ (m : ModuleValue). m.number) in
-    slice_get-get_or (numbers soc) p 0 (omega arith) ∙ ap Some e
-
-pub number_of : (soc : SocValue) (p : ℕ) (m : ModuleValue) → slice_get soc.modules p ≡ Some m → number_at soc p ≡ m.number
-number_of soc p m at = get_or_from_slice_get (numbers soc) p m.number 0 (slice_get-map (λ (m : ModuleValue). m.number) soc.modules p ∙ ap (option_map (λ (m : ModuleValue). m.number)) at)
-
--- ---- no number is listed twice
-
 counts_one : (p q : ℕ) → p ≡ q → cond {A = ℕ} (nat_eq p q) 1 0 ≡ 1
 counts_one p q e = rw (eq-eqb p q e) refl
 
-pub differ_new : (soc : SocValue) (places : List ℕ) → AllDiffer (numbers soc) → All (λ p. p < length soc.modules) places → ((p : ℕ) → times_listed p places ≤ 1) → Each IsNew (map (number_at soc) places)
-differ_new soc places differ low few n x at c =
-    let k = contains_at (take n (map (number_at soc) places)) x c in
-    let f = from_take (map (number_at soc) places) n k.0 x k.1 in
-    let p = from_map (number_at soc) places k.0 x f.1 in
-    let q = from_map (number_at soc) places n x at in
-    let same : p.0 ≡ q.0 = differ p.0 q.0 x (number_there soc p.0 x (all_at (λ p. p < length soc.modules) places k.0 p.0 low p.1) p.2) (number_there soc q.0 x (all_at (λ p. p < length soc.modules) places n q.0 low q.1) q.2) in
-    let two = two-le-sum_by (λ r. cond (nat_eq r q.0) 1 0) places k.0 n p.0 q.0 f.0 p.1 q.1 in
-    absurd (omega (arith, few q.0, counts_one p.0 q.0 same, counts_one q.0 q.0 refl))
+module _ (soc : SocValue) where
+  pub numbers_listed : (buses : List arch.BusValue) → flat_map (λ (v : BusValue). v.modules) (plan_buses soc buses) ≡ map (number_at soc) (all_places buses)
+  numbers_listed [] = refl
+  numbers_listed (b ∷ buses) = rw (numbers_listed buses, map-append) refl
 
--- ---- a module with a test over the wires is listed
+  pub number_there : (p n : ℕ) → p < length soc.modules → number_at soc p ≡ n → slice_get (numbers soc) p ≡ Some n
+  number_there p n h e =
+      let long : length (numbers soc) ≡ length soc.modules = length-map soc.modules (λ (m : ModuleValue). m.number) in
+      slice_get-get_or (numbers soc) p 0 (omega arith) ∙ ap Some e
 
-due_there : (table : TableValue) (place : ℕ) (m : ModuleValue) → slice_get table.soc.modules place ≡ Some m → IsTrue (has_tam m) → due table place ≡ 1
-due_there table place m at tam =
-    let yes' : has_tam_at table.soc place ≡ true = ap (passes has_tam) at ∙ tam in
-    rw yes' refl
+  pub number_of : (p : ℕ) (m : ModuleValue) → slice_get soc.modules p ≡ Some m → number_at soc p ≡ m.number
+  number_of p m at = get_or_from_slice_get (numbers soc) p m.number 0 (rw (slice_get-map (λ (m : ModuleValue). m.number) soc.modules p, at) refl)
 
-pub listed_number : (table : TableValue) (buses : List arch.BusValue) → IsSoundArch table buses → (place : ℕ) (m : ModuleValue) → slice_get table.soc.modules place ≡ Some m → IsTrue (has_tam m) → Contains (map (number_at table.soc) (all_places buses)) m.number
-listed_number table buses sound place m at tam =
-    let once = once_all table buses sound place in
-    let one = due_there table place m at tam in
-    let s = some_passes (λ q. nat_eq q place) (all_places buses) (omega (arith, once, one)) in
-    let here : number_at table.soc s.1 ≡ m.number = ap (number_at table.soc) (eqb-true s.1 place s.3) ∙ number_of table.soc place m at in
-    at_contains (map (number_at table.soc) (all_places buses)) s.0 m.number (slice_get-map (number_at table.soc) (all_places buses) s.0 ∙ ap (option_map (number_at table.soc)) s.2 ∙ ap Some here)
+  -- no number is listed twice
+  pub differ_new : (places : List ℕ) → AllDiffer (numbers soc) → All (λ p. p < length soc.modules) places → ((p : ℕ) → times_listed p places ≤ 1) → Each IsNew (map (number_at soc) places)
+  differ_new places differ low few n x at c =
+      let k = contains_at (take n (map (number_at soc) places)) x c in
+      let f = from_take (map (number_at soc) places) n k.0 x k.1 in
+      let p = from_map (number_at soc) places k.0 x f.1 in
+      let q = from_map (number_at soc) places n x at in
+      let same : p.0 ≡ q.0 = differ p.0 q.0 x (number_there p.0 x (all_at (λ p. p < length soc.modules) places k.0 p.0 low p.1) p.2) (number_there q.0 x (all_at (λ p. p < length soc.modules) places n q.0 low q.1) q.2) in
+      let two = two-le-sum_by (λ r. cond (nat_eq r q.0) 1 0) places k.0 n p.0 q.0 f.0 p.1 q.1 in
+      absurd (omega (arith, few q.0, counts_one p.0 q.0 same, counts_one q.0 q.0 refl))
 
--- ---- the width of its bus
+-- ---- a sound architecture
 
-pub width_within : (table : TableValue) (buses : List arch.BusValue) → IsSoundArch table buses → (number : ℕ) → Contains (map (number_at table.soc) (all_places buses)) number →
-    (1 ≤ bus_width (plan_buses table.soc buses) number) × (bus_width (plan_buses table.soc buses) number ≤ table.wires)
-width_within table buses sound number listed =
-    let ns = subst (λ (xs : List ℕ). Contains xs number) (sym (numbers_listed table.soc buses)) listed in
-    let k = contains_at (flat_map (λ (v : BusValue). v.modules) (plan_buses table.soc buses)) number ns in
-    let f = from_flat_map (λ (v : BusValue). v.modules) (plan_buses table.soc buses) k.0 number k.1 in
-    let has : has_module number f.1 ≡ true = any_from (nat_eq number) (f.1).modules f.2 number f.4 (eq-eqb number number refl) in
-    let r = of_first_is (has_module number) (λ (b : BusValue). b.width) 0 (plan_buses table.soc buses) f.0 f.1 f.3 has in
-    let b = from_map (plan_bus table.soc) buses r.0 r.1 r.2 in
-    let wide : 1 ≤ (b.0).width = all_at (λ (bus : arch.BusValue). 1 ≤ bus.width) buses r.0 b.0 sound.wide b.1 in
-    let same : (b.0).width ≡ (r.1).width = ap (λ (v : BusValue). v.width) b.2 in
-    let part = item-le-sum_by (λ (bus : arch.BusValue). bus.width) buses r.0 b.0 b.1 in
-    (omega (arith, r.4), omega (arith, r.4, sound.fits))
+module _ (table : TableValue) (buses : List arch.BusValue) (sound : IsSoundArch table buses) where
+  pub fit_wires : (limits : LimitsValue) → limits.wires ≡ table.wires → Each (FitsWires limits) (plan_buses table.soc buses)
+  fit_wires limits same n x at =
+      let b = from_map (plan_bus table.soc) buses n x at in
+      let wide : 1 ≤ (b.0).width = all_at (λ (bus : arch.BusValue). 1 ≤ bus.width) buses n b.0 sound.wide b.1 in
+      let here : (b.0).width ≡ x.width = ap (λ (v : BusValue). v.width) b.2 in
+      let front = rw (get_or_from_slice_get (plan_buses table.soc buses) n x x at) at (sum_by_more_le (λ (v : BusValue). v.width) (plan_buses table.soc buses) n x (slice_get_within (plan_buses table.soc buses) n x at)) in
+      let all : sum_by (λ (v : BusValue). v.width) (plan_buses table.soc buses) ≡ wires_used buses = sum_by-map (λ (v : BusValue). v.width) (plan_bus table.soc) buses in
+      (omega arith, omega (arith, sound.fits))
+
+  -- each due place once, and no other
+  pub once_all : (p : ℕ) → times_listed p (all_places buses) ≡ due table p
+  once_all p = times_all p buses ∙ sound.once p
+
+  pub all_in_range : IsTable table → All (λ p. p < places_of table) (all_places buses)
+  all_in_range laws = listed-in_range table (all_places buses) laws (λ p. omega (arith, once_all p))
+
+  -- the same bus by bus
+  pub buses_in_range : IsTable table → All (λ (bus : arch.BusValue). All (λ p. p < places_of table) bus.places) buses
+  buses_in_range laws = all_from (λ (bus : arch.BusValue). All (λ p. p < places_of table) bus.places) buses (λ i bus at.
+      listed-in_range table bus.places laws (λ p. omega (arith, sound.once p, item-le-sum_by (λ (bus : arch.BusValue). times_listed p bus.places) buses i bus at)))
+
+  -- a module with a test over the wires is listed
+  pub listed_number : (place : ℕ) (m : ModuleValue) → slice_get table.soc.modules place ≡ Some m → IsTrue (has_tam m) → Contains (map (number_at table.soc) (all_places buses)) m.number
+  listed_number place m at tam =
+      let has : has_tam_at table.soc place ≡ true = ap (passes has_tam) at ∙ tam in
+      let one : due table place ≡ 1 = rw has refl in
+      let s = some_passes (λ q. nat_eq q place) (all_places buses) (omega (arith, once_all place, one)) in
+      at_contains (map (number_at table.soc) (all_places buses)) s.0 m.number (rw (slice_get-map (number_at table.soc) (all_places buses) s.0, s.2, eqb-true s.1 place s.3, number_of table.soc place m at) refl)
+
+  -- the width of its bus
+  pub width_within : (number : ℕ) → Contains (map (number_at table.soc) (all_places buses)) number → (1 ≤ bus_width (plan_buses table.soc buses) number) × (bus_width (plan_buses table.soc buses) number ≤ table.wires)
+  width_within number listed =
+      let k = contains_at (flat_map (λ (v : BusValue). v.modules) (plan_buses table.soc buses)) number (rw (numbers_listed table.soc buses) listed) in
+      let f = from_flat_map (λ (v : BusValue). v.modules) (plan_buses table.soc buses) k.0 number k.1 in
+      let has : has_module number f.1 ≡ true = any_from (nat_eq number) (f.1).modules f.2 number f.4 (eq-eqb number number refl) in
+      let r = of_first_is (has_module number) (λ (b : BusValue). b.width) 0 (plan_buses table.soc buses) f.0 f.1 f.3 has in
+      let b = from_map (plan_bus table.soc) buses r.0 r.1 r.2 in
+      let wide : 1 ≤ (b.0).width = all_at (λ (bus : arch.BusValue). 1 ≤ bus.width) buses r.0 b.0 sound.wide b.1 in
+      let same : (b.0).width ≡ (r.1).width = ap (λ (v : BusValue). v.width) b.2 in
+      let part = item-le-sum_by (λ (bus : arch.BusValue). bus.width) buses r.0 b.0 b.1 in
+      (omega (arith, r.4), omega (arith, r.4, sound.fits))

@@ -1,5 +1,5 @@
 -- The precedences of the job: those of live tests.
-use Rattle.std.proofs.Common.{◌≡◌, ℕ, zero, suc, ◌<◌, Some, None, Option, List, [], ◌∷◌, length, get_or, position, refl, sym, ◌∙◌, ap, subst, arith}
+use Rattle.std.proofs.Common.{◌≡◌, ℕ, zero, suc, ◌<◌, Some, None, Option, List, [], ◌∷◌, length, get_or, position, refl, sym, ◌∙◌, ap, arith}
 use Rattle.std.specs.Prelude.{slice_get, slice_index_or}
 use Rattle.std.specs.List.{All, Contains}
 use Rattle.std.proofs.lemmas.List.{length-map}
@@ -11,17 +11,14 @@ use Rattle.plan_model.specs.Plans.{PlanValue, LimitsValue}
 use Rattle.plan_model.specs.Rules.{live_ids}
 use Rattle.plan_model.proofs.Lists.{from_flat_map, in_flat_map, contains_at, at_contains}
 use Rattle.plan_model.proofs.CertificatesAreBounds.{same_test_is, is_same_test}
-use Rattle.resource_table.specs.Jobs.{Precedes}
-use Rattle.live_tests.specs.Names.{AllDiffer}
-use Rattle.planner.specs.Jobs.{job_of}
-use Rattle.live_tests.specs.Names.{both_places, places_of}
 use Rattle.plan_model.proofs.Finding.{none_passes}
+use Rattle.resource_table.specs.Jobs.{Precedes}
+use Rattle.resource_table.proofs.Places.{all_from}
+use Rattle.live_tests.specs.Names.{AllDiffer, both_places, places_of}
+use Rattle.planner.specs.Jobs.{job_of}
 
 pub no_id : TestId
 no_id = record { «module» = 0; test = 0 }
-
-some_is : {X : Type 0} (x y : X) → Some x ≡ Some y → x ≡ y
-some_is x y e = cc
 
 -- a place that is found is that of the test
 found_at : (ids : List TestId) (id : TestId) (k : ℕ) → position (same_test id) ids ≡ Some k → slice_get ids k ≡ Some id
@@ -38,64 +35,47 @@ place_at ids id k differ at = by (position (same_test id) ids) refl
     by (Some n) e = ap Some (differ n k id (found_at ids id n e) at)
 
 -- a pair of places comes from both
-record AreBoth (a b : Option ℕ) (i j : ℕ) : Type 0 where
-  first : a ≡ Some i
-  second : b ≡ Some j
-
-both_from : (a b : Option ℕ) (k i j : ℕ) → slice_get (both_places a b) k ≡ Some (i, j) → AreBoth a b i j
+both_from : (a b : Option ℕ) (k i j : ℕ) → slice_get (both_places a b) k ≡ Some (i, j) → (a ≡ Some i) × (b ≡ Some j)
 both_from None b k i j e = cc
 both_from (Some x) None k i j e = cc
-both_from (Some x) (Some y) zero i j e =
-    let pair : (let p : ℕ × ℕ = (x, y) in p) ≡ (i, j) = some_is (x, y) (i, j) e in
-    record { first = ap (λ (p : ℕ × ℕ). Some p.0) pair; second = ap (λ (p : ℕ × ℕ). Some p.1) pair }
+both_from (Some x) (Some y) zero i j e = let pair : (let p : ℕ × ℕ = (x, y) in p) ≡ (i, j) = cc in (ap (λ (p : ℕ × ℕ). Some p.0) pair, ap (λ (p : ℕ × ℕ). Some p.1) pair)
 both_from (Some x) (Some y) (suc k) i j e = cc
 
 -- the precedence of the limits that one of the job is
-pub record IsOfLimits (soc : SocValue) (limits : LimitsValue) (i j : ℕ) : Type 0 where
-  pub a : TestId
-  pub b : TestId
-  pub there : Contains limits.before (a, b)
-  pub first : slice_get (live_ids soc) i ≡ Some a
-  pub second : slice_get (live_ids soc) j ≡ Some b
+record IsOfLimits (soc : SocValue) (limits : LimitsValue) (i j : ℕ) : Type 0 where
+  a : TestId
+  b : TestId
+  there : Contains limits.before (a, b)
+  first : slice_get (live_ids soc) i ≡ Some a
+  second : slice_get (live_ids soc) j ≡ Some b
 
-pub from_job : (soc : SocValue) (limits : LimitsValue) (plan : PlanValue) (i j : ℕ) → Precedes (job_of soc limits plan) i j → IsOfLimits soc limits i j
-from_job soc limits plan i j before =
-    let at = contains_at (job_of soc limits plan).before (i, j) before in
-    let f = from_flat_map (places_of (live_ids soc)) limits.before at.0 (i, j) at.1 in
-    let both : AreBoth (position (same_test (f.1).0) (live_ids soc)) (position (same_test (f.1).1) (live_ids soc)) i j = both_from (position (same_test (f.1).0) (live_ids soc)) (position (same_test (f.1).1) (live_ids soc)) f.2 i j f.4 in
-    record {
-      a = (f.1).0;
-      b = (f.1).1;
-      there = at_contains limits.before f.0 f.1 f.3;
-      first = found_at (live_ids soc) (f.1).0 i both.first;
-      second = found_at (live_ids soc) (f.1).1 j both.second;
-    }
+module _ (soc : SocValue) (limits : LimitsValue) (plan : PlanValue) where
+  from_job : (i j : ℕ) → Precedes (job_of soc limits plan) i j → IsOfLimits soc limits i j
+  from_job i j before =
+      let at = contains_at (job_of soc limits plan).before (i, j) before in
+      let f = from_flat_map (places_of (live_ids soc)) limits.before at.0 (i, j) at.1 in
+      let both = both_from (position (same_test (f.1).0) (live_ids soc)) (position (same_test (f.1).1) (live_ids soc)) f.2 i j f.4 in
+      record { a = (f.1).0; b = (f.1).1; there = at_contains limits.before f.0 f.1 f.3; first = found_at (live_ids soc) (f.1).0 i both.0; second = found_at (live_ids soc) (f.1).1 j both.1 }
 
-pub to_job : (soc : SocValue) (limits : LimitsValue) (plan : PlanValue) → AllDiffer (live_ids soc) → (n i j : ℕ) (a b : TestId) → slice_get limits.before n ≡ Some (a, b) → slice_get (live_ids soc) i ≡ Some a → slice_get (live_ids soc) j ≡ Some b → Precedes (job_of soc limits plan) i j
-to_job soc limits plan differ n i j a b there first second =
-    let one = place_at (live_ids soc) a i differ first in
-    let two = place_at (live_ids soc) b j differ second in
-    let pair : places_of (live_ids soc) (a, b) ≡ (i, j) ∷ [] = ap (λ (x : Option ℕ). both_places x (position (same_test b) (live_ids soc))) one ∙ ap (λ (y : Option ℕ). both_places (Some i) y) two in
-    let r = in_flat_map (places_of (live_ids soc)) limits.before n 0 (a, b) (i, j) there (rw pair refl) in
-    at_contains (job_of soc limits plan).before r.0 (i, j) r.1
+  pub to_job : AllDiffer (live_ids soc) → (n i j : ℕ) (a b : TestId) → slice_get limits.before n ≡ Some (a, b) → slice_get (live_ids soc) i ≡ Some a → slice_get (live_ids soc) j ≡ Some b → Precedes (job_of soc limits plan) i j
+  to_job differ n i j a b there first second =
+      let pair : places_of (live_ids soc) (a, b) ≡ (i, j) ∷ [] = rw (place_at (live_ids soc) a i differ first, place_at (live_ids soc) b j differ second) refl in
+      let r = in_flat_map (places_of (live_ids soc)) limits.before n 0 (a, b) (i, j) there (rw pair refl) in
+      at_contains (job_of soc limits plan).before r.0 (i, j) r.1
 
--- ---- what a sound job asks
+  -- ---- what a sound job asks
 
-pub places_in_range : (soc : SocValue) (limits : LimitsValue) (plan : PlanValue) → All (λ (p : ℕ × ℕ). (p.0 < length (job_of soc limits plan).tests) × (p.1 < length (job_of soc limits plan).tests)) (job_of soc limits plan).before
-places_in_range soc limits plan = λ k d less.
-    let p : ℕ × ℕ = get_or (job_of soc limits plan).before k d in
-    let o : IsOfLimits soc limits p.0 p.1 = from_job soc limits plan p.0 p.1 (at_contains (job_of soc limits plan).before k p (slice_get-get_or (job_of soc limits plan).before k d less)) in
-    let first = slice_get_within (live_ids soc) p.0 o.a o.first in
-    let second = slice_get_within (live_ids soc) p.1 o.b o.second in
-    let long = length-map (live_tests soc) id_of in
-    let tests : length (job_of soc limits plan).tests ≡ length (live_tests soc) = length-map (live_tests soc) _ in
-    (omega (arith, first, long, tests), omega (arith, second, long, tests))
+  pub places_in_range : All (λ (p : ℕ × ℕ). (p.0 < length (job_of soc limits plan).tests) × (p.1 < length (job_of soc limits plan).tests)) (job_of soc limits plan).before
+  places_in_range = all_from (λ (p : ℕ × ℕ). (p.0 < length (job_of soc limits plan).tests) × (p.1 < length (job_of soc limits plan).tests)) (job_of soc limits plan).before (λ k p at.
+      let o : IsOfLimits soc limits p.0 p.1 = from_job p.0 p.1 (at_contains (job_of soc limits plan).before k p at) in
+      let first = slice_get_within (live_ids soc) p.0 o.a o.first in
+      let second = slice_get_within (live_ids soc) p.1 o.b o.second in
+      let long = length-map (live_tests soc) id_of in
+      let tests : length (job_of soc limits plan).tests ≡ length (live_tests soc) = length-map (live_tests soc) _ in
+      (omega (arith, first, long, tests), omega (arith, second, long, tests)))
 
-pub acyclic_job : (soc : SocValue) (limits : LimitsValue) (plan : PlanValue) (rank : TestId → ℕ) → ((a b : TestId) → Contains limits.before (a, b) → Contains (live_ids soc) a → Contains (live_ids soc) b → rank a < rank b)
-    → (i j : ℕ) → Precedes (job_of soc limits plan) i j → rank (slice_index_or (live_ids soc) i no_id) < rank (slice_index_or (live_ids soc) j no_id)
-acyclic_job soc limits plan rank grows i j before =
-    let o : IsOfLimits soc limits i j = from_job soc limits plan i j before in
-    let first = get_or_from_slice_get (live_ids soc) i o.a no_id o.first in
-    let second = get_or_from_slice_get (live_ids soc) j o.b no_id o.second in
-    let less : rank o.a < rank o.b = grows o.a o.b o.there (at_contains (live_ids soc) i o.a o.first) (at_contains (live_ids soc) j o.b o.second) in
-    subst (λ (a : TestId). rank a < rank (slice_index_or (live_ids soc) j no_id)) (sym first) (subst (λ (b : TestId). rank o.a < rank b) (sym second) less)
+  pub acyclic_job : (rank : TestId → ℕ) → ((a b : TestId) → Contains limits.before (a, b) → Contains (live_ids soc) a → Contains (live_ids soc) b → rank a < rank b)
+      → (i j : ℕ) → Precedes (job_of soc limits plan) i j → rank (slice_index_or (live_ids soc) i no_id) < rank (slice_index_or (live_ids soc) j no_id)
+  acyclic_job rank grows i j before =
+      let o : IsOfLimits soc limits i j = from_job i j before in
+      rw (get_or_from_slice_get (live_ids soc) i o.a no_id o.first, get_or_from_slice_get (live_ids soc) j o.b no_id o.second) (grows o.a o.b o.there (at_contains (live_ids soc) i o.a o.first) (at_contains (live_ids soc) j o.b o.second))

@@ -12,7 +12,7 @@ use Rattle.bus_model.proofs.Times.{due-one}
 use Rattle.planner.specs.Parts.{KeepsPartRules}
 use Rattle.planner.specs.Buses.{AreSettledBuses, number_at}
 use Rattle.planner.specs.Wrapping.{HaveWidths, IsWrapperOnBus, AreTableWrappers}
-use Rattle.planner.proofs.Lists.{all_at}
+use Rattle.resource_table.proofs.Places.{all_at}
 use Rattle.planner.proofs.BusRules.{fit_wires, all_places, numbers_listed, once_all, all_in_range, number_there, differ_new, listed_number, width_within}
 use Rattle.planner.proofs.WrapperRules.{all_fitting, all_have, all_proper}
 
@@ -31,7 +31,7 @@ module _ (table : TableValue) (laws : IsTable table) (limits : LimitsValue) (wir
   known_listed : (n x : ℕ) → slice_get (listed plan) n ≡ Some x → Contains table.soc.keys x
   known_listed n x at =
       let p = from_map (number_at table.soc) (all_places buses.settled) n x (ap (λ (ns : List ℕ). slice_get ns n) (sym listed_are) ∙ at) in
-      known_place p.0 x (all_at (λ q. q < length table.soc.modules) (all_places buses.settled) n p.0 (all_in_range table buses.settled laws buses.sound) p.1) p.2
+      known_place p.0 x (all_at (λ q. q < length table.soc.modules) (all_places buses.settled) n p.0 (all_in_range table buses.settled buses.sound laws) p.1) p.2
 
   known_wrapped : (n x : ℕ) → slice_get (map (λ (w : WrapperValue). w.«module») plan.wrappers) n ≡ Some x → Contains table.soc.keys x
   known_wrapped n x at =
@@ -47,7 +47,7 @@ module _ (table : TableValue) (laws : IsTable table) (limits : LimitsValue) (wir
   ]
 
   none_twice : Each IsNew (listed plan)
-  none_twice = subst (λ (ns : List ℕ). Each IsNew ns) (sym listed_are) (differ_new table.soc (all_places buses.settled) laws.sound.modules_differ (all_in_range table buses.settled laws buses.sound)
+  none_twice = subst (λ (ns : List ℕ). Each IsNew ns) (sym listed_are) (differ_new table.soc (all_places buses.settled) laws.sound.modules_differ (all_in_range table buses.settled buses.sound laws)
       (λ p. omega (arith, once_all table buses.settled buses.sound p, due-one table p)))
 
   all_listed : Each (IsListed plan) table.soc.modules
@@ -55,7 +55,7 @@ module _ (table : TableValue) (laws : IsTable table) (limits : LimitsValue) (wir
 
   pub keep_part_rules : KeepsPartRules table.soc limits plan
   keep_part_rules = record {
-    widths = subst (λ (bs : List BusValue). Each (FitsWires limits) bs) (sym buses.buses_are) (fit_wires table limits buses.settled buses.sound wires);
+    widths = subst (λ (bs : List BusValue). Each (FitsWires limits) bs) (sym buses.buses_are) (fit_wires table buses.settled buses.sound limits wires);
     known = all_known;
     places = (none_twice, all_listed);
     wrappers = (all_fitting table.soc plan laws.sound.modules_differ wrappers, all_have table.soc plan laws.sound.modules_differ wrappers);

@@ -1,10 +1,9 @@
 -- Every number of a planned plan is in the range of a plan's text.
-use Rattle.std.proofs.Common.{◌≡◌, ℕ, zero, suc, ◌+◌, ◌≤◌, ◌<◌, Bool, true, false, Some, List, [], ◌∷◌, length, get_or, map, take, nat_lt, ap, ◌∙◌, sym, subst, arith}
+use Rattle.std.proofs.Common.{◌≡◌, ℕ, zero, suc, ◌+◌, ◌≤◌, ◌<◌, Bool, true, false, Some, List, [], ◌∷◌, length, map, take, nat_lt, subst, arith}
 use Rattle.std.specs.Prelude.{slice_get}
 use Rattle.std.specs.List.{All, Contains, list_all}
 use Rattle.std.proofs.lemmas.Bool.{and_parts}
-use Rattle.std.proofs.lemmas.List.Elements.{All-weaker}
-use Rattle.std.proofs.lemmas.Option.{slice_get-get_or}
+use Rattle.std.proofs.lemmas.List.Elements.{All-weaker, All-nil, All-cons}
 use Rattle.soc_model.specs.declared.TestId.{TestId}
 use Rattle.soc_model.specs.declared.TheConstants.{NUMBER_WORD_MOST}
 use Rattle.soc_model.specs.Chips.{ModuleValue, SocValue}
@@ -15,7 +14,7 @@ use Rattle.soc_model.proofs.Limits.{modules-small, module_chains-le}
 use Rattle.plan_model.specs.declared.ChainPlan.{ChainPlan}
 use Rattle.plan_model.specs.declared.Wrapper.{Wrapper}
 use Rattle.plan_model.specs.declared.TheConstants.{PLAN_NUMBER_MOST, START_MOST}
-use Rattle.plan_model.specs.Cells.{ChainValue, IsProper}
+use Rattle.plan_model.specs.Cells.{IsProper}
 use Rattle.soc_model.specs.Modes.{scan_lengths}
 use Rattle.plan_model.specs.Plans.{BusValue, WrapperValue, WhyValue, OfModule, OfPair, OfChain, OfArea, OfPower, OfForced, PlanValue, LimitsValue}
 use Rattle.plan_model.specs.Rules.{Each, StartsOnce, FitsWires, live_ids, listed}
@@ -29,91 +28,12 @@ use Rattle.bound_certificate.proofs.NamesInRange.{numbers_in_range}
 use Rattle.plan_text.specs.Grammar.{IsBusInRange, IsChainInRange, IsWrapperInRange, IsTestInRange, IsStartInRange, IsReasonInRange}
 use Rattle.planner.specs.Parts.{KeepsPartRules}
 use Rattle.planner.specs.Wrapping.{IsWrapperOnBus, AreTableWrappers}
-use Rattle.planner.proofs.Lists.{all_at}
-
--- ---- modules
-
-small_at : (soc : SocValue) → IsSoundChip soc → (k : ℕ) (m : ModuleValue) → slice_get soc.modules k ≡ Some m → m.number ≤ PLAN_NUMBER_MOST
-small_at soc sound k m at =
-    let small : HasSmall m = all_at HasSmall soc.modules k m sound.small at in
-    let first : m.number < NUMBER_WORD_MOST + 1 = small 0 0 (omega arith) in
-    omega arith
-
-pub known_small : (soc : SocValue) → IsSoundChip soc → (n : ℕ) → Contains soc.keys n → n ≤ PLAN_NUMBER_MOST
-known_small soc sound n known =
-    let k = contains_at soc.keys n known in
-    let m = from_map (λ (m : ModuleValue). m.number) soc.modules k.0 n (ap (λ (ks : List ℕ). slice_get ks k.0) (sym sound.keyed) ∙ k.1) in
-    omega (arith, m.2, small_at soc sound k.0 m.0 m.1)
-
--- ---- chains of wrappers
+use Rattle.resource_table.proofs.Places.{all_at, all_from}
 
 each_passes : {X : Type 0} (p : X → Bool) (xs : List X) → list_all p xs ≡ true → (i : ℕ) (x : X) → slice_get xs i ≡ Some x → p x ≡ true
 each_passes p [] h i x at = absurd cc
-each_passes p (y ∷ xs) h zero x at =
-    let same : y ≡ x = cc in
-    ap p (sym same) ∙ (and_parts (p y) (list_all p xs) h).0
+each_passes p (y ∷ xs) h zero x at = let same : y ≡ x = cc in rw (← same) ((and_parts (p y) (list_all p xs) h).0)
 each_passes p (y ∷ xs) h (suc i) x at = each_passes p xs ((and_parts (p y) (list_all p xs) h).1) i x at
-
-few_scans : (soc : SocValue) → IsSoundChip soc → (k : ℕ) (m : ModuleValue) (scan : Bool) → slice_get soc.modules k ≡ Some m → length (scan_lengths m scan) ≤ 1000
-few_scans soc sound k m true at = all_at (λ (m : ModuleValue). length m.chains ≤ 1000) soc.modules k m (module_chains-le soc sound.size) at
-few_scans soc sound k m false at = omega arith
-
-chain_in_range : (soc : SocValue) → IsSoundChip soc → (k : ℕ) (m : ModuleValue) (scan : Bool) → slice_get soc.modules k ≡ Some m → (chains : List ChainPlan) → IsCounted m scan chains → (j : ℕ) (c : ChainPlan) → slice_get chains j ≡ Some c → IsChainInRange (chain_value c)
-chain_in_range soc sound k m scan at chains counted j c there =
-    let small : IsSmall m = all_at IsSmall soc.modules k m (modules-small soc sound.small) at in
-    let few = few_scans soc sound k m scan at in
-    let below = each_passes (λ (c : ChainPlan). list_all (λ x. nat_lt x (length (scan_lengths m scan))) c.scans.items) chains counted.below j c there in
-    record {
-      ins = omega (arith, counted.ins, item-le-sum_by (λ (c : ChainPlan). c.ins) chains j c there);
-      outs = omega (arith, counted.outs, item-le-sum_by (λ (c : ChainPlan). c.outs) chains j c there);
-      scans = λ i d h. omega (arith, all_within (length (scan_lengths m scan)) c.scans.items below i (get_or c.scans.items i d) (slice_get-get_or c.scans.items i d h));
-    }
-
-wrapper_in_range : (soc : SocValue) (buses : List BusValue) → IsSoundChip soc → (w : Wrapper) → IsWrapperOnBus soc buses (wrapper_value w) → IsWrapperInRange (wrapper_value w)
-wrapper_in_range soc buses sound w on =
-    let proper : IsProper on.core w.scan (map chain_value w.chains.items) = subst (λ (cs : List ChainValue). IsProper on.core w.scan cs) (sym on.wrapper.designed) (design_proper on.core w.scan on.wrapper.chosen on.wrapper.is_chosen.some) in
-    let counted : IsCounted on.core w.scan w.chains.items = proper_is_counted on.core w.scan w.chains.items proper in
-    record {
-      number = omega (arith, on.wrapper.of, small_at soc sound on.place on.core on.there);
-      chains = λ j d h.
-          let c = from_map chain_value w.chains.items j (get_or (map chain_value w.chains.items) j d) (slice_get-get_or (map chain_value w.chains.items) j d h) in
-          subst IsChainInRange c.2 (chain_in_range soc sound on.place on.core w.scan on.there w.chains.items counted j c.0 c.1);
-    }
-
-pub wrappers_in_range : (soc : SocValue) (buses : List BusValue) → IsSoundChip soc → (wrappers : List Wrapper) → AreTableWrappers soc buses (map wrapper_value wrappers) → All IsWrapperInRange (map wrapper_value wrappers)
-wrappers_in_range soc buses sound wrappers made k d h =
-    let w = from_map wrapper_value wrappers k (get_or (map wrapper_value wrappers) k d) (slice_get-get_or (map wrapper_value wrappers) k d h) in
-    subst IsWrapperInRange w.2 (wrapper_in_range soc buses sound w.0 (subst (IsWrapperOnBus soc buses) (sym w.2) (made.on_buses k d h)))
-
--- ---- buses
-
-pub buses_in_range : (soc : SocValue) (limits : LimitsValue) (plan : PlanValue) → IsSoundChip soc → limits.wires ≤ 256 → KeepsPartRules soc limits plan → All IsBusInRange plan.buses
-buses_in_range soc limits plan sound few keeps k d h =
-    let at = slice_get-get_or plan.buses k d h in
-    let fits : FitsWires limits (take k plan.buses) (get_or plan.buses k d) = keeps.widths k (get_or plan.buses k d) at in
-    record {
-      width = omega (arith, fits.1);
-      modules = λ j e l.
-          let there = slice_get-get_or (get_or plan.buses k d).modules j e l in
-          let n = in_flat_map (λ (b : BusValue). b.modules) plan.buses k j (get_or plan.buses k d) (get_or (get_or plan.buses k d).modules j e) at there in
-          known_small soc sound (get_or (get_or plan.buses k d).modules j e) (keeps.known n.0 (get_or (get_or plan.buses k d).modules j e) (in_append_left (listed plan) (map (λ (w : WrapperValue). w.«module») plan.wrappers) n.0 (get_or (get_or plan.buses k d).modules j e) n.1));
-    }
-
--- ---- starts
-
-pub starts_in_range : (soc : SocValue) (starts : List (TestId × ℕ)) → IsSoundChip soc → Each (StartsOnce soc) starts → All (λ (s : TestId × ℕ). s.1 ≤ START_MOST) starts → All IsStartInRange starts
-starts_in_range soc starts sound once early k d h =
-    let s : TestId × ℕ = get_or starts k d in
-    let live : Contains (live_ids soc) s.0 = (once k s (slice_get-get_or starts k d h)).0 in
-    let small = numbers_in_range soc (OfChain (s.0 ∷ [])) sound (λ i e l. one i e l live) in
-    let here = small 0 s.0 (omega arith) in
-    record { of = record { of = here.0; number = here.1 }; small = early k d h }
-  where
-    one : (i : ℕ) (e : TestId) → i < 1 → Contains (live_ids soc) (get_or starts k d).0 → Contains (live_ids soc) (get_or ((get_or starts k d).0 ∷ []) i e)
-    one zero e l live = live
-    one (suc i) e l live = absurd (omega arith)
-
--- ---- the bound
 
 pub reason_in_range : (why : WhyValue) → HasPlanNumbers why → IsReasonInRange why
 reason_in_range (OfModule m) h = h
@@ -122,3 +42,66 @@ reason_in_range (OfChain tests) h = All-weaker (λ (id : TestId). (id.module ≤
 reason_in_range OfArea h = tt
 reason_in_range OfPower h = tt
 reason_in_range (OfForced ms) h = h
+
+module _ (soc : SocValue) (sound : IsSoundChip soc) where
+  small_at : (k : ℕ) (m : ModuleValue) → slice_get soc.modules k ≡ Some m → m.number ≤ PLAN_NUMBER_MOST
+  small_at k m at =
+      let small : HasSmall m = all_at HasSmall soc.modules k m sound.small at in
+      let first : m.number < NUMBER_WORD_MOST + 1 = small 0 0 (omega arith) in
+      omega arith
+
+  pub known_small : (n : ℕ) → Contains soc.keys n → n ≤ PLAN_NUMBER_MOST
+  known_small n known =
+      let k = contains_at (map (λ (m : ModuleValue). m.number) soc.modules) n (rw sound.keyed at known) in
+      let m = from_map (λ (m : ModuleValue). m.number) soc.modules k.0 n k.1 in
+      omega (arith, m.2, small_at k.0 m.0 m.1)
+
+  -- ---- wrappers
+
+  few_scans : (k : ℕ) (m : ModuleValue) (scan : Bool) → slice_get soc.modules k ≡ Some m → length (scan_lengths m scan) ≤ 1000
+  few_scans k m true at = all_at (λ (m : ModuleValue). length m.chains ≤ 1000) soc.modules k m (module_chains-le soc sound.size) at
+  few_scans k m false at = omega arith
+
+  chain_in_range : (k : ℕ) (m : ModuleValue) (scan : Bool) → slice_get soc.modules k ≡ Some m → (chains : List ChainPlan) → IsCounted m scan chains → (j : ℕ) (c : ChainPlan) → slice_get chains j ≡ Some c → IsChainInRange (chain_value c)
+  chain_in_range k m scan at chains counted j c there =
+      let small : IsSmall m = all_at IsSmall soc.modules k m (modules-small soc sound.small) at in
+      let below = each_passes (λ (c : ChainPlan). list_all (λ x. nat_lt x (length (scan_lengths m scan))) c.scans.items) chains counted.below j c there in
+      record {
+        ins = omega (arith, counted.ins, item-le-sum_by (λ (c : ChainPlan). c.ins) chains j c there);
+        outs = omega (arith, counted.outs, item-le-sum_by (λ (c : ChainPlan). c.outs) chains j c there);
+        scans = all_from (λ x. x ≤ PLAN_NUMBER_MOST) c.scans.items (λ i x at'. omega (arith, few_scans k m scan at, all_within (length (scan_lengths m scan)) c.scans.items below i x at'));
+      }
+
+  wrapper_in_range : (buses : List BusValue) (w : Wrapper) → IsWrapperOnBus soc buses (wrapper_value w) → IsWrapperInRange (wrapper_value w)
+  wrapper_in_range buses w on =
+      let proper : IsProper on.core w.scan (map chain_value w.chains.items) = rw on.wrapper.designed (design_proper on.core w.scan on.wrapper.chosen on.wrapper.is_chosen.some) in
+      record {
+        number = omega (arith, on.wrapper.of, small_at on.place on.core on.there);
+        chains = all_from IsChainInRange (map chain_value w.chains.items) (λ j c at.
+            let d = from_map chain_value w.chains.items j c at in
+            subst IsChainInRange d.2 (chain_in_range on.place on.core w.scan on.there w.chains.items (proper_is_counted on.core w.scan w.chains.items proper) j d.0 d.1));
+      }
+
+  pub wrappers_in_range : (buses : List BusValue) (wrappers : List Wrapper) → AreTableWrappers soc buses (map wrapper_value wrappers) → All IsWrapperInRange (map wrapper_value wrappers)
+  wrappers_in_range buses wrappers made = all_from IsWrapperInRange (map wrapper_value wrappers) (λ k w at.
+      let v = from_map wrapper_value wrappers k w at in
+      subst IsWrapperInRange v.2 (wrapper_in_range buses v.0 (rw v.2 (all_at (IsWrapperOnBus soc buses) (map wrapper_value wrappers) k w made.on_buses at))))
+
+-- ---- buses and starts
+
+pub buses_in_range : (soc : SocValue) (limits : LimitsValue) (plan : PlanValue) → IsSoundChip soc → limits.wires ≤ 256 → KeepsPartRules soc limits plan → All IsBusInRange plan.buses
+buses_in_range soc limits plan sound few keeps = all_from IsBusInRange plan.buses (λ k b at.
+    let fits : FitsWires limits (take k plan.buses) b = keeps.widths k b at in
+    record {
+      width = omega (arith, fits.1);
+      modules = all_from (λ n. n ≤ PLAN_NUMBER_MOST) b.modules (λ j n there.
+          let at' = in_flat_map (λ (b : BusValue). b.modules) plan.buses k j b n at there in
+          let named = in_append_left (listed plan) (map (λ (w : WrapperValue). w.«module») plan.wrappers) at'.0 n at'.1 in
+          known_small soc sound n (keeps.known at'.0 n named));
+    })
+
+pub starts_in_range : (soc : SocValue) (starts : List (TestId × ℕ)) → IsSoundChip soc → Each (StartsOnce soc) starts → All (λ (s : TestId × ℕ). s.1 ≤ START_MOST) starts → All IsStartInRange starts
+starts_in_range soc starts sound once early = all_from IsStartInRange starts (λ k s at.
+    let small = numbers_in_range soc (OfChain (s.0 ∷ [])) sound (All-cons (Contains (live_ids soc)) s.0 [] ((once k s at).0) (All-nil (Contains (live_ids soc)))) in
+    let here = small 0 s.0 (omega arith) in
+    record { of = record { of = here.0; number = here.1 }; small = all_at (λ (s : TestId × ℕ). s.1 ≤ START_MOST) starts k s early at })

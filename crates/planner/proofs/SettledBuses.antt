@@ -21,7 +21,7 @@ bus_in_range buses i bus n all h e =
 
 -- the places of a sound architecture are those of modules
 pub places_known : (table : TableValue) (soc : SocValue) (buses : List arch.BusValue) → IsTable table → table.soc ≡ soc → IsSoundArch table buses → All (λ (b : arch.BusValue). All (λ p. p < length soc.modules) b.places) buses
-places_known table soc buses laws same sound = subst (λ (s : SocValue). All (λ (b : arch.BusValue). All (λ p. p < length s.modules) b.places) buses) same (buses_in_range table buses laws sound)
+places_known table soc buses laws same sound = subst (λ (s : SocValue). All (λ (b : arch.BusValue). All (λ p. p < length s.modules) b.places) buses) same (buses_in_range table buses sound laws)
 
 -- one architecture is the settled start
 pub only_settled : (table : TableValue) (soc : SocValue) (start settled : List arch.BusValue) (buses : List BusValue) → table.soc ≡ soc → ((other : List arch.BusValue) → IsStart table other → other ≡ start) →

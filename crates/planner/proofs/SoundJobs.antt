@@ -24,6 +24,7 @@ use Rattle.plan_model.proofs.Lists.{from_map, from_filter, in_flat_map, at_conta
 use Rattle.plan_model.proofs.PlannedTests.{IsLive, live_at}
 use Rattle.plan_model.proofs.ShortTests.{live_patterns, short_test}
 use Rattle.resource_table.specs.Jobs.{TestValue, IsSoundTest, IsSoundJob}
+use Rattle.resource_table.proofs.Places.{all_from}
 use Rattle.resource_table.proofs.Steps.{step_late}
 use Rattle.planner.specs.Jobs.{settled_parts, steps_of, test_of, job_of}
 use Rattle.planner.proofs.JobPrecedences.{no_id, places_in_range, acyclic_job}
@@ -101,29 +102,28 @@ live_power soc sound i l at =
     let all : All (λ (t : Test). t.power ≤ 10 ^ 9) (all_tests soc) = powers-le soc sound.size in
     All-contains (λ (t : Test). t.power ≤ 10 ^ 9) (all_tests soc) l.test all (at_contains (all_tests soc) r.0 l.test r.1)
 
-pub job_sound : (soc : SocValue) (limits : LimitsValue) (buses : List BusValue) (ws : List Wrapper) → IsSoundChip soc → IsSoundLimits soc limits → Each (HasWrapper (settled_parts buses (map wrapper_value ws))) (used_pairs soc) → Each (HasProperCells soc) (map wrapper_value ws)
-    → IsSoundJob (job_of soc limits (settled_parts buses (map wrapper_value ws)))
-job_sound soc limits buses ws sound limited have proper =
-    let plan : PlanValue = settled_parts buses (map wrapper_value ws) in
-    record {
-      tests = λ k d less.
-          let t : TestValue = get_or (map (test_of soc limits plan) (live_tests soc)) k d in
-          let from = from_map (test_of soc limits plan) (live_tests soc) k t (slice_get-get_or (map (test_of soc limits plan) (live_tests soc)) k d less) in
-          subst (λ (v : TestValue). IsSoundTest limits.power v) from.2 (sound_test k from.0 from.1);
-      short = let part = sum_short (test_of soc limits plan) (λ (l : LiveTest). test_work l.core l.test) (live_tests soc) (λ i l at. short_test soc plan i l have proper at) in omega (arith, part, work-le soc sound.size);
-      in_range = places_in_range soc limits plan;
-      acyclic = ((λ (i : ℕ). limited.acyclic.0 (slice_index_or (live_ids soc) i no_id)), λ i j before. acyclic_job soc limits plan limited.acyclic.0 limited.acyclic.1 i j before);
-    }
-  where
-    sound_test : (k : ℕ) (l : LiveTest) → slice_get (live_tests soc) k ≡ Some l → IsSoundTest limits.power (test_of soc limits (settled_parts buses (map wrapper_value ws)) l)
-    sound_test k l at =
-        let are : AreSteps (steps_of limits (id_of l) l.test.power) (λ r. power_of_id limits (id_of l) l.test.power r) = steps_in soc limits.profiles limited.profiles (id_of l) l.test.power (live_power soc sound k l at) in
-        record {
-          lasts = some_cycle (settled_parts buses (map wrapper_value ws)) l (live_patterns soc k l at);
-          some_step = are.some_step;
-          few_steps = are.few_steps;
-          begins = are.begins;
-          grows = are.grows;
-          small = are.small;
-          within = within_steps (steps_of limits (id_of l) l.test.power) (λ r. power_of_id limits (id_of l) l.test.power r) limits.power are (limited.within k l at);
-        }
+module _ (soc : SocValue) (limits : LimitsValue) (buses : List BusValue) (ws : List Wrapper) (sound : IsSoundChip soc) (limited : IsSoundLimits soc limits)
+    (have : Each (HasWrapper (settled_parts buses (map wrapper_value ws))) (used_pairs soc)) (proper : Each (HasProperCells soc) (map wrapper_value ws)) where
+  abbrev plan : PlanValue
+  plan = settled_parts buses (map wrapper_value ws)
+
+  sound_test : (k : ℕ) (l : LiveTest) → slice_get (live_tests soc) k ≡ Some l → IsSoundTest limits.power (test_of soc limits plan l)
+  sound_test k l at =
+      let are : AreSteps (steps_of limits (id_of l) l.test.power) (λ r. power_of_id limits (id_of l) l.test.power r) = steps_in soc limits.profiles limited.profiles (id_of l) l.test.power (live_power soc sound k l at) in
+      record {
+        lasts = some_cycle plan l (live_patterns soc k l at);
+        some_step = are.some_step;
+        few_steps = are.few_steps;
+        begins = are.begins;
+        grows = are.grows;
+        small = are.small;
+        within = within_steps (steps_of limits (id_of l) l.test.power) (λ r. power_of_id limits (id_of l) l.test.power r) limits.power are (limited.within k l at);
+      }
+
+  pub job_sound : IsSoundJob (job_of soc limits plan)
+  job_sound = record {
+    tests = all_from (IsSoundTest limits.power) (job_of soc limits plan).tests (λ k t at. let from = from_map (test_of soc limits plan) (live_tests soc) k t at in subst (IsSoundTest limits.power) from.2 (sound_test k from.0 from.1));
+    short = let part = sum_short (test_of soc limits plan) (λ (l : LiveTest). test_work l.core l.test) (live_tests soc) (λ i l at. short_test soc plan i l have proper at) in omega (arith, part, work-le soc sound.size);
+    in_range = places_in_range soc limits plan;
+    acyclic = ((λ (i : ℕ). limited.acyclic.0 (slice_index_or (live_ids soc) i no_id)), λ i j before. acyclic_job soc limits plan limited.acyclic.0 limited.acyclic.1 i j before);
+  }

@@ -1,120 +1,88 @@
 -- What the planner answers is one of its plans.
-use Rattle.std.proofs.Common.{◌≡◌, ℕ, ◌^◌, ◌≤◌, List, [], map, refl, ap, sym, subst, arith}
-use Rattle.std.specs.List.{All}
-use Rattle.soc_model.specs.declared.TestId.{TestId}
+use Rattle.std.proofs.Common.{◌≡◌, ℕ, ◌≤◌, List, map, refl, arith}
 use Rattle.soc_model.specs.Chips.{SocValue}
 use Rattle.soc_model.specs.SoundChips.{IsSoundChip}
-use Rattle.plan_model.specs.declared.Bus.{Bus}
-use Rattle.plan_model.specs.declared.Wrapper.{Wrapper}
-use Rattle.plan_model.specs.declared.TheConstants.{START_MOST}
-use Rattle.plan_model.specs.Plans.{OfArea, BoundValue, PlanValue, LimitsValue}
+use Rattle.plan_model.specs.Plans.{OfArea, BusValue, BoundValue, PlanValue, LimitsValue}
 use Rattle.plan_model.specs.Rules.{IsGood, IsBound, Widths, Known, Places, Wrappers, Proper, Starts, Wires, Busy, Parents, Precedences, Power, Cycles}
 use Rattle.plan_model.specs.SoundLimits.{IsSoundLimits}
-use Rattle.plan_model.specs.Certificates.{IsAccepted}
+use Rattle.plan_model.specs.Certificates.{IsAccepted, IsElementary}
+use Rattle.plan_model.specs.Runs.{Content}
+use Rattle.plan_model.specs.Right.{IsRight}
 use Rattle.plan_model.specs.Views.{bus_value, wrapper_value}
-use Rattle.width_table.specs.Tables.{TableValue}
 use Rattle.width_table.proofs.TableLaws.{table_laws}
 use Rattle.bound_certificate.specs.Best.{IsBestBound, HasPlanNumbers}
+use Rattle.planner.specs.declared.wiring.Wiring.{Wiring}
+use Rattle.planner.specs.declared.schedule.Schedule.{Schedule}
 use Rattle.planner.specs.Parts.{KeepsPartRules}
 use Rattle.planner.specs.Buses.{table_of, AreSettledBuses}
 use Rattle.planner.specs.Wrapping.{AreTableWrappers}
-use Rattle.planner.specs.Schedules.{KeepsTimes, IsFoundSchedule}
-use Rattle.planner.specs.Plans.{IsPlanned}
+use Rattle.planner.specs.Schedules.{KeepsTimes}
+use Rattle.planner.specs.Wirings.{plan_of, IsWiring, IsScheduled}
+use Rattle.planner.specs.Plans.{IsPlanned, IsAnswer}
 use Rattle.planner.proofs.PartRules.{keep_part_rules}
 use Rattle.planner.proofs.PlanNumbers.{buses_in_range, wrappers_in_range, starts_in_range, reason_in_range}
+use Rattle.planner.proofs.OnePlan.{one_plan}
+
+-- the wiring that is made
+pub wired : (soc : SocValue) (limits : LimitsValue) (wiring : Wiring) → IsSoundChip soc → IsSoundLimits soc limits → AreSettledBuses (table_of soc limits) (map bus_value wiring.buses.items) →
+    ((buses : List BusValue) → AreSettledBuses (table_of soc limits) buses → buses ≡ map bus_value wiring.buses.items) → AreTableWrappers soc (map bus_value wiring.buses.items) (map wrapper_value wiring.wrappers.items) → IsWiring soc limits wiring
+wired soc limits wiring sound limited settled only wrapped = record {
+  settled = settled;
+  only = only;
+  wrapped = wrapped;
+  rules = λ plan buses wrappers. keep_part_rules (table_of soc limits) (table_laws (table_of soc limits) sound limited.some_wire limited.few_wires) limits refl plan (rw buses settled) (rw (buses, wrappers) wrapped);
+}
 
 -- ---- the rules together
 
-pub good_plan : (soc : SocValue) (limits : LimitsValue) (plan : PlanValue) → KeepsPartRules soc limits plan → KeepsTimes soc limits plan plan.cycles → IsGood soc limits plan
-good_plan soc limits plan parts times Widths = parts.widths
-good_plan soc limits plan parts times Known = parts.known
-good_plan soc limits plan parts times Places = parts.places
-good_plan soc limits plan parts times Wrappers = parts.wrappers
-good_plan soc limits plan parts times Proper = parts.proper
-good_plan soc limits plan parts times Starts = times.starts
-good_plan soc limits plan parts times Wires = times.wires
-good_plan soc limits plan parts times Busy = times.busy
-good_plan soc limits plan parts times Parents = times.parents
-good_plan soc limits plan parts times Precedences = times.precedences
-good_plan soc limits plan parts times Power = times.power
-good_plan soc limits plan parts times Cycles = times.ends
+rules_together : {soc : SocValue} {limits : LimitsValue} {plan : PlanValue} → KeepsPartRules soc limits plan → KeepsTimes soc limits plan plan.cycles → IsGood soc limits plan
+rules_together parts times Widths = parts.widths
+rules_together parts times Known = parts.known
+rules_together parts times Places = parts.places
+rules_together parts times Wrappers = parts.wrappers
+rules_together parts times Proper = parts.proper
+rules_together parts times Starts = times.starts
+rules_together parts times Wires = times.wires
+rules_together parts times Busy = times.busy
+rules_together parts times Parents = times.parents
+rules_together parts times Precedences = times.precedences
+rules_together parts times Power = times.power
+rules_together parts times Cycles = times.ends
 
--- ---- the plan that is put together
+module _ (soc : SocValue) (limits : LimitsValue) (wiring : Wiring) (schedule : Schedule) (wired : IsWiring soc limits wiring) (timed : IsScheduled soc limits wiring schedule) where
+  rules_of : (bound : BoundValue) → KeepsPartRules soc limits (plan_of wiring schedule bound)
+  rules_of bound = wired.rules (plan_of wiring schedule bound) refl refl
 
-abbrev pub whole : List Bus → List Wrapper → List (TestId × ℕ) → ℕ → BoundValue → PlanValue
-whole buses wrappers starts cycles bound = record { buses = map bus_value buses; wrappers = map wrapper_value wrappers; starts = starts; cycles = cycles; bound = bound }
+  good_of : (bound : BoundValue) → IsGood soc limits (plan_of wiring schedule bound)
+  good_of bound = rules_together (rules_of bound) (timed.keeps bound)
 
-abbrev pub no_bound : BoundValue
-no_bound = record { cycles = 0; why = OfArea }
+  -- a bound of every good plan is one of this plan
+  pub cycles_bound : (n : ℕ) → IsBound soc limits n → n ≤ schedule.cycles
+  cycles_bound n bound = let none : BoundValue = record { cycles = 0; why = OfArea } in bound (plan_of wiring schedule none) (good_of none)
 
--- Buses as they were settled, and the wrappers that were made for them.
-pub record AreMadeParts (soc : SocValue) (limits : LimitsValue) (buses : List Bus) (wrappers : List Wrapper) : Type 0 where
-  pub sound : IsSoundChip soc
-  pub sound_limits : IsSoundLimits soc limits
-  pub settled : AreSettledBuses (table_of soc limits) (map bus_value buses)
-  pub wrapped : AreTableWrappers soc (map bus_value buses) (map wrapper_value wrappers)
-
-pub made_parts : (soc : SocValue) (limits : LimitsValue) (table : TableValue) (buses read : List Bus) (wrappers : List Wrapper) → IsSoundChip soc → IsSoundLimits soc limits → table ≡ table_of soc limits → read ≡ buses →
-    AreSettledBuses table (map bus_value buses) → AreTableWrappers soc (map bus_value read) (map wrapper_value wrappers) → AreMadeParts soc limits buses wrappers
-made_parts soc limits table buses read wrappers sound sound_limits is_table is_read settled wrapped = record {
-  sound = sound;
-  sound_limits = sound_limits;
-  settled = subst (λ (t : TableValue). AreSettledBuses t (map bus_value buses)) is_table settled;
-  wrapped = subst (λ (bs : List Bus). AreTableWrappers soc (map bus_value bs) (map wrapper_value wrappers)) is_read wrapped;
-}
-
-pub rules_of : (soc : SocValue) (limits : LimitsValue) (buses : List Bus) (wrappers : List Wrapper) → AreMadeParts soc limits buses wrappers → (starts : List (TestId × ℕ)) (cycles : ℕ) (bound : BoundValue) → KeepsPartRules soc limits (whole buses wrappers starts cycles bound)
-rules_of soc limits buses wrappers made starts cycles bound =
-    keep_part_rules (table_of soc limits) (table_laws (table_of soc limits) made.sound made.sound_limits.some_wire made.sound_limits.few_wires) limits refl (whole buses wrappers starts cycles bound) made.settled made.wrapped
-
--- the rules of the parts as they are read
-pub rules_read : (soc : SocValue) (limits : LimitsValue) (buses buses2 : List Bus) (wrappers wrappers2 : List Wrapper) → AreMadeParts soc limits buses wrappers → buses2 ≡ buses → wrappers2 ≡ wrappers → KeepsPartRules soc limits (whole buses2 wrappers2 [] 0 no_bound)
-rules_read soc limits buses buses2 wrappers wrappers2 made same same' =
-    subst (λ (bs : List Bus). KeepsPartRules soc limits (whole bs wrappers2 [] 0 no_bound)) (sym same)
-    (subst (λ (ws : List Wrapper). KeepsPartRules soc limits (whole buses ws [] 0 no_bound)) (sym same') (rules_of soc limits buses wrappers made [] 0 no_bound))
-
--- what is known of a schedule of these parts
-pub record IsScheduled (soc : SocValue) (limits : LimitsValue) (buses : List Bus) (wrappers : List Wrapper) (starts : List (TestId × ℕ)) (cycles : ℕ) : Type 0 where
-  pub first : (bound : BoundValue) → IsFoundSchedule soc limits (whole buses wrappers starts cycles bound)
-  pub keeps : (bound : BoundValue) → KeepsTimes soc limits (whole buses wrappers starts cycles bound) cycles
-  pub early : All (λ (s : TestId × ℕ). s.1 ≤ START_MOST) starts
-  pub short : cycles ≤ 10 ^ 18
-
-pub scheduled : (soc : SocValue) (limits : LimitsValue) (buses buses2 : List Bus) (wrappers wrappers2 : List Wrapper) (starts : List (TestId × ℕ)) (cycles : ℕ) → buses2 ≡ buses → wrappers2 ≡ wrappers →
-    ((plan : PlanValue) → plan.buses ≡ map bus_value buses2 → plan.wrappers ≡ map wrapper_value wrappers2 → plan.starts ≡ starts → plan.cycles ≡ cycles → IsFoundSchedule soc limits plan) →
-    ((plan : PlanValue) → plan.buses ≡ map bus_value buses2 → plan.wrappers ≡ map wrapper_value wrappers2 → plan.starts ≡ starts → KeepsTimes soc limits plan cycles) →
-    All (λ (s : TestId × ℕ). s.1 ≤ 10 ^ 18) starts → cycles ≤ 10 ^ 18 → IsScheduled soc limits buses wrappers starts cycles
-scheduled soc limits buses buses2 wrappers wrappers2 starts cycles same same' first keeps early short = record {
-  first = λ bound. first (whole buses wrappers starts cycles bound) (ap (map bus_value) (sym same)) (ap (map wrapper_value) (sym same')) refl refl;
-  keeps = λ bound. keeps (whole buses wrappers starts cycles bound) (ap (map bus_value) (sym same)) (ap (map wrapper_value) (sym same')) refl;
-  early = early;
-  short = short;
-}
-
-pub good_of : (soc : SocValue) (limits : LimitsValue) (buses : List Bus) (wrappers : List Wrapper) (starts : List (TestId × ℕ)) (cycles : ℕ) → AreMadeParts soc limits buses wrappers → IsScheduled soc limits buses wrappers starts cycles → (bound : BoundValue) → IsGood soc limits (whole buses wrappers starts cycles bound)
-good_of soc limits buses wrappers starts cycles made timed bound = good_plan soc limits (whole buses wrappers starts cycles bound) (rules_of soc limits buses wrappers made starts cycles bound) (timed.keeps bound)
-
--- a bound of every good plan is one of this plan
-pub cycles_bound : (soc : SocValue) (limits : LimitsValue) (buses : List Bus) (wrappers : List Wrapper) (starts : List (TestId × ℕ)) (cycles : ℕ) → AreMadeParts soc limits buses wrappers → IsScheduled soc limits buses wrappers starts cycles → (n : ℕ) → IsBound soc limits n → n ≤ cycles
-cycles_bound soc limits buses wrappers starts cycles made timed n bound = bound (whole buses wrappers starts cycles no_bound) (good_of soc limits buses wrappers starts cycles made timed no_bound)
-
-pub planned_of : (soc : SocValue) (limits : LimitsValue) (buses : List Bus) (wrappers : List Wrapper) (starts : List (TestId × ℕ)) (cycles : ℕ) → AreMadeParts soc limits buses wrappers → IsScheduled soc limits buses wrappers starts cycles → (bound : BoundValue) →
-    IsBestBound soc limits cycles bound → IsAccepted soc limits bound → bound.cycles ≤ cycles → HasPlanNumbers bound.why → IsPlanned soc limits (whole buses wrappers starts cycles bound)
-planned_of soc limits buses wrappers starts cycles made timed bound best accepted few numbers =
-    let parts : KeepsPartRules soc limits (whole buses wrappers starts cycles bound) = rules_of soc limits buses wrappers made starts cycles bound in
-    record {
-      good = good_of soc limits buses wrappers starts cycles made timed bound;
-      accepted = accepted;
-      buses = made.settled;
-      wrappers = made.wrapped;
-      schedule = timed.first bound;
-      best = best;
-      in_range = record {
-        buses = buses_in_range soc limits (whole buses wrappers starts cycles bound) made.sound (omega (arith, made.sound_limits.few_wires)) parts;
-        wrappers = wrappers_in_range soc (map bus_value buses) made.sound wrappers made.wrapped;
-        starts = starts_in_range soc starts made.sound (timed.keeps bound).starts.0 timed.early;
-        cycles = omega (arith, timed.short);
-        claimed = omega (arith, timed.short, few);
-        reason = reason_in_range bound.why numbers;
-      };
-    }
+  pub answer_of : IsSoundChip soc → IsSoundLimits soc limits → (bound : BoundValue) → IsBestBound soc limits schedule.cycles bound → IsAccepted soc limits bound → bound.cycles ≤ schedule.cycles → HasPlanNumbers bound.why →
+      IsBound soc limits bound.cycles → ((n : ℕ) → IsElementary soc limits n → n ≤ bound.cycles) → ((plan : PlanValue) (content : Content) → IsGood soc limits plan → IsRight soc limits plan content) → IsAnswer soc limits (plan_of wiring schedule bound)
+  answer_of sound limited bound best accepted few numbers is_bound elementary right =
+      let planned : IsPlanned soc limits (plan_of wiring schedule bound) = record {
+        good = good_of bound;
+        accepted = accepted;
+        buses = wired.settled;
+        wrappers = wired.wrapped;
+        schedule = timed.found bound;
+        best = best;
+        in_range = record {
+          buses = buses_in_range soc limits (plan_of wiring schedule bound) sound (omega (arith, limited.few_wires)) (rules_of bound);
+          wrappers = wrappers_in_range soc sound (map bus_value wiring.buses.items) wiring.wrappers.items wired.wrapped;
+          starts = starts_in_range soc schedule.starts.items sound (timed.keeps bound).starts.0 timed.early;
+          cycles = omega (arith, timed.short);
+          claimed = omega (arith, timed.short, few);
+          reason = reason_in_range bound.why numbers;
+        };
+      } in record {
+        planned = planned;
+        right = λ content. right (plan_of wiring schedule bound) content (good_of bound);
+        bound = is_bound;
+        elementary = elementary;
+        only_plan = λ all other one. one_plan soc limits other (plan_of wiring schedule bound) sound (wired.only other.buses one.buses) all one planned;
+        only_buses = wired.only;
+      }

@@ -18,7 +18,8 @@ use Rattle.plan_model.proofs.Sums.{sum_by-le_at, two-le-sum_by, at_most_one, one
 use Rattle.wrapper_design.specs.Design.{mode_of, design}
 use Rattle.wrapper_design.proofs.Laws.{design_width, design_proper}
 use Rattle.planner.specs.Wrapping.{bus_width, IsWrapperOnBus, AreTableWrappers}
-use Rattle.planner.proofs.Lists.{all_at, from_take, count_flat}
+use Rattle.resource_table.proofs.Places.{all_at}
+use Rattle.planner.proofs.Lists.{from_take, count_flat}
 
 -- ---- the width of the first bus that lists a module, by its place
 

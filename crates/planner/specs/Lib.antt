@@ -5,3 +5,6 @@ pub mod Jobs
 pub mod Sharing
 pub mod Schedules
 pub mod Plans
+pub mod Problems
+pub mod Sources
+pub mod Wirings

@@ -61,5 +61,6 @@ pub fn settled_buses(alloc: Global, soc: &Soc, table: &WidthTable) -> Result<Vec
     let _wires = table.wires();
     let start = start_solution(alloc, table)?;
     let settled = settle(alloc, table, start)?;
-    buses_of(alloc, soc, &settled)
+    let buses = buses_of(alloc, soc, &settled)?;
+    Ok(buses)
 }

@@ -3,18 +3,18 @@
 ghost use Rattle.std.specs.Prelude.{◌≡◌, ℕ, ◌<◌, ◌++◌, ◌∷◌, [], true, length, map, slice_get, Some, IfOk, OnOk};
 ghost use Rattle.std.specs.List.{filter};
 ghost use Rattle.soc_model.specs.declared.TestId.{TestId};
-ghost use Rattle.soc_model.specs.Chips.{soc_value, module_value, is_live, live_tests};
+ghost use Rattle.soc_model.specs.Chips.{soc_value, module_value, is_live};
 ghost use Rattle.soc_model.specs.SoundChips.{IsSoundChip};
 ghost use Rattle.plan_model.specs.SoundLimits.{IsSoundLimits};
 ghost use Rattle.plan_model.specs.Rules.{Keeps, Wrappers, Proper};
 ghost use Rattle.plan_model.specs.Views.{wrapper_value, bus_value, limits_value};
-ghost use Rattle.live_tests.specs.Index.{IsIndex};
 ghost use Rattle.live_tests.specs.Profiles.{AreProfilePlaces};
 ghost use Rattle.live_tests.specs.Resolved.{IsResolved};
 ghost use Rattle.resource_table.specs.declared.JobTest.{JobTest};
 ghost use Rattle.resource_table.specs.Jobs.{test_value, job_value, IsSoundJob};
-ghost use Rattle.planner.specs.Jobs.{settled_parts, steps_of as the_steps, test_of as the_test, test_in, job_of as the_job};
+ghost use Rattle.planner.specs.Jobs.{settled_parts, steps_of as the_steps, test_in, job_of as the_job};
 ghost use Rattle.planner.specs.Sharing.{IsShared};
+ghost use Rattle.planner.specs.Sources.{chip_of, limits_of, plan_of, AreParts};
 
 use indexmap::IndexMap;
 use live_tests::{
@@ -66,32 +66,13 @@ fn steps_of(
     }
 }
 
-/// Where the bus and the wrappers of each module stand, and what the chip and its limits say by places.
+/// The parts that a job is made from, resolved, with where the bus and the wrappers of each module stand.
 #[derive(Drop)]
-struct PartPlaces<'a> {
+struct Parts<'a> {
+    source: &'a JobSource<'a>,
+    resolved: &'a Resolved,
     buses: IndexMap<u64, usize>,
     wrappers: IndexMap<(u64, bool), usize>,
-    resolved: &'a Resolved,
-}
-
-/// The places of all parts.
-fn part_places<'a>(
-    alloc: Global,
-    parts: &JobSource<'_>,
-    resolved: &'a Resolved,
-) -> Result<PartPlaces<'a>, NoMemory>
-    requires resolved { IsResolved (soc_value parts.now.soc.now) parts.now.limits.now resolved.now }
-    ensures parts { IfOk result (λ places. IsIndex (settled_parts (map bus_value parts.now.buses.now)
-        (map wrapper_value parts.now.wrappers.now)) places.buses.entries places.wrappers.entries []) }
-    ensures resolved { IfOk result (λ places. IsResolved (soc_value parts.now.soc.now) parts.now.limits.now places.resolved.now) }
-{
-    let buses = buses_by_module(alloc, parts.buses)?;
-    let wrappers = wrappers_by_mode(alloc, parts.wrappers)?;
-    Ok(PartPlaces {
-        buses,
-        wrappers,
-        resolved,
-    })
 }
 
 /// What the tests of a module share.
@@ -108,30 +89,20 @@ struct Shared {
 }
 
 /// What the tests of the module at a place share.
-fn shared_of(
-    parts: &JobSource<'_>,
-    places: &PartPlaces<'_>,
-    place: usize,
-    module: &Module,
-) -> Shared
-    requires sound { IsSoundChip (soc_value parts.now.soc.now) }
-    requires proper { Keeps (soc_value parts.now.soc.now) (limits_value parts.now.limits.now)
-        (settled_parts (map bus_value parts.now.buses.now) (map wrapper_value parts.now.wrappers.now)) Proper }
-    requires places { IsIndex (settled_parts (map bus_value parts.now.buses.now) (map wrapper_value parts.now.wrappers.now))
-        places.now.buses.entries places.now.wrappers.entries [] }
-    requires resolved { IsResolved (soc_value parts.now.soc.now) parts.now.limits.now places.now.resolved.now }
-    requires module_there { slice_get (soc_value parts.now.soc.now).modules place ≡ Some (module_value «module».now) }
+fn shared_of(parts: &Parts<'_>, place: usize, module: &Module) -> Shared
+    requires parts { AreParts parts.now }
+    requires module_there { slice_get (chip_of parts.now.source.now).modules place ≡ Some (module_value «module».now) }
     ensures place { result.place ≡ place }
-    ensures shared { IsShared (soc_value parts.now.soc.now)
-        (settled_parts (map bus_value parts.now.buses.now) (map wrapper_value parts.now.wrappers.now)) (module_value «module».now) result }
+    ensures shared { IsShared (chip_of parts.now.source.now) (plan_of parts.now.source.now) (module_value «module».now) result }
 {
-    let scan = places.wrappers.get(&(module.number, true)).copied();
-    let terminals = places.wrappers.get(&(module.number, false)).copied();
-    let wrappers = ModeWrappers::found(parts.soc, parts.wrappers, place, module, scan, terminals);
+    let source = parts.source;
+    let scan = parts.wrappers.get(&(module.number, true)).copied();
+    let terminals = parts.wrappers.get(&(module.number, false)).copied();
+    let wrappers = ModeWrappers::found(source.soc, source.wrappers, place, module, scan, terminals);
     Shared {
         place,
-        parent: places.resolved.parents[place],
-        bus: bus_place(parts.buses, &places.buses, module.number),
+        parent: parts.resolved.parents[place],
+        bus: bus_place(source.buses, &parts.buses, module.number),
         wrappers,
     }
 }
@@ -139,36 +110,24 @@ fn shared_of(
 /// A live test of a module.
 fn test_of(
     alloc: Global,
-    parts: &JobSource<'_>,
-    places: &PartPlaces<'_>,
+    parts: &Parts<'_>,
     shared: &Shared,
     module: &Module,
     test: &Test,
 ) -> Result<JobTest, NoMemory>
-    requires sound { IsSoundChip (soc_value parts.now.soc.now) }
-    requires wrapped { Keeps (soc_value parts.now.soc.now) (limits_value parts.now.limits.now)
-        (settled_parts (map bus_value parts.now.buses.now) (map wrapper_value parts.now.wrappers.now)) Wrappers }
-    requires resolved { IsResolved (soc_value parts.now.soc.now) parts.now.limits.now places.now.resolved.now }
-    requires shared { IsShared (soc_value parts.now.soc.now)
-        (settled_parts (map bus_value parts.now.buses.now) (map wrapper_value parts.now.wrappers.now))
-        (module_value «module».now) shared.now }
+    requires parts { AreParts parts.now }
+    requires shared { IsShared (chip_of parts.now.source.now) (plan_of parts.now.source.now) (module_value «module».now) shared.now }
     requires test_there { (k : ℕ) × (slice_get «module».now.tests.items k ≡ Some test.now) }
     requires is_live { is_live test.now ≡ true }
-    ensures { IfOk result (λ t. test_value t ≡ test_in (soc_value parts.now.soc.now) (limits_value parts.now.limits.now)
-        (settled_parts (map bus_value parts.now.buses.now) (map wrapper_value parts.now.wrappers.now)) shared.now.place
-        (module_value «module».now) test.now) }
+    ensures { IfOk result (λ t. test_value t ≡ test_in (chip_of parts.now.source.now) (limits_of parts.now.source.now)
+        (plan_of parts.now.source.now) shared.now.place (module_value «module».now) test.now) }
 {
     let id = TestId {
         module: module.number,
         test: test.number,
     };
-    let power = steps_of(
-        alloc,
-        parts.limits,
-        &places.resolved.profiles,
-        id,
-        test.power,
-    )?;
+    let profiles = &parts.resolved.profiles;
+    let power = steps_of(alloc, parts.source.limits, profiles, id, test.power)?;
     Ok(JobTest {
         id,
         place: shared.place,
@@ -183,89 +142,55 @@ fn test_of(
 fn push_live(
     alloc: Global,
     tests: &mut Vec<JobTest>,
-    parts: &JobSource<'_>,
-    places: &PartPlaces<'_>,
+    parts: &Parts<'_>,
     place: usize,
     module: &Module,
 ) -> Result<(), NoMemory>
-    requires sound { IsSoundChip (soc_value parts.now.soc.now) }
-    requires wrapped { Keeps (soc_value parts.now.soc.now) (limits_value parts.now.limits.now)
-        (settled_parts (map bus_value parts.now.buses.now) (map wrapper_value parts.now.wrappers.now)) Wrappers }
-    requires proper { Keeps (soc_value parts.now.soc.now) (limits_value parts.now.limits.now)
-        (settled_parts (map bus_value parts.now.buses.now) (map wrapper_value parts.now.wrappers.now)) Proper }
-    requires places { IsIndex (settled_parts (map bus_value parts.now.buses.now) (map wrapper_value parts.now.wrappers.now))
-        places.now.buses.entries places.now.wrappers.entries [] }
-    requires resolved { IsResolved (soc_value parts.now.soc.now) parts.now.limits.now places.now.resolved.now }
-    requires module_there { slice_get (soc_value parts.now.soc.now).modules place ≡ Some (module_value «module».now) }
+    requires parts { AreParts parts.now }
+    requires module_there { slice_get (chip_of parts.now.source.now).modules place ≡ Some (module_value «module».now) }
     ensures { OnOk result (map test_value tests.new.items ≡ map test_value tests.old.items
-        ++ map (test_in (soc_value parts.now.soc.now) (limits_value parts.now.limits.now)
-        (settled_parts (map bus_value parts.now.buses.now) (map wrapper_value parts.now.wrappers.now)) place (module_value «module».now))
-        (filter is_live «module».now.tests.items)) }
+        ++ map (test_in (chip_of parts.now.source.now) (limits_of parts.now.source.now) (plan_of parts.now.source.now) place
+        (module_value «module».now)) (filter is_live «module».now.tests.items)) }
 {
-    let shared = shared_of(parts, places, place, module);
+    let shared = shared_of(parts, place, module);
     for test in &module.tests {
         if live(test) {
-            let entry = test_of(alloc, parts, places, &shared, module, test)?;
+            let entry = test_of(alloc, parts, &shared, module, test)?;
             push(tests, entry)?;
         }
     }
     Ok(())
 }
 
-/// The live tests, in the order of the chip, found by the places of all parts.
-fn tests_at(
-    alloc: Global,
-    parts: &JobSource<'_>,
-    places: &PartPlaces<'_>,
-) -> Result<Vec<JobTest>, NoMemory>
-    requires sound { IsSoundChip (soc_value parts.now.soc.now) }
-    requires wrapped { Keeps (soc_value parts.now.soc.now) (limits_value parts.now.limits.now)
-        (settled_parts (map bus_value parts.now.buses.now) (map wrapper_value parts.now.wrappers.now)) Wrappers }
-    requires proper { Keeps (soc_value parts.now.soc.now) (limits_value parts.now.limits.now)
-        (settled_parts (map bus_value parts.now.buses.now) (map wrapper_value parts.now.wrappers.now)) Proper }
-    requires places { IsIndex (settled_parts (map bus_value parts.now.buses.now) (map wrapper_value parts.now.wrappers.now))
-        places.now.buses.entries places.now.wrappers.entries [] }
-    requires resolved { IsResolved (soc_value parts.now.soc.now) parts.now.limits.now places.now.resolved.now }
+/// The live tests, in the order of the chip.
+fn tests_of(alloc: Global, parts: &Parts<'_>) -> Result<Vec<JobTest>, NoMemory>
+    requires { AreParts parts.now }
     ensures { IfOk result (λ tests. map test_value tests.items
-        ≡ map (the_test (soc_value parts.now.soc.now) (limits_value parts.now.limits.now)
-        (settled_parts (map bus_value parts.now.buses.now) (map wrapper_value parts.now.wrappers.now)))
-        (live_tests (soc_value parts.now.soc.now))) }
+        ≡ (the_job (chip_of parts.now.source.now) (limits_of parts.now.source.now) (plan_of parts.now.source.now)).tests) }
 {
+    let soc = parts.source.soc;
     let mut tests = Vec::new(alloc);
-    for place in 0..module_count(parts.soc) {
-        push_live(
-            alloc,
-            &mut tests,
-            parts,
-            places,
-            place,
-            module_at(parts.soc, place),
-        )?;
+    for place in 0..module_count(soc) {
+        push_live(alloc, &mut tests, parts, place, module_at(soc, place))?;
     }
     Ok(tests)
 }
 
-/// The live tests, in the order of the chip.
-fn tests_of(
-    alloc: Global,
-    parts: &JobSource<'_>,
-    resolved: &Resolved,
-) -> Result<Vec<JobTest>, NoMemory>
-    requires sound { IsSoundChip (soc_value parts.now.soc.now) }
-    requires wrapped { Keeps (soc_value parts.now.soc.now) (limits_value parts.now.limits.now)
-        (settled_parts (map bus_value parts.now.buses.now) (map wrapper_value parts.now.wrappers.now)) Wrappers }
-    requires proper { Keeps (soc_value parts.now.soc.now) (limits_value parts.now.limits.now)
-        (settled_parts (map bus_value parts.now.buses.now) (map wrapper_value parts.now.wrappers.now)) Proper }
-    requires resolved { IsResolved (soc_value parts.now.soc.now) parts.now.limits.now resolved.now }
-    ensures { IfOk result (λ tests. map test_value tests.items
-        ≡ map (the_test (soc_value parts.now.soc.now) (limits_value parts.now.limits.now)
-        (settled_parts (map bus_value parts.now.buses.now) (map wrapper_value parts.now.wrappers.now)))
-        (live_tests (soc_value parts.now.soc.now))) }
+/// The job of the live tests, by the places of the parts.
+fn job_at(alloc: Global, parts: &Parts<'_>) -> Result<Job, NoMemory>
+    requires { AreParts parts.now }
+    ensures job { IfOk result (λ job. job_value job
+        ≡ the_job (chip_of parts.now.source.now) (limits_of parts.now.source.now) (plan_of parts.now.source.now)) }
+    ensures sound { IsSoundLimits (chip_of parts.now.source.now) (limits_of parts.now.source.now) →
+        IfOk result (λ job. IsSoundJob (job_value job)) }
 {
-    let places = part_places(alloc, parts, resolved)?;
-    let tests = tests_at(alloc, parts, &places);
-    drop(places);
-    tests
+    let tests = tests_of(alloc, parts)?;
+    let before = copied(alloc, &parts.resolved.precedences)?;
+    Ok(Job {
+        tests,
+        before,
+        power: parts.source.limits.power,
+    })
 }
 
 /// The job of the live tests, in the order of the chip, each with the cycles that it takes in the wrappers and the bus that
@@ -299,11 +224,13 @@ pub fn job_with(alloc: Global, parts: &JobSource<'_>, resolved: &Resolved) -> Re
     ensures sound { IsSoundLimits (soc_value parts.now.soc.now) (limits_value parts.now.limits.now) →
         IfOk result (λ job. IsSoundJob (job_value job)) }
 {
-    let tests = tests_of(alloc, parts, resolved)?;
-    let before = copied(alloc, &resolved.precedences)?;
-    Ok(Job {
-        tests,
-        before,
-        power: parts.limits.power,
-    })
+    let parts = Parts {
+        source: parts,
+        resolved,
+        buses: buses_by_module(alloc, parts.buses)?,
+        wrappers: wrappers_by_mode(alloc, parts.wrappers)?,
+    };
+    let job = job_at(alloc, &parts);
+    drop(parts);
+    job
 }

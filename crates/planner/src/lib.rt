@@ -8,7 +8,9 @@
 mod buses;
 mod job;
 mod planning;
+mod problem;
 mod schedule;
+mod wiring;
 mod wrappers;
 
 pub use job::{JobSource, job_of, job_with};

@@ -12,13 +12,14 @@ ghost use Rattle.plan_model.specs.Views.{plan_value, limits_value};
 ghost use Rattle.live_tests.specs.Resolved.{IsResolved};
 ghost use Rattle.planner.specs.Buses.{table_of, AreSettledBuses};
 ghost use Rattle.planner.specs.Jobs.{job_of};
-ghost use Rattle.planner.specs.Plans.{IsPlanned};
+ghost use Rattle.planner.specs.Plans.{IsPlanned, IsAnswer};
+ghost use Rattle.planner.specs.Problems.{chip_of, limits_of, IsProblem};
 ghost use Rattle.schedule_search.specs.Estimates.{IsEstimate};
 ghost use Rattle.schedule_search.specs.Walks.{HasMoreOpen};
 
-use crate::buses::settled_buses;
+use crate::problem::Problem;
 use crate::schedule::schedule_of;
-use crate::wrappers::table_wrappers;
+use crate::wiring::wiring_of;
 use bound_certificate::best_bound_with;
 use live_tests::Resolved;
 use outside::NoMemory;
@@ -27,7 +28,6 @@ use resource_table::Table;
 use schedule_search::Ahead;
 use soc_model::Soc;
 use std::alloc::Global;
-use width_table::WidthTable;
 
 /// Plans the tests of a sound chip under sound limits. `NoMemory` where memory runs out, and for no other reason.
 ///
@@ -90,15 +90,40 @@ where
     ensures only_buses { IfOk result (λ plan. (buses : List BusValue) →
         AreSettledBuses (table_of (soc_value soc.now) (limits_value limits.now)) buses → buses ≡ (plan_value plan).buses) }
 {
+    let problem = Problem {
+        soc,
+        limits,
+        resolved,
+    };
+    let plan = planned(alloc, &problem, ahead)?;
+    Ok(plan)
+}
+
+/// A plan of a problem.
+fn planned<F: Fn(&Table<'_>, usize) -> u64>(
+    alloc: Global,
+    problem: &Problem<'_>,
+    ahead: Ahead<F>,
+) -> Result<Plan, NoMemory>
+where
+    F: Drop,
+    requires problem { IsProblem problem.now }
+    requires estimate { IsEstimate (λ t test. F.pre ahead t test) (λ t test estimate. F.post ahead t test estimate) }
+    ensures { IfOk result (λ plan. IsAnswer (chip_of problem.now) (limits_of problem.now) (plan_value plan)) }
+{
     good_plans_run_right();
-    let table = WidthTable::new(alloc, soc, limits.wires)?;
-    let buses = settled_buses(alloc, soc, &table)?;
-    let wrappers = table_wrappers(alloc, soc, &table, &buses)?;
-    let schedule = schedule_of(alloc, soc, limits, resolved, &buses, &wrappers, ahead)?;
-    let bound = best_bound_with(alloc, soc, limits, resolved, schedule.cycles)?;
+    let wiring = wiring_of(alloc, problem)?;
+    let schedule = schedule_of(alloc, problem, &wiring, ahead)?;
+    let bound = best_bound_with(
+        alloc,
+        problem.soc,
+        problem.limits,
+        problem.resolved,
+        schedule.cycles,
+    )?;
     Ok(Plan {
-        buses,
-        wrappers,
+        buses: wiring.buses,
+        wrappers: wiring.wrappers,
         starts: schedule.starts,
         cycles: schedule.cycles,
         bound,

@@ -66,7 +66,8 @@ fn push_mode(
         return Ok(());
     }
     let width = width_at(buses, bus_place(buses, places, module.number));
-    push(to, UsedMode { place, scan, width })
+    push(to, UsedMode { place, scan, width })?;
+    Ok(())
 }
 
 /// The modes that are used, of all modules in their order, scan before terminals. The places of buses are those of the

@@ -1,25 +1,22 @@
-use Rattle.std.proofs.Common.{◌++◌, ℕ, Bool, true, List, [], map, take, sym, subst, arith}
+use Rattle.std.proofs.Common.{◌++◌, ℕ, true, map, take, arith}
 use Rattle.std.specs.List.{flat_map}
 use Rattle.std.proofs.lemmas.List.{length-map}
 use Rattle.soc_model.specs.declared.Module.{Module}
 use Rattle.soc_model.specs.Chips.{soc_value, module_value}
 use Rattle.plan_model.specs.Rules.{mode_pair}
 use Rattle.plan_model.specs.Views.{bus_value}
-use Rattle.planner.specs.declared.wrappers.UsedMode.{UsedMode}
-use Rattle.planner.specs.Wrapping.{AreUsedModes}
 use Rattle.planner.proofs.UsedModes.{pairs_in, no_modes, pairs_next, all_pairs, module_there}
 use Rattle.planner.proofs.wrappers.modes_at.Goals as goal
 
 pub loop-place-preserved : goal.loop-place-preserved
 loop-place-preserved c =
-    let core = module_there (soc_value c.args.soc.now).modules c.loop-place.place (omega (arith, length-map c.args.soc.now.modules.entries (λ (e : ℕ × Module). module_value e.1))) in
-    let first = c.in_ok-push_mode.ensures core.0 (flat_map pairs_in (take c.loop-place.place (soc_value c.args.soc.now).modules)) core.1 c.loop-place.invariant in
-    let second = c.in_ok-push_mode-2.ensures core.0 (flat_map pairs_in (take c.loop-place.place (soc_value c.args.soc.now).modules) ++ mode_pair true core.0) core.1 first in
-    subst (λ (ps : List (ℕ × Bool)). AreUsedModes (soc_value c.args.soc.now) (map bus_value c.args.buses.now) ps c.push_mode-in-loop-place.new.to.items)
-    (sym (pairs_next (soc_value c.args.soc.now).modules c.loop-place.place core.0 core.1)) second
+    let soc = soc_value c.args.soc.now in
+    let core = module_there soc.modules c.loop-place.place (omega (arith, length-map c.args.soc.now.modules.entries (λ (e : ℕ × Module). module_value e.1))) in
+    let first = c.in_ok-push_mode.ensures core.0 (flat_map pairs_in (take c.loop-place.place soc.modules)) core.1 c.loop-place.invariant in
+    rw (pairs_next soc.modules c.loop-place.place core.0 core.1) (c.in_ok-push_mode-2.ensures core.0 (flat_map pairs_in (take c.loop-place.place soc.modules) ++ mode_pair true core.0) core.1 first)
 
 pub loop-place-init : goal.loop-place-init
-loop-place-init c = subst (λ (ms : List UsedMode). AreUsedModes (soc_value c.args.soc.now) (map bus_value c.args.buses.now) [] ms) (sym c.new-modes.ensures.items) (no_modes (soc_value c.args.soc.now) (map bus_value c.args.buses.now))
+loop-place-init c = rw c.new-modes.ensures.items (no_modes (soc_value c.args.soc.now) (map bus_value c.args.buses.now))
 
 pub returns : goal.returns
 returns c = all_pairs (soc_value c.args.soc.now) (map bus_value c.args.buses.now) c.loop-place.place c.loop-place.modes.items
