@@ -1,6 +1,6 @@
 //! A case of a proof as plain tables: the times of the modules, the widths of the known ranks, and who may be where.
 
-use crate::marks::{marked, set_mark, words_for};
+use crate::marks::{marked, set_mark, wipe, words_for};
 use outside::{NoMemory, both};
 use std::alloc::Global;
 use tables::{filled, item_or, put_item};
@@ -102,9 +102,7 @@ impl PackCase {
         self.known = known.min(REST);
         self.spare = spare.min(self.wires);
         self.rest_high = rest_high.min(self.wires);
-        for place in 0..self.may.len() {
-            self.may[place] = 0;
-        }
+        wipe(&mut self.may);
         for rank in 0..self.known {
             self.set_rank(rank, 0, 0);
         }

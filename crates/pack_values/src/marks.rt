@@ -20,3 +20,10 @@ pub(crate) fn set_mark(rows: &mut [u64], from: usize, place: usize, on: bool) {
     let bit = 1u64 << (place & 63);
     put_item(rows, at, if on { word | bit } else { word & !bit });
 }
+
+/// Makes each word of a list 0.
+pub(crate) fn wipe(list: &mut [u64]) {
+    for place in 0..list.len() {
+        list[place] = 0;
+    }
+}

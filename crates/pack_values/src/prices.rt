@@ -1,5 +1,6 @@
 //! Prices of modules and weights of lists.
 
+use crate::marks::wipe;
 use outside::{NoMemory, both};
 use std::alloc::Global;
 use tables::{filled, item_or, put_item};
@@ -48,9 +49,7 @@ impl Prices {
     /// Makes all prices 0, and forgets the lists.
     pub fn clear_prices(&mut self) {
         self.count = 0;
-        for module in 0..self.modules.len() {
-            self.modules[module] = 0;
-        }
+        wipe(&mut self.modules);
     }
 
     /// Makes the prices and weights those of another one for as many modules.
