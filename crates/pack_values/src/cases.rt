@@ -30,7 +30,7 @@ pub struct PackCase {
     /// The cycles of the self tests of each module.
     own: Vec<u64>,
     /// For each width a row of marks: the modules whose time is less than at one wire fewer.
-    pub(crate) falls: Vec<u64>,
+    falls: Vec<u64>,
     /// For each known rank the least width of its bus.
     low: Vec<usize>,
     /// For each known rank the greatest width of its bus.
@@ -154,6 +154,11 @@ impl PackCase {
     /// Whether a module may be on a known rank, or on the rest.
     pub fn may_be(&self, module: usize, rank: usize) -> bool {
         rank <= REST && marked(&self.may, rank.saturating_mul(self.words), module)
+    }
+
+    /// Whether the time of a module at a width is less than at one wire fewer.
+    pub(crate) fn falls(&self, module: usize, width: usize) -> bool {
+        marked(&self.falls, width.saturating_mul(self.words), module)
     }
 
     /// Whether the tests of a module at a width, and its self tests, take fewer cycles than a claim.

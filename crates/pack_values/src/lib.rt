@@ -4,11 +4,20 @@
 #![tactic(auto)]
 
 mod cases;
+mod greedy;
+mod groups;
+mod knapsack;
 mod leaf;
 mod marks;
+mod offers;
 mod prices;
 mod room;
+mod sets;
+mod terms;
+#[cfg(test)]
+mod tests;
 mod uses;
+mod wires;
 
 pub use cases::{PackCase, REST};
 pub use leaf::leaf_work;
