@@ -1,4 +1,5 @@
 //! Knapsacks: the most that some items are worth in so many cells, and the items of a best set.
+ghost use Rattle.std.specs.Prelude.{◌≡◌, ◌<◌, ◌≤◌, length};
 
 use crate::greedy::{Charge, Fate, charge_of, cut_of, reached};
 use crate::marks::marked;
@@ -56,9 +57,8 @@ fn better(row: &mut [u64], x: usize, size: usize, net: u64) -> bool
 /// twice.
 fn take(row: &mut [u64], low: usize, end: usize, size: usize, net: u64) {
     let low = low.max(size);
-    let mut x = end.min(row.len());
-    while low < x {
-        x -= 1;
+    let end = end.min(row.len());
+    for x in (low..end).rev() {
         better(row, x, size, net);
     }
 }
@@ -70,9 +70,7 @@ fn take_word(row: &mut [u64], low: usize, end: usize, size: usize, net: u64) -> 
     ensures { length row.new ≡ length row.old }
 {
     let mut bits = 0u64;
-    let mut x = end;
-    while low < x {
-        x -= 1;
+    for x in (low..end).rev() {
         let taken = better(row, x, size, net);
         bits = (bits << 1) | u64::from(taken);
     }
@@ -89,12 +87,12 @@ fn take_marked(
     item: Item,
 ) {
     let low = low.max(item.size);
-    let mut x = end.min(row.len());
-    while low < x {
-        let from = low.max(x - 1 - (x - 1) % 64);
-        let bits = take_word(row, from, x, item.size, item.net);
-        put_item(marks, first.saturating_add(from / 64), bits << (from % 64));
-        x = from;
+    let end = end.min(row.len());
+    for word in (low / 64..end.div_ceil(64)).rev() {
+        let from = low.max(word.saturating_mul(64));
+        let until = end.min(word.saturating_add(1).saturating_mul(64));
+        let bits = take_word(row, from, until, item.size, item.net);
+        put_item(marks, first.saturating_add(word), bits << (from % 64));
     }
 }
 
