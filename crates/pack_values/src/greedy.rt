@@ -1,6 +1,6 @@
 //! What a knapsack is worth at least, by items that are taken in turn, and at most, where its last item may be cut.
 
-use crate::offers::{Item, scaled};
+use crate::offers::{PackItem, scaled};
 use tables::NONE;
 
 /// How many items beside the first that doesn't fit are tried.
@@ -8,7 +8,7 @@ const NEAR: usize = 8;
 
 /// Where items, the densest first, no longer fit: those before it are taken.
 #[derive(Clone, Copy)]
-pub(crate) struct Cut {
+pub(crate) struct GreedyCut {
     /// The place of the first item that doesn't fit; the end where there is none.
     pub at: usize,
     /// The cells that are left.
@@ -18,8 +18,8 @@ pub(crate) struct Cut {
 }
 
 /// Where the items no longer fit so many cells.
-pub(crate) fn cut_of(items: &[Item], room: usize) -> Cut {
-    let mut cut = Cut {
+pub(crate) fn cut_of(items: &[PackItem], room: usize) -> GreedyCut {
+    let mut cut = GreedyCut {
         at: 0,
         left: room,
         worth: 0,
@@ -29,7 +29,7 @@ pub(crate) fn cut_of(items: &[Item], room: usize) -> Cut {
         if item.size > cut.left {
             return cut;
         }
-        cut = Cut {
+        cut = GreedyCut {
             at: at.saturating_add(1),
             left: cut.left.saturating_sub(item.size),
             worth: cut.worth.saturating_add(item.net),
@@ -38,8 +38,8 @@ pub(crate) fn cut_of(items: &[Item], room: usize) -> Cut {
     cut
 }
 
-/// What is taken so far is worth, with those of some items that still fit in turn, but for the module `but`.
-fn with_more(items: &[Item], but: usize, left: usize, worth: u64) -> u64 {
+/// What is reached with those of some more items that still fit in turn, but for the module `but`.
+fn with_more(items: &[PackItem], but: usize, left: usize, worth: u64) -> u64 {
     let mut left = left;
     let mut worth = worth;
     for at in 0..items.len() {
@@ -53,22 +53,22 @@ fn with_more(items: &[Item], but: usize, left: usize, worth: u64) -> u64 {
 }
 
 /// The part of items that begins at a place, at most `most` of them.
-fn part(items: &[Item], from: usize, most: usize) -> &[Item] {
+fn part(items: &[PackItem], from: usize, most: usize) -> &[PackItem] {
     let from = from.min(items.len());
     let end = from.saturating_add(most).min(items.len());
     &items[from..end]
 }
 
-/// What is taken is worth without one of the items before the cut.
-fn without(items: &[Item], cut: Cut, out: Item) -> u64 {
+/// What is reached without one of the items before the cut, and with more that fit then.
+fn without(items: &[PackItem], cut: GreedyCut, out: PackItem) -> u64 {
     let left = cut.left.saturating_add(out.size);
     let worth = cut.worth.saturating_sub(out.net);
     with_more(part(items, cut.at, NEAR), NONE, left, worth)
 }
 
-/// What is taken is worth with one of the items from the cut on, and without as many of the last ones before it as it takes; 0 where
-/// these aren't enough.
-fn with(items: &[Item], cut: Cut, more: Item) -> u64 {
+/// What is reached with one of the items from the cut on, and without as many of the last ones before the cut as it takes; 0 where these
+/// aren't enough.
+fn with(items: &[PackItem], cut: GreedyCut, more: PackItem) -> u64 {
     let mut left = cut.left;
     let mut worth = cut.worth.saturating_add(more.net);
     let before = part(items, 0, cut.at);
@@ -88,7 +88,7 @@ fn with(items: &[Item], cut: Cut, more: Item) -> u64 {
 }
 
 /// What a knapsack is worth at least.
-pub(crate) fn reached(items: &[Item], cut: Cut) -> u64 {
+pub(crate) fn reached(items: &[PackItem], cut: GreedyCut) -> u64 {
     let rest = part(items, cut.at, items.len());
     let mut best = with_more(rest, NONE, cut.left, cut.worth);
     let first = cut.at.saturating_sub(NEAR);
@@ -116,20 +116,23 @@ pub(crate) struct Charge {
 /// What becomes of an item.
 #[derive(Clone, Copy, PartialEq, Eq)]
 pub(crate) enum Fate {
+    /// It is in each best set.
     Taken,
+    /// It is in none.
     Left,
+    /// That isn't known yet.
     Open,
 }
 
 impl Charge {
     /// What an item is worth, and what its cells cost, both scaled.
-    fn sides(self, item: Item) -> (u64, u64) {
+    fn sides(self, item: PackItem) -> (u64, u64) {
         let cost = self.cell.saturating_mul(item.size as u64);
         (scaled(item.net, self.places), cost)
     }
 
     /// What becomes of an item.
-    pub fn fate(self, item: Item) -> Fate {
+    pub fn fate(self, item: PackItem) -> Fate {
         let (worth, cost) = self.sides(item);
         if item.size == 0 || worth > cost.saturating_add(self.slack) {
             return Fate::Taken;
@@ -141,9 +144,15 @@ impl Charge {
     }
 }
 
-/// The charge of a knapsack of so many cells, where `best` is reached: by the density of the item at the cut. No sets are worth more than
-/// all cells cost and the items gain that gain.
-pub(crate) fn charge_of(items: &[Item], cut: Cut, room: usize, best: u64, places: u32) -> Charge {
+/// The charge of a knapsack of so many cells, where `best` is reached: by the density of the item at the cut. No set is worth more than
+/// what all cells cost, and what those items gain that are worth more than their cells.
+pub(crate) fn charge_of(
+    items: &[PackItem],
+    cut: GreedyCut,
+    room: usize,
+    best: u64,
+    places: u32,
+) -> Charge {
     let mut cell = 0;
     for item in part(items, cut.at, 1) {
         cell = item.density;

@@ -130,8 +130,9 @@ impl Groups {
     pub fn first_width(&self, case: &PackCase, group: usize) -> usize {
         let mut least = usize::MAX;
         for range in group..self.count {
-            if self.group_of(range) == group {
-                least = least.min(case.low(rank_of(case, range)).max(1));
+            let first = case.low(rank_of(case, range)).max(1);
+            if self.has_width(case, group, range, first) {
+                least = least.min(first);
             }
         }
         least

@@ -3,7 +3,7 @@ ghost use Rattle.std.specs.Prelude.{◌≡◌, ◌<◌, ◌≤◌, length};
 
 use crate::greedy::{Charge, Fate, charge_of, cut_of, reached};
 use crate::marks::marked;
-use crate::offers::{Item, NO_ITEM};
+use crate::offers::{NO_ITEM, PackItem};
 use crate::terms::{CELLS_MOST, Terms};
 use outside::{NoMemory, both};
 use std::alloc::Global;
@@ -12,13 +12,13 @@ use tables::{filled, item_or, put_item};
 /// The words of a row of marks of cells.
 const CELL_WORDS: usize = 65;
 /// The work of an item beside its cells.
-const ITEM_WORK: u64 = 10;
+const ITEM_WORK: u64 = 25;
 
 /// Room for knapsacks.
 #[derive(Drop)]
 pub(crate) struct Knapsack {
     /// The items that are left open, the densest first.
-    open: Vec<Item>,
+    open: Vec<PackItem>,
     /// How many there are.
     count: usize,
     /// The most for each number of cells.
@@ -26,7 +26,7 @@ pub(crate) struct Knapsack {
     /// For each item that is left open a row of marks: the numbers of cells at which it is taken.
     marks: Vec<u64>,
     /// The items of the best set.
-    picks: Vec<Item>,
+    picks: Vec<PackItem>,
     /// How many there are.
     picked: usize,
     /// The cells so far.
@@ -34,7 +34,7 @@ pub(crate) struct Knapsack {
 }
 
 /// Writes the same number at the places from one up to another.
-fn fill(row: &mut [u64], from: usize, end: usize, number: u64) {
+fn fill_cells(row: &mut [u64], from: usize, end: usize, number: u64) {
     for x in from..end.min(row.len()) {
         row[x] = number;
     }
@@ -53,9 +53,9 @@ fn better(row: &mut [u64], x: usize, size: usize, net: u64) -> bool
     with > was
 }
 
-/// One item more: the most for each number of cells from `low` up to `end`. From the greatest number down, so that none takes the item
-/// twice.
-fn take(row: &mut [u64], low: usize, end: usize, size: usize, net: u64) {
+/// One item more: the most for each number of cells from `low` on, below `end`. From the greatest number down, so that none takes the
+/// item twice.
+fn take_item(row: &mut [u64], low: usize, end: usize, size: usize, net: u64) {
     let low = low.max(size);
     let end = end.min(row.len());
     for x in (low..end).rev() {
@@ -84,7 +84,7 @@ fn take_marked(
     first: usize,
     low: usize,
     end: usize,
-    item: Item,
+    item: PackItem,
 ) {
     let low = low.max(item.size);
     let end = end.min(row.len());
@@ -119,7 +119,7 @@ impl Knapsack {
     }
 
     /// The items of the best set.
-    pub fn picks(&self) -> &[Item] {
+    pub fn picks(&self) -> &[PackItem] {
         let end = self.picked.min(self.picks.len());
         &self.picks[..end]
     }
@@ -133,19 +133,19 @@ impl Knapsack {
         sum
     }
 
-    fn pick(&mut self, item: Item) {
+    fn pick(&mut self, item: PackItem) {
         put_item(&mut self.picks, self.picked, item);
         self.picked = self.picked.saturating_add(1);
     }
 
-    fn pick_all(&mut self, items: &[Item]) {
+    fn pick_all(&mut self, items: &[PackItem]) {
         for item in items {
             self.pick(*item);
         }
     }
 
     /// The most that offered items, the densest first, are worth on a bus. Where sets are wanted, the items of a best one are the picks.
-    pub fn solve(&mut self, items: &[Item], terms: Terms) -> u64 {
+    pub fn solve(&mut self, items: &[PackItem], terms: Terms) -> u64 {
         self.picked = 0;
         let looks = ITEM_WORK.saturating_mul(items.len() as u64);
         self.work = self.work.saturating_add(looks);
@@ -162,7 +162,7 @@ impl Knapsack {
     }
 
     /// The same, where some items fit and some don't.
-    fn solve_open(&mut self, items: &[Item], charged: Charge, terms: Terms) -> u64 {
+    fn solve_open(&mut self, items: &[PackItem], charged: Charge, terms: Terms) -> u64 {
         let mut room = terms.room();
         let mut worth: u64 = 0;
         self.count = 0;
@@ -171,7 +171,9 @@ impl Knapsack {
                 Fate::Taken => {
                     room = room.saturating_sub(item.size);
                     worth = worth.saturating_add(item.net);
-                    self.pick(*item);
+                    if terms.keep {
+                        self.pick(*item);
+                    }
                 }
                 Fate::Left => {}
                 Fate::Open => self.leave_open(*item),
@@ -180,7 +182,7 @@ impl Knapsack {
         worth.saturating_add(self.fill_row(room, terms.keep))
     }
 
-    fn leave_open(&mut self, item: Item) {
+    fn leave_open(&mut self, item: PackItem) {
         put_item(&mut self.open, self.count, item);
         self.count = self.count.saturating_add(1);
     }
@@ -194,20 +196,21 @@ impl Knapsack {
         sum
     }
 
-    /// The most that the open items are worth in so many cells. Where sets are wanted, those of a best one are picked.
+    /// The most that the open items are worth in so many cells. Where sets are wanted, those of a best one are picked. Each item is put
+    /// into the numbers of cells that it can reach with those before it, and from which those behind it can still fill all cells.
     fn fill_row(&mut self, room: usize, keep: bool) -> u64 {
         let all = self.open_size();
         let room = room.min(all);
         let mut reach: usize = 0;
         let mut rest = all;
-        fill(&mut self.row, 0, 1, 0);
+        fill_cells(&mut self.row, 0, 1, 0);
         for at in 0..self.count {
             let item = item_or(&self.open, at, NO_ITEM);
             rest = rest.saturating_sub(item.size);
             let next = reach.saturating_add(item.size).min(room);
             let whole = item_or(&self.row, reach, 0);
             let end = next.saturating_add(1);
-            fill(&mut self.row, reach.saturating_add(1), end, whole);
+            fill_cells(&mut self.row, reach.saturating_add(1), end, whole);
             self.add_item(at, item, room.saturating_sub(rest), end, keep);
             reach = next;
         }
@@ -218,14 +221,14 @@ impl Knapsack {
     }
 
     /// One open item more, for the numbers of cells from `low` up to `end`.
-    fn add_item(&mut self, at: usize, item: Item, low: usize, end: usize, keep: bool) {
+    fn add_item(&mut self, at: usize, item: PackItem, low: usize, end: usize, keep: bool) {
         let cells = end.saturating_sub(low.max(item.size)) as u64;
         if keep {
             let first = at.saturating_mul(CELL_WORDS);
             take_marked(&mut self.row, &mut self.marks, first, low, end, item);
             self.work = self.work.saturating_add(cells.saturating_mul(2));
         } else {
-            take(&mut self.row, low, end, item.size, item.net);
+            take_item(&mut self.row, low, end, item.size, item.net);
             self.work = self.work.saturating_add(cells);
         }
     }
@@ -283,7 +286,7 @@ impl Knapsack {
 }
 
 /// Whether an item is left out rather than another one, where there are `excess` cells too many.
-fn goes_before(one: Item, other: Item, excess: usize) -> bool {
+fn goes_before(one: PackItem, other: PackItem, excess: usize) -> bool {
     let enough = one.cells >= excess;
     if enough != (other.cells >= excess) {
         return enough;

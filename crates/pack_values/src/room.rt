@@ -3,7 +3,7 @@
 use crate::cases::{PackCase, RANGES_MOST};
 use crate::groups::{Groups, rank_of};
 use crate::knapsack::Knapsack;
-use crate::offers::{Bus, Offers};
+use crate::offers::{BusAt, Offers};
 use crate::prices::Prices;
 use crate::sets::Sets;
 use crate::terms::Terms;
@@ -31,14 +31,14 @@ pub struct PackRoom {
 
 /// What is best on a bus.
 #[derive(Clone, Copy)]
-struct Best {
+struct BestSet {
     worth: u64,
     /// The place of the row of the set, where there is one.
     row: usize,
 }
 
 /// No bus.
-const NO_BEST: Best = Best {
+const NO_BEST: BestSet = BestSet {
     worth: 0,
     row: NONE,
 };
@@ -130,7 +130,7 @@ impl PackRoom {
         let mut best = NO_BEST;
         let mut stale = true;
         for width in first..last.saturating_add(1) {
-            let bus = Bus { group, rank, width };
+            let bus = BusAt { group, rank, width };
             if width == first {
                 self.offers
                     .gather(case, uses, prices, terms, &self.groups, bus);
@@ -146,21 +146,21 @@ impl PackRoom {
     }
 
     /// What is best on a bus with the modules that are offered, where `before` is the best of those with fewer wires.
-    fn solve_bus(&mut self, terms: Terms, before: Best) -> Best {
+    fn solve_bus(&mut self, terms: Terms, before: BestSet) -> BestSet {
         let worth = self.knapsack.solve(self.offers.items(), terms);
         if !terms.keep {
-            return Best { worth, row: NONE };
+            return BestSet { worth, row: NONE };
         }
         let worth = self.knapsack.mend(terms.cells);
         if worth <= before.worth {
             return before;
         }
         let row = self.sets.add_row(self.knapsack.picks());
-        Best { worth, row }
+        BestSet { worth, row }
     }
 
     /// Notes what is best on the buses of a group at a width.
-    fn note_width(&mut self, case: &PackCase, group: usize, width: usize, best: Best) {
+    fn note_width(&mut self, case: &PackCase, group: usize, width: usize, best: BestSet) {
         let place = self.base(group).saturating_add(width);
         put_item(&mut self.worth, place, best.worth);
         if best.row == NONE {
@@ -242,7 +242,7 @@ impl PackRoom {
         !case.all_have_slots(claim) || self.shows(uses, prices, claim)
     }
 
-    /// The cells of knapsacks so far, twice where sets were kept, and 10 for each module that was looked at, since `begin_work`.
+    /// The cells of knapsacks so far, twice where sets were kept, and 25 for each module that was looked at, since `begin_work`.
     pub fn work(&self) -> u64 {
         self.knapsack.work
     }

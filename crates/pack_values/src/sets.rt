@@ -2,7 +2,7 @@
 
 use crate::cases::RANGES_MOST;
 use crate::marks::{marked, set_mark, words_for};
-use crate::offers::Item;
+use crate::offers::PackItem;
 use outside::{NoMemory, both};
 use std::alloc::Global;
 use tables::{NONE, filled, item_or, put_item};
@@ -12,14 +12,14 @@ const SETS_MOST: usize = 4096;
 
 /// Where a set is the best one: a rank (or the rest) and a width, and the place of its row.
 #[derive(Clone, Copy)]
-struct Found {
+struct SetPlace {
     rank: usize,
     width: usize,
     row: usize,
 }
 
 /// No set.
-const NOT_FOUND: Found = Found {
+const NOT_FOUND: SetPlace = SetPlace {
     rank: 0,
     width: 0,
     row: NONE,
@@ -31,7 +31,7 @@ pub(crate) struct Sets {
     words: usize,
     /// How many there may be.
     most: usize,
-    found: Vec<Found>,
+    found: Vec<SetPlace>,
     /// How many there are.
     pub count: usize,
     /// Rows of marks of modules.
@@ -73,7 +73,7 @@ impl Sets {
     }
 
     /// Makes a row of some items. Its place, `NONE` where there is no more room.
-    pub fn add_row(&mut self, items: &[Item]) -> usize {
+    pub fn add_row(&mut self, items: &[PackItem]) -> usize {
         let row = self.filled;
         if row >= self.most {
             return NONE;
@@ -95,7 +95,7 @@ impl Sets {
         if row == NONE || row == last || self.count >= self.most {
             return;
         }
-        put_item(&mut self.found, self.count, Found { rank, width, row });
+        put_item(&mut self.found, self.count, SetPlace { rank, width, row });
         put_item(&mut self.last, range, row);
         self.count = self.count.saturating_add(1);
     }

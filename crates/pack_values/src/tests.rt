@@ -9,14 +9,14 @@ use tables::{NONE, filled, item_or, put_item};
 
 /// Lists of the tests of every other module: list 1 counts them on rank 0 alone, all others everywhere.
 #[derive(Drop)]
-struct Made {
+struct MadeUses {
     wires: usize,
     /// A part of the time of each module at [module * wires + width - 1].
     parts: Vec<u64>,
 }
 
-impl Made {
-    fn new(alloc: Global, case: &PackCase, share: u64) -> Result<Made, NoMemory> {
+impl MadeUses {
+    fn new(alloc: Global, case: &PackCase, share: u64) -> Result<MadeUses, NoMemory> {
         let mut parts = filled(alloc, 0u64, case.modules.saturating_mul(case.wires))?;
         for module in 0..case.modules {
             for place in 0..case.wires {
@@ -25,14 +25,14 @@ impl Made {
                 put_item(&mut parts, at, time.checked_div(share).unwrap_or(0));
             }
         }
-        Ok(Made {
+        Ok(MadeUses {
             wires: case.wires,
             parts,
         })
     }
 }
 
-impl Uses for Made {
+impl Uses for MadeUses {
     fn of_module(&self, list: usize, module: usize, rank: usize, width: usize) -> u64 {
         if module % 2 == 0 || (list == 1 && rank != 0) {
             return 0;
@@ -132,7 +132,7 @@ fn made_prices(alloc: Global, case: &PackCase, seed: u64) -> Result<Prices, NoMe
 
 /// A bus of a case at a claim, with cells of `grain` cycles.
 #[derive(Clone, Copy)]
-struct Bus {
+struct BusAt {
     rank: usize,
     width: usize,
     claim: u64,
@@ -140,7 +140,7 @@ struct Bus {
 }
 
 /// What a module is worth on a bus, 0 without a slot.
-fn net_of<U: Uses>(case: &PackCase, uses: &U, prices: &Prices, module: usize, bus: Bus) -> u64 {
+fn net_of<U: Uses>(case: &PackCase, uses: &U, prices: &Prices, module: usize, bus: BusAt) -> u64 {
     if !case.has_slot(module, bus.rank, bus.width, bus.claim) {
         return 0;
     }
@@ -162,7 +162,7 @@ fn worth_of<U: Uses>(
     case: &PackCase,
     uses: &U,
     prices: &Prices,
-    bus: Bus,
+    bus: BusAt,
     modules: &[bool],
 ) -> Option<u64> {
     let mut cells: u64 = 0;
@@ -190,7 +190,7 @@ fn worth_of<U: Uses>(
 }
 
 /// The most on a bus, over all sets of at most 12 modules.
-fn by_sets<U: Uses>(case: &PackCase, uses: &U, prices: &Prices, bus: Bus) -> u64 {
+fn by_sets<U: Uses>(case: &PackCase, uses: &U, prices: &Prices, bus: BusAt) -> u64 {
     let mut most: u64 = 0;
     for set in 0..1u64 << (case.modules.min(12)) {
         let mut modules = [false; 12];
@@ -204,7 +204,7 @@ fn by_sets<U: Uses>(case: &PackCase, uses: &U, prices: &Prices, bus: Bus) -> u64
 }
 
 /// The most on a bus, by a plain knapsack over a row of cells.
-fn by_row<U: Uses>(case: &PackCase, uses: &U, prices: &Prices, bus: Bus, row: &mut [u64]) -> u64 {
+fn by_row<U: Uses>(case: &PackCase, uses: &U, prices: &Prices, bus: BusAt, row: &mut [u64]) -> u64 {
     wipe(row);
     let cells = bus
         .claim
@@ -232,7 +232,7 @@ fn by_widths<U: Uses>(case: &PackCase, uses: &U, prices: &Prices, claim: u64, gr
     for range in 0..3 {
         let rank = if range < 2 { range } else { REST };
         for width in 1..8 {
-            let bus = Bus {
+            let bus = BusAt {
                 rank,
                 width,
                 claim,
@@ -289,7 +289,7 @@ fn small_cases(rt: HostRuntime) -> Result<(), Fail> {
     let mut room = PackRoom::new(rt.alloc(), 9, 7)?;
     for seed in 0..6 {
         let mut case = made_chip(rt.alloc(), 7, 9, 60, seed)?;
-        let uses = Made::new(rt.alloc(), &case, 2)?;
+        let uses = MadeUses::new(rt.alloc(), &case, 2)?;
         case.begin(2, 3, 2);
         case.set_rank(0, 2, 5);
         case.set_rank(1, 2, 3);
@@ -320,7 +320,7 @@ fn small_cases(rt: HostRuntime) -> Result<(), Fail> {
             );
             assert!(rt; room.sets() > 2);
             for at in 0..room.sets() {
-                let bus = Bus {
+                let bus = BusAt {
                     rank: room.set_rank(at),
                     width: room.set_width(at),
                     claim,
@@ -342,7 +342,7 @@ fn many_modules(rt: HostRuntime) -> Result<(), Fail> {
     let mut row = filled(rt.alloc(), 0u64, 4097)?;
     for seed in 0..12 {
         let mut case = made_chip(rt.alloc(), 4, 60, 500, seed)?;
-        let uses = Made::new(rt.alloc(), &case, 3)?;
+        let uses = MadeUses::new(rt.alloc(), &case, 3)?;
         let mut prices = made_prices(rt.alloc(), &case, seed)?;
         prices.add_list(0, seed % 3);
         for width in 1..5 {
@@ -352,7 +352,7 @@ fn many_modules(rt: HostRuntime) -> Result<(), Fail> {
                 case.allow(module, 0);
             }
             let grain = 1 + seed % 4;
-            let bus = Bus {
+            let bus = BusAt {
                 rank: 0,
                 width,
                 claim: 2000,
