@@ -1,14 +1,13 @@
 use Rattle.std.proofs.Common.{map}
 use Rattle.std.specs.Prelude.{string_bytes}
-use Rattle.made_data.proofs.Endings.{ends, one_line, by_words, says_bad_words, ends_by_loads, makes_puts}
+use Rattle.made_data.proofs.Endings.{ending_promised}
 use Rattle.commands.specs.Commands.{command_of}
 use Rattle.made_data.proofs.Answering.{settled_asked, headline}
-use Rattle.commands.proofs.Promised.{verdict_promised}
 use Rattle.made_data.proofs.top.make_data.Goals as goal
 
 pub returns-clause-answers : goal.returns-clause-answers
 returns-clause-answers g c =
-    verdict_promised c.decide-verdict.result (settled_asked c.files_say_one_thing.ensures (command_of (map string_bytes c.args.words.now))) c.decide-verdict.ensures.decides c.decide-verdict.ensures.by_loads c.decide-verdict.ensures.untouched c.write_verdict.ensures.written c.write_verdict.ensures.puts
+    ending_promised c.decide-ending.result (settled_asked c.files_say_one_thing.ensures (command_of (map string_bytes c.args.words.now))) c.decide-ending.ensures.closes c.decide-ending.ensures.by_loads c.decide-ending.ensures.untouched c.write_ending.ensures.written c.write_ending.ensures.puts
 
 pub returns-clause-headline : goal.returns-clause-headline
 returns-clause-headline g c =
