@@ -1,34 +1,25 @@
 -- What holds of the top call that is chosen holds of the command.
 use Rattle.std.proofs.Common.{◌≡◌, ℕ, List, Option, None, Some, subst, sym}
 use Rattle.outside.specs.Held.{Files}
+use Rattle.outside.specs.declared.sink.Put.{Put}
 use Rattle.commands.specs.Commands.{CommandValue, Print, Widths, Plan, Check, Chart, Vectors, Sample, Locate, Tree, Split, Shift, Improve, Picture, Simulate, Bound, Prove, Data, Retarget, Stil, Vcd, Verilog, Report, PictureWithProof}
 use Rattle.commands.specs.Procedures.{Procedure, asked}
 use Rattle.commands.specs.TopCalls.{top_call_of}
-use Rattle.commands.specs.Ends.{IsCommand, MayAnswer, Ends, EndsByWords, Complete, Finishes}
+use Rattle.commands.specs.Ends.{IsCommand, EndsByWords}
+use Rattle.commands.specs.Loads.{LoadsOf}
+use Rattle.commands.specs.Promises.{IsTopCall}
 use Rattle.commands.specs.declared.Status.{Status}
 use Rattle.commands.specs.declared.top_calls.TopCall.{TopCall}
 use Rattle.all_commands.specs.Promises.{HeadlineBy, Headline, IsQuietBy, IsQuiet, MayReportBy, MayReport}
 use Rattle.all_commands.specs.Requests.{procedure_by, requested, fixes_text_by, fixes_text, EndsByCommand}
 
-pub ends_chosen : (by : TopCall) (command : Option CommandValue) → by ≡ top_call_of command → (held : Option Files) (loads_before loads_after puts_before puts_after : ℕ) (old : Option (List ℕ)) (end : Status) (new : Option (List ℕ)) →
-    Ends (MayAnswer (asked (procedure_by by) command) held loads_before loads_after) puts_before puts_after old end new →
-    Ends (MayAnswer (requested command) held loads_before loads_after) puts_before puts_after old end new
-unfolding requested
-ends_chosen by command same held loads_before loads_after puts_before puts_after old end new ends =
-    subst (λ (b : TopCall). Ends (MayAnswer (asked (procedure_by b) command) held loads_before loads_after) puts_before puts_after old end new) same ends
-
-pub complete_chosen : (by : TopCall) (command : Option CommandValue) → by ≡ top_call_of command → (held : Option Files) (shelf_failed sink_failed : Type 0) (old : Option (List ℕ)) (end : Status) (new : Option (List ℕ)) →
-    Complete (fixes_text_by by command) (asked (procedure_by by) command) held shelf_failed sink_failed old end new →
-    Complete (fixes_text command) (requested command) held shelf_failed sink_failed old end new
+pub answers_chosen : {S K : Type 0} {is_load : LoadsOf S} {is_put : K → List ℕ → Put → K → Type 0} (by : TopCall) (command : Option CommandValue) → by ≡ top_call_of command →
+    {held : Option Files} {first last : S} {loads_before loads_after : ℕ} {out_first out_last : K} {puts_before puts_after : ℕ} {old new : Option (List ℕ)} {end : Status} →
+    IsTopCall is_load is_put (fixes_text_by by command) (asked (procedure_by by) command) held first last loads_before loads_after out_first out_last puts_before puts_after old end new →
+    IsTopCall is_load is_put (fixes_text command) (requested command) held first last loads_before loads_after out_first out_last puts_before puts_after old end new
 unfolding fixes_text requested
-complete_chosen by command same held shelf_failed sink_failed old end new complete =
-    subst (λ (b : TopCall). Complete (fixes_text_by b command) (asked (procedure_by b) command) held shelf_failed sink_failed old end new) same complete
-
-pub finishes_chosen : (by : TopCall) (command : Option CommandValue) → by ≡ top_call_of command → (held : Option Files) (shelf_failed sink_failed : Type 0) (end : Status) →
-    Finishes (asked (procedure_by by) command) held shelf_failed sink_failed end → Finishes (requested command) held shelf_failed sink_failed end
-unfolding requested
-finishes_chosen by command same held shelf_failed sink_failed end finishes =
-    subst (λ (b : TopCall). Finishes (asked (procedure_by b) command) held shelf_failed sink_failed end) same finishes
+answers_chosen {S} {K} {is_load} {is_put} by command same {held} {first} {last} {loads_before} {loads_after} {out_first} {out_last} {puts_before} {puts_after} {old} {new} {end} answers =
+    subst (λ (b : TopCall). IsTopCall is_load is_put (fixes_text_by b command) (asked (procedure_by b) command) held first last loads_before loads_after out_first out_last puts_before puts_after old end new) same answers
 
 -- each command is one of the top call that takes it
 ends_by_command : (command : Option CommandValue) (sink_failed : Type 0) (end : Status) → EndsByWords (requested command) sink_failed end → EndsByCommand command sink_failed end

@@ -7,7 +7,7 @@
 ghost use Rattle.std.specs.Prelude.{◌≡◌, ◌≤◌, None, map, string_bytes};
 ghost use Rattle.outside.specs.Held.{Rose};
 ghost use Rattle.commands.specs.Commands.{command_of};
-ghost use Rattle.commands.specs.Ends.{MayAnswer, Ends, OneLine, Complete, Finishes, SaysBadWords};
+ghost use Rattle.commands.specs.Promises.{IsTopCall};
 ghost use Rattle.commands.specs.TopCalls.{top_call_of};
 ghost use Rattle.all_commands.specs.Requests.{requested, fixes_text, EndsByCommand};
 ghost use Rattle.all_commands.specs.Promises.{Headline, IsQuiet, MayReport};
@@ -41,26 +41,16 @@ pub fn run_command<H: Shelf, K: Sink, T: Sink>(
     ensures faults_never_fall { (H.faults shelf.old ≤ H.faults shelf.new)
         × (K.faults out.old ≤ K.faults out.new) × (T.faults progress.old ≤ T.faults progress.new) }
 
-    // What is written is an answer to the words and files, each status where its cause is.
-    ensures ends { Ends (MayAnswer (requested (command_of (map string_bytes words.now)))
-        (H.held shelf.old) (H.faults shelf.old) (H.faults shelf.new))
-        (K.faults out.old) (K.faults out.new) (K.written out.old) result (K.written out.new) }
-    ensures one_line { OneLine (K.written out.old) result (K.written out.new) }
+    // What every top call promises of its answer.
+    ensures answers { IsTopCall H.is_load K.is_put (fixes_text (command_of (map string_bytes words.now)))
+        (requested (command_of (map string_bytes words.now))) (H.held shelf.old) shelf.old shelf.new
+        (H.faults shelf.old) (H.faults shelf.new) out.old out.new (K.faults out.old) (K.faults out.new)
+        (K.written out.old) result (K.written out.new) }
 
     // The words are bad exactly where they are no command of any top call; then no file is loaded.
     ensures by_words { EndsByCommand (command_of (map string_bytes words.now))
         (Rose (K.faults out.old) (K.faults out.new)) result }
-    ensures bad_words { SaysBadWords (K.written out.old) result (K.written out.new) }
     ensures untouched { command_of (map string_bytes words.now) ≡ None → shelf.new ≡ shelf.old }
-
-    // Where the files give an answer and nothing fails, one comes, unless memory runs out.
-    ensures complete { Complete (fixes_text (command_of (map string_bytes words.now)))
-        (requested (command_of (map string_bytes words.now))) (H.held shelf.old)
-        (Rose (H.faults shelf.old) (H.faults shelf.new))
-        (Rose (K.faults out.old) (K.faults out.new)) (K.written out.old) result (K.written out.new) }
-    ensures finishes { Finishes (requested (command_of (map string_bytes words.now)))
-        (H.held shelf.old) (Rose (H.faults shelf.old) (H.faults shelf.new))
-        (Rose (K.faults out.old) (K.faults out.new)) result }
 
     // Nothing is reported but by `improve` and `prove`, of long searches.
     ensures quiet { IsQuiet (command_of (map string_bytes words.now)) →

@@ -1,9 +1,7 @@
 //! The top call: it decides first, and then writes once.
 ghost use Rattle.std.specs.Prelude.{◌≡◌, ◌≤◌, false, map, string_bytes};
-ghost use Rattle.outside.specs.Held.{Rose};
 ghost use Rattle.commands.specs.Procedures.{asked};
-ghost use Rattle.commands.specs.Ends.{IsCommand, MayAnswer, Ends, OneLine, EndsByWords, Complete, Finishes, SaysBadWords, MakesPuts};
-ghost use Rattle.commands.specs.Loads.{EndsByLoads};
+ghost use Rattle.commands.specs.Promises.{IsTopCall};
 ghost use Rattle.commands.specs.Commands.{command_of};
 ghost use Rattle.bound_prover.specs.Requests.{procedure_of, IsQuiet};
 ghost use Rattle.bound_prover.specs.Headlines.{Headline};
@@ -33,30 +31,12 @@ pub fn prove_bound<H: Shelf, K: Sink, T: Sink>(
     ensures faults_never_fall { (H.faults shelf.old ≤ H.faults shelf.new) × (K.faults out.old ≤ K.faults out.new)
         × (T.faults progress.old ≤ T.faults progress.new) }
 
-    // What is written is an answer to the words and files, each status where its cause is.
-    ensures ends { Ends (MayAnswer (asked procedure_of (command_of (map string_bytes words.now))) (H.held shelf.old) (H.faults shelf.old)
-        (H.faults shelf.new)) (K.faults out.old) (K.faults out.new) (K.written out.old) result (K.written out.new) }
-    ensures one_line { OneLine (K.written out.old) result (K.written out.new) }
-    ensures by_words { EndsByWords (asked procedure_of (command_of (map string_bytes words.now)))
-        (Rose (K.faults out.old) (K.faults out.new)) result }
-    ensures bad_words { SaysBadWords (K.written out.old) result (K.written out.new) }
-    ensures untouched { (IsCommand (asked procedure_of (command_of (map string_bytes words.now))) → ⊥) → shelf.new ≡ shelf.old }
+    // What every top call promises of its answer.
+    ensures answers { IsTopCall H.is_load K.is_put false (asked procedure_of (command_of (map string_bytes words.now)))
+        (H.held shelf.old) shelf.old shelf.new (H.faults shelf.old) (H.faults shelf.new) out.old out.new (K.faults out.old)
+        (K.faults out.new) (K.written out.old) result (K.written out.new) }
     ensures quiet { IsQuiet (command_of (map string_bytes words.now)) → progress.new ≡ progress.old }
     ensures reported { MayReportOf (command_of (map string_bytes words.now)) (T.written progress.old) (T.written progress.new) }
-
-    // Each file is loaded once and in turn, and the last one decides, also where the shelf tells nothing.
-    ensures by_loads { EndsByLoads H.is_load (asked procedure_of (command_of (map string_bytes words.now)))
-        shelf.old shelf.new (K.faults out.old) (K.faults out.new) (K.written out.old) result (K.written out.new) }
-
-    // No put is empty, and none comes after one that failed.
-    ensures puts { MakesPuts K.is_put out.old result out.new }
-
-    // Where the files give an answer and nothing fails, one comes, unless memory runs out. The proof is any that is accepted.
-    ensures complete { Complete false (asked procedure_of (command_of (map string_bytes words.now))) (H.held shelf.old)
-        (Rose (H.faults shelf.old) (H.faults shelf.new)) (Rose (K.faults out.old) (K.faults out.new)) (K.written out.old) result
-        (K.written out.new) }
-    ensures finishes { Finishes (asked procedure_of (command_of (map string_bytes words.now))) (H.held shelf.old)
-        (Rose (H.faults shelf.old) (H.faults shelf.new)) (Rose (K.faults out.old) (K.faults out.new)) result }
 
     // The headline: the proof that is written is accepted for chip and limits of the held files, no good plan has fewer cycles than
     // it claims, that claim is at most the cycles of the plan, and its text reads back as that proof.

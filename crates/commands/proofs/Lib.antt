@@ -8,6 +8,7 @@ pub mod LoadsWritten
 pub mod Judged
 pub mod Refusals
 pub mod OwnFiles
+pub mod Promised
 pub mod Reporting
 mod Rows
 pub mod SaidOnce

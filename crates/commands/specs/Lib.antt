@@ -5,6 +5,7 @@ pub mod Ends
 pub mod Loads
 pub mod Procedures
 pub mod Progress
+pub mod Promises
 pub mod Readings
 pub mod Settled
 pub mod Texts

@@ -118,7 +118,7 @@ fn summary(alloc: Global, n: u64, seed: u64, soc: &Soc, plan: &Plan) -> Result<V
 }
 
 /// The planner's plan, checked once more: it is always accepted.
-pub(crate) fn checked_plan(alloc: Global, soc: &Soc, limits: &Limits) -> Result<Plan, NoMemory>
+fn checked_plan(alloc: Global, soc: &Soc, limits: &Limits) -> Result<Plan, NoMemory>
     requires chip { IsSoundChip (soc_value soc.now) }
     requires limits { IsSoundLimits (soc_value soc.now) (limits_value limits.now) }
     ensures { IfOk result (λ plan. IsPlanned (soc_value soc.now) (limits_value limits.now) (plan_value plan)) }

@@ -14,7 +14,7 @@ ghost use Rattle.soctest.specs.Procedures.{procedure_of};
 ghost use Rattle.soctest.specs.SplitText.{part_line, parts_text, soc_and_limits, split_line as split_line_text, split_refusal, split_text as text_of_parts};
 ghost use Rattle.commands.specs.Texts.{is_line};
 
-use crate::samples::checked_plan;
+use crate::deciding::planned;
 use commands::{
     Status, Verdict, answered_with, limit_word, load_both, push_decimal, push_test, push_text,
     push_two, refused_with,
@@ -83,7 +83,7 @@ fn planned_split(alloc: Global, split: &Split) -> Result<Vec<u8>, NoMemory>
     ensures { IfOk result (λ text. (value : PlanValue) × IsPlanned (soc_value split.now.soc) (limits_value split.now.limits) value
         × (text.items ≡ text_of_parts (split_value split.now) value)) }
 {
-    let plan = checked_plan(alloc, &split.soc, &split.limits)?;
+    let plan = planned(alloc, &split.soc, &split.limits, None)?;
     split_text(alloc, split, &plan)
 }
 

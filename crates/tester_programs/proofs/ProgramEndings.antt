@@ -1,5 +1,5 @@
 -- From the end of a call to what it answers.
-use Rattle.std.proofs.Common.{◌≡◌, ℕ, ◌≤◌, inl, inr, List, [], Option, None, Some, IfOk, IfSome, Result, refl, sym, subst}
+use Rattle.std.proofs.Common.{◌≡◌, ℕ, ◌≤◌, inl, inr, Bool, List, [], Option, None, Some, IfOk, IfSome, Result, refl, sym, subst}
 use Rattle.std.specs.Prelude.{IsTrue}
 use Rattle.std.specs.FinMap.{empty, get}
 use Rattle.std.specs.Global.{Vec}
@@ -19,14 +19,17 @@ use Rattle.commands.specs.declared.Verdict.{Verdict}
 use Rattle.commands.specs.declared.loading.Accepted.{Accepted}
 use Rattle.commands.specs.Answers.{Answers}
 use Rattle.commands.specs.Decides.{AreRead, GivesText}
-use Rattle.commands.specs.Ends.{IsWritten, WritesUnless, MayAnswer, Ends, OneLine, EndsByWords, SaysBadWords, MakesPuts}
+use Rattle.commands.specs.Ends.{IsCommand, IsWritten, WritesUnless, MayAnswer, Ends, OneLine, EndsByWords, SaysBadWords, MakesPuts}
 use Rattle.commands.specs.Loads.{LoadsOf, IsLoaded, AllLoaded, LoadsDecide, EndsByLoads}
+use Rattle.commands.specs.Promises.{IsTopCall}
+use Rattle.commands.specs.Settled.{IsSettled}
 use Rattle.commands.specs.Procedures.{Procedure, Read, Unless, done_with, with_all}
 use Rattle.commands.specs.Readings.{IsRead, RefusesChip, SaysLimits, RefusesLimits, SaysAccepted, RefusesPlan}
 use Rattle.commands.specs.Texts.{is_line}
 use Rattle.commands.proofs.AllFiles.{after_all}
 use Rattle.commands.proofs.FileStages.{after_file, go_on, line_refuses, unless_line}
 use Rattle.commands.proofs.LoadStages.{after_loaded, after_three, at_end, reads_nothing}
+use Rattle.commands.proofs.Completeness.{complete, finishes}
 use Rattle.commands.proofs.LoadsWritten.{ends_by_loads as decided_by_loads, unless_by_loads, makes_puts as decided_puts}
 use Rattle.commands.proofs.UnlessRefused.{unless_ends, unless_one_line, unless_never_bad, command_words}
 use Rattle.commands.proofs.Written.{ends as decided_ends, one_line as decided_line, by_words as decided_words, says_bad_words as decided_bad}
@@ -131,3 +134,20 @@ ends_by_loads is_load steps first last kb ka old new end (ending.Program languag
 pub makes_puts : {S : Type 0} (is_put : S → List ℕ → Put → S → Type 0) (first last : S) (steps : Procedure) (held : Option Files) (sb sa : ℕ) (end : Status) (e : ProgramEnding) → Closes steps held sb sa e → PutsEnding is_put e first end last → MakesPuts is_put first end last
 makes_puts is_put first last steps held sb sa end (ending.Decided verdict) d p = decided_puts is_put first last steps held sb sa end verdict d p
 makes_puts is_put first last steps held sb sa end (ending.Program language all es) d p = p
+
+-- ---- what every top call promises
+
+pub ending_promised : {S K : Type 0} {is_load : LoadsOf S} {is_put : K → List ℕ → Put → K → Type 0} {fixed : Bool} {steps : Procedure} {held : Option Files} {first last : S} {sb sa : ℕ} {out_first out_last : K} {kb ka : ℕ} {old new : Option (List ℕ)} {end : Status} (e : ProgramEnding) → IsSettled fixed steps → Closes steps held sb sa e → LoadsEnding is_load steps first e last → ((IsCommand steps → ⊥) → last ≡ first) → WritesEnding e kb ka old end new → PutsEnding is_put e out_first end out_last → IsTopCall is_load is_put fixed steps held first last sb sa out_first out_last kb ka old end new
+ending_promised {S} {K} {is_load} {is_put} {fixed} {steps} {held} {first} {last} {sb} {sa} {out_first} {out_last} {kb} {ka} {old} {new} {end} e settled closed loaded untouched written put =
+    let ended = ends steps held sb sa kb ka old new end e closed written in
+    record {
+      ends = ended;
+      one_line = one_line steps held sb sa kb ka old new end e closed written;
+      by_words = by_words steps held sb sa kb ka old new end e closed written;
+      bad_words = says_bad_words steps held sb sa kb ka old new end e closed written;
+      untouched = untouched;
+      by_loads = ends_by_loads is_load steps first last kb ka old new end e loaded written;
+      puts = makes_puts is_put out_first out_last steps held sb sa end e closed put;
+      complete = complete fixed steps settled held sb sa kb ka old new end ended;
+      finishes = finishes fixed steps settled held sb sa kb ka old new end ended;
+    }

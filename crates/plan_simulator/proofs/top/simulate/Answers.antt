@@ -1,49 +1,15 @@
-use Rattle.std.proofs.Common.{map, true}
+use Rattle.std.proofs.Common.{map}
 use Rattle.std.specs.Prelude.{string_bytes}
-use Rattle.commands.specs.Procedures.{asked}
-use Rattle.commands.proofs.Written.{ends, one_line, by_words, says_bad_words}
-use Rattle.commands.proofs.Completeness.{complete, finishes}
-use Rattle.commands.proofs.LoadsWritten.{ends_by_loads, makes_puts}
 use Rattle.commands.specs.Commands.{command_of}
-use Rattle.plan_simulator.specs.Requests.{procedure_of}
 use Rattle.plan_simulator.proofs.Answering.{headline, settled_asked}
+use Rattle.commands.proofs.Promised.{verdict_promised}
 use Rattle.plan_simulator.proofs.top.simulate.Goals as goal
 
-pub returns-clause-ends : goal.returns-clause-ends
-returns-clause-ends g c =
-    ends (asked procedure_of (command_of (map string_bytes c.args.words.now))) (g.H.Shelf.held c.args.shelf.now) (g.H.Shelf.faults c.args.shelf.now) (g.H.Shelf.faults c.decide-verdict.new.shelf) (g.K.Sink.faults c.args.out.now) (g.K.Sink.faults c.write_verdict.new.out) (g.K.Sink.written c.args.out.now) (g.K.Sink.written c.write_verdict.new.out) c.write_verdict.result c.decide-verdict.result c.decide-verdict.ensures.decides c.write_verdict.ensures.written
-
-pub returns-clause-one_line : goal.returns-clause-one_line
-returns-clause-one_line g c =
-    one_line (asked procedure_of (command_of (map string_bytes c.args.words.now))) (g.H.Shelf.held c.args.shelf.now) (g.H.Shelf.faults c.args.shelf.now) (g.H.Shelf.faults c.decide-verdict.new.shelf) (g.K.Sink.faults c.args.out.now) (g.K.Sink.faults c.write_verdict.new.out) (g.K.Sink.written c.args.out.now) (g.K.Sink.written c.write_verdict.new.out) c.write_verdict.result c.decide-verdict.result c.decide-verdict.ensures.decides c.write_verdict.ensures.written
-
-pub returns-clause-by_words : goal.returns-clause-by_words
-returns-clause-by_words g c =
-    by_words (asked procedure_of (command_of (map string_bytes c.args.words.now))) (g.H.Shelf.held c.args.shelf.now) (g.H.Shelf.faults c.args.shelf.now) (g.H.Shelf.faults c.decide-verdict.new.shelf) (g.K.Sink.faults c.args.out.now) (g.K.Sink.faults c.write_verdict.new.out) (g.K.Sink.written c.args.out.now) (g.K.Sink.written c.write_verdict.new.out) c.write_verdict.result c.decide-verdict.result c.decide-verdict.ensures.decides c.write_verdict.ensures.written
-
-pub returns-clause-bad_words : goal.returns-clause-bad_words
-returns-clause-bad_words g c =
-    says_bad_words (asked procedure_of (command_of (map string_bytes c.args.words.now))) (g.H.Shelf.held c.args.shelf.now) (g.H.Shelf.faults c.args.shelf.now) (g.H.Shelf.faults c.decide-verdict.new.shelf) (g.K.Sink.faults c.args.out.now) (g.K.Sink.faults c.write_verdict.new.out) (g.K.Sink.written c.args.out.now) (g.K.Sink.written c.write_verdict.new.out) c.write_verdict.result c.decide-verdict.result c.decide-verdict.ensures.decides c.write_verdict.ensures.written
-
-pub returns-clause-complete : goal.returns-clause-complete
-returns-clause-complete g c =
-    complete true (asked procedure_of (command_of (map string_bytes c.args.words.now))) (settled_asked c.files_say_one_thing.ensures (command_of (map string_bytes c.args.words.now))) (g.H.Shelf.held c.args.shelf.now) (g.H.Shelf.faults c.args.shelf.now) (g.H.Shelf.faults c.decide-verdict.new.shelf) (g.K.Sink.faults c.args.out.now) (g.K.Sink.faults c.write_verdict.new.out) (g.K.Sink.written c.args.out.now) (g.K.Sink.written c.write_verdict.new.out) c.write_verdict.result
-    (ends (asked procedure_of (command_of (map string_bytes c.args.words.now))) (g.H.Shelf.held c.args.shelf.now) (g.H.Shelf.faults c.args.shelf.now) (g.H.Shelf.faults c.decide-verdict.new.shelf) (g.K.Sink.faults c.args.out.now) (g.K.Sink.faults c.write_verdict.new.out) (g.K.Sink.written c.args.out.now) (g.K.Sink.written c.write_verdict.new.out) c.write_verdict.result c.decide-verdict.result c.decide-verdict.ensures.decides c.write_verdict.ensures.written)
-
-pub returns-clause-finishes : goal.returns-clause-finishes
-returns-clause-finishes g c =
-    finishes true (asked procedure_of (command_of (map string_bytes c.args.words.now))) (settled_asked c.files_say_one_thing.ensures (command_of (map string_bytes c.args.words.now))) (g.H.Shelf.held c.args.shelf.now) (g.H.Shelf.faults c.args.shelf.now) (g.H.Shelf.faults c.decide-verdict.new.shelf) (g.K.Sink.faults c.args.out.now) (g.K.Sink.faults c.write_verdict.new.out) (g.K.Sink.written c.args.out.now) (g.K.Sink.written c.write_verdict.new.out) c.write_verdict.result
-    (ends (asked procedure_of (command_of (map string_bytes c.args.words.now))) (g.H.Shelf.held c.args.shelf.now) (g.H.Shelf.faults c.args.shelf.now) (g.H.Shelf.faults c.decide-verdict.new.shelf) (g.K.Sink.faults c.args.out.now) (g.K.Sink.faults c.write_verdict.new.out) (g.K.Sink.written c.args.out.now) (g.K.Sink.written c.write_verdict.new.out) c.write_verdict.result c.decide-verdict.result c.decide-verdict.ensures.decides c.write_verdict.ensures.written)
+pub returns-clause-answers : goal.returns-clause-answers
+returns-clause-answers g c =
+    verdict_promised c.decide-verdict.result (settled_asked c.files_say_one_thing.ensures (command_of (map string_bytes c.args.words.now))) c.decide-verdict.ensures.decides c.decide-verdict.ensures.by_loads c.decide-verdict.ensures.untouched c.write_verdict.ensures.written c.write_verdict.ensures.puts
 
 pub returns-clause-headline : goal.returns-clause-headline
 returns-clause-headline g c =
     headline (record { right = c.good_plans_run_right.ensures; bound = c.certificates_are_bounds.ensures.accepted }) (command_of (map string_bytes c.args.words.now)) (g.H.Shelf.held c.args.shelf.now) (g.H.Shelf.faults c.args.shelf.now) (g.H.Shelf.faults c.decide-verdict.new.shelf) (g.K.Sink.faults c.args.out.now) (g.K.Sink.faults c.write_verdict.new.out) (g.K.Sink.written c.args.out.now) (g.K.Sink.written c.write_verdict.new.out) c.write_verdict.result
-    (ends (asked procedure_of (command_of (map string_bytes c.args.words.now))) (g.H.Shelf.held c.args.shelf.now) (g.H.Shelf.faults c.args.shelf.now) (g.H.Shelf.faults c.decide-verdict.new.shelf) (g.K.Sink.faults c.args.out.now) (g.K.Sink.faults c.write_verdict.new.out) (g.K.Sink.written c.args.out.now) (g.K.Sink.written c.write_verdict.new.out) c.write_verdict.result c.decide-verdict.result c.decide-verdict.ensures.decides c.write_verdict.ensures.written)
-
-pub returns-clause-by_loads : goal.returns-clause-by_loads
-returns-clause-by_loads g c =
-    ends_by_loads g.H.Shelf.is_load (asked procedure_of (command_of (map string_bytes c.args.words.now))) c.args.shelf.now c.decide-verdict.new.shelf (g.K.Sink.faults c.args.out.now) (g.K.Sink.faults c.write_verdict.new.out) (g.K.Sink.written c.args.out.now) (g.K.Sink.written c.write_verdict.new.out) c.write_verdict.result c.decide-verdict.result c.decide-verdict.ensures.by_loads c.write_verdict.ensures.written
-
-pub returns-clause-puts : goal.returns-clause-puts
-returns-clause-puts g c =
-    makes_puts g.K.Sink.is_put c.args.out.now c.write_verdict.new.out (asked procedure_of (command_of (map string_bytes c.args.words.now))) (g.H.Shelf.held c.args.shelf.now) (g.H.Shelf.faults c.args.shelf.now) (g.H.Shelf.faults c.decide-verdict.new.shelf) c.write_verdict.result c.decide-verdict.result c.decide-verdict.ensures.decides c.write_verdict.ensures.puts
+    (returns-clause-answers g c).ends
