@@ -2,7 +2,7 @@
 
 use crate::marks::wipe;
 use crate::{PackCase, PackRoom, Prices, REST, Uses, leaf_work};
-use outside::NoMemory;
+use outside::{NoMemory, both};
 use std::alloc::Global;
 use std::test::Fail;
 use tables::{NONE, filled, item_or, put_item};
@@ -130,6 +130,31 @@ fn made_prices(alloc: Global, case: &PackCase, seed: u64) -> Result<Prices, NoMe
     Ok(prices)
 }
 
+/// A made case without ranks, with lists and prices.
+#[derive(Drop)]
+struct Problem {
+    case: PackCase,
+    uses: MadeUses,
+    prices: Prices,
+}
+
+/// A problem of times up to about `most`, of which the lists count the part `share`.
+fn made_problem(
+    alloc: Global,
+    size: [usize; 2],
+    most: u64,
+    share: u64,
+    seed: u64,
+) -> Result<Problem, NoMemory> {
+    let [wires, modules] = size;
+    let case = made_chip(alloc, wires, modules, most, seed)?;
+    let (uses, prices) = both(
+        MadeUses::new(alloc, &case, share),
+        made_prices(alloc, &case, seed),
+    )?;
+    Ok(Problem { case, uses, prices })
+}
+
 /// A bus of a case at a claim, with cells of `grain` cycles.
 #[derive(Clone, Copy)]
 struct BusAt {
@@ -140,14 +165,19 @@ struct BusAt {
 }
 
 /// What a module is worth on a bus, 0 without a slot.
-fn net_of<U: Uses>(case: &PackCase, uses: &U, prices: &Prices, module: usize, bus: BusAt) -> u64 {
-    if !case.has_slot(module, bus.rank, bus.width, bus.claim) {
+fn net_of(problem: &Problem, module: usize, bus: BusAt) -> u64 {
+    if !problem
+        .case
+        .has_slot(module, bus.rank, bus.width, bus.claim)
+    {
         return 0;
     }
-    let mut left = prices.price(module);
-    for at in 0..prices.count {
-        let used = uses.of_module(prices.list(at), module, bus.rank, bus.width);
-        left = left.saturating_sub(prices.weight(at).saturating_mul(used));
+    let mut left = problem.prices.price(module);
+    for at in 0..problem.prices.count {
+        let used = problem
+            .uses
+            .of_module(problem.prices.list(at), module, bus.rank, bus.width);
+        left = left.saturating_sub(problem.prices.weight(at).saturating_mul(used));
     }
     left
 }
@@ -158,22 +188,16 @@ fn cells_of(case: &PackCase, module: usize, width: usize, grain: u64) -> u64 {
 }
 
 /// What some modules are worth on a bus; nothing where they don't fit.
-fn worth_of<U: Uses>(
-    case: &PackCase,
-    uses: &U,
-    prices: &Prices,
-    bus: BusAt,
-    modules: &[bool],
-) -> Option<u64> {
+fn worth_of(problem: &Problem, bus: BusAt, modules: &[bool]) -> Option<u64> {
     let mut cells: u64 = 0;
     let mut worth: u64 = 0;
-    for module in 0..case.modules {
+    for module in 0..problem.case.modules {
         if item_or(modules, module, false) {
-            let net = net_of(case, uses, prices, module, bus);
+            let net = net_of(problem, module, bus);
             if net == 0 {
                 return None;
             }
-            cells = cells.saturating_add(cells_of(case, module, bus.width, bus.grain));
+            cells = cells.saturating_add(cells_of(&problem.case, module, bus.width, bus.grain));
             worth = worth.saturating_add(net);
         }
     }
@@ -190,30 +214,30 @@ fn worth_of<U: Uses>(
 }
 
 /// The most on a bus, over all sets of at most 12 modules.
-fn by_sets<U: Uses>(case: &PackCase, uses: &U, prices: &Prices, bus: BusAt) -> u64 {
+fn by_sets(problem: &Problem, bus: BusAt) -> u64 {
     let mut most: u64 = 0;
-    for set in 0..1u64 << (case.modules.min(12)) {
+    for set in 0..1u64 << (problem.case.modules.min(12)) {
         let mut modules = [false; 12];
         for module in 0..12 {
             modules[module] = (set >> module) & 1 == 1;
         }
-        let worth = worth_of(case, uses, prices, bus, &modules).unwrap_or(0);
+        let worth = worth_of(problem, bus, &modules).unwrap_or(0);
         most = most.max(worth);
     }
     most
 }
 
 /// The most on a bus, by a plain knapsack over a row of cells.
-fn by_row<U: Uses>(case: &PackCase, uses: &U, prices: &Prices, bus: BusAt, row: &mut [u64]) -> u64 {
+fn by_row(problem: &Problem, bus: BusAt, row: &mut [u64]) -> u64 {
     wipe(row);
     let cells = bus
         .claim
         .saturating_sub(1)
         .checked_div(bus.grain)
         .unwrap_or(0) as usize;
-    for module in 0..case.modules {
-        let net = net_of(case, uses, prices, module, bus);
-        let size = cells_of(case, module, bus.width, bus.grain) as usize;
+    for module in 0..problem.case.modules {
+        let net = net_of(problem, module, bus);
+        let size = cells_of(&problem.case, module, bus.width, bus.grain) as usize;
         for back in 0..cells.saturating_add(1) {
             let x = cells.saturating_sub(back);
             if net > 0 && size <= x {
@@ -227,7 +251,7 @@ fn by_row<U: Uses>(case: &PackCase, uses: &U, prices: &Prices, bus: BusAt, row: 
 }
 
 /// The most on all buses of a case of two known ranks, over all widths: of each rank, and of at most three buses of the rest.
-fn by_widths<U: Uses>(case: &PackCase, uses: &U, prices: &Prices, claim: u64, grain: u64) -> u64 {
+fn by_widths(problem: &Problem, claim: u64, grain: u64) -> u64 {
     let mut worth = [[0u64; 8]; 3];
     for range in 0..3 {
         let rank = if range < 2 { range } else { REST };
@@ -238,10 +262,11 @@ fn by_widths<U: Uses>(case: &PackCase, uses: &U, prices: &Prices, claim: u64, gr
                 claim,
                 grain,
             };
-            worth[range][width] = by_sets(case, uses, prices, bus);
+            worth[range][width] = by_sets(problem, bus);
         }
     }
     let mut most: u64 = 0;
+    let case = &problem.case;
     for one in case.low(0)..case.high(0).saturating_add(1) {
         for two in case.low(1)..case.high(1).saturating_add(1) {
             let both = item_or(&worth[0], one, 0).saturating_add(item_or(&worth[1], two, 0));
@@ -284,35 +309,59 @@ fn modules_of(room: &PackRoom, at: usize) -> [bool; 12] {
     modules
 }
 
+/// Begins a case of two known ranks on seven wires, where not all modules may be everywhere.
+fn begin_ranks(case: &mut PackCase) {
+    case.begin(2, 3, 2);
+    case.set_rank(0, 2, 5);
+    case.set_rank(1, 2, 3);
+    for module in 0..case.modules {
+        if module != 1 {
+            case.allow(module, 0);
+        }
+        case.allow(module, 1);
+        if module != 2 {
+            case.allow(module, REST);
+        }
+    }
+}
+
+/// Begins a case of one rank of one width, where all modules are.
+fn begin_one(case: &mut PackCase, width: usize) {
+    case.begin(1, 0, 0);
+    case.set_rank(0, width, width);
+    for module in 0..case.modules {
+        case.allow(module, 0);
+    }
+}
+
+/// Works out what a problem is worth.
+fn value_of(room: &mut PackRoom, problem: &Problem, claim: u64, grain: u64, keep: bool) {
+    room.value(
+        &problem.case,
+        &problem.uses,
+        &problem.prices,
+        claim,
+        grain,
+        keep,
+    );
+}
+
 #[test]
 fn small_cases(rt: HostRuntime) -> Result<(), Fail> {
     let mut room = PackRoom::new(rt.alloc(), 9, 7)?;
     for seed in 0..6 {
-        let mut case = made_chip(rt.alloc(), 7, 9, 60, seed)?;
-        let uses = MadeUses::new(rt.alloc(), &case, 2)?;
-        case.begin(2, 3, 2);
-        case.set_rank(0, 2, 5);
-        case.set_rank(1, 2, 3);
-        for module in 0..9 {
-            if module != 1 {
-                case.allow(module, 0);
-            }
-            case.allow(module, 1);
-            if module != 2 {
-                case.allow(module, REST);
-            }
-        }
-        let mut prices = made_prices(rt.alloc(), &case, seed)?;
+        let mut problem = made_problem(rt.alloc(), [7, 9], 60, 2, seed)?;
+        begin_ranks(&mut problem.case);
         for lists in 0..3 {
             let claim = 70 + seed;
-            let want = by_widths(&case, &uses, &prices, claim, 3);
-            room.value(&case, &uses, &prices, claim, 3, false);
+            let want = by_widths(&problem, claim, 3);
+            value_of(&mut room, &problem, claim, 3, false);
             assert_eq!(rt;
                 room.most(),
                 u128::from(want),
                 "most of {seed} with {lists}"
             );
-            room.value(&case, &uses, &prices, claim, 3, true);
+            value_of(&mut room, &problem, claim, 3, true);
             assert_eq!(rt;
                 room.most(),
                 u128::from(want),
@@ -326,11 +375,11 @@ fn small_cases(rt: HostRuntime) -> Result<(), Fail> {
                     claim,
                     grain: 3,
                 };
-                let worth = worth_of(&case, &uses, &prices, bus, &modules_of(&room, at));
-                let most = by_sets(&case, &uses, &prices, bus);
+                let worth = worth_of(&problem, bus, &modules_of(&room, at));
+                let most = by_sets(&problem, bus);
                 assert_eq!(rt; worth, Some(most), "set {at} of {seed} with {lists}");
             }
-            prices.add_list(lists, 2);
+            problem.prices.add_list(lists, 2);
         }
     }
     Ok(())
@@ -338,19 +387,15 @@ fn small_cases(rt: HostRuntime) -> Result<(), Fail> {
 
 #[test]
 fn many_modules(rt: HostRuntime) -> Result<(), Fail> {
-    let mut room = PackRoom::new(rt.alloc(), 60, 4)?;
-    let mut row = filled(rt.alloc(), 0u64, 4097)?;
+    let (mut room, mut row) = both(
+        PackRoom::new(rt.alloc(), 60, 4),
+        filled(rt.alloc(), 0u64, 4097),
+    )?;
     for seed in 0..12 {
-        let mut case = made_chip(rt.alloc(), 4, 60, 500, seed)?;
-        let uses = MadeUses::new(rt.alloc(), &case, 3)?;
-        let mut prices = made_prices(rt.alloc(), &case, seed)?;
-        prices.add_list(0, seed % 3);
+        let mut problem = made_problem(rt.alloc(), [4, 60], 500, 3, seed)?;
+        problem.prices.add_list(0, seed % 3);
         for width in 1..5 {
-            case.begin(1, 0, 0);
-            case.set_rank(0, width, width);
-            for module in 0..60 {
-                case.allow(module, 0);
-            }
+            begin_one(&mut problem.case, width);
             let grain = 1 + seed % 4;
             let bus = BusAt {
                 rank: 0,
@@ -358,18 +403,18 @@ fn many_modules(rt: HostRuntime) -> Result<(), Fail> {
                 claim: 2000,
                 grain,
             };
-            let want = by_row(&case, &uses, &prices, bus, &mut row);
-            room.value(&case, &uses, &prices, 2000, grain, false);
+            let want = by_row(&problem, bus, &mut row);
+            value_of(&mut room, &problem, 2000, grain, false);
             assert_eq!(rt; room.most(), u128::from(want), "{seed} at {width}");
-            room.value(&case, &uses, &prices, 2000, grain, true);
+            value_of(&mut room, &problem, 2000, grain, true);
             assert_eq!(rt; room.most(), u128::from(want), "kept {seed} at {width}");
-            room.guess(&case, &uses, &prices, 2000, grain);
+            room.guess(&problem.case, &problem.uses, &problem.prices, 2000, grain);
             assert_eq!(rt; room.sets(), 1);
             let mut modules = [false; 60];
             for module in 0..60 {
                 modules[module] = room.has(0, module);
             }
-            let worth = worth_of(&case, &uses, &prices, bus, &modules).unwrap_or(0);
+            let worth = worth_of(&problem, bus, &modules).unwrap_or(0);
             assert!(rt;
                 worth <= want && worth > want / 2,
                 "guess {worth} of {want}"
@@ -379,14 +424,19 @@ fn many_modules(rt: HostRuntime) -> Result<(), Fail> {
     Ok(())
 }
 
-/// The chip of two modules that take 28 cycles on one wire and 16 on two.
-fn two_modules(alloc: Global) -> Result<PackCase, NoMemory> {
-    let mut case = PackCase::new(alloc, 2, 2)?;
-    for module in 0..2 {
+/// A chip of modules that take 28 cycles on one wire and 16 on two, with room and prices.
+fn leaf_parts(alloc: Global, modules: usize) -> Result<(PackCase, PackRoom, Prices), NoMemory> {
+    let mut case = PackCase::new(alloc, 2, modules)?;
+    for module in 0..modules {
         case.set_time(module, 1, 28);
         case.set_time(module, 2, 16);
+        case.allow(module, REST);
     }
-    Ok(case)
+    let (room, prices) = both(
+        PackRoom::new(alloc, modules, 2),
+        Prices::new(alloc, modules),
+    )?;
+    Ok((case, room, prices))
 }
 
 #[test]
@@ -395,12 +445,7 @@ fn leaves_with_known_answers(rt: HostRuntime) -> Result<(), Fail> {
         times: [28, 16],
         own: 0,
     };
-    let mut case = two_modules(rt.alloc())?;
-    let mut room = PackRoom::new(rt.alloc(), 2, 2)?;
-    let mut prices = Prices::new(rt.alloc(), 2)?;
-    case.begin(0, 2, 2);
-    case.allow(0, REST);
-    case.allow(1, REST);
+    let (mut case, mut room, mut prices) = leaf_parts(rt.alloc(), 2)?;
     for (claim, grain, price, want) in [
         (28, 1, 1, true),
         (29, 1, 1, false),
@@ -427,10 +472,7 @@ fn leaves_with_known_answers(rt: HostRuntime) -> Result<(), Fail> {
     prices.clear_prices();
     prices.set(0, 2);
     prices.set(1, 1);
-    case.begin(1, 0, 0);
-    case.set_rank(0, 2, 2);
-    case.allow(0, 0);
-    case.allow(1, 0);
+    begin_one(&mut case, 2);
     assert!(rt; room.holds(&case, &uses, &prices, 28, 1));
     assert_eq!(rt; leaf_work(&case, 28, 1, 2, 0), 58);
     Ok(())
@@ -442,9 +484,7 @@ fn leaves_without_modules(rt: HostRuntime) -> Result<(), Fail> {
         times: [0, 0],
         own: 7,
     };
-    let case = PackCase::new(rt.alloc(), 2, 0)?;
-    let mut room = PackRoom::new(rt.alloc(), 0, 2)?;
-    let mut prices = Prices::new(rt.alloc(), 0)?;
+    let (case, mut room, mut prices) = leaf_parts(rt.alloc(), 0)?;
     assert!(rt; !room.holds(&case, &uses, &prices, 0, 1));
     prices.add_list(0, 1);
     assert!(rt; room.holds(&case, &uses, &prices, 7, 1));
