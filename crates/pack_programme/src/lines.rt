@@ -1,6 +1,6 @@
 //! Rows of a table, and a row that is taken from many others.
 
-use crate::fractions::{less_product, quotient};
+use crate::fractions::{has_small_products, less_product, less_small_product, quotient};
 use outside::NoMemory;
 use std::alloc::Global;
 use tables::{filled, item_or, put_item};
@@ -44,85 +44,80 @@ pub(crate) fn move_part(list: &mut [i64], from: usize, to: usize, count: usize) 
     }
 }
 
-/// A number of a row, and its column.
-#[derive(Clone, Copy)]
-struct Entry {
-    column: usize,
-    number: i64,
+/// Takes a line from a row as often as a factor says.
+fn take_any(row: &mut [i64], factor: i64, line: &[i64]) {
+    let count = row.len().min(line.len());
+    for column in 0..count {
+        row[column] = less_product(row[column], factor, line[column]);
+    }
 }
 
-const NO_ENTRY: Entry = Entry {
-    column: 0,
-    number: 0,
-};
+/// The same, where each product fits into 64 bits. Most of the time of a programme goes by here.
+fn take_small(row: &mut [i64], factor: i64, line: &[i64]) {
+    let count = row.len().min(line.len());
+    for column in 0..count {
+        row[column] = less_small_product(row[column], factor, line[column]);
+    }
+}
 
-/// The numbers of a row that aren't 0.
+/// The number of a list that is farthest from 0, without its sign.
+fn most_of(list: &[i64]) -> i64 {
+    let mut most = 0;
+    for place in 0..list.len() {
+        most = most.max(list[place].saturating_abs());
+    }
+    most
+}
+
+/// A row that is taken from others.
 #[derive(Drop)]
 pub(crate) struct Line {
-    entries: Vec<Entry>,
+    numbers: Vec<i64>,
     count: usize,
+    /// The number farthest from 0, without its sign.
+    most: i64,
 }
 
 impl Line {
     /// Room for a row of up to so many columns. `NoMemory` where there is none.
     pub fn new(alloc: Global, columns_most: usize) -> Result<Line, NoMemory> {
-        let entries = filled(alloc, NO_ENTRY, columns_most)?;
-        Ok(Line { entries, count: 0 })
+        let numbers = filled(alloc, 0i64, columns_most)?;
+        Ok(Line {
+            numbers,
+            count: 0,
+            most: 0,
+        })
     }
 
-    /// The entries.
-    fn entries(&self) -> &[Entry] {
-        if self.count > self.entries.len() {
-            return self.entries.as_slice();
-        }
-        &self.entries[0..self.count]
-    }
-
-    /// Puts a number behind those so far, where it isn't 0.
-    fn put(&mut self, column: usize, number: i64) {
-        if number != 0 {
-            put_item(&mut self.entries, self.count, Entry { column, number });
-            self.count = self.count.saturating_add(1);
-        }
+    /// The line as a row.
+    pub fn numbers(&self) -> &[i64] {
+        part(&self.numbers, 0, self.count)
     }
 
     /// Takes a row.
     pub fn take(&mut self, row: &[i64]) {
-        self.count = 0;
-        for column in 0..row.len() {
-            self.put(column, row[column]);
-        }
+        self.count = row.len();
+        copy_list(&mut self.numbers, row);
+        self.most = most_of(row);
     }
 
-    /// Takes a row in which 1 stands at a column, and all is divided by what stood there.
+    /// Takes a row in which `one` stands at a column, and all is divided by what stood there.
     pub fn take_over(&mut self, row: &[i64], by: usize, one: i64) {
         let divisor = item_or(row, by, 0);
-        self.count = 0;
+        self.count = row.len();
         for column in 0..row.len() {
             let number = if column == by { one } else { row[column] };
-            if number != 0 {
-                self.put(column, quotient(number, divisor));
-            }
+            put_item(&mut self.numbers, column, quotient(number, divisor));
         }
+        self.most = most_of(self.numbers());
     }
 
-    /// Writes the line as a row.
-    pub fn write(&self, row: &mut [i64]) {
-        clear_list(row);
-        let entries = self.entries();
-        for place in 0..entries.len() {
-            put_item(row, entries[place].column, entries[place].number);
-        }
-    }
-
-    /// Takes the line from a row as often as a factor says. (Most of the time of a programme goes by here.)
+    /// Takes the line from a row as often as a factor says.
     pub fn take_from(&self, row: &mut [i64], factor: i64) {
-        let entries = self.entries();
-        for place in 0..entries.len() {
-            let entry = entries[place];
-            if entry.column < row.len() {
-                row[entry.column] = less_product(row[entry.column], factor, entry.number);
-            }
+        if has_small_products(factor, self.most) {
+            take_small(row, factor, self.numbers());
+        } else {
+            take_any(row, factor, self.numbers());
         }
     }
 }

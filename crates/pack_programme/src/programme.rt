@@ -1,7 +1,6 @@
 //! A programme that grows, and the steps to its greatest sum.
 
 use crate::basis::{Basis, Place};
-use crate::fractions::cut_off;
 use crate::lines::{clear_list, part};
 use crate::tableau::Tableau;
 use crate::written::WrittenRows;
@@ -99,7 +98,7 @@ impl Programme {
 
     /// Writes a coefficient of the row that is being written.
     pub fn put(&mut self, variable: usize, coefficient: i64) {
-        put_item(&mut self.draft, variable, cut_off(coefficient));
+        put_item(&mut self.draft, variable, coefficient);
     }
 
     /// Adds the row that was written: its sum is at most `right`. `tag` is the caller's word for it. The draft stays as it is. Without room
@@ -108,7 +107,6 @@ impl Programme {
         if !self.has_room() {
             return;
         }
-        let right = cut_off(right);
         self.written
             .push(part(&self.draft, 0, self.variables), right, tag);
         self.tableau.push_empty(right);
@@ -282,8 +280,8 @@ impl Programme {
         }
     }
 
-    /// Drops the rows of most slack, of those above `least` (and above 0), until at most `keep` are left, as far as there are such. The answers stay. The
-    /// places of rows change, their tags stay.
+    /// Drops the rows of most slack, of those above `least` and above 0, until at most `keep` are left, as far as there are such.
+    /// The answers stay. Rows change their places, and keep their tags.
     pub fn drop_slack(&mut self, keep: usize, least: i64) {
         for _ in 0..self.rows() {
             if self.rows() <= keep {

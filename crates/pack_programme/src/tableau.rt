@@ -3,7 +3,7 @@
 //! An unknown is a variable, or the slack of a row: how much its sum is below its right side. In a basis each row of the tableau has
 //! an unknown of its own, which is its right side less its numbers times the unknowns of the columns. These are 0.
 
-use crate::fractions::{UNIT, cut_off, less_product, quotient};
+use crate::fractions::{UNIT, less_product, quotient};
 use crate::lines::{Line, clear_list, copy_list, move_part, part, part_mut};
 use crate::ratios::{Ratio, lesser, place_of};
 use outside::{NoMemory, both};
@@ -118,7 +118,7 @@ impl Tableau {
             .start(self.rows.saturating_sub(1))
             .saturating_add(column);
         let sum = item_or(&self.numbers, at, 0).saturating_add(number);
-        put_item(&mut self.numbers, at, cut_off(sum));
+        put_item(&mut self.numbers, at, sum);
     }
 
     /// Takes a row from the last one as often as a factor says.
@@ -173,8 +173,10 @@ impl Tableau {
             }
         }
         self.clear_cost(column);
-        self.line
-            .write(part_mut(&mut self.numbers, start, self.columns));
+        copy_list(
+            part_mut(&mut self.numbers, start, self.columns),
+            self.line.numbers(),
+        );
         put_item(&mut self.right, row, right);
         self.count_work();
     }
