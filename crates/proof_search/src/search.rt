@@ -55,6 +55,8 @@ pub struct Search {
     ranks: Vec<usize>,
     /// The nodes that a tree may have.
     nodes: u64,
+    /// Whether leaves Pack are looked for.
+    packs: bool,
     /// The claim so far, in cycles, and the nodes of the tree that first had it.
     claim: u64,
     front: usize,
@@ -127,7 +129,8 @@ fn more_nodes(cut: CaseCut) -> usize {
 
 impl Search {
     /// A search for a proof of at most `nodes` nodes for a claim up to the goal, the cycles of a plan, where the chip and its limits
-    /// are resolved. All memory that it takes but for the proof is taken here; `NoMemory` where there is none.
+    /// are resolved. `packs` says whether leaves Pack are looked for. All memory that it takes but for the proof is taken here;
+    /// `NoMemory` where there is none.
     pub fn new(
         alloc: Global,
         soc: &Soc,
@@ -135,6 +138,7 @@ impl Search {
         resolved: &Resolved,
         goal: u64,
         nodes: u64,
+        packs: bool,
     ) -> Result<Search, NoMemory>
         requires sound { IsSoundChip (soc_value soc.now) }
         requires limits { IsSoundLimits (soc_value soc.now) (limits_value limits.now) }
@@ -142,7 +146,7 @@ impl Search {
     {
         let chip = chip_of(alloc, soc, limits, resolved, goal)?;
         let room = WeighingRoom::new(alloc, &chip.facts);
-        let mut search = Search::with(alloc, chip, room, nodes)?;
+        let mut search = Search::with(alloc, chip, room, nodes, packs)?;
         let begun = search.begin(alloc);
         let (search, ()) = both(Ok(search), begun)?;
         Ok(search)
@@ -154,6 +158,7 @@ impl Search {
         chip: LeafChip,
         room: Result<WeighingRoom, NoMemory>,
         nodes: u64,
+        packs: bool,
     ) -> Result<Search, NoMemory> {
         let most = room_for(nodes);
         let cases = both(
@@ -173,6 +178,7 @@ impl Search {
             path,
             ranks,
             nodes,
+            packs,
             claim: 0,
             front: 1,
             done: false,
@@ -458,6 +464,11 @@ impl Search {
     /// Whether nothing is left to do.
     pub fn is_done(&self) -> bool {
         self.done
+    }
+
+    /// Whether a leaf Pack was found.
+    pub fn found_pack(&self) -> bool {
+        false
     }
 
     /// Ends the search: the proof of the claim so far. `NoMemory` where there is none. (It takes the search, which is freed here:
