@@ -34,6 +34,7 @@ pub mod RoomSteps
 pub mod PackFillings
 pub mod PackRules
 pub mod PackSteps
+pub mod LikeBuses
 pub mod PackAnswers
 pub mod NodeRules
 pub mod WalkSteps

@@ -38,7 +38,7 @@ fits_begun g room fits place leaf at =
     record {
       few = f.few;
       places = f.places;
-      space = record { weighed = s.weighed; nothing = s.nothing; pack = record { cells = p.cells; wires = p.wires; worth = p.worth; little = omega arith } };
+      space = record { weighed = s.weighed; nothing = s.nothing; pack = record { cells = p.cells; wires = p.wires; worth = p.worth; kept = p.kept; little = omega arith } };
     }
 
 -- ---- the prices

@@ -52,6 +52,10 @@ most-le g c pricing rank width count cells are =
     sum_below-le (λ item. net_worth (chip_of g) (limits_of g) (lists_of g) c pricing item rank width) (10 ^ 15) count (λ item less. omega (arith, price-le pricing item are)) in
     omega (arith, all, each)
 
+pub bus_most-le : (g : Basis) (c : Case) (pricing : PricingValue) (rank width : ℕ) → IsBasis g → ArePricedOnce (chip_of g) pricing.prices → ArePrices pricing → bus_most g c pricing rank width ≤ 10 ^ 18
+bus_most-le g c pricing rank width basis once are =
+    omega (arith, most-le g c pricing rank width (length pricing.prices) (cells_of (claim_of g) pricing) are, few_modules_priced g pricing basis once)
+
 -- ---- one module more
 
 -- what a price leaves beyond the uses that were found

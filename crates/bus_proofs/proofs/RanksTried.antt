@@ -1,5 +1,5 @@
 -- Ranks one by one: which of them need no look.
-use Rattle.std.proofs.Common.{◌≡◌, ◌≢◌, ℕ, ◌+◌, ◌*◌, ◌-◌, ◌≤◌, ◌⊎◌, Bool, true, false, Option, Some, None, List, [], ◌∷◌, refl, sym, ◌∙◌, subst, arith, inl, inr, mul-le-mul_right}
+use Rattle.std.proofs.Common.{◌≡◌, ◌≢◌, ℕ, ◌+◌, ◌*◌, ◌-◌, ◌≤◌, ◌⊎◌, Bool, true, false, Option, Some, None, List, [], ◌∷◌, get_or, refl, sym, ◌∙◌, subst, arith, inl, inr, mul-le-mul_right}
 use Rattle.std.specs.Prelude.{◌&&◌, slice_get, slice_index, if◌then◌else◌}
 use Rattle.std.specs.List.{All, sum_by}
 use Rattle.std.proofs.lemmas.Bool.{ne_eqb}
@@ -26,22 +26,29 @@ use Rattle.bus_proofs.specs.Lists.{use_of}
 use Rattle.bus_proofs.proofs.LeafSlots.{alone, no_rank, rank_more, rank_passed, rank_skipped, rank_tried}
 use Rattle.bus_proofs.proofs.LeafTests.{weighed_sum}
 
--- ---- a test costs least on a rank that no list speaks of
+-- ---- a test costs least on a bus that no list speaks of
 
-abbrev HasNoList : Weighed → ℕ → Type 0
+abbrev pub HasNoList : Weighed → ℕ → Type 0
 HasNoList room rank = All (λ (b : BesideUse). b.rank ≢ rank) room.beside.items
 
-none_beside : (table : ListTable) (rank i cycles : ℕ) (bs : List BesideUse) → All (λ (b : BesideUse). b.rank ≢ rank) bs → sum_by (beside_use table (is_rank (Some rank)) i cycles) bs ≡ 0
-none_beside table rank i cycles [] none = refl
-none_beside table rank i cycles (b ∷ bs) none =
-    let here : beside_use table (is_rank (Some rank)) i cycles b ≡ 0 = rw (ne_eqb rank b.rank (λ same. All-head (λ (c : BesideUse). c.rank ≢ rank) b bs none (sym same))) refl in
-    sum_by-cons (beside_use table (is_rank (Some rank)) i cycles) b bs ∙ omega (arith, here, none_beside table rank i cycles bs (All-tail (λ (c : BesideUse). c.rank ≢ rank) b bs none))
+-- a known rank, or the rest
+abbrev pub IsAside : Weighed → Option ℕ → Type 0
+IsAside room own = All (λ (b : BesideUse). is_rank own b.rank ≡ false) room.beside.items
 
-costs_least : (g : Basis) (weights : WeightsValue) (room : Weighed) (rank : ℕ) (other : Option ℕ) (width i : ℕ) (l : LiveTest) → IsWeighed g weights room → HasNoList room rank → slice_get (live_tests (chip_of g)) i ≡ Some l →
-    test_cost (chip_of g) (limits_of g) (lists_of g) weights (Some rank) width l ≤ test_cost (chip_of g) (limits_of g) (lists_of g) weights other width l
-costs_least g weights room rank other width i l w none at =
-    let nothing = none_beside g.lists rank i (packed_time l.core l.test width) room.beside.items none in
-    omega (arith, nothing, on (Some rank), on other)
+pub known_aside : (room : Weighed) (rank : ℕ) → HasNoList room rank → IsAside room (Some rank)
+known_aside room rank none = λ i d less. ne_eqb rank (get_or room.beside.items i d).rank (λ same. none i d less (sym same))
+
+none_beside : (table : ListTable) (own : Option ℕ) (i cycles : ℕ) (bs : List BesideUse) → All (λ (b : BesideUse). is_rank own b.rank ≡ false) bs → sum_by (beside_use table (is_rank own) i cycles) bs ≡ 0
+none_beside table own i cycles [] none = refl
+none_beside table own i cycles (b ∷ bs) none =
+    let here : beside_use table (is_rank own) i cycles b ≡ 0 = rw (All-head (λ (c : BesideUse). is_rank own c.rank ≡ false) b bs none) refl in
+    sum_by-cons (beside_use table (is_rank own) i cycles) b bs ∙ omega (arith, here, none_beside table own i cycles bs (All-tail (λ (c : BesideUse). is_rank own c.rank ≡ false) b bs none))
+
+costs_least : (g : Basis) (weights : WeightsValue) (room : Weighed) (own other : Option ℕ) (width i : ℕ) (l : LiveTest) → IsWeighed g weights room → IsAside room own → slice_get (live_tests (chip_of g)) i ≡ Some l →
+    test_cost (chip_of g) (limits_of g) (lists_of g) weights own width l ≤ test_cost (chip_of g) (limits_of g) (lists_of g) weights other width l
+costs_least g weights room own other width i l w none at =
+    let nothing = none_beside g.lists own i (packed_time l.core l.test width) room.beside.items none in
+    omega (arith, nothing, on own, on other)
   where
     on : (r : Option ℕ) → test_cost (chip_of g) (limits_of g) (lists_of g) weights r width l
         ≡ slice_index room.sums.items i * packed_time l.core l.test width + sum_by (beside_use g.lists (is_rank r) i (packed_time l.core l.test width)) room.beside.items
@@ -55,15 +62,15 @@ kind-le true x y less = less
 kind-le false x y less = omega arith
 
 -- so a module costs no more there at a lower rate
-pub lower_rate : (g : Basis) (weights : WeightsValue) (room : Weighed) (place rank : ℕ) (other : Option ℕ) (width low high : ℕ) → IsWeighed g weights room → HasNoList room rank → low ≤ high →
-    costs_at g weights place (slot (Some rank) width low) ≤ costs_at g weights place (slot other width high)
-lower_rate g weights room place rank other width low high w none less =
+pub lower_rate : (g : Basis) (weights : WeightsValue) (room : Weighed) (place : ℕ) (own other : Option ℕ) (width low high : ℕ) → IsWeighed g weights room → IsAside room own → low ≤ high →
+    costs_at g weights place (slot own width low) ≤ costs_at g weights place (slot other width high)
+lower_rate g weights room place own other width low high w none less =
     let by = λ (r : Option ℕ) (l : LiveTest). if l.test.tam && is_of place l then test_cost (chip_of g) (limits_of g) (lists_of g) weights r width l else 0 in
-    let uses : sum_by (by (Some rank)) (live_tests (chip_of g)) ≤ sum_by (by other) (live_tests (chip_of g)) =
-    sum_by-le_at (by (Some rank)) (by other) (live_tests (chip_of g)) (λ i l at. kind-le (l.test.tam && is_of place l) (test_cost (chip_of g) (limits_of g) (lists_of g) weights (Some rank) width l) (test_cost (chip_of g) (limits_of g) (lists_of g) weights other width l)
-    (costs_least g weights room rank other width i l w none at)) in
+    let uses : sum_by (by own) (live_tests (chip_of g)) ≤ sum_by (by other) (live_tests (chip_of g)) =
+    sum_by-le_at (by own) (by other) (live_tests (chip_of g)) (λ i l at. kind-le (l.test.tam && is_of place l) (test_cost (chip_of g) (limits_of g) (lists_of g) weights own width l) (test_cost (chip_of g) (limits_of g) (lists_of g) weights other width l)
+    (costs_least g weights room own other width i l w none at)) in
     let time : low * packed_tam_time (chip_of g) place width ≤ high * packed_tam_time (chip_of g) place width = mul-le-mul_right (packed_tam_time (chip_of g) place width) less in
-    omega (arith, uses, time, turned (Some rank) low, turned other high)
+    omega (arith, uses, time, turned own low, turned other high)
   where
     turned : (r : Option ℕ) (rate : ℕ) → weighed (lists_of g) weights (module_use (chip_of g) (limits_of g) place (slot r width rate))
         ≡ sum_by (λ (l : LiveTest). if l.test.tam && is_of place l then test_cost (chip_of g) (limits_of g) (lists_of g) weights r width l else 0) (live_tests (chip_of g))
@@ -106,7 +113,7 @@ passed g c weights room place rank tried range earlier w last is no_better are =
         let a = rank_range c weights earlier in
         let b = rank_range c weights rank in
         let rate : a.base + a.wire * (width - a.low) ≤ b.base + b.wire * (width - b.low) = rw no_better.low (omega (arith, no_better.base)) in
-        lower_rate g weights room place earlier b.rank width (a.base + a.wire * (width - a.low)) (b.base + b.wire * (width - b.low)) w none rate
+        lower_rate g weights room place (Some earlier) b.rank width (a.base + a.wire * (width - a.low)) (b.base + b.wire * (width - b.low)) w (known_aside room earlier none) rate
 
 -- it is tried, and later ones are compared with it, or with the one before
 pub one_tried : (g : Basis) (c : Case) (weights : WeightsValue) (room : Weighed) (place rank : ℕ) (tried : RanksTried) (range : WidthRange) (least : Option ℕ) (next : Option WidthRange) → c.may place rank ≡ true → range ≡ rank_range c weights rank →

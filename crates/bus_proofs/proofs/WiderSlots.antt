@@ -1,5 +1,5 @@
 -- Where a module takes one time on two widths, it costs no less on the wider.
-use Rattle.std.proofs.Common.{◌≡◌, ℕ, ◌*◌, ◌≤◌, Bool, true, Some, List, [], ◌∷◌, refl, arith, mul-le-mul, zero, suc}
+use Rattle.std.proofs.Common.{◌≡◌, ℕ, ◌*◌, ◌≤◌, Bool, true, Option, Some, List, [], ◌∷◌, refl, arith, mul-le-mul, zero, suc}
 use Rattle.std.specs.Prelude.{slice_get, ◌&&◌, if◌then◌else◌}
 use Rattle.std.specs.List.{sum_by}
 use Rattle.std.proofs.lemmas.Bool.{leb-true}
@@ -11,6 +11,8 @@ use Rattle.plan_model.proofs.Lists.{from_filter}
 use Rattle.plan_model.proofs.PlannedTests.{IsLive, live_at}
 use Rattle.plan_model.proofs.Sums.{sum_by-le_at}
 use Rattle.packed_times.specs.Packed.{packed_time, packed_tam_time}
+use Rattle.plan_model.specs.Plans.{LimitsValue}
+use Rattle.proof_model.specs.Proofs.{ListValue, WeightsValue}
 use Rattle.bus_proofs.specs.Lists.{use_of}
 use Rattle.bus_proofs.specs.Leaves.{slot, is_rank, module_use, weighed}
 use Rattle.bus_proofs.specs.Laws.{WiderSlotsCostNoLess}
@@ -57,3 +59,12 @@ wider_costs falls soc limits lists weights p rank v w rate rate' some wide same 
     (λ i l at. if-le (l.test.tam && is_of p l) (use_of soc limits (is_rank rank) list (packed_time l.core l.test v) l) (use_of soc limits (is_rank rank) list (packed_time l.core l.test w) l)
     (λ here. use_of-mono soc limits (is_rank rank) list (packed_time l.core l.test v) (packed_time l.core l.test w) l (each-le falls soc p v w some wide (omega arith) i l at here)))) in
     omega (arith, products, uses)
+
+-- and uses no more of the lists on the wider
+pub wider_uses : PackedTimesFall → (soc : SocValue) (limits : LimitsValue) (lists : List ListValue) (weights : WeightsValue) (p : ℕ) (rank : Option ℕ) (v w : ℕ) → 1 ≤ v → v ≤ w →
+    weighed lists weights (module_use soc limits p (slot rank w 0)) ≤ weighed lists weights (module_use soc limits p (slot rank v 0))
+wider_uses falls soc limits lists weights p rank v w some wide =
+    weighed-le lists weights (module_use soc limits p (slot rank w 0)) (module_use soc limits p (slot rank v 0)) (λ n list there.
+    sum_by-le_at (λ l. if l.test.tam && is_of p l then use_of soc limits (is_rank rank) list (packed_time l.core l.test w) l else 0) (λ l. if l.test.tam && is_of p l then use_of soc limits (is_rank rank) list (packed_time l.core l.test v) l else 0) (live_tests soc)
+    (λ i l at. if-le (l.test.tam && is_of p l) (use_of soc limits (is_rank rank) list (packed_time l.core l.test w) l) (use_of soc limits (is_rank rank) list (packed_time l.core l.test v) l)
+    (λ here. use_of-mono soc limits (is_rank rank) list (packed_time l.core l.test w) (packed_time l.core l.test v) l (falls l.core l.test v w (live_patterns soc i l at) some wide))))

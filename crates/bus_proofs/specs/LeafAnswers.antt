@@ -48,6 +48,7 @@ pub record HasPackSpace (g : Basis) (room : PackRoom) : Type 0 where
   pub cells : length room.bus.cells.items ≡ CELLS_MOST + 1
   pub wires : length room.wires.items ≡ (limits_of g).wires + 1
   pub worth : length room.worth.items ≡ (limits_of g).wires + 1
+  pub kept : length room.kept.worths.items ≡ (limits_of g).wires + 1
   pub little : room.work ≤ WORK_MOST
 
 -- the room has space for the leaves of the proof

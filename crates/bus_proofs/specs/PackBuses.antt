@@ -1,13 +1,16 @@
 -- The most that modules are worth on the buses of a case, bus by bus.
-use Rattle.std.specs.Prelude.{◌≡◌, ℕ, ◌+◌, ◌-◌, ◌<◌, ◌≤◌, List, length, slice_index}
+use Rattle.std.specs.Prelude.{◌≡◌, ◌≢◌, ℕ, ◌+◌, ◌-◌, ◌<◌, ◌≤◌, true, Some, List, length, slice_get, slice_index}
+use Rattle.std.specs.List.{All}
 use Rattle.pack_leaves.specs.Knapsacks.{most_worth}
 use Rattle.pack_leaves.specs.Sharings.{IsMostShared}
 use Rattle.proof_model.specs.Proofs.{PricingValue, WeightsValue}
 use Rattle.proof_model.specs.Sayable.{ArePrices}
 use Rattle.bus_proofs.specs.declared.basis.Basis.{Basis}
 use Rattle.bus_proofs.specs.declared.case.CaseRoom.{CaseRoom}
+use Rattle.bus_proofs.specs.declared.leaf_costs.BesideUse.{BesideUse}
 use Rattle.bus_proofs.specs.declared.leaf_costs.Weighed.{Weighed}
 use Rattle.bus_proofs.specs.declared.pack_room.BusRoom.{BusRoom}
+use Rattle.bus_proofs.specs.declared.pack_room.KeptWorths.{KeptWorths}
 use Rattle.bus_proofs.specs.declared.pack_room.PackRoom.{PackRoom}
 use Rattle.bus_proofs.specs.Cases.{Case, known_ranks, low_at, high_at, spare}
 use Rattle.bus_proofs.specs.CaseRooms.{HasCase, IsCaseOf}
@@ -15,7 +18,7 @@ use Rattle.bus_proofs.specs.Leaves.{module_use, rest_high, weighed}
 use Rattle.bus_proofs.specs.Bases.{IsBasis, AllKept, chip_of, limits_of, lists_of, claim_of}
 use Rattle.bus_proofs.specs.LeafCosts.{IsWeighed}
 use Rattle.bus_proofs.specs.LeafAnswers.{IsCaseFor}
-use Rattle.bus_proofs.specs.PackLeaves.{ArePlaces, ArePricedOnce, bus_at, cells_of, cells_taken, has_slot, list_weights, net_worth, priced_place, CELLS_MOST}
+use Rattle.bus_proofs.specs.PackLeaves.{ArePlaces, ArePricedOnce, bus_at, cells_of, cells_taken, has_slot, list_weights, may_be, net_worth, priced_place, CELLS_MOST}
 
 -- ---- one bus
 
@@ -34,6 +37,36 @@ most_of g c pricing rank width count cells =
 -- all of them in all cells
 abbrev pub bus_most : Basis → Case → PricingValue → (rank width : ℕ) → ℕ
 bus_most g c pricing rank width = most_of g c pricing rank width (length pricing.prices) (cells_of (claim_of g) pricing)
+
+-- ---- like buses
+
+-- Of two buses, each by its rank and width, the module at a place has a slot on both or on none. Where it has, it takes as many cells on
+-- the one as on the other, and is worth as much at a price.
+pub record IsLikeItem (g : Basis) (c : Case) (pricing : PricingValue) (place price rank width other before : ℕ) : Type 0 where
+  pub slot : has_slot (chip_of g) (claim_of g) c place rank width ≡ has_slot (chip_of g) (claim_of g) c place other before
+  pub cells : has_slot (chip_of g) (claim_of g) c place rank width ≡ true →
+      cells_taken (chip_of g) pricing place width ≡ cells_taken (chip_of g) pricing place before
+  pub net : has_slot (chip_of g) (claim_of g) c place rank width ≡ true →
+      net_at g c pricing place price rank width ≡ net_at g c pricing place price other before
+
+-- no list speaks of either rank, and each of the first modules by their places may be on both or on none
+pub record IsLikeRank (case : CaseRoom) (room : Weighed) (places : List ℕ) (count rank other : ℕ) : Type 0 where
+  pub none : All (λ (b : BesideUse). b.rank ≢ rank) room.beside.items
+  pub none_other : All (λ (b : BesideUse). b.rank ≢ other) room.beside.items
+  pub may : (c : Case) → IsCaseOf case c → (item : ℕ) → item < count →
+      may_be c (slice_index places item) rank ≡ may_be c (slice_index places item) other
+
+-- a bus is worth so much
+abbrev pub IsWorth : Basis → CaseRoom → PricingValue → (rank width worth : ℕ) → Type 0
+IsWorth g case pricing rank width worth = (c : Case) → IsCaseOf case c → worth ≡ bus_most g c pricing rank width
+
+-- what is kept of a width
+abbrev pub IsKeptAt : KeptWorths → (width worth : ℕ) → Type 0
+IsKeptAt kept width worth = slice_get kept.worths.items width ≡ Some (Some worth)
+
+-- all that is kept is so
+abbrev pub AreKept : Basis → CaseRoom → PricingValue → KeptWorths → Type 0
+AreKept g case pricing kept = (width worth : ℕ) → IsKeptAt kept width worth → IsWorth g case pricing kept.rank width worth
 
 -- ---- all buses
 
@@ -85,3 +118,4 @@ pub record IsBusesRoom (g : Basis) (pricing : PricingValue) (room : PackRoom) : 
   pub bus : IsBusRoom g pricing room.bus
   pub wires : length room.wires.items ≡ (limits_of g).wires + 1
   pub worth : length room.worth.items ≡ (limits_of g).wires + 1
+  pub kept : length room.kept.worths.items ≡ (limits_of g).wires + 1

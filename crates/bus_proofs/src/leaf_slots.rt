@@ -246,7 +246,7 @@ fn is_passed(tried: Option<WidthRange>, range: WidthRange) -> bool
 }
 
 /// Whether no list that is weighed speaks of a rank.
-fn is_without_list(beside: &[BesideUse], rank: usize) -> bool
+pub(crate) fn is_without_list(beside: &[BesideUse], rank: usize) -> bool
     ensures { result ≡ true → All (λ b. b.rank ≢ rank) beside.now }
 {
     for list in beside {

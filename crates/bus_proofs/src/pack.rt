@@ -102,6 +102,7 @@ fn note_work(room: &mut PackRoom, work: u128) -> bool
     ensures bus { room.new.bus ≡ room.old.bus }
     ensures wires { room.new.wires ≡ room.old.wires }
     ensures worth { room.new.worth ≡ room.old.worth }
+    ensures kept { room.new.kept ≡ room.old.kept }
 {
     if work > u128::from(PACK_WORK_MOST - room.work) {
         return false;

@@ -19,10 +19,21 @@ pub(crate) struct BusRoom {
     pub places: Vec<usize>,
 }
 
+/// What the buses of one rank are worth, on the widths on which that was worked out.
+#[derive(Drop)]
+pub(crate) struct KeptWorths {
+    /// The rank. One that isn't known is of the rest.
+    pub rank: usize,
+    /// For each number of wires the worth, where it is known.
+    pub worths: Vec<Option<u64>>,
+}
+
 /// Room for checking leaves of prices.
 #[derive(Drop)]
 pub(crate) struct PackRoom {
     pub bus: BusRoom,
+    /// What was worked out for the rank before, which may serve for the next.
+    pub kept: KeptWorths,
     /// For each number of wires the most that all buses are worth on so many.
     pub wires: Vec<u128>,
     /// What one bus is worth, by its wires beyond the least.
@@ -38,6 +49,7 @@ impl PackRoom {
         ensures cells { IfOk result (λ room. length room.bus.cells.items ≡ CELLS_MOST + 1) }
         ensures wires { IfOk result (λ room. length room.wires.items ≡ wires + 1) }
         ensures worth { IfOk result (λ room. length room.worth.items ≡ wires + 1) }
+        ensures kept { IfOk result (λ room. length room.kept.worths.items ≡ wires + 1) }
         ensures places { IfOk result (λ room. length room.bus.places.items ≡ most) }
         ensures work { IfOk result (λ room. room.work ≡ 0) }
     {
@@ -45,8 +57,10 @@ impl PackRoom {
         let places = Vec::from_elem(alloc, 0, most)?;
         let worth = Vec::from_elem(alloc, 0, wires + 1)?;
         let row = Vec::from_elem(alloc, 0, wires + 1)?;
+        let worths = Vec::from_elem(alloc, None, wires + 1)?;
         Ok(PackRoom {
             bus: BusRoom { cells, places },
+            kept: KeptWorths { rank: 0, worths },
             wires: row,
             worth,
             work: 0,

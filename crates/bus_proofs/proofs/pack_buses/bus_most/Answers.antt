@@ -6,7 +6,7 @@ use Rattle.bus_proofs.specs.Bases.{chip_of, claim_of}
 use Rattle.bus_proofs.specs.PackLeaves.{cells_of, priced_place}
 use Rattle.bus_proofs.specs.PackBuses.{most_of}
 use Rattle.bus_proofs.proofs.PackBounds.{item_within}
-use Rattle.bus_proofs.proofs.PackSteps.{few_modules_priced, most-le, row_more, row_none}
+use Rattle.bus_proofs.proofs.PackSteps.{bus_most-le, few_modules_priced, most-le, row_more, row_none}
 use Rattle.bus_proofs.proofs.pack_buses.bus_most.Goals as goal
 
 pub overflow_add-end : goal.overflow_add-end
@@ -86,6 +86,5 @@ pub returns-clause-small : goal.returns-clause-small
 returns-clause-small c =
     let k = c.requires.leaf.setting.known in
     let is = returns-clause-most c k.0 k.1 in
-    let most = most-le c.args.basis.now k.0 (pricing_value c.args.pricing.now) c.args.bus.rank c.args.bus.width (length (pricing_value c.args.pricing.now).prices) (cells_of (claim_of c.args.basis.now) (pricing_value c.args.pricing.now)) c.requires.leaf.prices in
-    let few = few_modules_priced c.args.basis.now (pricing_value c.args.pricing.now) c.requires.leaf.setting.basis c.requires.leaf.once in
-    omega (arith, is, most, few)
+    let few = bus_most-le c.args.basis.now k.0 (pricing_value c.args.pricing.now) c.args.bus.rank c.args.bus.width c.requires.leaf.setting.basis c.requires.leaf.once c.requires.leaf.prices in
+    omega (arith, is, few)

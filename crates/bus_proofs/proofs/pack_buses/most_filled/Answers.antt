@@ -11,6 +11,7 @@ use Rattle.bus_proofs.proofs.pack_buses.most_filled.Goals as goal
 pub loop-rank-preserved : goal.loop-rank-preserved
 loop-rank-preserved c = record {
   room = c.rank_row.ensures.room;
+  kept = c.rank_row.ensures.kept;
   row = λ k of. c.rank_row.ensures.row k of (c.loop-rank.invariant.row k of);
   small = λ x less. (let s = c.rank_row.ensures.small x less in omega (arith, s));
   work = c.rank_row.ensures.work ∙ c.loop-rank.invariant.work;

@@ -4,12 +4,13 @@ use Rattle.proof_model.specs.Proofs.{pricing_value}
 use Rattle.bus_proofs.specs.Bases.{limits_of}
 use Rattle.bus_proofs.specs.Cases.{Case, spare}
 use Rattle.bus_proofs.specs.CaseRooms.{IsCaseOf}
-use Rattle.bus_proofs.specs.PackBuses.{IsBusesRoom, IsWiresRow}
+use Rattle.bus_proofs.specs.PackBuses.{AreKept, IsBusesRoom, IsWiresRow}
 use Rattle.bus_proofs.proofs.pack_buses.most_filled.Given as goal
 
 abbrev pub invariant-loop-rank : goal.invariant-loop-rank
 invariant-loop-rank l = record {
   room : IsBusesRoom l.basis (pricing_value l.pricing) l.room;
+  kept : AreKept l.basis l.case (pricing_value l.pricing) l.room.kept;
   row : (k : Case) → IsCaseOf l.case k → IsWiresRow l.basis k (pricing_value l.pricing) l.rank l.room.wires.items;
   small : (x : ℕ) → x ≤ spare (limits_of l.basis).wires l.case.widths.intervals.items → slice_index l.room.wires.items x ≤ (300 + l.rank) * 10 ^ 18;
   work : l.room.work ≡ l.initial.room.work;

@@ -3,12 +3,14 @@ use Rattle.std.specs.Prelude.{slice_index}
 use Rattle.proof_model.specs.Proofs.{pricing_value}
 use Rattle.bus_proofs.specs.Cases.{Case}
 use Rattle.bus_proofs.specs.CaseRooms.{IsCaseOf}
-use Rattle.bus_proofs.specs.PackBuses.{IsBusesRoom, bus_most}
+use Rattle.bus_proofs.specs.PackBuses.{AreKept, IsBusesRoom, bus_most}
 use Rattle.bus_proofs.proofs.pack_buses.note_worths.Given as goal
 
 abbrev pub invariant-loop-more : goal.invariant-loop-more
 invariant-loop-more l = record {
   room : IsBusesRoom l.basis (pricing_value l.pricing) l.room;
+  kept : AreKept l.basis l.case (pricing_value l.pricing) l.room.kept;
+  rank : l.room.kept.rank ≡ l.least.rank;
   worths : (k : Case) → IsCaseOf l.case k → (d : ℕ) → d < l.more → slice_index l.room.worth.items d ≡ bus_most l.basis k (pricing_value l.pricing) l.least.rank (l.least.width + d);
   small : (d : ℕ) → d < l.more → slice_index l.room.worth.items d ≤ 10 ^ 18;
   wires : l.room.wires ≡ l.initial.room.wires;

@@ -49,4 +49,4 @@ pub returns-clause-room : goal.returns-clause-room
 returns-clause-room c =
     let long = ap length c.deref_mut.ensures.value in
     let items = with_items_is c.note_worths.new.room.wires c.add_rank.new.row (omega (arith, c.add_rank.ensures.long, long, c.note_worths.new.room.wires.ok.0)) in
-    record { bus = c.note_worths.ensures.room.bus; wires = ap length items ∙ c.add_rank.ensures.long ∙ long ∙ c.note_worths.ensures.room.wires; worth = c.note_worths.ensures.room.worth }
+    record { bus = c.note_worths.ensures.room.bus; wires = ap length items ∙ c.add_rank.ensures.long ∙ long ∙ c.note_worths.ensures.room.wires; worth = c.note_worths.ensures.room.worth; kept = c.note_worths.ensures.room.kept }
