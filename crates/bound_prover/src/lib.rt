@@ -5,6 +5,7 @@
 #![tactic(auto)]
 
 mod accepting;
+mod choosing;
 mod deciding;
 mod progress;
 mod proving;

@@ -10,6 +10,7 @@ ghost use Rattle.bound_prover.specs.Proved.{IsProofText};
 ghost use Rattle.bound_prover.specs.Reports.{MayReport};
 
 use crate::accepting::{accepted_text, nothing_text};
+use crate::choosing::better_of;
 use crate::progress::run_reported;
 use commands::line_room;
 use live_tests::Resolved;
@@ -20,8 +21,52 @@ use proof_search::Search;
 use soc_model::Soc;
 use std::alloc::Global;
 
-/// The proof, found by a search of up to `nodes` nodes, that no good plan takes fewer than `cycles` cycles, or than as many as it
-/// can show. Nothing is known of it.
+/// The proof, found by a search of up to `nodes` nodes with leaves Pack, that no good plan takes fewer than `cycles` cycles, or than
+/// as many as it can show; and whether a search without them may show more. Nothing is known of it.
+fn searched_packed<T: Sink>(
+    alloc: Global,
+    soc: &Soc,
+    limits: &Limits,
+    resolved: &Resolved,
+    cycles: u64,
+    nodes: u64,
+    progress: &mut T,
+) -> Result<(Proof, bool), NoMemory>
+    requires chip { IsSoundChip (soc_value soc.now) }
+    requires limits { IsSoundLimits (soc_value soc.now) (limits_value limits.now) }
+    requires resolved { IsResolved (soc_value soc.now) limits.now resolved.now }
+    ensures faults_never_fall { T.faults progress.old ≤ T.faults progress.new }
+    ensures quiet { nodes < REPORTED_FROM → progress.new ≡ progress.old }
+    ensures reported { MayReport nodes (T.written progress.old) (T.written progress.new) }
+{
+    let mut line = line_room(alloc)?;
+    let mut search = Search::new(alloc, soc, limits, resolved, cycles, nodes, true)?;
+    run_reported(&mut search, nodes, &mut line, progress);
+    let is_open = search.found_pack() && search.claim() < cycles;
+    let proof = search.proof(alloc)?;
+    Ok((proof, is_open))
+}
+
+/// The same by a search without leaves Pack, which reports nothing.
+fn searched_plain(
+    alloc: Global,
+    soc: &Soc,
+    limits: &Limits,
+    resolved: &Resolved,
+    cycles: u64,
+    nodes: u64,
+) -> Result<Proof, NoMemory>
+    requires chip { IsSoundChip (soc_value soc.now) }
+    requires limits { IsSoundLimits (soc_value soc.now) (limits_value limits.now) }
+    requires resolved { IsResolved (soc_value soc.now) limits.now resolved.now }
+{
+    let mut search = Search::new(alloc, soc, limits, resolved, cycles, nodes, false)?;
+    search.go_on(nodes);
+    search.proof(alloc)
+}
+
+/// The better proof of two searches of up to `nodes` nodes each. Leaves Pack change the order in which cases are divided, and so which
+/// lists are found: each search can show what the other can't, and neither shows less with more nodes.
 fn searched<T: Sink>(
     alloc: Global,
     soc: &Soc,
@@ -38,10 +83,15 @@ fn searched<T: Sink>(
     ensures quiet { nodes < REPORTED_FROM → progress.new ≡ progress.old }
     ensures reported { MayReport nodes (T.written progress.old) (T.written progress.new) }
 {
-    let mut line = line_room(alloc)?;
-    let mut search = Search::new(alloc, soc, limits, resolved, cycles, nodes)?;
-    run_reported(&mut search, nodes, &mut line, progress);
-    search.proof(alloc)
+    let (packed, is_open) = searched_packed(alloc, soc, limits, resolved, cycles, nodes, progress)?;
+    if !is_open {
+        return Ok(packed);
+    }
+    better_of(
+        alloc,
+        packed,
+        searched_plain(alloc, soc, limits, resolved, cycles, nodes),
+    )
 }
 
 /// [`proved`], where the chip and its limits are resolved. `NoMemory` where there is none.
@@ -77,9 +127,9 @@ pub fn proved_with<T: Sink>(
 }
 
 /// The text of a proof by cases on buses, of at most `nodes` nodes: it is accepted for the chip under the limits, and claims at
-/// most `cycles` cycles, as many as a search could show. Where it could show nothing, or where the cycles are 0, it is the proof that
-/// claims nothing. From 10,000 nodes on each tenth of them that was made is reported to `progress`, with the claim so far; a
-/// `progress` that fails changes nothing else. `NoMemory` where there is none.
+/// most `cycles` cycles, as many as a search with leaves Pack could show, or one without them. Where these could show nothing, or where
+/// the cycles are 0, it is the proof that claims nothing. From 10,000 nodes on each tenth of them that the search with leaves Pack made is
+/// reported to `progress`, with its claim so far; a `progress` that fails changes nothing else. `NoMemory` where there is none.
 pub fn proved<T: Sink>(
     alloc: Global,
     soc: &Soc,

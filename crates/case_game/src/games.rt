@@ -60,6 +60,18 @@ impl CaseGame {
         self.values.value(basis, &self.spans, weights)
     }
 
+    /// Writes what each module costs at least at weights, over its slots of fewer cycles than the goal; 0 where it has none.
+    pub fn write_costs(&mut self, basis: &LeafBasis, weights: &LeafWeights, costs: &mut [u128]) {
+        self.values.take(basis, &self.spans, weights);
+        let goal = basis.chip.goal;
+        for module in 0..costs.len() {
+            let cost = self
+                .values
+                .cost_of_module(basis, &self.spans, weights, module, goal);
+            costs[module] = cost.unwrap_or(0);
+        }
+    }
+
     /// Begins the game of the case with lists, from some weights, the lists of which are the first ones.
     pub fn begin(&mut self, basis: &LeafBasis, chosen: &ChosenLists, from: &LeafWeights) {
         self.play.begin(basis, &self.spans, chosen, from);

@@ -5,10 +5,12 @@
 //! wires, lengths in bytes. All memory of a tree is taken as it is made. No clause promises more than that each call is safe and ends.
 #![tactic(auto)]
 
+mod packs;
 mod printing;
 mod text;
 mod tree;
 
+pub use packs::FoundPack;
 pub use printing::proof_of;
 pub use text::{DIGITS_MOST, TEXT_MOST, nines};
 pub use tree::{CaseTree, NodeRule, ProofNames};

@@ -3,7 +3,7 @@
 use crate::tree::{CaseTree, NodeRule, ProofNames, whole_count};
 use case_tables::{LISTS_MOST, LeafWeights, ListForm};
 use outside::{NoMemory, both, push};
-use proof_model::{Node, Proof, TestList, Weights};
+use proof_model::{Node, Pricing, Proof, TestList, Weights};
 use soc_model::TestId;
 use std::alloc::Global;
 use tables::{NONE, filled, item_or, put_item};
@@ -124,6 +124,60 @@ fn leaf_of(
     Ok(Node::Sum { weights })
 }
 
+/// The prices of a leaf Pack that are above 0, by the numbers of the modules.
+fn pack_prices(
+    alloc: Global,
+    tree: &CaseTree,
+    names: ProofNames<'_>,
+    pack: usize,
+) -> Result<Vec<(u64, u64)>, NoMemory> {
+    let mut prices = Vec::new(alloc);
+    for module in 0..names.chip.modules {
+        let price = tree.packs.price(pack, module);
+        if price > 0 {
+            push(&mut prices, (item_or(&names.chip.number, module, 0), price))?;
+        }
+    }
+    Ok(prices)
+}
+
+/// The weights of lists of a leaf Pack.
+fn pack_lists(
+    alloc: Global,
+    tree: &CaseTree,
+    pack: usize,
+    places: &[usize],
+) -> Result<Vec<(u64, u64)>, NoMemory> {
+    let mut lists = Vec::new(alloc);
+    for at in 0..tree.packs.lists(pack) {
+        let place = item_or(places, tree.packs.list(pack, at), 0);
+        push(&mut lists, (place as u64, tree.packs.weight(pack, at)))?;
+    }
+    Ok(lists)
+}
+
+/// A leaf Pack, as the text has it.
+fn pack_of(
+    alloc: Global,
+    tree: &CaseTree,
+    names: ProofNames<'_>,
+    pack: usize,
+    places: &[usize],
+) -> Result<Node, NoMemory> {
+    let (prices, lists) = both(
+        pack_prices(alloc, tree, names, pack),
+        pack_lists(alloc, tree, pack, places),
+    )?;
+    let grain = tree.packs.grain(pack);
+    Ok(Node::Pack {
+        pricing: Pricing {
+            grain,
+            prices,
+            lists,
+        },
+    })
+}
+
 /// `count` twins, from a place of the pool on.
 fn twins_of(
     alloc: Global,
@@ -141,6 +195,8 @@ fn twins_of(
 /// What making a proof takes beside the tree.
 #[derive(Drop)]
 struct Printing {
+    /// The claim, in cycles.
+    claimed: u64,
     /// How many nodes the proof has.
     nodes: usize,
     /// For each list its place in the proof, NONE where no leaf names it.
@@ -152,13 +208,14 @@ struct Printing {
 }
 
 impl Printing {
-    /// Room for a proof of so many nodes.
-    fn new(alloc: Global, nodes: usize) -> Result<Printing, NoMemory> {
+    /// Room for a proof of so many nodes, of a claim.
+    fn new(alloc: Global, claimed: u64, nodes: usize) -> Result<Printing, NoMemory> {
         let places = filled(alloc, NONE, LISTS_MOST)?;
         let weights = LeafWeights::new(alloc)?;
         let stack = filled(alloc, NONE, nodes.saturating_add(1))?;
         let walk = NodeStack { stack, height: 0 };
         Ok(Printing {
+            claimed,
             nodes,
             places,
             weights,
@@ -177,9 +234,21 @@ impl Printing {
         node
     }
 
+    /// Marks the lists of a leaf Pack.
+    fn mark_pack(&mut self, tree: &CaseTree, pack: usize) {
+        for at in 0..tree.packs.lists(pack) {
+            put_item(&mut self.places, tree.packs.list(pack, at), 0);
+        }
+    }
+
     /// Marks the lists of a leaf.
     fn mark_leaf(&mut self, tree: &CaseTree, node: usize) {
         if tree.rule_among(node, self.nodes) != NodeRule::Leaf {
+            return;
+        }
+        let pack = tree.packs.of_node(node, self.claimed);
+        if pack != NONE {
+            self.mark_pack(tree, pack);
             return;
         }
         tree.load(node, &mut self.weights);
@@ -214,6 +283,22 @@ impl Printing {
         }
     }
 
+    /// A leaf as a proof has it.
+    fn leaf(
+        &mut self,
+        alloc: Global,
+        tree: &CaseTree,
+        names: ProofNames<'_>,
+        node: usize,
+    ) -> Result<Node, NoMemory> {
+        let pack = tree.packs.of_node(node, self.claimed);
+        if pack != NONE {
+            return pack_of(alloc, tree, names, pack, &self.places);
+        }
+        tree.load(node, &mut self.weights);
+        leaf_of(alloc, tree, node, &self.weights, &self.places)
+    }
+
     /// A node as a proof has it.
     fn node_of(
         &mut self,
@@ -240,10 +325,7 @@ impl Printing {
                     twins,
                 })
             }
-            NodeRule::Leaf => {
-                tree.load(node, &mut self.weights);
-                leaf_of(alloc, tree, node, &self.weights, &self.places)
-            }
+            NodeRule::Leaf => self.leaf(alloc, tree, names, node),
         }
     }
 
@@ -288,7 +370,7 @@ pub fn proof_of(
     claimed: u64,
     nodes: usize,
 ) -> Result<Proof, NoMemory> {
-    let mut printing = Printing::new(alloc, nodes.min(tree.made))?;
+    let mut printing = Printing::new(alloc, claimed, nodes.min(tree.made))?;
     printing.mark_all(tree);
     printing.count_lists();
     let lists = printing.lists(alloc, names);

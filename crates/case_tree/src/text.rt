@@ -42,6 +42,13 @@ pub(crate) fn place_length(module: u64, rank: u64, twins: u64) -> u64 {
         .saturating_add(6)
 }
 
+/// The bytes of a list with its weight.
+pub(crate) fn list_use_length(list: usize, weight: u64) -> u64 {
+    spaced(list as u64)
+        .saturating_add(spaced(weight))
+        .saturating_add(3)
+}
+
 /// The greatest number of `digits` digits, of which there are at most `DIGITS_MOST`; 0 of none.
 pub fn nines(digits: u32) -> u64 {
     let mut nines: u64 = 0;

@@ -1,8 +1,9 @@
 //! The tree of cases as a text has it: which node is divided how, and the weights of each leaf.
 
-use crate::text::{head_length, nines, place_length, spaced, wide_length};
+use crate::packs::{FoundPack, LeafChoice, LeafPacks};
+use crate::text::{head_length, list_use_length, nines, place_length, spaced, wide_length};
 use case_tables::{ChipTables, LISTS_MOST, LeafWeights, ListForm, Lists, scaled_weight};
-use outside::NoMemory;
+use outside::{NoMemory, both};
 use std::alloc::Global;
 use tables::{NONE, filled, item_or, put_item};
 
@@ -86,6 +87,8 @@ pub struct CaseTree {
     pooled: usize,
     /// For each list whether some leaf had it.
     used: Vec<bool>,
+    /// Leaves Pack.
+    pub(crate) packs: LeafPacks,
 }
 
 /// How many weights there are without the zeros at the end.
@@ -135,11 +138,7 @@ fn uses_length(weights: &LeafWeights, digits: WeightDigits) -> u64 {
     for at in 0..weights.count {
         let weight = digits.scaled(weights.use_at(at));
         if weight > 0 {
-            let place = spaced(weights.list_at(at) as u64);
-            length = length
-                .saturating_add(place)
-                .saturating_add(spaced(weight))
-                .saturating_add(3);
+            length = length.saturating_add(list_use_length(weights.list_at(at), weight));
         }
     }
     length
@@ -153,6 +152,41 @@ fn sum_length(weights: &LeafWeights, digits: WeightDigits) -> u64 {
     wire.saturating_add(ranks)
         .saturating_add(lists)
         .saturating_add(4)
+}
+
+/// How many prices are above 0.
+fn priced_of(found: FoundPack<'_>) -> u64 {
+    let mut priced: u64 = 0;
+    for module in 0..found.prices.len() {
+        if found.prices[module] > 0 {
+            priced = priced.saturating_add(1);
+        }
+    }
+    priced
+}
+
+/// The bytes of the prices above 0.
+fn prices_length(names: ProofNames<'_>, found: FoundPack<'_>) -> u64 {
+    let mut length: u64 = 0;
+    for module in 0..found.prices.len() {
+        if found.prices[module] > 0 {
+            let number = spaced(item_or(&names.chip.number, module, 0));
+            length = length
+                .saturating_add(number)
+                .saturating_add(spaced(found.prices[module]));
+        }
+    }
+    length
+}
+
+/// The bytes of the line of Pack.
+fn pack_length(names: ProofNames<'_>, found: FoundPack<'_>) -> u64 {
+    let mut length = prices_length(names, found);
+    for at in 0..found.count {
+        let list = item_or(found.lists, at, NONE);
+        length = length.saturating_add(list_use_length(list, item_or(found.weights, at, 0)));
+    }
+    length.saturating_add(spaced(found.grain)).saturating_add(4)
 }
 
 /// The bytes of the names of a list's tests.
@@ -181,11 +215,23 @@ fn list_length(names: ProofNames<'_>, list: usize) -> u64 {
 }
 
 impl CaseTree {
-    /// Room for a tree of `nodes_most` nodes, with `pool_most` weights and twins. `NoMemory` where there is none.
-    pub fn new(alloc: Global, nodes_most: usize, pool_most: usize) -> Result<CaseTree, NoMemory> {
-        let nodes = filled(alloc, NO_NODE, nodes_most)?;
-        let pool = filled(alloc, 0u32, pool_most)?;
-        let used = filled(alloc, false, LISTS_MOST)?;
+    /// Room for a tree of `nodes_most` nodes, with `pool_most` weights and twins, and leaves Pack of `modules` wired modules that take
+    /// `packs_most` numbers in all. `NoMemory` where there is none.
+    pub fn new(
+        alloc: Global,
+        nodes_most: usize,
+        pool_most: usize,
+        modules: usize,
+        packs_most: usize,
+    ) -> Result<CaseTree, NoMemory> {
+        let packed_most = if packs_most > 0 { nodes_most } else { 0 };
+        let packs = LeafPacks::new(alloc, modules, packed_most, packs_most);
+        let lists = both(filled(alloc, false, LISTS_MOST), packs);
+        let numbers = both(
+            filled(alloc, NO_NODE, nodes_most),
+            filled(alloc, 0u32, pool_most),
+        );
+        let ((nodes, pool), (used, packs)) = both(numbers, lists)?;
         Ok(CaseTree {
             made: 0,
             length: head_length(),
@@ -193,6 +239,7 @@ impl CaseTree {
             pool,
             pooled: 0,
             used,
+            packs,
         })
     }
 
@@ -268,15 +315,83 @@ impl CaseTree {
         }
     }
 
+    /// Counts the line of a list, where no leaf had it so far.
+    fn mark_list(&mut self, names: ProofNames<'_>, list: usize) {
+        if !item_or(&self.used, list, true) {
+            put_item(&mut self.used, list, true);
+            self.length = self.length.saturating_add(list_length(names, list));
+        }
+    }
+
     /// Counts the lines of lists that no leaf had so far.
     fn mark_used(&mut self, names: ProofNames<'_>, weights: &LeafWeights) {
         for at in 0..weights.count {
-            let list = weights.list_at(at);
-            if !item_or(&self.used, list, true) {
-                put_item(&mut self.used, list, true);
-                self.length = self.length.saturating_add(list_length(names, list));
+            self.mark_list(names, weights.list_at(at));
+        }
+    }
+
+    /// Whether there is room for one more leaf Pack.
+    pub fn has_pack_room(&self) -> bool {
+        self.packs.has_room(LISTS_MOST)
+    }
+
+    /// Adds a leaf Pack, which no node has yet. Answers where it stands, NONE where there is no room.
+    pub fn add_pack(&mut self, names: ProofNames<'_>, found: FoundPack<'_>) -> usize {
+        let length = pack_length(names, found);
+        let pack = self.packs.add(found, length, priced_of(found));
+        if pack != NONE {
+            for at in 0..found.count {
+                self.mark_list(names, item_or(found.lists, at, NONE));
             }
         }
+        pack
+    }
+
+    /// Makes the length of a leaf at least that of the line of a leaf Pack.
+    fn lengthen(&mut self, node: usize, pack: usize) {
+        let mut own = self.node_at(node);
+        let length = self.packs.length(pack);
+        let more = length.saturating_sub(own.length);
+        own.length = own.length.saturating_add(more);
+        put_item(&mut self.nodes, node, own);
+        self.length = self.length.saturating_add(more);
+    }
+
+    /// Says of a new leaf up to which claim its weights hold, in cycles, and which leaf Pack it takes over from the case that it is a part
+    /// of, NONE where there is none.
+    pub fn take_over_pack(&mut self, node: usize, sum: u64, pack: usize) {
+        let own = NONE;
+        let taken = pack;
+        self.packs.set_choice(node, LeafChoice { sum, taken, own });
+        self.lengthen(node, pack);
+    }
+
+    /// Gives a leaf a leaf Pack of its own.
+    pub fn give_pack(&mut self, node: usize, pack: usize) {
+        let mut choice = self.packs.choice(node);
+        choice.own = pack;
+        self.packs.set_choice(node, choice);
+        self.lengthen(node, pack);
+    }
+
+    /// The claim of a leaf Pack, in cycles; 0 where there is none.
+    pub fn claim_of(&self, pack: usize) -> u64 {
+        self.packs.claim(pack)
+    }
+
+    /// The cycles of a cell of a leaf Pack.
+    pub fn grain_of(&self, pack: usize) -> u64 {
+        self.packs.grain(pack)
+    }
+
+    /// How many prices and how many lists a leaf Pack has.
+    pub fn sizes_of(&self, pack: usize) -> (u64, u64) {
+        (self.packs.priced(pack), self.packs.lists(pack) as u64)
+    }
+
+    /// Whether a leaf is a leaf Pack in a text of this claim.
+    pub fn is_packed(&self, node: usize, claim: u64) -> bool {
+        self.packs.of_node(node, claim) != NONE
     }
 
     /// Writes the weights of a node, as precise as they were.

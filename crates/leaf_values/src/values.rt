@@ -226,6 +226,24 @@ impl LeafValues {
         best
     }
 
+    /// The least cost of a module at the weights taken, over its slots of fewer cycles than a claim; None where it has no such slot.
+    pub fn cost_of_module(
+        &self,
+        basis: &LeafBasis,
+        spans: &Spans,
+        weights: &LeafWeights,
+        module: usize,
+        claim: u64,
+    ) -> Option<u128> {
+        let own = item_or(&basis.chip.selfs, module, 0);
+        let most = claim.saturating_sub(own);
+        let least = self.least(basis, spans, weights, module, most);
+        if least.cost == u128::MAX {
+            return None;
+        }
+        Some(least.cost)
+    }
+
     /// What the weights taken show where only slots of fewer cycles than a claim count.
     fn shown(&self, basis: &LeafBasis, spans: &Spans, weights: &LeafWeights, claim: u64) -> Shown {
         let mut shown = Shown {

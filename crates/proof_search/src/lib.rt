@@ -9,14 +9,19 @@
 //! (`divided`) and plays the game of `case_game`; the lists that the best mix of the cuts passes, which `list_search` finds, become
 //! resources, and the game goes on.
 //!
+//! A search may look for leaves Pack too (`packs`): before the weakest case is divided, whole prices are looked for that hold at a greater
+//! claim in it (`pack_search`). What is found, and what the attempt left (`warms`), goes to the branches of the case.
+//!
 //! No clause promises anything of all this but that it is safe and ends. So tables are read by `item_or` and written by `put_item`, sums
 //! stop at the limits of their types, each search is over after a fixed number of steps, and all memory is taken as the search begins.
 #![tactic(auto)]
 
 mod divided;
 mod divisions;
+mod packs;
 mod queue;
 mod search;
+mod warms;
 mod weighing;
 
 pub use search::Search;

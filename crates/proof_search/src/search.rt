@@ -6,6 +6,7 @@ ghost use Rattle.plan_model.specs.SoundLimits.{IsSoundLimits};
 ghost use Rattle.live_tests.specs.Resolved.{IsResolved};
 
 use crate::divisions::Division;
+use crate::packs::NodePacks;
 use crate::queue::{NO_ENTRY, NodeEntry, NodeQueue};
 use crate::weighing::{CaseWeighing, CaseWorth};
 use case_tables::{LISTS_MOST, RANKS_MOST};
@@ -28,6 +29,8 @@ const ROUNDS: usize = 6;
 const NODES_MOST: u64 = 180_000;
 /// Room for the weights of all nodes.
 const POOL_MOST: usize = 1 << 20;
+/// Room for the numbers of all leaves Pack.
+const PACKS_MOST: usize = 1 << 20;
 /// With fewer digits the weights of an open case hardly hold at all that they are worth, and are not tried.
 const OPEN_DIGITS: u32 = 4;
 /// The nodes that a division adds, at most.
@@ -47,6 +50,8 @@ pub struct Search {
     queue: NodeQueue,
     /// What is kept of each node.
     entries: Vec<NodeEntry>,
+    /// Their leaves Pack, where these are looked for.
+    packs: Option<NodePacks>,
     /// Nodes on the way to one.
     path: Vec<usize>,
     /// A rank and its twins.
@@ -80,6 +85,20 @@ fn room_for(nodes: u64) -> usize {
     (nodes.min(NODES_MOST) as usize).saturating_add(MORE_MOST)
 }
 
+/// What is kept of the leaves Pack of a search, where these are looked for.
+fn packs_of(
+    alloc: Global,
+    basis: &LeafBasis,
+    nodes: u64,
+    packs: bool,
+) -> Result<Option<NodePacks>, NoMemory> {
+    if !packs {
+        return Ok(None);
+    }
+    let packs = NodePacks::new(alloc, basis, room_for(nodes))?;
+    Ok(Some(packs))
+}
+
 /// The first `count` items.
 fn front(list: &[usize], count: usize) -> &[usize] {
     if count > list.len() {
@@ -98,7 +117,8 @@ fn more_nodes(division: Division) -> usize {
 
 impl Search {
     /// A search for a proof of at most `nodes` nodes for a claim up to the goal, the cycles of a plan, where the chip and its limits
-    /// are resolved. All memory that it takes but for the proof is taken here; `NoMemory` where there is none.
+    /// are resolved. `packs` says whether leaves Pack are looked for. All memory that it takes but for the proof is taken here; `NoMemory`
+    /// where there is none.
     pub fn new(
         alloc: Global,
         soc: &Soc,
@@ -106,6 +126,7 @@ impl Search {
         resolved: &Resolved,
         goal: u64,
         nodes: u64,
+        packs: bool,
     ) -> Result<Search, NoMemory>
         requires sound { IsSoundChip (soc_value soc.now) }
         requires limits { IsSoundLimits (soc_value soc.now) (limits_value limits.now) }
@@ -113,7 +134,8 @@ impl Search {
     {
         let basis = basis_of(alloc, soc, limits, resolved, goal)?;
         let weighing = CaseWeighing::new(alloc, &basis.chip);
-        let mut search = Search::with(alloc, basis, weighing, nodes)?;
+        let packs = packs_of(alloc, &basis, nodes, packs);
+        let mut search = Search::with(alloc, basis, both(weighing, packs), nodes)?;
         let begun = search.begin(alloc);
         let (search, ()) = both(Ok(search), begun)?;
         Ok(search)
@@ -123,24 +145,27 @@ impl Search {
     fn with(
         alloc: Global,
         basis: LeafBasis,
-        weighing: Result<CaseWeighing, NoMemory>,
+        finders: Result<(CaseWeighing, Option<NodePacks>), NoMemory>,
         nodes: u64,
     ) -> Result<Search, NoMemory> {
+        let (weighing, packs) = finders?;
         let most = room_for(nodes);
+        let packs_most = if packs.is_some() { PACKS_MOST } else { 0 };
         let cases = both(
-            CaseTree::new(alloc, most, POOL_MOST),
+            CaseTree::new(alloc, most, POOL_MOST, basis.chip.modules, packs_most),
             NodeQueue::new(alloc, most),
         );
         let notes = both(filled(alloc, NO_ENTRY, most), filled(alloc, 0usize, most));
         let grown = both(both(cases, notes), filled(alloc, 0usize, RANKS_MOST));
-        let made = both(both(Ok(basis), weighing), grown)?;
-        let ((basis, weighing), (((tree, queue), (entries, path)), ranks)) = made;
+        let made = both(Ok((basis, weighing, packs)), grown)?;
+        let ((basis, weighing, packs), (((tree, queue), (entries, path)), ranks)) = made;
         Ok(Search {
             basis,
             weighing,
             tree,
             queue,
             entries,
+            packs,
             path,
             ranks,
             nodes,
@@ -167,7 +192,7 @@ impl Search {
         let digits = self.weighing.digits_at(&self.basis, worth.value, from);
         let node = self.add_leaf(digits);
         let entry = NodeEntry {
-            value: worth.value,
+            value: self.take_over(parent, node, worth.value),
             division: worth.division,
             parent,
             second,
@@ -175,6 +200,17 @@ impl Search {
         put_item(&mut self.entries, node, entry);
         if open {
             self.queue.push(&self.entries, node);
+        }
+    }
+
+    /// What a new leaf for the case at hand is worth whose weights show a claim: more, where the node that is divided has a leaf Pack of
+    /// a greater one.
+    fn take_over(&mut self, parent: usize, node: usize, sum: u64) -> u64 {
+        match &mut self.packs {
+            Some(packs) => {
+                packs.take_over(&mut self.tree, &self.weighing.case, parent, node, sum)
+            }
+            None => sum,
         }
     }
 
@@ -202,10 +238,18 @@ impl Search {
         item_or(&self.entries, first, NO_ENTRY).value
     }
 
+    /// Whether a text of the tree keeps within the work of a check.
+    fn is_checkable(&self) -> bool {
+        match &self.packs {
+            Some(packs) => packs.is_checkable(),
+            None => true,
+        }
+    }
+
     /// Notes the claim of the tree where it is greater than before.
     fn note_claim(&mut self) {
         let value = self.least_value();
-        if value > self.claim && self.tree.length <= TEXT_MOST {
+        if value > self.claim && self.tree.length <= TEXT_MOST && self.is_checkable() {
             self.claim = value;
             self.front = self.tree.made;
         }
@@ -297,6 +341,9 @@ impl Search {
             second: false,
         };
         put_item(&mut self.entries, node, entry);
+        if let Some(packs) = &mut self.packs {
+            packs.pass_on(parent, node);
+        }
         node
     }
 
@@ -344,6 +391,9 @@ impl Search {
 
     /// Divides a node.
     fn divide_node(&mut self, node: usize, division: Division) {
+        if let Some(packs) = &mut self.packs {
+            packs.divide(node);
+        }
         self.make_case(node);
         self.weighing.divided.take_low(&self.weighing.case);
         self.tree.load(node, &mut self.weighing.divided.weights);
@@ -366,8 +416,55 @@ impl Search {
         self.tree.has_room(more, resources)
     }
 
-    /// Divides the weakest open case; the search is done where there is none, or it can't be divided.
+    /// Whether a leaf Pack is looked for at a node.
+    fn may_try(&self, node: usize) -> bool {
+        match &self.packs {
+            Some(packs) => packs.may_try(&self.tree, node),
+            None => false,
+        }
+    }
+
+    /// Looks for a leaf Pack of a node, whose case is at hand with its slots and weights. What the node is worth then.
+    fn worth_with_pack(&mut self, node: usize, value: u64) -> u64 {
+        match &mut self.packs {
+            Some(packs) => {
+                packs.try_node(&self.basis, &mut self.weighing, &mut self.tree, node, value)
+            }
+            None => value,
+        }
+    }
+
+    /// Looks for a leaf Pack of the weakest open case, where it is time to. Whether one was found: the case is open no more then, or has
+    /// another place among the open ones.
+    fn try_pack(&mut self) -> bool {
+        let node = self.queue.first();
+        if !self.may_try(node) {
+            return false;
+        }
+        self.make_case(node);
+        self.weighing.take_case(&self.basis);
+        self.tree.load(node, self.weighing.set_weights());
+        let mut entry = item_or(&self.entries, node, NO_ENTRY);
+        let worth = self.worth_with_pack(node, entry.value);
+        if worth <= entry.value {
+            return false;
+        }
+        self.queue.drop_first(&self.entries);
+        entry.value = worth;
+        put_item(&mut self.entries, node, entry);
+        if worth < self.basis.chip.goal {
+            self.queue.push(&self.entries, node);
+        }
+        self.note_claim();
+        true
+    }
+
+    /// Looks for a leaf Pack of the weakest open case; where none is found, divides it. The search is done where there is no such case, or
+    /// it can't be divided.
     fn step(&mut self) {
+        if self.try_pack() {
+            return;
+        }
         let node = self.queue.first();
         let division = item_or(&self.entries, node, NO_ENTRY).division;
         if division == Division::Nothing || !self.has_room(division) {
@@ -384,17 +481,27 @@ impl Search {
         if self.done {
             return;
         }
-        for _ in 0..made {
+        for _ in 0..made.saturating_mul(2) {
             if self.done || self.tree.made as u64 >= made {
                 break;
             }
             self.step();
         }
         if self.tree.made as u64 >= self.nodes {
+            self.try_packs();
             self.done = true;
         }
         if self.done {
             self.shorten_all();
+        }
+    }
+
+    /// Looks for leaves Pack of the weakest open case until none is found.
+    fn try_packs(&mut self) {
+        for _ in 0..self.tree.made {
+            if !self.try_pack() {
+                break;
+            }
         }
     }
 
@@ -408,11 +515,17 @@ impl Search {
         }
     }
 
+    /// Whether a node is an open leaf whose weights hold at the claim.
+    fn is_shortened(&self, node: usize) -> bool {
+        item_or(&self.entries, node, NO_ENTRY).value < self.basis.chip.goal
+            && self.tree.rule_among(node, self.front) == NodeRule::Leaf
+            && !self.tree.is_packed(node, self.claim)
+    }
+
     /// Gives each open leaf the fewest digits with which it holds at the claim.
     fn shorten_all(&mut self) {
         for node in 0..self.front {
-            let open = item_or(&self.entries, node, NO_ENTRY).value < self.basis.chip.goal;
-            if open && self.tree.rule_among(node, self.front) == NodeRule::Leaf {
+            if self.is_shortened(node) {
                 self.shorten(node);
             }
         }
@@ -426,6 +539,14 @@ impl Search {
     /// The claim so far, in cycles: at most the goal.
     pub fn claim(&self) -> u64 {
         self.claim
+    }
+
+    /// Whether a leaf Pack was found. Where none was, the search went as one that looks for none.
+    pub fn found_pack(&self) -> bool {
+        match &self.packs {
+            Some(packs) => packs.found(),
+            None => false,
+        }
     }
 
     /// Whether nothing is left to do.

@@ -331,6 +331,12 @@ impl CaseWeighing {
         DIGITS_MOST
     }
 
+    /// Writes what each module costs at least at the weights of the case, whose slots are taken.
+    pub fn write_costs(&mut self, basis: &LeafBasis, costs: &mut [u128]) {
+        self.game
+            .write_costs(basis, &self.candidates.weights, costs);
+    }
+
     /// Writes other weights of the case.
     pub fn set_weights(&mut self) -> &mut LeafWeights {
         &mut self.candidates.weights
