@@ -257,7 +257,7 @@ fn is_worth_same(
     net == was
 }
 
-/// The same, and it isn't looked at where its tests take as long on both.
+/// Whether a priced module is alike on both buses: at once where its tests take as long on both, else by [`is_worth_same`].
 fn is_like_item(
     basis: &Basis<'_>,
     weighed: &Weighed,
@@ -297,7 +297,8 @@ fn is_like_width(
 ) -> bool
     requires leaf { IsPackLeaf basis.now case.now weighed.now (pricing_value pricing.now) }
     requires long { length (pricing_value pricing.now).prices ≤ length places.now }
-    requires places { ArePlaces (chip_of basis.now) (pricing_value pricing.now).prices (length (pricing_value pricing.now).prices) places.now }
+    requires places { ArePlaces (chip_of basis.now) (pricing_value pricing.now).prices
+        (length (pricing_value pricing.now).prices) places.now }
     requires width { bus.width ≤ (limits_of basis.now).wires }
     requires some_wire { 1 ≤ before }
     requires before { before ≤ bus.width }
